@@ -2,7 +2,7 @@
 //!
 //! `simscript` alone compiles the text on standard input, and runs it with no input data and
 //! 1,000,000 ticks; `simscript run`, `check` and `list` take their files by name. The report goes to
-//! standard output; how the run ended, where it didn't simply end, is told on standard error.
+//! standard output; how the run ended, where it didn't simply end, is reported on standard error.
 #![tactic(auto)]
 
 use simscript_commands::{Disk, Streams, perform, without_words, words};

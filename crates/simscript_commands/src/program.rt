@@ -5,7 +5,7 @@ ghost use Rattle.simscript_commands.specs.Statuses.{ended_status};
 
 use simscript_order::{
     FileStore, Order, Retrying, Streams, Trouble, explain, open, read_file, read_source,
-    tell_trouble, write_whole,
+    report_trouble, write_whole,
 };
 use ss_base::Counted;
 use ss_engine::{Outcome, Stop, compile, outcome_line, outcome_status, simulate};
@@ -18,7 +18,7 @@ const TICKS: u64 = 1_000_000;
 
 /// Does what the words of a command line ask for, the program's name first, and answers the exit
 /// status: 0 where it was done or help was asked for, 1 for a refused text, 2 for wrong words, 3 for
-/// a fault of the run, 4 for a pause, 5 for want of memory, 6 where a file or a stream failed.
+/// a fault of the run, 4 for a pause, 5 where it ran out of memory, 6 where a file or a stream failed.
 ///
 /// What is asked for goes to the output, in blocks; one line on the errors says why the status isn't
 /// 0.
@@ -34,7 +34,7 @@ pub fn perform<F: FileStore, S: AsStr, I: Read + Drop, O: Write + Drop, E: Write
         errors,
     } = streams;
     match Order::of(alloc, words) {
-        Ok(order) => tell(alloc, obey(alloc, order, files, input, output), errors),
+        Ok(order) => report_ending(alloc, obey(alloc, order, files, input, output), errors),
         Err(misuse) => explain(&misuse, output, errors),
     }
 }
@@ -169,19 +169,23 @@ fn print<O: Write + Drop>(output: O, bytes: &[u8]) -> Result<Outcome, Trouble> {
     }
 }
 
-/// Tells how an order ended, and answers the exit status: that of the outcome or of what stopped the
-/// program, or that of memory where the line that tells of it could not be made.
-pub fn tell<E: Write + Drop>(alloc: Global, ended: Result<Outcome, Trouble>, errors: E) -> u8
+/// Reports how an order ended, and answers the exit status: that of the outcome or of what stopped the
+/// program, or that of memory where its line could not be made.
+pub fn report_ending<E: Write + Drop>(
+    alloc: Global,
+    ended: Result<Outcome, Trouble>,
+    errors: E,
+) -> u8
     ensures { (result ≡ ended_status ended) ⊎ (result ≡ 5) }
 {
     match ended {
-        Ok(outcome) => tell_outcome(alloc, &outcome, errors),
-        Err(trouble) => tell_trouble(trouble, errors),
+        Ok(outcome) => report_outcome(alloc, &outcome, errors),
+        Err(trouble) => report_trouble(trouble, errors),
     }
 }
 
-// Tells of an outcome by its line. A line that can't be written is lost, and the status stands.
-fn tell_outcome<E: Write + Drop>(alloc: Global, outcome: &Outcome, mut errors: E) -> u8
+// Reports an outcome by its line. A line that can't be written is lost, and the status stays.
+fn report_outcome<E: Write + Drop>(alloc: Global, outcome: &Outcome, mut errors: E) -> u8
     ensures { (result ≡ status_of outcome.now) ⊎ (result ≡ 5) }
 {
     match outcome_line(alloc, outcome) {
@@ -189,6 +193,6 @@ fn tell_outcome<E: Write + Drop>(alloc: Global, outcome: &Outcome, mut errors: E
             let _ = errors.write_all(&line);
             outcome_status(outcome)
         }
-        Err(_) => tell_trouble(Trouble::Memory, errors),
+        Err(_) => report_trouble(Trouble::Memory, errors),
     }
 }

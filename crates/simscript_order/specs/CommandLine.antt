@@ -105,7 +105,7 @@ asked words = asked_in (subcommand_of command_line words)
 
 -- ---- refusals
 
--- words are refused for a fault that they have, or since they lack what an order needs, or for want
+-- words are refused for a fault that they have, or since they lack what an order needs, or for lack
 -- of memory, which says nothing of them
 abbrev pub IsRefusedFor : List Text → Misuse → Type 0
 IsRefusedFor words (misuse.Words error) = IsAmong (kind_of error) (fault_of command_line words)

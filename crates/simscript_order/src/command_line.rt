@@ -10,7 +10,7 @@ pub fn words(rt: &HostRuntime) -> Result<Vec<String>, ErrorKind> {
     }
 }
 
-/// The status where the words of the command line can't be had, which it tells on the errors: 5 for want of memory, 2 where a word is
+/// The status where the words of the command line can't be had, which it reports on the errors: 5 where it is out of memory, 2 where a word is
 /// no text.
 pub fn without_words(rt: &HostRuntime, kind: ErrorKind) -> u8 {
     if kind == ErrorKind::OutOfMemory {

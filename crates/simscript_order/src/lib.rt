@@ -15,5 +15,5 @@ pub use files::{Disk, FileStore, open, read_file, read_source};
 pub use misuse::Misuse;
 pub use order::Order;
 pub use retrying::Retrying;
-pub use streams::{Streams, explain, tell_trouble, write_whole};
+pub use streams::{Streams, explain, report_trouble, write_whole};
 pub use trouble::Trouble;

@@ -8,7 +8,7 @@ use std::fmt;
 /// Why the words of a command line give no order.
 #[derive(Debug, Drop)]
 pub enum Misuse {
-    /// A word that can't stand there, or a call for help; its text is for the user.
+    /// A word that can't be there, or a call for help; its text is for the user.
     Words(Error),
     /// A file or a number isn't there, though the words have no fault. `clap` refuses those before.
     Incomplete,

@@ -24,8 +24,8 @@ pub fn write_whole<O: Write + Drop>(output: O, bytes: &[u8]) -> Result<(), Troub
     }
 }
 
-/// Tells of what stopped the program, and answers the exit status.
-pub fn tell_trouble<E: Write + Drop>(trouble: Trouble, mut errors: E) -> u8
+/// Reports what stopped the program, and answers the exit status.
+pub fn report_trouble<E: Write + Drop>(trouble: Trouble, mut errors: E) -> u8
     ensures { result ≡ trouble_status trouble }
 {
     let text = trouble.text();
@@ -43,6 +43,6 @@ pub fn explain<O: Write + Drop, E: Write + Drop>(misuse: &Misuse, output: O, mut
     let written = write!(output, "{misuse}").and_then(|()| output.flush());
     match written {
         Ok(()) => 0,
-        Err(_) => tell_trouble(Trouble::Report, errors),
+        Err(_) => report_trouble(Trouble::Report, errors),
     }
 }

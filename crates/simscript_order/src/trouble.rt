@@ -26,7 +26,7 @@ impl Trouble {
         }
     }
 
-    /// The line that tells of it, without its end.
+    /// The line that reports it, without its end.
     pub fn text(self) -> &'static str {
         match self {
             Trouble::Source => "cannot read source",

@@ -27,28 +27,28 @@ room_more bytes room i lt short e =
     append_assoc' [] y zs = refl
     append_assoc' (x ∷ xs) y zs = ap (λ l. x ∷ l) (append_assoc' xs y zs)
 
-kept_is : (bytes room : List ℕ) → room ≡ in_capitals bytes ++ replicate (32 - length bytes) 0 → take (length bytes) room ≡ in_capitals bytes
-kept_is bytes room e =
+stored_is : (bytes room : List ℕ) → room ≡ in_capitals bytes ++ replicate (32 - length bytes) 0 → take (length bytes) room ≡ in_capitals bytes
+stored_is bytes room e =
     ap (take (length bytes)) e ∙ take_at (in_capitals bytes) (replicate (32 - length bytes) 0) (length bytes) (length-map bytes to_ascii_uppercase)
 
 -- the room that is written holds a name
 pub room_is : (bytes room : List ℕ) → 0 < length bytes → length bytes ≤ 32 → room ≡ in_capitals bytes ++ replicate (32 - length bytes) 0 → IsRoom room (length bytes)
 room_is bytes room some short e =
-    let kept = kept_is bytes room e in
+    let stored = stored_is bytes room e in
     let n : length (in_capitals bytes) ≡ length bytes = length-map bytes to_ascii_uppercase in
     record {
       name = record {
-        some = omega (arith, ap length kept, n);
-        short = omega (arith, ap length kept, n);
-        capitals = ap in_capitals kept ∙ (capitals_twice bytes ∙ sym kept);
+        some = omega (arith, ap length stored, n);
+        short = omega (arith, ap length stored, n);
+        capitals = ap in_capitals stored ∙ (capitals_twice bytes ∙ sym stored);
       };
-      counted = ap length kept ∙ n;
-      zeros = (λ i. kept i ++ replicate (32 - length (kept i)) 0) ∙ (ap (λ m. in_capitals bytes ++ replicate (32 - m) 0) n ∙ sym e);
+      counted = ap length stored ∙ n;
+      zeros = (λ i. stored i ++ replicate (32 - length (stored i)) 0) ∙ (ap (λ m. in_capitals bytes ++ replicate (32 - m) 0) n ∙ sym e);
     }
 
--- and is the name that is wanted
+-- the room that is written holds the name of the bytes
 pub name_is : (bytes room : List ℕ) → 0 < length bytes → length bytes ≤ 32 → room ≡ in_capitals bytes ++ replicate (32 - length bytes) 0 → Some (take (length bytes) room) ≡ name_of bytes
 name_is [] room some short e = absurd (omega arith)
 name_is (b ∷ bs) room some short e =
     let test : nat_le (length (b ∷ bs)) 32 ≡ true = grind (arith, nat_tests) in
-    ap (λ l. Some l) (kept_is (b ∷ bs) room e) ∙ rw test refl
+    ap (λ l. Some l) (stored_is (b ∷ bs) room e) ∙ rw test refl

@@ -3,7 +3,7 @@ use Rattle.std.proofs.Common.{◌≡◌, ℕ, ◌+◌, ◌≤◌, ◌<◌, min, 
 use Rattle.std.proofs.lemmas.List.{take-append-drop, length-take-le, drop-drop}
 use Rattle.std.proofs.Math.Seq.{take-append_seam}
 
--- a part of the rest that is copied into a buffer, and what is left behind it, are the rest
+-- the part of the rest that is copied into a buffer, and what is left after it, are the whole rest
 pub given : (xs items rest copied tail : List ℕ) (at count : ℕ) → xs ≡ drop at items → rest ≡ drop at items → copied ≡ take count rest → count ≤ length rest → xs ≡ take count (copied ++ tail) ++ drop (at + count) items
 given xs items rest copied tail at count is whole same within =
     let long : length copied ≡ count = ap length same ∙ length-take-le count rest within in

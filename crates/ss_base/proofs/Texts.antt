@@ -1,4 +1,4 @@
--- Texts, the blanks at their end, and the zeros behind them.
+-- Texts, the blanks at their end, and the zeros after them.
 use Rattle.std.proofs.Common.{◌≡◌, ℕ, ◌+◌, ◌-◌, ◌≤◌, ◌<◌, Bool, true, false, List, [], ◌∷◌, ◌++◌, length, take, drop, get_or, refl, ◌∙◌, ap, subst, cond, suc, zero}
 use Rattle.std.proofs.lemmas.Bool.{ne_eqb, and_from, and_parts, le-leb, leb-true}
 use Rattle.std.proofs.lemmas.List.{take_more, drop-replicate}
@@ -52,7 +52,7 @@ pub without_end_blanks-again : (bytes : List ℕ) → without_end_blanks (withou
 without_end_blanks-again [] = refl
 without_end_blanks-again (b ∷ bs) = in_front-trimmed b (without_end_blanks bs) (without_end_blanks-again bs)
 
--- a printable byte is no zero, so a text stands before the first zero behind it
+-- a printable byte is no zero, so a text ends where the first zero is
 pub before_zero-padded : (text : List ℕ) (k : ℕ) → list_all is_text_byte text ≡ true → before_zero (text ++ replicate k 0) ≡ text
 before_zero-padded [] zero h = refl
 before_zero-padded [] (suc k) h = refl
@@ -60,7 +60,7 @@ before_zero-padded (zero ∷ bs) k h = cc
 before_zero-padded (suc b ∷ bs) k h =
     let p = and_parts (is_text_byte (suc b)) (list_all is_text_byte bs) h in ap (λ rest. suc b ∷ rest) (before_zero-padded bs k p.1)
 
--- the room that a text of these bytes is laid into
+-- a text of these bytes, with the zeros after it, fills its room
 pub is_room-of : (bytes : List ℕ) → list_all is_text_byte bytes ≡ true → length (without_end_blanks bytes) ≤ text_limit → IsRoom (padded (without_end_blanks bytes))
 is_room-of bytes h k =
     let text = without_end_blanks bytes in
@@ -71,25 +71,25 @@ is_room-of bytes h k =
       zeros = ap padded is;
     }
 
--- a text that is copied into zeros has zeros behind it
-pub laid : (bytes text copied : List ℕ) → text ≡ without_end_blanks bytes → copied ≡ text → copied ++ drop (length text) (replicate text_limit 0) ≡ padded (without_end_blanks bytes)
-laid bytes text copied is same = rw (same, is, drop-replicate {X = ℕ} (length (without_end_blanks bytes)) text_limit 0) refl
+-- a text that is copied into zeros has zeros after it
+pub placed : (bytes text copied : List ℕ) → text ≡ without_end_blanks bytes → copied ≡ text → copied ++ drop (length text) (replicate text_limit 0) ≡ padded (without_end_blanks bytes)
+placed bytes text copied is same = rw (same, is, drop-replicate {X = ℕ} (length (without_end_blanks bytes)) text_limit 0) refl
 
-pub laid-room : (bytes text copied : List ℕ) → list_all is_text_byte bytes ≡ true → text ≡ without_end_blanks bytes → length text ≤ text_limit → copied ≡ text → IsRoom (copied ++ drop (length text) (replicate text_limit 0))
-laid-room bytes text copied h is k same = rw (laid bytes text copied is same) (is_room-of bytes h (rw is at k))
+pub placed-room : (bytes text copied : List ℕ) → list_all is_text_byte bytes ≡ true → text ≡ without_end_blanks bytes → length text ≤ text_limit → copied ≡ text → IsRoom (copied ++ drop (length text) (replicate text_limit 0))
+placed-room bytes text copied h is k same = rw (placed bytes text copied is same) (is_room-of bytes h (rw is at k))
 
-pub laid-value : (bytes text copied : List ℕ) → list_all is_text_byte bytes ≡ true → text ≡ without_end_blanks bytes → length text ≤ text_limit → copied ≡ text → Some (before_zero (copied ++ drop (length text) (replicate text_limit 0))) ≡ text_of bytes
-laid-value bytes text copied h is k same =
+pub placed-value : (bytes text copied : List ℕ) → list_all is_text_byte bytes ≡ true → text ≡ without_end_blanks bytes → length text ≤ text_limit → copied ≡ text → Some (before_zero (copied ++ drop (length text) (replicate text_limit 0))) ≡ text_of bytes
+placed-value bytes text copied h is k same =
     let e = before_zero-padded (without_end_blanks bytes) (text_limit - length (without_end_blanks bytes)) (without_end_blanks-printable bytes h) in
     let small : nat_le (length (without_end_blanks bytes)) text_limit ≡ true = le-leb _ _ (rw is at k) in
-    rw (laid bytes text copied is same, e, h, small) refl
+    rw (placed bytes text copied is same, e, h, small) refl
 
--- a text stands for itself
+-- the text of a text's bytes is this text
 pub text_of-text : (text : List ℕ) → IsText text → text_of text ≡ Some text
 text_of-text text h =
     let small : nat_le (length text) text_limit ≡ true = le-leb _ _ h.short in rw (h.trimmed, h.printable, small) refl
 
--- what bytes stand for is a text
+-- the text of any bytes is a text
 pub text_of-is_text : (bytes text : List ℕ) → text_of bytes ≡ Some text → IsText text
 text_of-is_text bytes text h = by_tests (list_all is_text_byte bytes) (nat_le (length (without_end_blanks bytes)) text_limit) refl refl where
   by_tests : (p q : Bool) → list_all is_text_byte bytes ≡ p → nat_le (length (without_end_blanks bytes)) text_limit ≡ q → IsText text

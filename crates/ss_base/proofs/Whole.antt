@@ -10,7 +10,7 @@ use lib.Signed.{mag_rem}
 use Rattle.ss_base.specs.declared.fault.FaultKind.TheVariants.{Overflow, ZeroDivisor}
 use Rattle.ss_base.specs.Arithmetic.{fits_64_bits, in_64_bits, quotient_of, remainder_of}
 
--- the test of 64 bits answers as the machine's numbers do
+-- the test for 64 bits gives what the machine's numbers give
 pub fits-from : (z : ℤ) → FitsSigned w64 z → fits_64_bits z ≡ true
 fits-from (pos n) h = lt-ltb n (2 ^ 63) h.sfits
 fits-from (negsuc n) h = let k : n ≤ 9223372036854775807 = omega (arith, h.sfits) in and_from _ _ (le-leb n 9223372036854775807 k) refl
@@ -19,7 +19,7 @@ pub fits-true : (z : ℤ) → fits_64_bits z ≡ true → FitsSigned w64 z
 fits-true (pos n) h = record { sfits = ltb-true n (2 ^ 63) h }
 fits-true (negsuc n) h = let k = leb-true n 9223372036854775807 (and_parts _ _ h).0 in record { sfits = omega arith }
 
--- what a checked operation answers, as a number of 64 bits or the fault
+-- what a checked operation returns, as a number of 64 bits or the fault
 pub checked_in : (r : Option ℤ) (z : ℤ) → SomeIff r (FitsSigned w64 z) z → ok_or r Overflow ≡ in_64_bits z
 unfolding in_64_bits
 checked_in None z h = by_test (fits_64_bits z) refl where
@@ -42,7 +42,7 @@ int_eq-other y z h = by_test (int_eq y z) refl where
 pub int_eq-zero : (y : ℤ) → (of_z w64 y ≡ 0 → ⊥) → int_eq y (pos 0) ≡ false
 int_eq-zero y h = int_eq-other y (pos 0) (λ e. h (ap (of_z w64) e))
 
--- what a checked quotient answers
+-- what a checked quotient returns
 pub quotient-zero : (x y : ℤ) → FitsSigned w64 y → of_z w64 y ≡ 0 → Err ZeroDivisor ≡ quotient_of x y
 unfolding quotient_of
 quotient-zero x y f h = rw (zero_is y f h) refl

@@ -1,4 +1,4 @@
--- The arithmetic of the language: that of the whole numbers, kept to 64 bits with sign.
+-- The arithmetic of the language: that of the whole numbers, limited to 64 bits with sign.
 use Rattle.std.specs.Prelude.{◌^◌, Bool, ◌&&◌, if◌then◌else◌, ℤ, pos, ◌+ℤ◌, ◌-ℤ◌, ◌*ℤ◌, neg_ℤ, int_le, int_lt, int_div, int_rem, Result, Ok, Err}
 use Rattle.std.specs.Ordering.{int_eq}
 use Rattle.ss_base.specs.declared.fault.FaultKind.{FaultKind}

@@ -10,7 +10,7 @@ counted_inner c = c.inner
 abbrev pub counted_faults : {T : Type 0} → Counted T → ℕ
 counted_faults c = c.faults
 
--- how many of its writes answered an error
+-- how many of its writes returned an error
 abbrev pub counted_errors : {T : Type 0} → Counted T → ℕ
 counted_errors c = c.errors
 

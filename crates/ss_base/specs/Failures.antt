@@ -9,12 +9,12 @@ last_count = 2 ^ 64 - 1
 abbrev pub raised : ℕ → ℕ → ℕ
 raised count more = min (count + more) last_count
 
--- how many calls answered an error, after one more call
+-- how many calls returned an error, after one more call
 abbrev pub errors_after : {A E : Type 0} → Result A E → ℕ → ℕ
 errors_after (Ok _) count = count
 errors_after (Err _) count = raised count 1
 
--- the count after a write: one more where it answered an error or took no byte
+-- the count after a write: one more where it returned an error or took no byte
 abbrev pub count_after_write : {E : Type 0} → Result ℕ E → ℕ → ℕ
 count_after_write (Ok taken) count = if taken == 0 then raised count 1 else count
 count_after_write (Err _) count = raised count 1
@@ -24,10 +24,10 @@ abbrev pub idle_after : {E : Type 0} → Result ℕ E → ℕ → ℕ
 idle_after (Ok taken) idle = if taken == 0 then raised idle 1 else 0
 idle_after (Err _) idle = 0
 
--- a count has risen by at least so many, or stands at the last count
+-- a count has risen by at least so many, or is at the last count
 abbrev pub HasRisenBy : ℕ → ℕ → ℕ → Type 0
 HasRisenBy more old new = raised old more ≤ new
 
--- a count has risen, or stands at the last count
+-- a count has risen, or is at the last count
 abbrev pub HasRisen : ℕ → ℕ → Type 0
 HasRisen old new = HasRisenBy 1 old new

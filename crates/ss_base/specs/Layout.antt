@@ -41,12 +41,12 @@ layout_limit = 1048576
 abbrev pub is_narrow : PlainClass → Bool
 is_narrow class = nat_le (length class.fields) layout_limit
 
--- whether classes and sets may stand together: the sets name classes that are there, and there is not too much of anything
+-- whether classes and sets make a layout: the sets name classes that are there, and there is not too much of anything
 abbrev pub is_layout : PlainLayout → Bool
 is_layout layout =
     is_sound layout && (nat_le (length layout.classes) layout_limit && (nat_le (length layout.sets) layout_limit && list_all is_narrow layout.classes))
 
--- the layout of these classes and sets, if they may stand together
+-- the layout of these classes and sets, if they make one
 abbrev pub layout_of : List PlainClass → List SetLayout → Option PlainLayout
 layout_of classes sets =
     if is_layout (record { classes = classes; sets = sets })

@@ -21,8 +21,8 @@ reader_of bytes plan = record { remaining = bytes; passed = 0; progress = start 
 abbrev pub bytes_given : Reading → ℕ → Option ℕ
 bytes_given r room = bytes_passed r.progress r.passed (min room (length r.remaining))
 
--- a writer: the bytes that it took, how many it has room for in all, what goes wrong, its progress, how often it failed,
--- how many of its calls answered an error, and how many of the last in a row took no byte
+-- A writer: the bytes that it took, how many it has room for in all, what goes wrong, and its progress. It counts its
+-- failures, its calls that returned an error, and its last calls in a row that took no byte.
 pub record Writing : Type 0 where
   pub bytes : List ℕ
   pub room : ℕ
@@ -36,7 +36,7 @@ pub record Writing : Type 0 where
 abbrev pub writer_of : ℕ → Plan → Trouble → Writing
 writer_of room plan trouble = record { bytes = []; room = room; trouble = trouble; progress = start plan; faults = 0; errors = 0; idle = 0 }
 
--- what a call answers that goes wrong: an error, or that it took no byte
+-- what a call that goes wrong returns: an error, or that it took no byte
 abbrev pub answer_in : Trouble → Option ℕ → Option ℕ
 answer_in trouble (Some n) = Some n
 answer_in Error None = None

@@ -16,7 +16,7 @@ pub record IsName (bytes : List ℕ) : Type 0 where
   pub short : length bytes ≤ name_limit
   pub capitals : in_capitals bytes ≡ bytes
 
--- a name with zeros behind it, as many as fill its room
+-- a name with zeros after it, as many as fill its room
 abbrev pub padded : List ℕ → List ℕ
 padded bytes = bytes ++ replicate (name_limit - length bytes) 0
 

@@ -1,4 +1,4 @@
--- Layouts as plain data: two that say the same are equal, wherever they lie in memory.
+-- Layouts as plain data: two with the same contents are equal, wherever they lie in memory.
 use Rattle.std.specs.Prelude.{List}
 use Rattle.ss_base.specs.declared.layout.Mode.{Mode}
 use Rattle.ss_base.specs.declared.layout.ClassKind.{ClassKind}

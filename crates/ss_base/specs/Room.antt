@@ -1,4 +1,4 @@
--- How a text lies in its bytes: the text, and zeros behind it.
+-- How a text lies in its bytes: the text, and zeros after it.
 use Rattle.std.specs.Prelude.{◌≡◌, ℕ, ◌-◌, suc, zero, List, [], ◌∷◌, ◌++◌, length, replicate}
 use Rattle.ss_base.specs.Values.{text_limit, IsText}
 
@@ -8,7 +8,7 @@ before_zero [] = []
 before_zero (zero ∷ _) = []
 before_zero (suc b ∷ bs) = suc b ∷ before_zero bs
 
--- a text with zeros behind it, as many as fill its room
+-- a text with zeros after it, as many as fill its room
 abbrev pub padded : List ℕ → List ℕ
 padded text = text ++ replicate (text_limit - length text) 0
 

@@ -26,7 +26,7 @@ pub record IsText (bytes : List ℕ) : Type 0 where
   pub short : length bytes ≤ text_limit
   pub trimmed : without_end_blanks bytes ≡ bytes
 
--- the text that bytes stand for, if they stand for one
+-- the text that bytes spell, if they spell one
 abbrev pub text_of : List ℕ → Option (List ℕ)
 text_of bytes =
     if list_all is_text_byte bytes && nat_le (length (without_end_blanks bytes)) text_limit

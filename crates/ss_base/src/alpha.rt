@@ -19,7 +19,7 @@ pub const TEXT_LIMIT: usize = 16;
 #[derive(Clone, Copy)]
 pub struct Alpha {
     room: [u8; TEXT_LIMIT],
-    // Lays the bytes where those of a number begin, so that a value, which has 24 bytes, is copied in three words.
+    // Places the bytes where those of a number begin, so that a value, which has 24 bytes, is copied in three words.
     aligned: [u64; 0],
 }
 
@@ -95,7 +95,7 @@ fn trimmed(bytes: &[u8]) -> &[u8]
     &bytes[..end]
 }
 
-// How many bytes stand before the first zero.
+// How many bytes are before the first zero.
 fn used(room: &[u8]) -> usize
     ensures within { result ≤ length room.now }
     ensures value { take result room.now ≡ before_zero room.now }

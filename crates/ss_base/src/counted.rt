@@ -10,7 +10,7 @@ use std::io::{Read, Write};
 
 /// A reader or a writer of the library whose failures are counted.
 ///
-/// Each call is one call of the one inside, with the whole buffer, and answers what that answered.
+/// Each call is one call of the one inside, with the whole buffer, and returns what that call returned.
 #[derive(Debug, Drop)]
 pub struct Counted<T> {
     inner: T,
@@ -35,7 +35,7 @@ impl<T> Counted<T> {
         }
     }
 
-    /// The reader or the writer, as it stands.
+    /// The reader or the writer inside, in its present state.
     pub fn into_inner(self) -> T
         ensures { result ≡ counted_inner self }
     {

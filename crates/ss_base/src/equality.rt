@@ -1,4 +1,4 @@
-//! Layouts and the keys of ranked sets are equal where they say the same, wherever they lie in memory.
+//! Layouts and the keys of ranked sets are equal where their contents are, wherever they lie in memory.
 
 ghost use Rattle.std.specs.Ordering.{on, eq_of_both};
 ghost use Rattle.std.specs.Cmp.{on_equiv, and_equiv, partial_equiv_from_equiv};

@@ -10,7 +10,7 @@ pub trait Faulty {
     /// How often it failed.
     ghost faults: { Self → ℕ };
 
-    /// How many of its calls failed since it was made: reads and writes that answered an error, and
+    /// How many of its calls failed since it was made: reads and writes that returned an error, and
     /// writes that took no byte. The count stays at 2^64 - 1 once it is there.
     fn faults(&self) -> u64
         ensures { result ≡ faults self.now };
@@ -18,11 +18,11 @@ pub trait Faulty {
 
 /// A reader of bytes that counts its failures.
 pub trait FaultyRead: Faulty {
-    /// The bytes that its reads will give from here on, up to the end, where it tells them.
+    /// The bytes that its reads will give from here on, up to the end, if it reports them.
     ghost remaining: { Self → Option (List ℕ) } = { λ _. None };
 
-    /// Reads some bytes into the front of `buf`, and answers how many. A reader that tells its bytes
-    /// answers 0 only at their end, or where `buf` has no room. At an error it has read nothing, and
+    /// Reads some bytes into the front of `buf`, and returns how many. A reader that reports its bytes
+    /// returns 0 only at their end, or where `buf` has no room. At an error it has read nothing, and
     /// the count of failures rises.
     fn read_some(&mut self, buf: &mut [u8]) -> io::Result<usize>
         ensures bound { ReadsAtMost result buf.new }
@@ -32,21 +32,21 @@ pub trait FaultyRead: Faulty {
 
 /// A writer of bytes that counts its failures.
 pub trait FaultyWrite: Faulty {
-    /// The bytes that it took, where it tells them.
+    /// The bytes that it took, if it reports them.
     ghost contents: { Self → Option (List ℕ) } = { λ _. None };
 
-    /// How many of its writes answered an error, where it tells that.
+    /// How many of its writes returned an error, if it reports that.
     ghost errors: { Self → Option ℕ } = { λ _. None };
 
-    /// How many writes in a row took no byte up to now, where it tells that.
+    /// How many writes in a row took no byte up to now, if it reports that.
     ghost idle: { Self → Option ℕ } = { λ _. None };
 
-    /// Takes some bytes from the front of `buf`, and answers how many. After an error it took none.
+    /// Takes some bytes from the front of `buf`, and returns how many. After an error it took none.
     /// The count of failures rises at an error, and wherever it took no byte, of an empty `buf` too.
     fn write_some(&mut self, buf: &[u8]) -> io::Result<usize>
         ensures bound { WritesAtMost result buf.now }
         ensures bytes { WriteAppends (contents self.old) (contents self.new) result buf.now }
         ensures counted { Self.faults self.new ≡ count_after_write result (Self.faults self.old) }
-        ensures told { errors self.new ≡ option_map (errors_after result) (errors self.old) }
+        ensures error_count { errors self.new ≡ option_map (errors_after result) (errors self.old) }
         ensures in_a_row { idle self.new ≡ option_map (idle_after result) (idle self.old) };
 }

@@ -26,7 +26,7 @@ impl Mode {
     }
 }
 
-/// How the entities of a class come and go.
+/// How the entities of a class are created and destroyed.
 #[derive(Clone, Copy, Debug, PartialEq, Eq)]
 pub enum ClassKind {
     /// Made once, all together, and known by their index.
@@ -39,7 +39,7 @@ pub enum ClassKind {
 
 /// A class: its kind, and the mode of each of its fields, which are numbered from 0.
 ///
-/// A contract sees it as plain data: two classes that say the same are equal.
+/// A contract sees it as plain data: two classes with the same contents are equal.
 #[derive(Debug, Drop)]
 pub struct ClassLayout {
     pub kind: ClassKind,
@@ -96,7 +96,7 @@ const LAYOUT_LIMIT: usize = 1048576;
 /// The classes and the sets of a model. Both are numbered from 0. The classes that its sets name are among its own, and
 /// there are at most 1,048,576 classes, sets, and attributes of a class.
 ///
-/// A contract sees it as plain data: two layouts that say the same are equal.
+/// A contract sees it as plain data: two layouts with the same contents are equal.
 #[derive(Debug, Drop)]
 pub struct Layout {
     pub classes: Vec<ClassLayout>,
@@ -116,19 +116,19 @@ impl Model for Layout {
 }
 
 impl Layout {
-    /// The layout of these classes and sets. None where a set names a class that is not among them, or where there are more
+    /// The layout of these classes and sets. None where a set names a class that is not among them. Also none for more
     /// than 1,048,576 classes, sets, or attributes of a class.
     pub fn new(classes: Vec<ClassLayout>, sets: Vec<SetLayout>) -> Option<Layout>
         ensures { result ≡ layout_of classes.items sets.items }
     {
-        if may_stand_together(&classes, &sets) {
+        if fit_together(&classes, &sets) {
             Some(Layout { classes, sets })
         } else {
             None
         }
     }
 
-    /// What is so of every layout.
+    /// What holds of every layout.
     pub fn law(&self)
         ensures { IsTrue (is_layout self.now) }
     {
@@ -161,7 +161,7 @@ fn are_narrow(classes: &[ClassLayout]) -> bool
 }
 
 // Whether these are the classes and sets of a layout.
-fn may_stand_together(classes: &[ClassLayout], sets: &[SetLayout]) -> bool
+fn fit_together(classes: &[ClassLayout], sets: &[SetLayout]) -> bool
     ensures { result ≡ is_layout (record { classes = classes.now; sets = sets.now }) }
 {
     is_sound(classes, sets)
@@ -195,7 +195,7 @@ impl SetLayout {
     }
 }
 
-/// What a ranked set looks at in its members: a field, and whether a high value comes first.
+/// What a ranked set compares in its members: a field, and whether a high value comes first.
 #[derive(Clone, Copy, Debug, PartialEq, Eq)]
 pub struct RankKey {
     pub field: usize,
@@ -245,7 +245,7 @@ impl RankKeys {
 
 /// Where FILE puts a member.
 ///
-/// A contract sees it as plain data: two disciplines that say the same are equal.
+/// A contract sees it as plain data: two disciplines with the same contents are equal.
 #[derive(Debug, PartialEq, Eq, Drop)]
 pub enum Discipline {
     /// Last.

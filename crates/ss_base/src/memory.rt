@@ -12,7 +12,7 @@ use std::io;
 use std::io::ErrorKind;
 use std::marker::Model;
 
-/// A reader of bytes in memory that goes by a plan. A call that goes wrong answers an error.
+/// A reader of bytes in memory that goes by a plan. A call that goes wrong returns an error.
 #[derive(Debug, Drop)]
 pub struct MemoryRead {
     bytes: Vec<u8>,
@@ -89,7 +89,7 @@ impl FaultyRead for MemoryRead {
 /// What a call of a writer over memory does that goes wrong.
 #[derive(Clone, Copy, Debug, PartialEq, Eq)]
 pub enum Trouble {
-    /// It answers an error.
+    /// It returns an error.
     Error,
     /// It takes no byte.
     NoByte,
@@ -171,7 +171,7 @@ impl FaultyWrite for MemoryWrite {
         ensures bound { WritesAtMost result buf.now }
         ensures bytes { WriteAppends (Some self.old.bytes) (Some self.new.bytes) result buf.now }
         ensures counted { self.new.faults ≡ count_after_write result self.old.faults }
-        ensures told { Some self.new.errors ≡ option_map (errors_after result) (Some self.old.errors) }
+        ensures error_count { Some self.new.errors ≡ option_map (errors_after result) (Some self.old.errors) }
         ensures in_a_row { Some self.new.idle ≡ option_map (idle_after result) (Some self.old.idle) }
         ensures answer { result_ok result ≡ bytes_taken self.old (length buf.now) }
         ensures progress { self.new.progress ≡ after_call self.old.progress (length self.old.bytes) }

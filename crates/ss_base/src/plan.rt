@@ -1,6 +1,6 @@
 ghost use Rattle.std.specs.Prelude.{◌≡◌, ◌<◌, ◌≤◌, IfSome};
 
-/// What a reader or a writer over memory is told to do at its calls.
+/// What a reader or a writer over memory does at each of its calls.
 #[derive(Clone, Copy, Debug, PartialEq, Eq)]
 pub struct Plan {
     /// The most bytes that a call passes. 0 counts as 1.
@@ -75,7 +75,7 @@ impl Progress {
         }
     }
 
-    /// Notes a call that could pass so many bytes, where `passed` were passed before it. It answers
+    /// Records a call that could pass so many bytes, where `passed` were passed before it. It returns
     /// how many the call passes, or None where it goes wrong.
     pub fn next_call(&mut self, passed: usize, could: usize) -> Option<usize>
         ensures answer { result ≡ bytes_passed self.old passed could }

@@ -1,4 +1,4 @@
--- What a program that breaks no rule comes to, by what was found.
+-- The resolved form of a program that breaks no rule.
 use Rattle.std.proofs.Common.{◌≡◌, ◌≤◌, List, map, Option, Some, None, sym, ap, subst, ◌∙◌}
 use Rattle.ss_tree.specs.Nodes.{nodes as tree_nodes}
 use Rattle.ss_tree.specs.Tree.{ProgramTree}
@@ -19,12 +19,12 @@ use Rattle.ss_check_laws.specs.ProgramLaws.{KeptProgramsResolve}
 use Rattle.ss_check_laws.specs.SizeLaws.{ProgramsStaySmall}
 use Rattle.ss_check.specs.Checking.{Becomes, program_of}
 
--- what was found by local variables is what is found by what the program says of its names, whose they are
+-- resolving by the local variables is resolving by `Whole`, which has them
 pub found_with : (t : Table) (w : Whole) (locals : List Moded) (p : ProgramTree) (found : Option ProgramValue) → locals ≡ map (locals_of w) p.sections →
     view_option view_program found ≡ resolved_with_locals t locals p.sections → view_option view_program found ≡ resolved t w p.sections
 found_with t w locals p found e h = h ∙ ap (λ z. resolved_with_locals t z p.sections) e ∙ by_their_locals t w p.sections
 
--- what was found by a table and by what it says of names is what the tree says
+-- resolving by the table is resolving by the tree, of which it is the table
 found_so : (t : Table) (w : Whole) (p : ProgramTree) (found : Option Program) → t ≡ table p → w ≡ whole_of p → found ≡ resolved t w p.sections → found ≡ program_of p
 found_so t w p found e f h = h ∙ ap (λ z. resolved z w p.sections) e ∙ ap (λ z. resolved (table p) z p.sections) f
 

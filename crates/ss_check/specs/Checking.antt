@@ -10,11 +10,11 @@ use Rattle.ss_program.specs.declared.sections.Program.{Program as ProgramValue}
 use Rattle.ss_program.specs.Program.{Program}
 use Rattle.ss_program.specs.View.{view_program}
 use Rattle.ss_check_programs.specs.Resolved.{resolved}
-use Rattle.ss_tables.specs.Tables.{TellsWhat}
+use Rattle.ss_tables.specs.Tables.{ReportsIfAny}
 use Rattle.ss_check.specs.declared.error.CheckError.{CheckError}
 use Rattle.ss_check.specs.declared.error.CheckError.TheVariants as errors
 
--- the program of a tree: each name is replaced by what it stands for
+-- the program of a tree, with its names resolved
 abbrev pub program_of : ProgramTree → Option Program
 program_of p = resolved (table p) (whole_of p) p.sections
 
@@ -27,19 +27,19 @@ pub record Becomes (p : ProgramTree) (r : ProgramValue) : Type 0 where
   pub kept : refusal_of p ≡ None
   pub resolved : program_of p ≡ Some (view_program r)
 
--- the rule and the line that an error tells; none where memory was refused
-abbrev pub told_by : CheckError → Option Broken
-told_by errors.Memory = None
-told_by (errors.NoMain line) = Some (record { rule = rules.NoMain; line = line })
-told_by (errors.NoEventRoutine line) = Some (record { rule = rules.NoEventRoutine; line = line })
-told_by (errors.Mode line) = Some (record { rule = rules.Mode; line = line })
-told_by (errors.Arguments line) = Some (record { rule = rules.Arguments; line = line })
-told_by (errors.Subscript line) = Some (record { rule = rules.Subscript; line = line })
-told_by (errors.NotAssignable line) = Some (record { rule = rules.NotAssignable; line = line })
-told_by (errors.Fields line) = Some (record { rule = rules.Fields; line = line })
-told_by (errors.StartPlace line) = Some (record { rule = rules.StartPlace; line = line })
-told_by (errors.Unknown line) = Some (record { rule = rules.Unknown; line = line })
+-- the rule and the line that an error reports; none where memory was refused
+abbrev pub reported_by : CheckError → Option Broken
+reported_by errors.Memory = None
+reported_by (errors.NoMain line) = Some (record { rule = rules.NoMain; line = line })
+reported_by (errors.NoEventRoutine line) = Some (record { rule = rules.NoEventRoutine; line = line })
+reported_by (errors.Mode line) = Some (record { rule = rules.Mode; line = line })
+reported_by (errors.Arguments line) = Some (record { rule = rules.Arguments; line = line })
+reported_by (errors.Subscript line) = Some (record { rule = rules.Subscript; line = line })
+reported_by (errors.NotAssignable line) = Some (record { rule = rules.NotAssignable; line = line })
+reported_by (errors.Fields line) = Some (record { rule = rules.Fields; line = line })
+reported_by (errors.StartPlace line) = Some (record { rule = rules.StartPlace; line = line })
+reported_by (errors.Unknown line) = Some (record { rule = rules.Unknown; line = line })
 
--- the error tells the first rule that is broken, and its line, unless memory was refused
-abbrev pub Tells : CheckError → Option Broken → Type 0
-Tells e found = TellsWhat (told_by e) found
+-- the error reports the first rule that is broken, and its line, unless memory was refused
+abbrev pub Reports : CheckError → Option Broken → Type 0
+Reports e found = ReportsIfAny (reported_by e) found

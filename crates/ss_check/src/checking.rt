@@ -12,7 +12,7 @@ ghost use Rattle.ss_program.specs.Checking.{program_in};
 ghost use Rattle.ss_program.specs.Nodes.{nodes};
 ghost use Rattle.ss_program.specs.View.{view_program as program_seen};
 ghost use Rattle.ss_tables.specs.Tables.{AreTablesOf};
-ghost use Rattle.ss_check.specs.Checking.{Becomes, Tells, refusal_of};
+ghost use Rattle.ss_check.specs.Checking.{Becomes, Reports, refusal_of};
 
 use crate::error::{CheckError, error_of};
 use ss_check_laws::program_laws::kept_programs_resolve;
@@ -34,7 +34,7 @@ fn keep_rules(
 ) -> Result<Vec<Locals>, CheckError>
     ensures locals { IfOk result (λ found. found.items ≡ map (locals_of (whole_in globals.now.names globals.now.signatures.items)) (map view_section program.now.sections.items)) }
     ensures kept { OnOk result (refusal (whole_in globals.now.names globals.now.signatures.items) (view_program program.now) ≡ None) }
-    ensures refused { IfErr result (λ e. Tells e (refusal (whole_in globals.now.names globals.now.signatures.items) (view_program program.now))) }
+    ensures refused { IfErr result (λ e. Reports e (refusal (whole_in globals.now.names globals.now.signatures.items) (view_program program.now))) }
 {
     let (broken, locals) = judge(alloc, program, globals)?;
     match broken {
@@ -43,14 +43,14 @@ fn keep_rules(
     }
 }
 
-// The same, by what its names stand for.
+// The resolved program, by what is known of its names, where it breaks no rule.
 fn judged(alloc: Global, program: &Program, globals: &ProgramGlobals) -> Result<Checked, CheckError>
     requires names { globals.now.names ≡ table (view_program program.now) }
     requires whole { whole_in globals.now.names globals.now.signatures.items ≡ whole_of (view_program program.now) }
     requires declared { declared_refusal (view_program program.now) ≡ None }
     ensures checked { IfOk result (λ c. Becomes (view_program program.now) (program_in c)) }
     ensures nodes { IfOk result (λ c. nodes (program_seen (program_in c)) ≤ tree_nodes (view_program program.now)) }
-    ensures refused { IfErr result (λ e. Tells e (refusal_of (view_program program.now))) }
+    ensures refused { IfErr result (λ e. Reports e (refusal_of (view_program program.now))) }
 {
     kept_programs_resolve();
     laws_of_nodes();
@@ -61,12 +61,12 @@ fn judged(alloc: Global, program: &Program, globals: &ProgramGlobals) -> Result<
     }
 }
 
-// The same, of the tables that `check` is given, which are the program's.
+// The resolved program, by its tables, where it breaks no rule.
 fn checked(alloc: Global, program: &Program, tables: Tables) -> Result<Checked, CheckError>
     requires tables { AreTablesOf (view_program program.now) tables }
     ensures checked { IfOk result (λ c. Becomes (view_program program.now) (program_in c)) }
     ensures nodes { IfOk result (λ c. nodes (program_seen (program_in c)) ≤ tree_nodes (view_program program.now)) }
-    ensures refused { IfErr result (λ e. Tells e (refusal_of (view_program program.now))) }
+    ensures refused { IfErr result (λ e. Reports e (refusal_of (view_program program.now))) }
 {
     let globals = ProgramGlobals::of(alloc, program, tables.into_names())?;
     let result = judged(alloc, program, &globals);
@@ -74,10 +74,10 @@ fn checked(alloc: Global, program: &Program, tables: Tables) -> Result<Checked, 
     result
 }
 
-/// The program with each name replaced by what it stands for, where it breaks no rule on what it does with
+/// The program with its names resolved, where it breaks no rule on what it does with
 /// its names and values, the refusals 71 to 79. The tables are those of the program.
 ///
-/// What comes is well typed, and has no more nodes than the tree.
+/// The result is well typed, and has no more nodes than the tree.
 ///
 /// # Errors
 /// The first rule that the program breaks, in the order 71, 72, 78, 79, 75, 76, 74, 73, 77, with the line of
@@ -86,7 +86,7 @@ pub fn check(alloc: Global, program: Program, tables: Tables) -> Result<Checked,
     requires tables { AreTablesOf (view_program program) tables }
     ensures checked { IfOk result (λ c. Becomes (view_program program) (program_in c)) }
     ensures nodes { IfOk result (λ c. nodes (program_seen (program_in c)) ≤ tree_nodes (view_program program)) }
-    ensures refused { IfErr result (λ e. Tells e (refusal_of (view_program program))) }
+    ensures refused { IfErr result (λ e. Reports e (refusal_of (view_program program))) }
 {
     let result = checked(alloc, &program, tables);
     release_tree(program);

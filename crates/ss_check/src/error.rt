@@ -2,7 +2,7 @@
 
 ghost use Rattle.std.specs.Prelude.{◌≡◌, Some};
 ghost use Rattle.ss_check.specs.declared.error.CheckError.TheVariants.{Memory};
-ghost use Rattle.ss_check.specs.Checking.{Tells};
+ghost use Rattle.ss_check.specs.Checking.{Reports};
 
 use ss_base::Line;
 use ss_check_rules::{Broken, Rule};
@@ -19,13 +19,13 @@ pub enum CheckError {
     /// A class of notices has no EVENT section.
     #[error("line {}: no event routine", .0.0)]
     NoEventRoutine(Line),
-    /// A text stands where a number has to be, or two modes are joined.
+    /// A text is where a number has to be, or two modes are joined.
     #[error("line {}: mode", .0.0)]
     Mode(Line),
     /// Other counts of arguments than are taken.
     #[error("line {}: number of arguments", .0.0)]
     Arguments(Line),
-    /// A subscript where none may stand, or none where one has to, or more than one.
+    /// A subscript where none may be, or none where one has to be, or more than one.
     #[error("line {}: subscript", .0.0)]
     Subscript(Line),
     /// A target to which nothing can be assigned.
@@ -55,7 +55,7 @@ impl From<AllocError> for CheckError {
 
 // The error of a program that breaks this rule first.
 pub(crate) fn error_of(broken: Broken) -> CheckError
-    ensures { Tells result (Some broken) }
+    ensures { Reports result (Some broken) }
 {
     match broken.rule {
         Rule::NoMain => CheckError::NoMain(broken.line),

@@ -1,4 +1,4 @@
-//! Programs that break no rule, with each name replaced by what it stands for.
+//! Programs that break no rule, with their names resolved.
 #![tactic(auto)]
 
 mod checking;

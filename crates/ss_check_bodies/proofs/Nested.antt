@@ -112,7 +112,7 @@ find_if_around c t line x o a b p q is h =
     let f = both_found (statements c (statement_row (map view_statement a.items))) (statements c (statement_row (map view_statement b.items))) (λ x1 x2. find_by o line c (view_head x) x1 x2) p q (subst (λ z. inner c z ≡ Some (p, q)) e h) in
     sym (ap (statement c) e ∙ f)
 
--- a PRINT, by what stands in its vectors
+-- a PRINT, by the items of its vectors
 pub print_is : (t : Parsed) (line : Line) (v : Vec ExpressionParsed) (ps : Vec (List ℕ)) (es : List ExpressionParsed) (qs : List (List ℕ)) →
     t ≡ parsed.Print line v ps → es ≡ v.items → qs ≡ ps.items → print_statement line (map view_expression es) qs ≡ view_statement t
 unfolding view_statement

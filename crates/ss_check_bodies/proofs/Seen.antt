@@ -1,4 +1,4 @@
--- What calls answer, seen by a view.
+-- Answers of calls, seen through a view.
 use Rattle.std.proofs.Common.{◌≡◌, Bool, true, false, Option, Some, None, Result, Ok, Err, refl, ap, subst}
 use Rattle.ss_program.specs.Program.{Expression}
 use Rattle.ss_names_meaning.specs.declared.error.ResolveError.{ResolveError}
@@ -28,9 +28,9 @@ pub where_seen : {A B : Type 0} (view : A → B) (b : Bool) (x : A) (r : Result 
 where_seen view true x r h = seen view r (Some x) h
 where_seen view false x r h = seen view r None h
 
--- ---- one beside the other
+-- ---- pairs
 
--- what was made first is what stands in the pair
+-- what was made first is the first of the pair
 pub first_made : {A X : Type 0} (v : A → X) (found : Option X) (a p : A) → found ≡ Some (v a) → p ≡ a → found ≡ Some (v p)
 first_made v found a p h e = rw (h, e) refl
 

@@ -1,4 +1,4 @@
--- Expressions whose parts stand in a row, by lists.
+-- Expressions whose parts lie in rows, by lists.
 use Rattle.std.proofs.Common.{◌≡◌, ℕ, zero, suc, ◌+◌, ◌<◌, ◌≤◌, List, [], ◌∷◌, ◌++◌, length, get_or, take, map, Option, Some, None, refl, sym, ap, subst, ◌∙◌, arith}
 use Rattle.std.specs.List.{fold}
 use Rattle.std.proofs.lemmas.List.{take_more, map-append}
@@ -27,7 +27,7 @@ use Rattle.ss_names_meaning.specs.Contexts.{Context}
 use Rattle.ss_names_meaning.specs.Expressions.{operator_of, expression, subscript, one, two, factors, terms}
 use Rattle.ss_names_meaning.proofs.Steps.{fails_then, none_after, some_after}
 
--- ---- what stands in a vector
+-- ---- the items of a vector
 
 pub named_is : (t : Parsed) (p : Named) (es : List Parsed) → t ≡ variants.Named p → es ≡ p.subscripts.items →
     named p.designator (expression_row (map view_expression es)) ≡ view_expression t

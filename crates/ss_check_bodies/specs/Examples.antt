@@ -49,13 +49,13 @@ use Rattle.ss_names_meaning.specs.Statements.{statement, statements}
 -- ROUTINE SHOW GIVEN JOB
 -- END
 
-abbrev told : {V : Type 0} → List (NameBytes × V) → NameBytes → Option V
-told entries name = lookup (pointwise nat_eq name) entries
+abbrev by_name : {V : Type 0} → List (NameBytes × V) → NameBytes → Option V
+by_name entries name = lookup (pointwise nat_eq name) entries
 
 -- what its names mean as values or targets in a section in which JOB means this variable; MACHINE, N.MACHINE, JOB and
 -- BELL are the global variables 0 to 3
 abbrev meaning_where : Variable → Designator → Option Meaning
-meaning_where job (Name name) = told (
+meaning_where job (Name name) = by_name (
     (codes "MACHINE", meanings.Variable (Global 0) (Some Integer)) ∷ (codes "N.MACHINE", meanings.Count (record { class = 0; variable = 1 })) ∷
     (codes "JOB", meanings.Variable job (Some Integer)) ∷ (codes "RANK", meanings.Attribute 1 0 (Some Integer) job) ∷
     (codes "N.QUEUE", meanings.OfSet MemberCount 0 (Global 0)) ∷ (codes "N.POOL", meanings.OfSystemSet MemberCount 1) ∷
@@ -65,7 +65,7 @@ meaning_where job TimeV = Some meanings.Clock
 meaning_where job TimeA = Some meanings.NoticeTime
 
 abbrev set_meant : Designator → Option SetMeant
-set_meant (Name name) = told ((codes "QUEUE", OfEntity 0 (Global 0)) ∷ (codes "POOL", OfSystem 1) ∷ []) name
+set_meant (Name name) = by_name ((codes "QUEUE", OfEntity 0 (Global 0)) ∷ (codes "POOL", OfSystem 1) ∷ []) name
 set_meant TimeV = None
 set_meant TimeA = None
 
@@ -73,12 +73,12 @@ abbrev class_with : ℕ → ClassKind → ℕ → Variable → Option ℕ → Cl
 class_with class kind attributes variable count = record { class = class; kind = kind; attributes = attributes; variable = variable; count = count }
 
 abbrev class_where : Variable → NameBytes → Option ClassMeant
-class_where job name = told (
+class_where job name = by_name (
     (codes "MACHINE", class_with 0 Permanent 0 (Global 0) (Some 1)) ∷ (codes "JOB", class_with 1 Temporary 1 job None) ∷
     (codes "BELL", class_with 2 Notice 1 (Global 3) None) ∷ []) name
 
 abbrev statistic_meant : Designator → Option ℕ
-statistic_meant (Name name) = told ((codes "N.POOL", 0) ∷ (codes "RANK", 1) ∷ []) name
+statistic_meant (Name name) = by_name ((codes "N.POOL", 0) ∷ (codes "RANK", 1) ∷ []) name
 statistic_meant TimeV = None
 statistic_meant TimeA = None
 
@@ -87,7 +87,7 @@ where_job_is job = record {
   meaning = meaning_where job;
   set = set_meant;
   class = class_where job;
-  routine = told ((codes "SHOW", record { routine = 0; given = 1; yielding = 0 }) ∷ []);
+  routine = by_name ((codes "SHOW", record { routine = 0; given = 1; yielding = 0 }) ∷ []);
   statistic = statistic_meant;
 }
 
@@ -147,7 +147,7 @@ pub system_subscript : expression in_main (with_subscript (Name (codes "N.POOL")
 unfolding expression subscript
 system_subscript = refl
 
--- S.POOL is told of the JOB in the variable JOB
+-- S.POOL is that of the JOB in the variable JOB
 pub member_implied : expression in_main (plain_name (codes "S.POOL")) ≡ Some (OfMember Successor 1 (Fetch (Global 2)))
 unfolding expression subscript
 member_implied = refl
@@ -199,7 +199,7 @@ pub mean_in_parentheses : item in_main (parenthesised (parenthesised (plain_name
 unfolding expression subscript
 mean_in_parentheses = refl
 
--- .. and takes no subscript
+-- LEVEL takes no subscript
 pub mean_subscript : item in_main (with_subscript (Name (codes "LEVEL")) (number (pos 1))) ≡ None
 unfolding expression subscript
 mean_subscript = refl

@@ -1,4 +1,4 @@
-//! Statements with each name replaced by what it stands for.
+//! Statements with their names resolved.
 
 ghost use Rattle.std.specs.Prelude.{◌≡◌, map, Some};
 ghost use Rattle.ss_tree.specs.View.{view_condition, view_statement};
@@ -27,7 +27,7 @@ use ss_tree::condition::Condition;
 use ss_tree::statement::Statement;
 use std::alloc::Global;
 
-// The resolved bodies in a statement: of a loop one, of an IF and of the IF behind a FIND two, and none of
+// The resolved bodies in a statement: of a loop one, of an IF and of the IF after a FIND two, and none of
 // another statement.
 #[derive(Drop)]
 struct Bodies {

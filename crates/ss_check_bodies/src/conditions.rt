@@ -1,4 +1,4 @@
-//! Conditions in which each name is replaced by what it stands for.
+//! Conditions with their names resolved.
 
 ghost use Rattle.std.specs.Prelude.{◌≡◌, map};
 ghost use Rattle.ss_tree.specs.View.{view_condition, view_conjunction, view_test};

@@ -1,4 +1,4 @@
-//! Statements on entities and sets with each name replaced by what it stands for.
+//! Statements on entities and sets with their names resolved.
 
 ghost use Rattle.std.specs.Prelude.{◌≡◌, map};
 ghost use Rattle.ss_tree.specs.View.{view_expression, view_named, view_option, view_position};

@@ -1,4 +1,4 @@
-//! Expressions in which each name is replaced by what it stands for.
+//! Expressions with their names resolved.
 
 ghost use Rattle.std.specs.Prelude.{◌≡◌, map, Some, None};
 ghost use Rattle.std.specs.List.{fold};
@@ -21,7 +21,7 @@ use std::alloc::Global;
 
 // ---- what is named
 
-// The entity that is meant: the one in the subscript, or else the one in the variable that is implied.
+// The entity that a name is of: the one in the subscript, or else the one in the implied variable.
 #[tactic(auto, unfolding(ss_program::specs::View::view_expression))]
 pub(crate) fn entity_of(implied: Variable, subscript: Option<Resolved>) -> Resolved
     ensures { view_resolved result ≡ entity_of implied (view_option view_resolved subscript) }
@@ -124,7 +124,7 @@ pub(crate) fn value_of(
 
 // ---- expressions
 
-// The expression with each name replaced by what it stands for.
+// The expression with its names resolved.
 #[cycle(resolving)]
 #[tactic(auto, unfolding(ss_tree::specs::View::view_expression, ss_program::specs::View::view_expression, ss_names_meaning::specs::Expressions::expression))]
 pub(crate) fn resolve_expression<S: Scope>(

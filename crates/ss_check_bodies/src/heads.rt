@@ -1,4 +1,4 @@
-//! Heads of loops in which each name is replaced by what it stands for.
+//! Heads of loops with their names resolved.
 
 ghost use Rattle.std.specs.Prelude.{◌≡◌, map};
 ghost use Rattle.ss_tree.specs.View.{view_expression, view_guard, view_head, view_option, view_phrase, view_start};
@@ -128,7 +128,7 @@ fn loop_variable<S: Scope>(scope: &S, name: Name) -> Result<Variable, ResolveErr
     if_variable(meaning)
 }
 
-// The variable behind CALLED, or else that of the class.
+// The variable after CALLED, or else that of the class.
 fn called_variable<S: Scope>(
     scope: &S,
     implied: Variable,

@@ -1,4 +1,4 @@
-//! Items of PRINT in which each name is replaced by what it stands for.
+//! Items of PRINT with their names resolved.
 
 ghost use Rattle.std.specs.Prelude.{◌≡◌, map, option_map};
 ghost use Rattle.ss_tree.specs.Tree.{expression_row, named};

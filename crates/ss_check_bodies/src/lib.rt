@@ -1,4 +1,4 @@
-//! Each name of a program replaced by what it stands for.
+//! The statements of a section with their names resolved.
 #![tactic(auto)]
 
 mod bodies;

@@ -1,4 +1,4 @@
-//! Lists of expressions in which each name is replaced by what it stands for.
+//! Lists of expressions with their names resolved.
 
 ghost use Rattle.std.specs.Prelude.{◌≡◌, map};
 ghost use Rattle.ss_tree.specs.View.{view_expression};

@@ -88,7 +88,7 @@ pub(crate) fn resolve_find<S: Scope>(
     })
 }
 
-/// The same, with what stands behind it for this outcome first.
+/// FIND THE FIRST CASE, with what follows for this outcome first.
 pub(crate) fn resolve_find_by<S: Scope>(
     alloc: Global,
     scope: &S,

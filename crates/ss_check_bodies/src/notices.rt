@@ -1,4 +1,4 @@
-//! Statements on notices and statistics with each name replaced by what it stands for.
+//! Statements on notices and statistics with their names resolved.
 
 ghost use Rattle.std.specs.Prelude.{◌≡◌, map};
 ghost use Rattle.ss_tree.specs.View.{view_expression, view_named, view_option, view_when};
@@ -65,7 +65,7 @@ fn new_notice(
     )
 }
 
-// A notice that is there, where its class has as many attributes as are given at least.
+// A notice that is there already, where its class has as many attributes as are given at least.
 #[tactic(auto, unfolding(ss_program::specs::View::view_statement), using(crate::proofs::Seen::where_seen))]
 fn old_notice(
     line: Line,

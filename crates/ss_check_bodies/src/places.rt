@@ -1,4 +1,4 @@
-//! Targets and sets in which each name is replaced by what it stands for.
+//! Targets and sets with their names resolved.
 
 ghost use Rattle.std.specs.Prelude.{◌≡◌, map, Some, None};
 ghost use Rattle.ss_tree.specs.View.{view_expression, view_named, view_option};
@@ -75,7 +75,7 @@ pub(crate) fn resolve_targets<S: Scope>(
     Ok(resolved)
 }
 
-// The mode of what a target is.
+// The mode of a target.
 fn mode_of(meaning: Meaning) -> Result<Mode, ResolveError>
     ensures { Gives (λ x. x) result (mode_of meaning) }
 {
@@ -122,7 +122,7 @@ pub(crate) fn resolve_readers<S: Scope>(
     Ok(resolved)
 }
 
-/// What takes the number of a new entity: the target behind CALLED, or else the variable of the class.
+/// What takes the number of a new entity: the target after CALLED, or else the variable of the class.
 pub(crate) fn resolve_new_place<S: Scope>(
     alloc: Global,
     scope: &S,
@@ -137,7 +137,7 @@ pub(crate) fn resolve_new_place<S: Scope>(
     }
 }
 
-/// The entity behind CALLED, or else the one in the variable of the class.
+/// The entity after CALLED, or else the one in the variable of the class.
 #[tactic(auto, unfolding(ss_program::specs::View::view_expression))]
 pub(crate) fn resolve_entity_called<S: Scope>(
     alloc: Global,
@@ -155,7 +155,7 @@ pub(crate) fn resolve_entity_called<S: Scope>(
 
 // ---- sets
 
-// The number of a set, and whose it is.
+// The number of a set, and its owner.
 #[tactic(auto, using(crate::proofs::Seen::plain_seen))]
 fn owned_by(set: SetMeant, subscript: Option<Resolved>) -> Result<(usize, SetOwner), ResolveError>
     ensures { Gives (λ p. (p.0, view_owner p.1)) result (owned_by set (option_seen view_resolved subscript)) }
@@ -169,7 +169,7 @@ fn owned_by(set: SetMeant, subscript: Option<Resolved>) -> Result<(usize, SetOwn
     }
 }
 
-/// The number of the set that is named, and whose it is.
+/// The number of the set that is named, and its owner.
 pub(crate) fn resolve_set<S: Scope>(
     alloc: Global,
     scope: &S,
@@ -184,7 +184,7 @@ pub(crate) fn resolve_set<S: Scope>(
 
 // ---- statistics
 
-// Whose statistic of what is named starts afresh.
+// The entity whose statistic starts afresh; None where the statistic is of no entity.
 #[tactic(auto, using(crate::proofs::Seen::plain_seen))]
 fn told_of(meaning: Meaning, subscript: Option<Resolved>) -> Result<Option<Resolved>, ResolveError>
     ensures { Gives (option_seen view_resolved) result (told_of meaning (option_seen view_resolved subscript)) }

@@ -31,7 +31,7 @@ pub(crate) fn where_holds<T: Drop>(holds: bool, value: T) -> Result<T, ResolveEr
     }
 }
 
-/// That there is no resolved form, though something was made on the way, which goes.
+/// The error that there is no resolved form. It drops what was made before.
 pub(crate) fn unresolved<T: Drop>(_made: T) -> ResolveError
     ensures { result ≡ Unresolved }
 {

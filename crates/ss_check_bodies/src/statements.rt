@@ -1,4 +1,4 @@
-//! LET, ADD, SUBTRACT, CALL, READ, PRINT and SKIP with each name replaced by what it stands for.
+//! LET, ADD, SUBTRACT, CALL, READ, PRINT and SKIP with their names resolved.
 
 ghost use Rattle.std.specs.Prelude.{◌≡◌, map, IfOk};
 ghost use Rattle.ss_tree.specs.View.{view_expression, view_named};

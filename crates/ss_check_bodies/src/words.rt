@@ -1,4 +1,4 @@
-//! Words that stand for themselves.
+//! Words whose meaning no name changes: relations, operators, signs and ends.
 
 ghost use Rattle.std.specs.Prelude.{◌≡◌};
 ghost use Rattle.ss_names_meaning.specs.Conditions.{relation_of};

@@ -74,7 +74,7 @@ module _ (w : Whole) (locals : Moded) (c : Context) (s : Scope) (linked : Linked
       let d2 = dr w locals s (demanded.in_places (handed w locals c s linked line by) 0 given) (demanded.in_places (taken w locals c s linked line out) 0 yielding) d.1.1 in
       let known = known_of (w.meanings name) is_routine m.0.0 in
       let meant = linked.routine name (known.1 ∙ ap Some (known_routine known.0 known.2)) in
-      let stands = meant.0 in
+      let referent = meant.0 in
       let r = meant.2 in
       let given_count : length given ≡ length r.resolved.given = counted (length given) (w.given name) r.resolved.given r.given_known d.0.1 in
       let yielding_count : length yielding ≡ length r.resolved.yielding = counted (length yielding) (w.yielding name) r.resolved.yielding r.yielding_known d.1.0.1 in
@@ -82,11 +82,11 @@ module _ (w : Whole) (locals : Moded) (c : Context) (s : Scope) (linked : Linked
       let few_out : length yielding ≤ length r.resolved.yielding = omega (arith, yielding_count) in
       let xs = values_placed w locals c s linked line by given r.resolved.given (from_first (w.given name) r.resolved.given r.given_known) few m1 d1 in
       let ys = targets_placed w locals c s linked line out yielding r.resolved.yielding (from_first (w.yielding name) r.resolved.yielding r.yielding_known) few_out m2 d2 in
-      let made : Statement = Call line stands.routine xs.0 ys.0 in
-      let found : call_of line stands xs.0 ys.0 ≡ Some made =
-      holds ((length xs.0 == stands.given) && (length ys.0 == stands.yielding)) made
-      (both_same (length xs.0) (length ys.0) stands.given stands.yielding (xs.2 ∙ given_count ∙ sym r.given_counted) (ys.2 ∙ yielding_count ∙ sym r.yielding_counted)) in (
+      let made : Statement = Call line referent.routine xs.0 ys.0 in
+      let found : call_of line referent xs.0 ys.0 ≡ Some made =
+      holds ((length xs.0 == referent.given) && (length ys.0 == referent.yielding)) made
+      (both_same (length xs.0) (length ys.0) referent.given referent.yielding (xs.2 ∙ given_count ∙ sym r.given_counted) (ys.2 ∙ yielding_count ∙ sym r.yielding_counted)) in (
         made,
-        three_steps (c.routine name) (each (expression c) given) (each (target c) yielding) (λ k u v. call_of line k u v) stands xs.0 ys.0 made meant.1 xs.1 ys.1 found,
+        three_steps (c.routine name) (each (expression c) given) (each (target c) yielding) (λ k u v. call_of line k u v) referent xs.0 ys.0 made meant.1 xs.1 ys.1 found,
         (r.resolved, r.there, all_placed (HasMode s) xs.0 (length given) r.resolved.given given_count xs.3, all_placed (TakesMode s) ys.0 (length yielding) r.resolved.yielding yielding_count ys.3),
       )

@@ -51,47 +51,47 @@ known_notice _ h = absurd cc
 module _ (w : Whole) (locals : Moded) (c : Context) (s : Scope) (linked : Linked w locals c s) (line : Line) where
   -- a class of such a kind
   abbrev IsSingle : NameBytes → Type 0
-  IsSingle name = (stands : ClassMeant) × (kind : ClassWord) × (single_class c name ≡ Some stands) × IsClass w locals s name kind stands × (comes_alone (kind_of s.program stands.class) ≡ true)
+  IsSingle name = (referent : ClassMeant) × (kind : ClassWord) × (single_class c name ≡ Some referent) × IsClass w locals s name kind referent × (comes_alone (kind_of s.program referent.class) ≡ true)
 
   single_there : (name : NameBytes) (known : Known) → w.meanings name ≡ Some known → is_transient known ≡ true → IsSingle name
   single_there name known e h =
       let k = known_single known h in
       let meant = linked.class name k.0 (e ∙ ap Some k.1) in
-      let stands = meant.0 in
-      let chosen : if_single stands stands.kind ≡ Some stands = ap (if_single stands) meant.2.kind_meant ∙ k.2.1 stands in (
-        stands,
+      let referent = meant.0 in
+      let chosen : if_single referent referent.kind ≡ Some referent = ap (if_single referent) meant.2.kind_meant ∙ k.2.1 referent in (
+        referent,
         k.0,
-        step (c.class name) (λ u. if_single u u.kind) stands stands meant.1 chosen,
+        step (c.class name) (λ u. if_single u u.kind) referent referent meant.1 chosen,
         meant.2,
         ap comes_alone meant.2.kind_there ∙ k.2.0,
       )
 
   -- a class of notices
   abbrev pub IsNotice : NameBytes → Type 0
-  IsNotice name = (stands : ClassMeant) × (notice_class c name ≡ Some stands) × IsClass w locals s name class_words.EventNotice stands
+  IsNotice name = (referent : ClassMeant) × (notice_class c name ≡ Some referent) × IsClass w locals s name class_words.EventNotice referent
 
   pub notice_there : (name : NameBytes) (known : Known) → w.meanings name ≡ Some known → is_notice known ≡ true → IsNotice name
   notice_there name known e h =
       let meant = linked.class name class_words.EventNotice (e ∙ ap Some (known_notice known h)) in
-      let stands = meant.0 in
-      let chosen : if_notice stands stands.kind ≡ Some stands = ap (if_notice stands) meant.2.kind_meant in
-      (stands, step (c.class name) (λ u. if_notice u u.kind) stands stands meant.1 chosen, meant.2)
+      let referent = meant.0 in
+      let chosen : if_notice referent referent.kind ≡ Some referent = ap (if_notice referent) meant.2.kind_meant in
+      (referent, step (c.class name) (λ u. if_notice u u.kind) referent referent meant.1 chosen, meant.2)
 
-  -- ---- what stands behind CALLED
+  -- ---- what follows CALLED
 
-  pub new_resolves : (name : NameBytes) (kind : ClassWord) (stands : ClassMeant) → IsClass w locals s name kind stands → (called : Option NamedTree) →
+  pub new_resolves : (name : NameBytes) (kind : ClassWord) (referent : ClassMeant) → IsClass w locals s name kind referent → (called : Option NamedTree) →
       KeptMentions w locals (mentioned.in_option (mentioned.in_named line roles.Target) called) → KeptDemands w locals (demanded.in_new line name called) →
-      GoesWell w locals (λ x. TakesMode s x modes.Integer) (new_place c stands.variable called)
-  new_resolves name kind stands k None m d = (ToVariable stands.variable, refl, class_takes w locals c s linked line name kind stands k d.0)
-  new_resolves name kind stands k (Some n) m d = number_target w locals c s linked line n m d
+      GoesWell w locals (λ x. TakesMode s x modes.Integer) (new_place c referent.variable called)
+  new_resolves name kind referent k None m d = (ToVariable referent.variable, refl, class_takes w locals c s linked line name kind referent k d.0)
+  new_resolves name kind referent k (Some n) m d = number_target w locals c s linked line n m d
 
-  pub old_resolves : (name : NameBytes) (kind : ClassWord) (stands : ClassMeant) → IsClass w locals s name kind stands → (called : Option ExpressionTree) →
+  pub old_resolves : (name : NameBytes) (kind : ClassWord) (referent : ClassMeant) → IsClass w locals s name kind referent → (called : Option ExpressionTree) →
       KeptMentions w locals (mentioned.in_option (mentioned.in_expression line) called) → KeptDemands w locals (demanded.in_old line name called) →
-      GoesWell w locals (λ x. HasMode s x modes.Integer) (entity_called c stands.variable called)
-  old_resolves name kind stands k None m d =
-      let takes : TakesMode s (ToVariable stands.variable) modes.Integer = class_takes w locals c s linked line name kind stands k d.0 in
-      (Fetch stands.variable, refl, takes.0)
-  old_resolves name kind stands k (Some e) m d = number_kept w locals c s linked line e m d
+      GoesWell w locals (λ x. HasMode s x modes.Integer) (entity_called c referent.variable called)
+  old_resolves name kind referent k None m d =
+      let takes : TakesMode s (ToVariable referent.variable) modes.Integer = class_takes w locals c s linked line name kind referent k d.0 in
+      (Fetch referent.variable, refl, takes.0)
+  old_resolves name kind referent k (Some e) m d = number_kept w locals c s linked line e m d
 
   -- ---- statements
 
@@ -143,13 +143,13 @@ module _ (w : Whole) (locals : Moded) (c : Context) (s : Scope) (linked : Linked
   counted_there name m =
       let known = known_of (w.meanings name) is_permanent m.0 in
       let class = linked.class name class_words.Permanent (known.1 ∙ ap Some (known_permanent known.0 known.2)) in
-      let stands = class.0 in
-      let found : permanent_class c name ≡ Some stands = step (c.class name) (λ k. if_permanent k k.kind) stands stands class.1 (permanent_is stands stands.kind class.2.kind_meant) in
+      let referent = class.0 in
+      let found : permanent_class c name ≡ Some referent = step (c.class name) (λ k. if_permanent k k.kind) referent referent class.1 (permanent_is referent referent.kind class.2.kind_meant) in
       let count = class.2.count_there in
-      let made : Counted = count_of stands count.0 in (
+      let made : Counted = count_of referent count.0 in (
         made,
-        step (permanent_class c name) (λ k. k.count >>= λ v. Some (count_of k v)) stands made found
-            (step stands.count (λ v. Some (count_of stands v)) count.0 made count.1 refl),
+        step (permanent_class c name) (λ k. k.count >>= λ v. Some (count_of k v)) referent made found
+            (step referent.count (λ v. Some (count_of referent v)) count.0 made count.1 refl),
         count.2,
       )
 

@@ -60,7 +60,7 @@ fresh_first (x ∷ xs) = (refl, fresh_first xs)
 pub distinct_entered : (xs : Moded) → AreDistinct (keys_of xs) → firsts xs ≡ xs
 distinct_entered xs d = entered_all [] xs (fresh_first xs) d
 
--- ---- what stands first stays first
+-- ---- what is first stays first
 
 beside : (es : Moded) (e : NameBytes × Option Mode) (known : Option (Option Mode)) → (more : Moded) × (entry_beside es e known ≡ es ++ more)
 beside es e None = (e ∷ [], refl)

@@ -14,7 +14,7 @@ use Rattle.ss_names_meaning.specs.declared.meaning.SetMeant.{SetMeant}
 use Rattle.ss_names_meaning.specs.declared.meaning.SetMeant.TheVariants.{OfSystem, OfEntity}
 use Rattle.ss_names_meaning.specs.Contexts.{Context}
 use Rattle.ss_names_meaning.specs.Expressions.{entity_of, value_of, item_of, place_of, owned_by, operator_of, expression, subscript, one, two, factors, terms, item, target, set_named}
-use Rattle.ss_check_laws.proofs.Within.{Within, up, after, behind, plain_small}
+use Rattle.ss_check_laws.proofs.Within.{Within, up, after, after_lookup, plain_small}
 
 plain_less : (e : Expression) (n : ℕ) → unless_plain e n ≤ n
 plain_less (Fetch x) n = omega arith
@@ -80,7 +80,7 @@ module _ (c : Context) where
     small (text t) = omega arith
     small (named d es) =
         after (option_nodes expression_nodes) expression_nodes (tree.row_nodes es) (1 + tree.row_nodes es) (subscript c es) _ (subscript_small es) (λ x lt.
-        behind expression_nodes (1 + tree.row_nodes es) (c.meaning d) _ (λ m. value_small m x (tree.row_nodes es) lt))
+        after_lookup expression_nodes (1 + tree.row_nodes es) (c.meaning d) _ (λ m. value_small m x (tree.row_nodes es) lt))
     small (call Abs es) = after expression_nodes expression_nodes (tree.row_nodes es) (1 + tree.row_nodes es) (one c es) _ (one_small es) (λ x lt. omega (arith, lt))
     small (call Div es) = after pair_nodes expression_nodes (tree.row_nodes es) (1 + tree.row_nodes es) (two c es) _ (two_small es) (λ p lt. omega (arith, lt))
     small (call Mod es) = after pair_nodes expression_nodes (tree.row_nodes es) (1 + tree.row_nodes es) (two c es) _ (two_small es) (λ p lt. omega (arith, lt))
@@ -132,15 +132,15 @@ module _ (c : Context) where
   item_small (parenthesised e) = item_small e
   item_small (named d es) =
       after (option_nodes expression_nodes) item_nodes (tree.row_nodes es) (1 + tree.row_nodes es) (subscript c es) _ (subscript_small es) (λ x lt.
-      behind item_nodes (1 + tree.row_nodes es) (c.meaning d) _ (λ m. named_item_small m x (tree.row_nodes es) lt))
+      after_lookup item_nodes (1 + tree.row_nodes es) (c.meaning d) _ (λ m. named_item_small m x (tree.row_nodes es) lt))
   item_small e = shown_small (tree.expression_nodes e) (expression c e) (small e)
 
   pub target_small : (n : NamedTree) → Within place_nodes (tree.named_nodes n) (target c n)
   target_small n =
       after (option_nodes expression_nodes) place_nodes (tree.row_nodes n.subscripts) (tree.named_nodes n) (subscript c n.subscripts) _ (subscript_small n.subscripts) (λ x lt.
-      behind place_nodes (tree.named_nodes n) (c.meaning n.designator) _ (λ m. place_small m x (tree.row_nodes n.subscripts) lt))
+      after_lookup place_nodes (tree.named_nodes n) (c.meaning n.designator) _ (λ m. place_small m x (tree.row_nodes n.subscripts) lt))
 
   pub set_small : (n : NamedTree) → Within (λ (p : ℕ × SetOwner). set_nodes p.1) (tree.named_nodes n) (set_named c n)
   set_small n =
       after (option_nodes expression_nodes) (λ (p : ℕ × SetOwner). set_nodes p.1) (tree.row_nodes n.subscripts) (tree.named_nodes n) (subscript c n.subscripts) _ (subscript_small n.subscripts) (λ x lt.
-      behind (λ (p : ℕ × SetOwner). set_nodes p.1) (tree.named_nodes n) (c.set n.designator) _ (λ s. owner_small s x (tree.row_nodes n.subscripts) lt))
+      after_lookup (λ (p : ℕ × SetOwner). set_nodes p.1) (tree.named_nodes n) (c.set n.designator) _ (λ s. owner_small s x (tree.row_nodes n.subscripts) lt))

@@ -164,11 +164,11 @@ module _ (w : Whole) (locals : Moded) (c : Context) (s : Scope) where
         NamedValue (Name name) es
     unfolding expression
     name_resolves name es e known h k v f i =
-        let stands = linked.value name known k v in
-        let r = known_value w locals s known stands.0 e stands.2 f i in (
+        let referent = linked.value name known k v in
+        let r = known_value w locals s known referent.0 e referent.2 f i in (
           r.2.0,
           r.0,
-          two_steps (subscript c es) (c.meaning (Name name)) (λ y m. value_of m y) e stands.0 r.2.0 h stands.1 r.2.1,
+          two_steps (subscript c es) (c.meaning (Name name)) (λ y m. value_of m y) e referent.0 r.2.0 h referent.1 r.2.1,
           ap known_mode k ∙ r.1,
           r.2.2,
         )

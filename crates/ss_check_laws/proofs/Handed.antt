@@ -1,4 +1,4 @@
--- Values and targets that are handed over, each in its place.
+-- Arguments: values and targets, each in its place.
 use Rattle.std.proofs.Common.{◌≡◌, ℕ, ◌+◌, ◌≤◌, false, List, [], ◌∷◌, length, take, Option, Some, refl, sym, subst, ap, arith, ◌∙◌, add-one}
 use Rattle.std.specs.Prelude.{suc, slice_get}
 use Rattle.std.specs.List.{AllZip, flat_map}
@@ -25,7 +25,7 @@ use Rattle.ss_check_laws.proofs.Expressions.{resolves}
 use Rattle.ss_check_laws.proofs.Places.{target_resolves}
 use Rattle.ss_check_laws.proofs.Conditions.{GoesWell, same_mode}
 
--- what stands in places from one on, as the modes of what is handed over
+-- the modes at the places from one on, in order
 abbrev pub Follow : {A : Type 0} → (ℕ → Option A) → ℕ → List A → Type 0
 Follow at i xs = (k : ℕ) → at (i + k) ≡ slice_get xs k
 
@@ -43,7 +43,7 @@ rest_follows at i x xs f k =
     subst (λ n. at n ≡ slice_get xs k) e (f (k + 1) ∙ next_of x xs k)
 
 module _ (w : Whole) (locals : Moded) where
-  -- what each of some things in their places comes to, and of which mode it is
+  -- each thing in its place has a result, of the mode for that place
   abbrev pub Placed : {A B : Type 0} → (A → Option B) → (B → Mode → Type 0) → List A → List Mode → Type 0
   Placed {B = B} act Q xs modes = (ys : List B) × (each act xs ≡ Some ys) × (length ys ≡ length xs) × AllZip Q ys (take (length xs) modes)
 

@@ -72,20 +72,20 @@ permanent_is class class_kinds.Notice h = absurd cc
 
 module _ (w : Whole) (locals : Moded) (s : Scope) where
   abbrev Loops : Mode → Meaning → Type 0
-  Loops m stands = (x : Variable) × (if_variable stands ≡ Some x) × TakesMode s (ToVariable x) m
+  Loops m referent = (x : Variable) × (if_variable referent ≡ Some x) × TakesMode s (ToVariable x) m
 
-  variable_loops : (m : Mode) (stands : Meaning) → IsVariable w locals s m stands → Loops m stands
+  variable_loops : (m : Mode) (referent : Meaning) → IsVariable w locals s m referent → Loops m referent
   variable_loops m (meanings.Variable x mode) f = (x, refl, f.1)
   variable_loops m _ f = absurd f
 
   abbrev KnownLoops : Known → Meaning → Type 0
-  KnownLoops known stands = (m : Mode) × (mode_of known ≡ Some m) × Loops m stands
+  KnownLoops known referent = (m : Mode) × (mode_of known ≡ Some m) × Loops m referent
 
-  known_loops : (known : Known) (stands : Meaning) → Fits w locals s known stands → is_variable known ≡ true → KnownLoops known stands
-  known_loops (knowns.Local m) stands f h = (m, refl, variable_loops m stands f)
-  known_loops (knowns.Variable m) stands f h = (m, refl, variable_loops m stands f)
-  known_loops (knowns.Class kind) stands f h = (modes.Integer, refl, variable_loops modes.Integer stands f)
-  known_loops _ stands f h = absurd cc
+  known_loops : (known : Known) (referent : Meaning) → Fits w locals s known referent → is_variable known ≡ true → KnownLoops known referent
+  known_loops (knowns.Local m) referent f h = (m, refl, variable_loops m referent f)
+  known_loops (knowns.Variable m) referent f h = (m, refl, variable_loops m referent f)
+  known_loops (knowns.Class kind) referent f h = (modes.Integer, refl, variable_loops modes.Integer referent f)
+  known_loops _ referent f h = absurd cc
 
   -- ---- parts of lists
 
@@ -110,24 +110,24 @@ module _ (w : Whole) (locals : Moded) (c : Context) (s : Scope) (linked : Linked
   pub loops : (name : NameBytes) → KeptMention w locals (mentioned.plain line roles.LoopVariable name) → KeptDemand w locals (demanded.a_number line (aspects.Named name)) → TakesNumbers (loop_variable c name)
   loops name m d =
       let known = known_of (meaning_in w.meanings locals name) is_variable m.0 in
-      let stands = linked.value name known.0 known.1 (variable_is_value known.0 known.2) in
-      let r = known_loops w locals s known.0 stands.0 stands.2 known.2 in
+      let referent = linked.value name known.0 known.1 (variable_is_value known.0 known.2) in
+      let r = known_loops w locals s known.0 referent.0 referent.2 known.2 in
       let moded : mode_in w locals name ≡ Some r.0 = ap known_mode known.1 ∙ r.1 in
       let fits : differ (Some r.0) (Some modes.Integer) ≡ false = subst (λ o. differ o (Some modes.Integer) ≡ false) moded d.0 in
-      (r.2.0, step (c.meaning (Name name)) if_variable stands.0 r.2.0 stands.1 r.2.1, subst (λ k. TakesMode s (ToVariable r.2.0) k) (is_integer r.0 fits) r.2.2)
+      (r.2.0, step (c.meaning (Name name)) if_variable referent.0 r.2.0 referent.1 r.2.1, subst (λ k. TakesMode s (ToVariable r.2.0) k) (is_integer r.0 fits) r.2.2)
 
   -- the variable of a class takes numbers
-  pub class_takes : (name : NameBytes) (kind : ClassWord) (stands : ClassMeant) → IsClass w locals s name kind stands → KeptDemand w locals (demanded.a_number line (aspects.Named name)) → TakesMode s (ToVariable stands.variable) modes.Integer
-  class_takes name kind stands k d =
+  pub class_takes : (name : NameBytes) (kind : ClassWord) (referent : ClassMeant) → IsClass w locals s name kind referent → KeptDemand w locals (demanded.a_number line (aspects.Named name)) → TakesMode s (ToVariable referent.variable) modes.Integer
+  class_takes name kind referent k d =
       let there = k.variable_there in
       let fits : differ (Some there.0) (Some modes.Integer) ≡ false = subst (λ o. differ o (Some modes.Integer) ≡ false) there.1 d.0 in
-      subst (λ m. TakesMode s (ToVariable stands.variable) m) (is_integer there.0 fits) there.2
+      subst (λ m. TakesMode s (ToVariable referent.variable) m) (is_integer there.0 fits) there.2
 
-  called_takes : (name : NameBytes) (kind : ClassWord) (stands : ClassMeant) → IsClass w locals s name kind stands → (called : Option NameBytes) →
+  called_takes : (name : NameBytes) (kind : ClassWord) (referent : ClassMeant) → IsClass w locals s name kind referent → (called : Option NameBytes) →
       KeptMentions w locals (mentioned.in_option (λ n. mentioned.plain line roles.LoopVariable n ∷ []) called) →
-      KeptDemands w locals (demanded.in_class_variable line name called) → TakesNumbers (called_variable c stands.variable called)
-  called_takes name kind stands k None m d = (stands.variable, refl, class_takes name kind stands k d.0)
-  called_takes name kind stands k (Some n) m d = loops n m.0 d.0
+      KeptDemands w locals (demanded.in_class_variable line name called) → TakesNumbers (called_variable c referent.variable called)
+  called_takes name kind referent k None m d = (referent.variable, refl, class_takes name kind referent k d.0)
+  called_takes name kind referent k (Some n) m d = loops n m.0 d.0
 
   -- ---- phrases and guards
 

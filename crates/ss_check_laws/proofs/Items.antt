@@ -73,9 +73,9 @@ module _ (w : Whole) (locals : Moded) (c : Context) (s : Scope) (linked : Linked
       subscript c es ≡ Some e → meaning_in w.meanings locals name ≡ Some known → has_value known ≡ true → SubscriptFits w locals s known e →
       KeptDemands w locals (demanded.in_field line (named (Name name) es) field) → (b : Bool) → is_mean known ≡ b → Shown field (named (Name name) es)
   known_shown field name es e known h k v f p true i =
-      let stands = linked.value name known k v in
-      let r = known_mean w locals s known stands.0 e stands.2 f i in
-      (r.0, two_steps (subscript c es) (c.meaning (Name name)) (λ y m. item_of m y) e stands.0 r.0 h stands.1 r.1, r.2 field (few_decimals (named (Name name) es) field.decimals p))
+      let referent = linked.value name known k v in
+      let r = known_mean w locals s known referent.0 e referent.2 f i in
+      (r.0, two_steps (subscript c es) (c.meaning (Name name)) (λ y m. item_of m y) e referent.0 r.0 h referent.1 r.1, r.2 field (few_decimals (named (Name name) es) field.decimals p))
   known_shown field name es e known h k v f p false i =
       let none : is_unfit w locals (demanded.mean_designated (Name name)) ≡ true = ap not (ap (if_known is_mean) k ∙ i) in
       named_shown field (Name name) es none (name_resolves w locals c s linked line name es e known h k v f i) p

@@ -1,4 +1,4 @@
--- A program that breaks no rule keeps what resolving relies on.
+-- A program that breaks no rule has what resolving needs.
 use Rattle.std.proofs.Common.{◌≢◌, List, [], ◌∷◌, ◌++◌}
 use Rattle.std.specs.List.{AllByRecursion as Every}
 use Rattle.ss_tree.specs.Tree.{SectionTree, ProgramTree}

@@ -49,24 +49,24 @@ value_is (Some mode_words.Integer) m e = cc
 value_is (Some mode_words.Alpha) m e = cc
 value_is (Some mode_words.Real) m e = absurd cc
 
-pub class_stands : (n class : ℕ) (kind : VariableKind) → standing_of n kind ≡ globals.Class class n → kind ≡ kinds.OfClass class
-class_stands n class kinds.Defined e = absurd cc
-class_stands n class (kinds.OfClass c) e =
+pub kind_of_class : (n class : ℕ) (kind : VariableKind) → standing_of n kind ≡ globals.Class class n → kind ≡ kinds.OfClass class
+kind_of_class n class kinds.Defined e = absurd cc
+kind_of_class n class (kinds.OfClass c) e =
     let same : c ≡ class = cc in
     ap kinds.OfClass same
-class_stands n class (kinds.CountOf c) e = absurd cc
+kind_of_class n class (kinds.CountOf c) e = absurd cc
 
-pub count_stands : (n class : ℕ) (kind : VariableKind) → standing_of n kind ≡ globals.Count class n → kind ≡ kinds.CountOf class
-count_stands n class kinds.Defined e = absurd cc
-count_stands n class (kinds.OfClass c) e = absurd cc
-count_stands n class (kinds.CountOf c) e =
+pub kind_of_count : (n class : ℕ) (kind : VariableKind) → standing_of n kind ≡ globals.Count class n → kind ≡ kinds.CountOf class
+kind_of_count n class kinds.Defined e = absurd cc
+kind_of_count n class (kinds.OfClass c) e = absurd cc
+kind_of_count n class (kinds.CountOf c) e =
     let same : c ≡ class = cc in
     ap kinds.CountOf same
 
-pub variable_stands : (n : ℕ) (kind : VariableKind) → standing_of n kind ≡ globals.Variable n → kind ≡ kinds.Defined
-variable_stands n kinds.Defined e = refl
-variable_stands n (kinds.OfClass c) e = absurd cc
-variable_stands n (kinds.CountOf c) e = absurd cc
+pub kind_of_variable : (n : ℕ) (kind : VariableKind) → standing_of n kind ≡ globals.Variable n → kind ≡ kinds.Defined
+kind_of_variable n kinds.Defined e = refl
+kind_of_variable n (kinds.OfClass c) e = absurd cc
+kind_of_variable n (kinds.CountOf c) e = absurd cc
 
 pub class_is_no_count : (class c : ℕ) → kinds.OfClass class ≢ kinds.CountOf c
 class_is_no_count class c e = cc
@@ -89,7 +89,7 @@ module _ (t : Table) (signatures : List Signed) (is : IsTable t) (k : IsKept t) 
   abbrev pub w : Whole
   w = whole.whole_in t signatures
 
-  -- ---- names by where they stand
+  -- ---- local and global names
 
   -- a local variable hides what its name means in the whole program
   pub hidden : (name : NameBytes) (mode : Option ModeWord) → lookup (same_name name) locals ≡ Some mode → meaning_in w.meanings locals name ≡ Some (knowns.Local (value_mode mode))
@@ -115,7 +115,7 @@ module _ (t : Table) (signatures : List Signed) (is : IsTable t) (k : IsKept t) 
   class_variable_whole class n name v e f =
       let value : slice_get (values_of t.variables) n ≡ Some v = value_at t.variables n name v f in
       let standing : standing_of n v.kind ≡ globals.Class class n = same_Some (standing_of n v.kind) (globals.Class class n) (sym (k.said.variable_names n name v f) ∙ e) in
-      let kind = class_stands n class v.kind standing in
+      let kind = kind_of_class n class v.kind standing in
       let whole_mode : v.mode ≡ mode_words.Integer = subst (λ x. IsClassMode x v.mode) kind (is.class_modes n name v f) in
       let mode = global_known t is k s.program h n v value in
       let integer : mode_said v.mode ≡ Some Integer = ap mode_said whole_mode in

@@ -19,7 +19,7 @@ pub mod Parameters
 pub mod TableSections
 pub mod Ranks
 pub mod Known
-pub mod Told
+pub mod SetsAndStatistics
 pub mod Values
 pub mod Linked
 pub mod Parts

@@ -1,4 +1,4 @@
--- What a name stands for in a section is what the rules know of it.
+-- What a name refers to in a section is what the rules know of it.
 use Rattle.std.proofs.Common.{◌≡◌, ℕ, ◌+◌, true, not, List, [], length, get_or, Option, Some, None, refl, sym, ap, subst, ◌∙◌}
 use Rattle.std.specs.Prelude.{◌&&◌, ◌==◌, is_some, option_map, slice_get}
 use Rattle.std.specs.Map.{lookup, values_of}
@@ -34,7 +34,7 @@ use Rattle.ss_check_scopes.specs.Meanings.{local_or, meaning_in, value_mode}
 use Rattle.ss_check_scopes.specs.Signatures.{Signed}
 use Rattle.ss_check_scopes.specs.Whole.{Whole}
 use Rattle.ss_check_scopes.specs.WholeOf as whole
-use Rattle.ss_check_rules.specs.Unknown.{is_told_here}
+use Rattle.ss_check_rules.specs.Unknown.{is_watched_here}
 use Rattle.ss_program.specs.declared.expression.SetQuery.TheVariants.{MemberCount}
 use Rattle.ss_program.specs.declared.expression.Variable.TheVariants as variables
 use Rattle.ss_program.specs.declared.statement.Counted.{Counted}
@@ -55,12 +55,12 @@ use Rattle.ss_names_laws.specs.Locals.{KeepsLocals}
 use Rattle.ss_names_laws.specs.ValidTables.{IsKept}
 use Rattle.ss_names_laws.specs.LaidOut.{HasTables}
 use Rattle.ss_check_laws.specs.Signed.{AreSigned}
-use Rattle.ss_check_laws.proofs.Known.{mode_agrees, class_variable_typed, class_stands, unhidden, w}
+use Rattle.ss_check_laws.proofs.Known.{mode_agrees, class_variable_typed, kind_of_class, unhidden, w}
 use Rattle.ss_names_declarations.proofs.Entries.{told_by_place, value_at}
 use Rattle.ss_names_laws.proofs.Steps.{each_length, each_map, goes, holds}
 use Rattle.ss_names_laws.proofs.Structure.{IsTable, same_number}
-use Rattle.ss_check_laws.proofs.Told.{attribute_of_each, attribute_there, class_there, count_alone, count_of_each, owner_there, set_meant, variable_alone}
-use Rattle.ss_check_laws.proofs.Values.{class_told, meant, routine_told, set_told, told_meaning, value_linked}
+use Rattle.ss_check_laws.proofs.SetsAndStatistics.{attribute_of_each, attribute_there, class_there, count_alone, count_of_each, owner_there, set_meant, variable_alone}
+use Rattle.ss_check_laws.proofs.Values.{class_numbered, meant, routine_numbered, set_numbered, meaning_found, value_linked}
 use Rattle.ss_names_laws.proofs.Typed.{class_known, count_there}
 
 kinds_same : (kind : ClassWord) → class_kind kind ≡ kind_said kind
@@ -75,11 +75,11 @@ module _ (t : Table) (signatures : List Signed) (is : IsTable t) (k : IsKept t) 
 
   -- ---- sets
 
-  set_linked : (name : NameBytes) (holder : Holder) → here.meanings name ≡ Some (knowns.Set holder) → (stands : SetMeant) × (set_of t locals (Name name) ≡ Some stands) × IsSetOf here locals s holder stands
+  set_linked : (name : NameBytes) (holder : Holder) → here.meanings name ≡ Some (knowns.Set holder) → (referent : SetMeant) × (set_of t locals (Name name) ≡ Some referent) × IsSetOf here locals s holder referent
   set_linked name holder e =
-      let told = told_meaning t signatures is k s h locals modes (told_of t.names name) (knowns.Set holder) e in
-      let n = set_told t signatures is k s h locals modes told.0 name holder told.1 told.2 in
-      let is_set : told_of t.names name ≡ Some (globals.Set n.0) = told.1 ∙ ap Some n.1 in
+      let global = meaning_found t signatures is k s h locals modes (told_of t.names name) (knowns.Set holder) e in
+      let n = set_numbered t signatures is k s h locals modes global.0 name holder global.1 global.2 in
+      let is_set : told_of t.names name ≡ Some (globals.Set n.0) = global.1 ∙ ap Some n.1 in
       let set = is.names name (globals.Set n.0) is_set in
       let meant = set_meant t signatures is k s h locals modes n.0 set.0 set.1 in
       let held : Some (knowns.Set (whole.owner_holder t set.0.owner)) ≡ Some (knowns.Set holder) =
@@ -93,7 +93,7 @@ module _ (t : Table) (signatures : List Signed) (is : IsTable t) (k : IsKept t) 
 
   -- ---- classes
 
-  -- what a class's name stands for
+  -- what a class's name refers to
   abbrev class_made : (class n : ℕ) (name : NameBytes) (c : Class) → ClassMeant
   class_made class n name c = record {
     class = class;
@@ -107,34 +107,34 @@ module _ (t : Table) (signatures : List Signed) (is : IsTable t) (k : IsKept t) 
   count_linked class n name v c class_words.Permanent e f g p =
       let next = k.said.counts_behind n class v c e f g p in
       let count : Counted = record { class = class; variable = n + 1 } in
-      (n + 1, behind next.0 next.1 next.2, count_there t is k s.program h (n + 1) class next.0 count next.1 next.2 refl)
+      (n + 1, following next.0 next.1 next.2, count_there t is k s.program h (n + 1) class next.0 count next.1 next.2 refl)
     where
-      behind : (v : VariableSaid) → slice_get (values_of t.variables) (n + 1) ≡ Some v → v.kind ≡ kinds.CountOf class → count_behind t class n ≡ Some (n + 1)
-      behind v q r =
+      following : (v : VariableSaid) → slice_get (values_of t.variables) (n + 1) ≡ Some v → v.kind ≡ kinds.CountOf class → count_behind t class n ≡ Some (n + 1)
+      following v q r =
           goes (slice_get (values_of t.variables) (n + 1)) (λ x. count_kind class (n + 1) x.kind) v (n + 1) q
           (ap (count_kind class (n + 1)) r ∙ holds (class == class) (n + 1) (same_number class))
   count_linked class n name v c class_words.Temporary e f g p = tt
   count_linked class n name v c class_words.EventNotice e f g p = tt
 
-  class_linked : (name : NameBytes) (kind : ClassWord) → here.meanings name ≡ Some (knowns.Class kind) → (stands : ClassMeant) × (class_of t locals name ≡ Some stands) × IsClass here locals s name kind stands
+  class_linked : (name : NameBytes) (kind : ClassWord) → here.meanings name ≡ Some (knowns.Class kind) → (referent : ClassMeant) × (class_of t locals name ≡ Some referent) × IsClass here locals s name kind referent
   class_linked name kind e =
-      let told = told_meaning t signatures is k s h locals modes (told_of t.names name) (knowns.Class kind) e in
-      let m = class_told t signatures is k s h locals modes told.0 name kind told.1 told.2 in
+      let global = meaning_found t signatures is k s h locals modes (told_of t.names name) (knowns.Class kind) e in
+      let m = class_numbered t signatures is k s h locals modes global.0 name kind global.1 global.2 in
       let class = m.0 in
       let n = m.1 in
-      let is_class : told_of t.names name ≡ Some (globals.Class class n) = told.1 ∙ ap Some m.2 in
+      let is_class : told_of t.names name ≡ Some (globals.Class class n) = global.1 ∙ ap Some m.2 in
       let c = is.names name (globals.Class class n) is_class in
       let value : slice_get (values_of t.classes) class ≡ Some c.0 = value_at t.classes class name c.0 c.2 in
       let variable : slice_get (values_of t.variables) n ≡ Some c.1 = value_at t.variables n name c.1 c.3 in
       let is_kind : whole.meaning_by t (globals.Class class n) ≡ Some (knowns.Class c.0.kind) = ap whole.class_meaning value in
       let agrees : Some (knowns.Class c.0.kind) ≡ Some (knowns.Class kind) = sym is_kind ∙ sym (ap (whole.meaning_of t) is_class) ∙ e in
       let same : c.0.kind ≡ kind = cc in
-      let v_kind = class_stands n class c.1.kind (same_Some (standing_of n c.1.kind) (globals.Class class n) (sym (k.said.variable_names n name c.1 c.3) ∙ is_class)) in
+      let v_kind = kind_of_class n class c.1.kind (same_Some (standing_of n c.1.kind) (globals.Class class n) (sym (k.said.variable_names n name c.1 c.3) ∙ is_class)) in
       let known = class_known t is k s.program h class c.0 value in
-      let stands = class_made class n name c.0 in (
-        stands,
-        goes (told_of t.names name) (λ x. global_class t locals name x) (globals.Class class n) stands is_class
-            (goes (slice_get (values_of t.classes) class) (λ x. Some (class_made class n name x)) c.0 stands value refl),
+      let referent = class_made class n name c.0 in (
+        referent,
+        goes (told_of t.names name) (λ x. global_class t locals name x) (globals.Class class n) referent is_class
+            (goes (slice_get (values_of t.classes) class) (λ x. Some (class_made class n name x)) c.0 referent value refl),
         record {
           kind_meant = kinds_same c.0.kind ∙ ap kind_said same;
           kind_there = ap (option_map (λ (x : PlainClass). x.kind)) known.1 ∙ ap Some (kinds_same c.0.kind ∙ ap kind_said same);
@@ -151,20 +151,20 @@ module _ (t : Table) (signatures : List Signed) (is : IsTable t) (k : IsKept t) 
 
   -- ---- routines
 
-  routine_linked : AreSigned t signatures s.program → (name : NameBytes) → here.meanings name ≡ Some knowns.Routine → (stands : RoutineMeant) × (routine_of t name ≡ Some stands) × IsRoutine here s name stands
+  routine_linked : AreSigned t signatures s.program → (name : NameBytes) → here.meanings name ≡ Some knowns.Routine → (referent : RoutineMeant) × (routine_of t name ≡ Some referent) × IsRoutine here s name referent
   routine_linked a name e =
-      let told = told_meaning t signatures is k s h locals modes (told_of t.names name) knowns.Routine e in
-      let n = routine_told t signatures is k s h locals modes told.0 name told.1 told.2 in
-      let is_routine : told_of t.names name ≡ Some (globals.Routine n.0) = told.1 ∙ ap Some n.1 in
+      let global = meaning_found t signatures is k s h locals modes (told_of t.names name) knowns.Routine e in
+      let n = routine_numbered t signatures is k s h locals modes global.0 name global.1 global.2 in
+      let is_routine : told_of t.names name ≡ Some (globals.Routine n.0) = global.1 ∙ ap Some n.1 in
       let r = is.names name (globals.Routine n.0) is_routine in
       let value : slice_get (values_of t.routines) n.0 ≡ Some r.0 = value_at t.routines n.0 name r.0 r.1 in
       let signed = a n.0 r.0 value in
-      let stands : RoutineMeant = record { routine = n.0; given = r.0.given; yielding = r.0.yielding } in
+      let referent : RoutineMeant = record { routine = n.0; given = r.0.given; yielding = r.0.yielding } in
       let signature : whole.routine_signed t signatures (told_of t.names name) ≡ Some signed.signed =
       ap (whole.routine_signed t signatures) is_routine ∙ ap (whole.signed_by signatures) value ∙ signed.section in (
-        stands,
-        goes (told_of t.names name) (λ x. global_routine t x) (globals.Routine n.0) stands is_routine
-            (goes (slice_get (values_of t.routines) n.0) (λ x. Some (record { routine = n.0; given = x.given; yielding = x.yielding })) r.0 stands value refl),
+        referent,
+        goes (told_of t.names name) (λ x. global_routine t x) (globals.Routine n.0) referent is_routine
+            (goes (slice_get (values_of t.routines) n.0) (λ x. Some (record { routine = n.0; given = x.given; yielding = x.yielding })) r.0 referent value refl),
         record {
           resolved = signed.resolved;
           there = signed.there;
@@ -179,8 +179,8 @@ module _ (t : Table) (signatures : List Signed) (is : IsTable t) (k : IsKept t) 
 
   abbrev Subjected : NameBytes → Type 0
   Subjected name =
-      (known : Known) × (stands : Meaning) × (statistic : ℕ) × (meaning_in here.meanings locals name ≡ Some known) ×
-      (meaning_of t locals (Name name) ≡ Some stands) × (statistic_of t (Name name) ≡ Some statistic) × IsSubject here locals s known stands statistic
+      (known : Known) × (referent : Meaning) × (statistic : ℕ) × (meaning_in here.meanings locals name ≡ Some known) ×
+      (meaning_of t locals (Name name) ≡ Some referent) × (statistic_of t (Name name) ≡ Some statistic) × IsSubject here locals s known referent statistic
 
   abbrev named : SubjectNumber → Global
   named (subjects.Variable n) = globals.Variable n
@@ -199,39 +199,39 @@ module _ (t : Table) (signatures : List Signed) (is : IsTable t) (k : IsKept t) 
     pub alone : lookup (same_name name) locals ≡ None
     pub there : slice_get t.histories i ≡ Some history
 
-  variable_told : (name : NameBytes) (i n : ℕ) (history : History) → HasHistory name i history → told_of t.names name ≡ Some (globals.Variable n) → history.subject ≡ Some (subjects.Variable n) → Subjected name
-  variable_told name i n history f e g =
+  variable_watched : (name : NameBytes) (i n : ℕ) (history : History) → HasHistory name i history → told_of t.names name ≡ Some (globals.Variable n) → history.subject ≡ Some (subjects.Variable n) → Subjected name
+  variable_watched name i n history f e g =
       let v = is.names name (globals.Variable n) e in
       let value : slice_get (values_of t.variables) n ≡ Some v.0 = value_at t.variables n name v.0 v.1 in
-      let stands : Meaning = meanings.Variable (variables.Global n) (mode_said v.0.mode) in (
+      let referent : Meaning = meanings.Variable (variables.Global n) (mode_said v.0.mode) in (
         knowns.Variable (value_mode (Some v.0.mode)),
-        stands,
+        referent,
         i,
         unhidden t signatures is k s h locals modes name (globals.Variable n) f.alone e ∙ ap whole.variable_meaning value,
-        meant t signatures is k s h locals modes name (globals.Variable n) stands f.alone e (goes (slice_get (values_of t.variables) n) (λ x. Some (meanings.Variable (variables.Global n) (mode_said x.mode))) v.0 stands value refl),
+        meant t signatures is k s h locals modes name (globals.Variable n) referent f.alone e (goes (slice_get (values_of t.variables) n) (λ x. Some (meanings.Variable (variables.Global n) (mode_said x.mode))) v.0 referent value refl),
         f.place,
         variable_alone t signatures is k s h locals modes i n history f.there g,
       )
 
-  attribute_told : (name : NameBytes) (i n : ℕ) (history : History) → HasHistory name i history → told_of t.names name ≡ Some (globals.Attribute n) → history.subject ≡ Some (subjects.Attribute n) → Subjected name
-  attribute_told name i n history f e g =
+  attribute_watched : (name : NameBytes) (i n : ℕ) (history : History) → HasHistory name i history → told_of t.names name ≡ Some (globals.Attribute n) → history.subject ≡ Some (subjects.Attribute n) → Subjected name
+  attribute_watched name i n history f e g =
       let a = is.names name (globals.Attribute n) e in
       let value : slice_get (values_of t.attributes) n ≡ Some a.0 = value_at t.attributes n name a.0 a.1 in
       let class = attribute_there t signatures is k s h locals modes n a.0 value in
-      let stands : Meaning = meanings.Attribute a.0.class a.0.field (mode_given a.0.mode) class.1 in (
+      let referent : Meaning = meanings.Attribute a.0.class a.0.field (mode_given a.0.mode) class.1 in (
         knowns.Attribute class.0 (value_mode a.0.mode),
-        stands,
+        referent,
         i,
         unhidden t signatures is k s h locals modes name (globals.Attribute n) f.alone e ∙ ap (whole.attribute_meaning t) value ∙ ap (whole.attribute_of_class a.0.mode) class.2,
-        meant t signatures is k s h locals modes name (globals.Attribute n) stands f.alone e
-            (goes (slice_get (values_of t.attributes) n) (λ x. class_variable t locals x.class >>= λ implied. Some (meanings.Attribute x.class x.field (mode_given x.mode) implied)) a.0 stands value
-            (goes (class_variable t locals a.0.class) (λ implied. Some (meanings.Attribute a.0.class a.0.field (mode_given a.0.mode) implied)) class.1 stands class.3 refl)),
+        meant t signatures is k s h locals modes name (globals.Attribute n) referent f.alone e
+            (goes (slice_get (values_of t.attributes) n) (λ x. class_variable t locals x.class >>= λ implied. Some (meanings.Attribute x.class x.field (mode_given x.mode) implied)) a.0 referent value
+            (goes (class_variable t locals a.0.class) (λ implied. Some (meanings.Attribute a.0.class a.0.field (mode_given a.0.mode) implied)) class.1 referent class.3 refl)),
         f.place,
         (attribute_of_each t signatures is k s h locals modes i n history f.there g, class.4),
       )
 
-  count_told : (name : NameBytes) (i n : ℕ) (history : History) → HasHistory name i history → told_of t.names name ≡ Some (globals.Derived derived.MemberCount n) → history.subject ≡ Some (subjects.MemberCount n) → Subjected name
-  count_told name i n history f e g =
+  count_watched : (name : NameBytes) (i n : ℕ) (history : History) → HasHistory name i history → told_of t.names name ≡ Some (globals.Derived derived.MemberCount n) → history.subject ≡ Some (subjects.MemberCount n) → Subjected name
+  count_watched name i n history f e g =
       let set = is.names name (globals.Derived derived.MemberCount n) e in
       let o = owner_there t signatures is k s h locals modes n set.0 set.1 in
       by set.0 set.1 o.0 o.1 o.2
@@ -242,11 +242,11 @@ module _ (t : Table) (signatures : List Signed) (is : IsTable t) (k : IsKept t) 
           ∙ ap (λ x. Some (knowns.MemberCount (whole.set_holder t x))) p
           ∙ ap (λ x. Some (knowns.MemberCount (whole.owner_holder t x))) q
 
-      stood : (set : Set) (o : Owner) (stands : Meaning) → slice_get t.sets n ≡ Some set → set.owner ≡ Some o → of_owner t locals MemberCount n o ≡ Some stands → meaning_of t locals (Name name) ≡ Some stands
-      stood set o stands p q r =
-          meant t signatures is k s h locals modes name (globals.Derived derived.MemberCount n) stands f.alone e
-          (goes (slice_get t.sets n) (λ x. asked t locals derived.MemberCount n x) set stands p
-          (goes set.owner (λ x. of_owner t locals MemberCount n x) o stands q r))
+      of_its_owner : (set : Set) (o : Owner) (referent : Meaning) → slice_get t.sets n ≡ Some set → set.owner ≡ Some o → of_owner t locals MemberCount n o ≡ Some referent → meaning_of t locals (Name name) ≡ Some referent
+      of_its_owner set o referent p q r =
+          meant t signatures is k s h locals modes name (globals.Derived derived.MemberCount n) referent f.alone e
+          (goes (slice_get t.sets n) (λ x. asked t locals derived.MemberCount n x) set referent p
+          (goes set.owner (λ x. of_owner t locals MemberCount n x) o referent q r))
 
       by : (set : Set) → slice_get t.sets n ≡ Some set → (o : Owner) → set.owner ≡ Some o → owner_of s.program n ≡ Some o → Subjected name
       by set p owners.System q r = (
@@ -254,29 +254,29 @@ module _ (t : Table) (signatures : List Signed) (is : IsTable t) (k : IsKept t) 
         meanings.OfSystemSet MemberCount n,
         i,
         known set owners.System p q,
-        stood set owners.System (meanings.OfSystemSet MemberCount n) p q refl,
+        of_its_owner set owners.System (meanings.OfSystemSet MemberCount n) p q refl,
         f.place,
         count_alone t signatures is k s h locals modes i n history f.there g r,
       )
       by set p (owners.Class class) q r =
           let c = class_there t signatures is k s h locals modes class (is.owners n set class p q) in
-          let stands : Meaning = meanings.OfSet MemberCount n c.1 in (
+          let referent : Meaning = meanings.OfSet MemberCount n c.1 in (
             knowns.MemberCount (EachOf c.0),
-            stands,
+            referent,
             i,
             known set (owners.Class class) p q ∙ ap (λ x. Some (knowns.MemberCount (whole.entity_of x))) c.2,
-            stood set (owners.Class class) stands p q (goes (class_variable t locals class) (λ implied. Some (meanings.OfSet MemberCount n implied)) c.1 stands c.3 refl),
+            of_its_owner set (owners.Class class) referent p q (goes (class_variable t locals class) (λ implied. Some (meanings.OfSet MemberCount n implied)) c.1 referent c.3 refl),
             f.place,
             (count_of_each t signatures is k s h locals modes i n class history f.there g r, c.4),
           )
 
-  subject_told : (name : NameBytes) (i : ℕ) (history : History) (number : SubjectNumber) → HasHistory name i history → told_of t.names name ≡ Some (named number) → history.subject ≡ Some number → Subjected name
-  subject_told name i history (subjects.Variable n) f e g = variable_told name i n history f e g
-  subject_told name i history (subjects.Attribute n) f e g = attribute_told name i n history f e g
-  subject_told name i history (subjects.MemberCount n) f e g = count_told name i n history f e g
+  subject_watched : (name : NameBytes) (i : ℕ) (history : History) (number : SubjectNumber) → HasHistory name i history → told_of t.names name ≡ Some (named number) → history.subject ≡ Some number → Subjected name
+  subject_watched name i history (subjects.Variable n) f e g = variable_watched name i n history f e g
+  subject_watched name i history (subjects.Attribute n) f e g = attribute_watched name i n history f e g
+  subject_watched name i history (subjects.MemberCount n) f e g = count_watched name i n history f e g
 
-  told_linked : (name : NameBytes) → is_told_here here locals name ≡ true → Subjected name
-  told_linked name e = by (place_in t.weighings name) (lookup (same_name name) locals) refl refl e
+  watched_linked : (name : NameBytes) → is_watched_here here locals name ≡ true → Subjected name
+  watched_linked name e = by (place_in t.weighings name) (lookup (same_name name) locals) refl refl e
     where
       by : (o : Option ℕ) (l : Option (Option ModeWord)) → place_in t.weighings name ≡ o → lookup (same_name name) locals ≡ l → (is_some o && not (is_some l)) ≡ true → Subjected name
       by None l f g b = absurd cc
@@ -286,7 +286,7 @@ module _ (t : Table) (signatures : List Signed) (is : IsTable t) (k : IsKept t) 
           let history = histories.history_of t.names (name, weighting.0) in
           let there = is.histories i name weighting.0 weighting.2 in
           let number = k.subjects i history there in
-          subject_told name i history number.0 (record { place = f; alone = g; there = there }) (subject_named (told_of t.names name) number.0 number.1) number.1
+          subject_watched name i history number.0 (record { place = f; alone = g; there = there }) (subject_named (told_of t.names name) number.0 number.1) number.1
 
   pub linked : KeepsLocals here locals → AreSigned t signatures s.program → Linked here locals (context_in t locals) s
   unfolding context_in
@@ -294,8 +294,8 @@ module _ (t : Table) (signatures : List Signed) (is : IsTable t) (k : IsKept t) 
     value = value_linked t signatures is k s h locals modes;
     clock = refl;
     notice_time = refl;
-    set = λ name holder e. let stands = set_linked name holder e in (stands.0, ap (λ o. local_or o (here.meanings name)) (kl.sets name holder e) ∙ e, stands.1, stands.2);
+    set = λ name holder e. let referent = set_linked name holder e in (referent.0, ap (λ o. local_or o (here.meanings name)) (kl.sets name holder e) ∙ e, referent.1, referent.2);
     class = class_linked;
     routine = routine_linked a;
-    told = told_linked;
+    watched = watched_linked;
   }

@@ -20,7 +20,7 @@ use Rattle.ss_names_meaning.specs.declared.meaning.Meaning.{Meaning}
 use Rattle.ss_names_meaning.specs.declared.meaning.Meaning.TheVariants as meanings
 use Rattle.ss_names_meaning.specs.Answers.{◌>>=◌}
 use Rattle.ss_names_meaning.specs.Expressions.{entity_of, value_of, item_of}
-use Rattle.ss_check_laws.specs.Links.{IsImplied, IsVariable, IsAttribute, IsCount, IsTold, IsFigure, IsMean, Fits}
+use Rattle.ss_check_laws.specs.Links.{IsImplied, IsVariable, IsAttribute, IsCount, IsQuery, IsFigure, IsMean, Fits}
 use Rattle.ss_check_laws.proofs.Steps.{is_integer}
 
 module _ (w : Whole) (locals : Moded) (s : Scope) where
@@ -58,95 +58,95 @@ module _ (w : Whole) (locals : Moded) (s : Scope) where
   -- ---- values
 
   abbrev pub HasValue : Mode → Meaning → Option Expression → Type 0
-  HasValue m stands e = (x : Expression) × (value_of stands e ≡ Some x) × HasMode s x m
+  HasValue m referent e = (x : Expression) × (value_of referent e ≡ Some x) × HasMode s x m
 
-  variable_value : (m : Mode) (stands : Meaning) (e : Option Expression) → IsVariable w locals s m stands → Alone e → HasValue m stands e
+  variable_value : (m : Mode) (referent : Meaning) (e : Option Expression) → IsVariable w locals s m referent → Alone e → HasValue m referent e
   variable_value m (meanings.Variable x mode) None f a = (Fetch x, refl, f.1.0)
   variable_value m (meanings.Variable x mode) (Some e) f a = absurd a
   variable_value m _ e f a = absurd f
 
-  count_value : (stands : Meaning) (e : Option Expression) → IsCount w locals s stands → Alone e → HasValue Integer stands e
+  count_value : (referent : Meaning) (e : Option Expression) → IsCount w locals s referent → Alone e → HasValue Integer referent e
   count_value (meanings.Count n) None f a = (Fetch (Global n.variable), refl, f.1)
   count_value (meanings.Count n) (Some e) f a = absurd a
   count_value _ e f a = absurd f
 
-  attribute_value : (class : NameBytes) (m : Mode) (stands : Meaning) (e : Option Expression) → IsAttribute w locals s class m stands → EntityFits class e → HasValue m stands e
+  attribute_value : (class : NameBytes) (m : Mode) (referent : Meaning) (e : Option Expression) → IsAttribute w locals s class m referent → EntityFits class e → HasValue m referent e
   attribute_value class m (meanings.Attribute k field mode implied) e f g =
       (Attribute k field (entity_of implied e), refl, (f.1, entity_is_number class implied e f.2 g))
   attribute_value class m _ e f g = absurd f
 
-  told_alone : (stands : Meaning) (e : Option Expression) → IsTold w locals s TheProgram stands → Alone e → HasValue Integer stands e
-  told_alone (meanings.OfSystemSet query set) None f a = (OfSystemSet query set, refl, (refl, f))
-  told_alone (meanings.OfSystemSet query set) (Some e) f a = absurd a
-  told_alone _ e f a = absurd f
+  query_alone : (referent : Meaning) (e : Option Expression) → IsQuery w locals s TheProgram referent → Alone e → HasValue Integer referent e
+  query_alone (meanings.OfSystemSet query set) None f a = (OfSystemSet query set, refl, (refl, f))
+  query_alone (meanings.OfSystemSet query set) (Some e) f a = absurd a
+  query_alone _ e f a = absurd f
 
-  told_of_each : (class : NameBytes) (stands : Meaning) (e : Option Expression) → IsTold w locals s (EachOf class) stands → EntityFits class e → HasValue Integer stands e
-  told_of_each class (meanings.OfSet query set implied) e f g =
+  query_of_each : (class : NameBytes) (referent : Meaning) (e : Option Expression) → IsQuery w locals s (EachOf class) referent → EntityFits class e → HasValue Integer referent e
+  query_of_each class (meanings.OfSet query set implied) e f g =
       (OfSet query set (entity_of implied e), refl, (refl, f.0, entity_is_number class implied e f.1 g))
-  told_of_each class (meanings.OfMember query set implied) e f g =
+  query_of_each class (meanings.OfMember query set implied) e f g =
       (OfMember query set (entity_of implied e), refl, (refl, f.0, entity_is_number class implied e f.1 g))
-  told_of_each class _ e f g = absurd f
+  query_of_each class _ e f g = absurd f
 
-  figure_alone : (stands : Meaning) (e : Option Expression) → IsFigure w locals s TheProgram stands → Alone e → HasValue Integer stands e
+  figure_alone : (referent : Meaning) (e : Option Expression) → IsFigure w locals s TheProgram referent → Alone e → HasValue Integer referent e
   figure_alone (meanings.Figure fold k) None f a = (Figure fold k, refl, (refl, f))
   figure_alone (meanings.Figure fold k) (Some e) f a = absurd a
   figure_alone _ e f a = absurd f
 
-  figure_of_each : (class : NameBytes) (stands : Meaning) (e : Option Expression) → IsFigure w locals s (EachOf class) stands → EntityFits class e → HasValue Integer stands e
+  figure_of_each : (class : NameBytes) (referent : Meaning) (e : Option Expression) → IsFigure w locals s (EachOf class) referent → EntityFits class e → HasValue Integer referent e
   figure_of_each class (meanings.FigureOf fold k implied) e f g =
       (FigureOf fold k (entity_of implied e), refl, (refl, f.0, entity_is_number class implied e f.1 g))
   figure_of_each class _ e f g = absurd f
 
   abbrev pub KnownValue : Known → Meaning → Option Expression → Type 0
-  KnownValue known stands e = (m : Mode) × (mode_of known ≡ Some m) × HasValue m stands e
+  KnownValue known referent e = (m : Mode) × (mode_of known ≡ Some m) × HasValue m referent e
 
   -- all but a MEAN has a value
-  pub known_value : (known : Known) (stands : Meaning) (e : Option Expression) → Fits w locals s known stands → SubscriptFits known e → is_mean known ≡ false → KnownValue known stands e
-  known_value (knowns.Local m) stands e f d v = (m, refl, variable_value m stands e f (alone (knowns.Local m) e refl d))
-  known_value (knowns.Variable m) stands e f d v = (m, refl, variable_value m stands e f (alone (knowns.Variable m) e refl d))
-  known_value (knowns.Class kind) stands e f d v = (Integer, refl, variable_value Integer stands e f (alone (knowns.Class kind) e refl d))
-  known_value (knowns.Attribute class m) stands e f d v =
-      (m, refl, attribute_value class m stands e f (entity_fits (knowns.Attribute class m) class e refl d))
-  known_value (knowns.Set holder) stands e f d v = absurd f
-  known_value (knowns.MemberCount TheProgram) stands e f d v = (Integer, refl, told_alone stands e f (alone (knowns.MemberCount TheProgram) e refl d))
-  known_value (knowns.MemberCount (EachOf class)) stands e f d v =
-      (Integer, refl, told_of_each class stands e f (entity_fits (knowns.MemberCount (EachOf class)) class e refl d))
-  known_value (knowns.Membership TheProgram) stands e f d v = (Integer, refl, told_alone stands e f (alone (knowns.Membership TheProgram) e refl d))
-  known_value (knowns.Membership (EachOf class)) stands e f d v =
-      (Integer, refl, told_of_each class stands e f (entity_fits (knowns.Membership (EachOf class)) class e refl d))
-  known_value knowns.EntityCount stands e f d v = (Integer, refl, count_value stands e f (alone knowns.EntityCount e refl d))
-  known_value (knowns.Statistic TheProgram) stands e f d v = (Integer, refl, figure_alone stands e f (alone (knowns.Statistic TheProgram) e refl d))
-  known_value (knowns.Statistic (EachOf class)) stands e f d v =
-      (Integer, refl, figure_of_each class stands e f (entity_fits (knowns.Statistic (EachOf class)) class e refl d))
-  known_value (knowns.Mean holder) stands e f d v = absurd cc
-  known_value knowns.Routine stands e f d v = absurd f
+  pub known_value : (known : Known) (referent : Meaning) (e : Option Expression) → Fits w locals s known referent → SubscriptFits known e → is_mean known ≡ false → KnownValue known referent e
+  known_value (knowns.Local m) referent e f d v = (m, refl, variable_value m referent e f (alone (knowns.Local m) e refl d))
+  known_value (knowns.Variable m) referent e f d v = (m, refl, variable_value m referent e f (alone (knowns.Variable m) e refl d))
+  known_value (knowns.Class kind) referent e f d v = (Integer, refl, variable_value Integer referent e f (alone (knowns.Class kind) e refl d))
+  known_value (knowns.Attribute class m) referent e f d v =
+      (m, refl, attribute_value class m referent e f (entity_fits (knowns.Attribute class m) class e refl d))
+  known_value (knowns.Set holder) referent e f d v = absurd f
+  known_value (knowns.MemberCount TheProgram) referent e f d v = (Integer, refl, query_alone referent e f (alone (knowns.MemberCount TheProgram) e refl d))
+  known_value (knowns.MemberCount (EachOf class)) referent e f d v =
+      (Integer, refl, query_of_each class referent e f (entity_fits (knowns.MemberCount (EachOf class)) class e refl d))
+  known_value (knowns.Membership TheProgram) referent e f d v = (Integer, refl, query_alone referent e f (alone (knowns.Membership TheProgram) e refl d))
+  known_value (knowns.Membership (EachOf class)) referent e f d v =
+      (Integer, refl, query_of_each class referent e f (entity_fits (knowns.Membership (EachOf class)) class e refl d))
+  known_value knowns.EntityCount referent e f d v = (Integer, refl, count_value referent e f (alone knowns.EntityCount e refl d))
+  known_value (knowns.Statistic TheProgram) referent e f d v = (Integer, refl, figure_alone referent e f (alone (knowns.Statistic TheProgram) e refl d))
+  known_value (knowns.Statistic (EachOf class)) referent e f d v =
+      (Integer, refl, figure_of_each class referent e f (entity_fits (knowns.Statistic (EachOf class)) class e refl d))
+  known_value (knowns.Mean holder) referent e f d v = absurd cc
+  known_value knowns.Routine referent e f d v = absurd f
 
   -- ---- means
 
   -- a MEAN has an item, which each field of at most 9 decimals takes
   abbrev pub HasMean : Meaning → Option Expression → Type 0
-  HasMean stands e = (x : Item) × (item_of stands e ≡ Some x) × ((field : Field) → field.decimals ≤ 9 → TakesItem s field x)
+  HasMean referent e = (x : Item) × (item_of referent e ≡ Some x) × ((field : Field) → field.decimals ≤ 9 → TakesItem s field x)
 
-  mean_alone : (stands : Meaning) (e : Option Expression) → IsMean w locals s TheProgram stands → Alone e → HasMean stands e
+  mean_alone : (referent : Meaning) (e : Option Expression) → IsMean w locals s TheProgram referent → Alone e → HasMean referent e
   mean_alone (meanings.Mean k) None f a = (AMean k, refl, λ field few. (f, few))
   mean_alone (meanings.Mean k) (Some e) f a = absurd a
   mean_alone _ e f a = absurd f
 
-  mean_of_each : (class : NameBytes) (stands : Meaning) (e : Option Expression) → IsMean w locals s (EachOf class) stands → EntityFits class e → HasMean stands e
+  mean_of_each : (class : NameBytes) (referent : Meaning) (e : Option Expression) → IsMean w locals s (EachOf class) referent → EntityFits class e → HasMean referent e
   mean_of_each class (meanings.MeanOf k implied) e f g =
       (AMeanOf k (entity_of implied e), refl, λ field few. (f.0, entity_is_number class implied e f.1 g, few))
   mean_of_each class _ e f g = absurd f
 
-  pub known_mean : (known : Known) (stands : Meaning) (e : Option Expression) → Fits w locals s known stands → SubscriptFits known e → is_mean known ≡ true → HasMean stands e
-  known_mean (knowns.Mean TheProgram) stands e f d v = mean_alone stands e f (alone (knowns.Mean TheProgram) e refl d)
-  known_mean (knowns.Mean (EachOf class)) stands e f d v =
-      mean_of_each class stands e f (entity_fits (knowns.Mean (EachOf class)) class e refl d)
-  known_mean _ stands e f d v = absurd cc
+  pub known_mean : (known : Known) (referent : Meaning) (e : Option Expression) → Fits w locals s known referent → SubscriptFits known e → is_mean known ≡ true → HasMean referent e
+  known_mean (knowns.Mean TheProgram) referent e f d v = mean_alone referent e f (alone (knowns.Mean TheProgram) e refl d)
+  known_mean (knowns.Mean (EachOf class)) referent e f d v =
+      mean_of_each class referent e f (entity_fits (knowns.Mean (EachOf class)) class e refl d)
+  known_mean _ referent e f d v = absurd cc
 
 -- ---- items
 
 -- what has a value is shown as that
-valued_item : (stands : Meaning) (e : Option Expression) (x : Expression) → value_of stands e ≡ Some x → item_of stands e ≡ Some (AValue x)
+valued_item : (referent : Meaning) (e : Option Expression) (x : Expression) → value_of referent e ≡ Some x → item_of referent e ≡ Some (AValue x)
 valued_item (meanings.Mean k) e x h = absurd cc
 valued_item (meanings.MeanOf k implied) e x h = absurd cc
 valued_item _ e x h = ap (option_map AValue) h

@@ -1,4 +1,4 @@
--- The parameters of a section stand first among its local variables.
+-- The parameters of a section are the first of its local variables.
 use Rattle.std.proofs.Common.{◌≡◌, ℕ, ◌+◌, ◌≤◌, Bool, false, List, [], ◌∷◌, ◌++◌, length, take, drop, Option, Some, refl, sym, ap, subst, arith, ◌∙◌}
 use Rattle.std.specs.Prelude.{map, slice_get}
 use Rattle.std.specs.List.{AllByRecursion as Every, fold, flat_map}
@@ -51,7 +51,7 @@ module _ (is_known : NameBytes → Bool) (line : Line) where
       ap (λ ns. given ++ ns) (yielded_mentioned yielding)
   head_mentioned (event name given saving) = given_mentioned given ∙ sym (append-nil given)
 
--- what is mentioned behind the head
+-- what is mentioned after the head
 abbrev rest_of : (NameBytes → Bool) → SectionTree → List NameBytes
 rest_of is_known s = flat_map (local_mentioned is_known) (mentioned.in_definitions s.definitions ++ mentioned.in_body s.body)
 
@@ -124,8 +124,8 @@ signatures_first w s d =
           take_at ns others (length yielding) (long_modes w.usual s.definitions yielding),
     )
 
-pub stand_once : (w : Whole) (s : SectionTree) (n : ℕ) (entry : NameBytes × Option Mode) → slice_get (locals_of w s) n ≡ Some entry → lookup (same_name entry.0) (locals_of w s) ≡ Some entry.1
-stand_once w s n entry h =
+pub locals_distinct : (w : Whole) (s : SectionTree) (n : ℕ) (entry : NameBytes × Option Mode) → slice_get (locals_of w s) n ≡ Some entry → lookup (same_name entry.0) (locals_of w s) ≡ Some entry.1
+locals_distinct w s n entry h =
     let all = map (moded w.usual s.definitions) (flat_map (local_mentioned (is_global w.meanings)) (mentioned.mentions s)) in
     at_place (Found (locals_of w s)) (locals_of w s) n entry (all_found [] all tt) h
 

@@ -3,7 +3,7 @@ use Rattle.std.proofs.Common.{ℕ, ◌+◌, ◌≤◌, List, [], ◌∷◌, Opti
 use Rattle.std.specs.Prelude.{sum_by}
 use Rattle.std.proofs.lemmas.List.Sums.{sum_by-cons}
 use Rattle.ss_tree.specs.Nodes as tree
-use Rattle.ss_tree.specs.Tree.{ExpressionTree, NamedTree, TestTree, compare, empty, member, data_ended, ConditionTree, PhraseTree, GuardTree, StartTree, from_end, from_member, after_member, HeadTree, over_range, over_members, over_class, PositionTree, by_discipline, at_first, at_last, before, after as behind_member, WhenTree, at_time, in_units, now}
+use Rattle.ss_tree.specs.Tree.{ExpressionTree, NamedTree, TestTree, compare, empty, member, data_ended, ConditionTree, PhraseTree, GuardTree, StartTree, from_end, from_member, after_member, HeadTree, over_range, over_members, over_class, PositionTree, by_discipline, at_first, at_last, before, after as after_that_member, WhenTree, at_time, in_units, now}
 use Rattle.ss_program.specs.declared.expression.Variable.{Variable}
 use Rattle.ss_program.specs.declared.expression.Variable.TheVariants.{Global, Local}
 use Rattle.ss_program.specs.Nodes.{total, option_nodes, expression_nodes, subscript_nodes, set_nodes, test_nodes, alternative_nodes, condition_nodes, guard_nodes, phrase_nodes, place_nodes, target_nodes, start_nodes, head_nodes, position_nodes, when_nodes, restart_nodes}
@@ -16,7 +16,7 @@ use Rattle.ss_names_meaning.specs.Expressions.{expression, subscript, target, se
 use Rattle.ss_names_meaning.specs.Conditions.{one_test, conjunction, condition}
 use Rattle.ss_names_meaning.specs.Heads.{called_variable, guard, head, loop_variable, phrase, phrases_of, start}
 use Rattle.ss_names_meaning.specs.Statements.{entity_called, mode_of, new_place, position, reader, restart, told_of, when}
-use Rattle.ss_check_laws.proofs.Within.{Within, up, change, after, behind, plain_small, there_small, each_small}
+use Rattle.ss_check_laws.proofs.Within.{Within, up, change, after, after_lookup, plain_small, there_small, each_small}
 use Rattle.ss_check_laws.proofs.ExpressionSizes.{entity_small, small, subscript_small, target_small, set_small}
 
 abbrev pub owner_nodes : ℕ × SetOwner → ℕ
@@ -53,13 +53,13 @@ own_and_phrases (over_range variable from to step phrases) = omega arith
 own_and_phrases (over_members variable set from reverse phrases) = omega arith
 own_and_phrases (over_class class called phrases) = omega arith
 
-told_small : (m : Meaning) (e : Option Expression) (n : ℕ) → option_nodes expression_nodes e ≤ n → Within (option_nodes subscript_nodes) n (told_of m e)
-told_small (meanings.Variable (Global k) mode) e n h = plain_small (option_nodes subscript_nodes) n e None (omega arith)
-told_small (meanings.Variable (Local k) mode) e n h = tt
-told_small (meanings.Attribute class field mode implied) e n h = entity_small implied e n h
-told_small (meanings.OfSystemSet query set) e n h = plain_small (option_nodes subscript_nodes) n e None (omega arith)
-told_small (meanings.OfSet query set implied) e n h = entity_small implied e n h
-told_small _ e n h = tt
+reset_small : (m : Meaning) (e : Option Expression) (n : ℕ) → option_nodes expression_nodes e ≤ n → Within (option_nodes subscript_nodes) n (told_of m e)
+reset_small (meanings.Variable (Global k) mode) e n h = plain_small (option_nodes subscript_nodes) n e None (omega arith)
+reset_small (meanings.Variable (Local k) mode) e n h = tt
+reset_small (meanings.Attribute class field mode implied) e n h = entity_small implied e n h
+reset_small (meanings.OfSystemSet query set) e n h = plain_small (option_nodes subscript_nodes) n e None (omega arith)
+reset_small (meanings.OfSet query set implied) e n h = entity_small implied e n h
+reset_small _ e n h = tt
 
 module _ (c : Context) where
   test_small : (t : TestTree) → Within test_nodes (tree.test_nodes t) (one_test c t)
@@ -108,26 +108,26 @@ module _ (c : Context) where
   unfolding head
   head_small (over_range variable from to step phrases) =
       let n = own_nodes (over_range variable from to step phrases) in
-      behind head_nodes n (loop_variable c variable) _ (λ v.
+      after_lookup head_nodes n (loop_variable c variable) _ (λ v.
       after expression_nodes head_nodes (tree.expression_nodes from) n (expression c from) _ (small c from) (λ x lt.
       after expression_nodes head_nodes (tree.expression_nodes to) n (expression c to) _ (small c to) (λ y lt2.
       after (option_nodes expression_nodes) head_nodes (tree.option_nodes tree.expression_nodes step) n (if_there (expression c) step) _ (there_small tree.expression_nodes expression_nodes (expression c) (small c) step) (λ z lt3. omega (arith, lt, lt2, lt3)))))
   head_small (over_members variable set from reverse phrases) =
       let n = own_nodes (over_members variable set from reverse phrases) in
-      behind head_nodes n (loop_variable c variable) _ (λ v.
+      after_lookup head_nodes n (loop_variable c variable) _ (λ v.
       after owner_nodes head_nodes (tree.named_nodes set) n (set_named c set) _ (set_small c set) (λ p lt.
       after start_nodes head_nodes (tree.start_nodes from) n (start c from) _ (start_small from) (λ x lt2. omega (arith, lt, lt2))))
   head_small (over_class name called phrases) =
       let n = own_nodes (over_class name called phrases) in
-      behind head_nodes n (permanent_class c name) _ (λ class. behind head_nodes n (called_variable c class.variable called) _ (λ v. omega arith))
+      after_lookup head_nodes n (permanent_class c name) _ (λ class. after_lookup head_nodes n (called_variable c class.variable called) _ (λ v. omega arith))
 
   -- ---- parts of statements
 
   pub reader_small : (n : NamedTree) → Within target_nodes (tree.named_nodes n) (reader c n)
   reader_small n =
       after place_nodes target_nodes (tree.named_nodes n) (tree.named_nodes n) (target c n) _ (target_small c n) (λ x lt.
-      behind target_nodes (tree.named_nodes n) (c.meaning n.designator) _ (λ m.
-      behind target_nodes (tree.named_nodes n) (mode_of m) _ (λ mode. lt)))
+      after_lookup target_nodes (tree.named_nodes n) (c.meaning n.designator) _ (λ m.
+      after_lookup target_nodes (tree.named_nodes n) (mode_of m) _ (λ mode. lt)))
 
   pub new_small : (x : Variable) (called : Option NamedTree) → Within place_nodes (1 + tree.option_nodes tree.named_nodes called) (new_place c x called)
   new_small x None = omega arith
@@ -140,16 +140,16 @@ module _ (c : Context) where
   pub restart_small : (n : NamedTree) → Within restart_nodes (tree.named_nodes n) (restart c n)
   restart_small n =
       after (option_nodes expression_nodes) restart_nodes (tree.row_nodes n.subscripts) (tree.named_nodes n) (subscript c n.subscripts) _ (subscript_small c n.subscripts) (λ e lt.
-      behind restart_nodes (tree.named_nodes n) (c.meaning n.designator) _ (λ m.
-      after (option_nodes subscript_nodes) restart_nodes (tree.row_nodes n.subscripts) (tree.named_nodes n) (told_of m e) _ (told_small m e (tree.row_nodes n.subscripts) lt) (λ of lt2.
-      behind restart_nodes (tree.named_nodes n) (c.statistic n.designator) _ (λ k. omega (arith, lt2)))))
+      after_lookup restart_nodes (tree.named_nodes n) (c.meaning n.designator) _ (λ m.
+      after (option_nodes subscript_nodes) restart_nodes (tree.row_nodes n.subscripts) (tree.named_nodes n) (told_of m e) _ (reset_small m e (tree.row_nodes n.subscripts) lt) (λ of lt2.
+      after_lookup restart_nodes (tree.named_nodes n) (c.statistic n.designator) _ (λ k. omega (arith, lt2)))))
 
   pub position_small : (t : PositionTree) → Within position_nodes (tree.position_nodes t) (position c t)
   position_small by_discipline = omega arith
   position_small at_first = omega arith
   position_small at_last = omega arith
   position_small (before e) = after expression_nodes position_nodes (tree.expression_nodes e) (tree.expression_nodes e) (expression c e) _ (small c e) (λ x lt. lt)
-  position_small (behind_member e) = after expression_nodes position_nodes (tree.expression_nodes e) (tree.expression_nodes e) (expression c e) _ (small c e) (λ x lt. lt)
+  position_small (after_that_member e) = after expression_nodes position_nodes (tree.expression_nodes e) (tree.expression_nodes e) (expression c e) _ (small c e) (λ x lt. lt)
 
   pub when_small : (t : WhenTree) → Within when_nodes (tree.when_nodes t) (when c t)
   when_small (at_time e) = after expression_nodes when_nodes (tree.expression_nodes e) (tree.expression_nodes e) (expression c e) _ (small c e) (λ x lt. lt)

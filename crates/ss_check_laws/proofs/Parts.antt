@@ -40,13 +40,13 @@ use Rattle.ss_names_declarations.proofs.Entries.{entry_of_value, key_at, there, 
 use Rattle.ss_check_laws.proofs.TableSections.{routine_section}
 use Rattle.ss_names_laws.proofs.Steps.{every_at, goes, numbers_at, numbers_map, numbers_there}
 use Rattle.ss_names_laws.proofs.Structure.{IsTable, is_table}
-use Rattle.ss_check_laws.proofs.Values.{class_told, told_meaning}
+use Rattle.ss_check_laws.proofs.Values.{class_numbered, meaning_found}
 
 -- what is proved of sections that keep the rules
 pub record Laws : Type 0 where
   pub resolve : KeptSectionsResolve
-  pub once : parameters.LocalsStandOnce
-  pub first : parameters.SignaturesStandFirst
+  pub once : parameters.LocalsAreDistinct
+  pub first : parameters.SignaturesAreFirst
   pub events : parameters.EventsAreGivenAttributes
   pub all : parameters.PartsAreAll
 
@@ -73,16 +73,16 @@ module _ (p : tree.ProgramTree) (k : IsKept (table p)) (g : KeepsAllRules (whole
 
   -- ---- local variables
 
-  -- the modes of the local variables are those that are said of them
+  -- the modes of the local variables are the declared ones
   pub record HasModes (s : tree.SectionTree) (modes : List Mode) : Type 0 where
     pub resolved : local_modes (locals_of w s) ≡ Some modes
     pub said : modes ≡ parameters.modes_of (locals_of w s)
 
   local_moded : (s : tree.SectionTree) → KeepsRules w s → (i : ℕ) (e : NameBytes × Option ModeWord) → slice_get (locals_of w s) i ≡ Some e → (m : Mode) × (local_mode (locals_of w s) i ≡ Some m) × (value_mode e.1 ≡ m)
   local_moded s r i e h =
-      let told = laws.once w s i e h in
-      let mode = value_mode_there e.1 (r.locals.modes e.0 e.1 told) in
-      (mode.0, local_step (locals_of w s) i e.0 e.1 mode.0 h told mode.1, value_is e.1 mode.0 mode.1)
+      let found = laws.once w s i e h in
+      let mode = value_mode_there e.1 (r.locals.modes e.0 e.1 found) in
+      (mode.0, local_step (locals_of w s) i e.0 e.1 mode.0 h found mode.1, value_is e.1 mode.0 mode.1)
 
   pub modes_there : (s : tree.SectionTree) → KeepsRules w s → (modes : List Mode) × HasModes s modes
   modes_there s r =
@@ -106,7 +106,7 @@ module _ (p : tree.ProgramTree) (k : IsKept (table p)) (g : KeepsAllRules (whole
   pub section_of : (n : ℕ) (s : tree.SectionTree) → slice_get p.sections n ≡ Some s → KeepsRules w s
   section_of n s h = every_at (KeepsRules w) p.sections n s g.sections h
 
-  -- what the routine of a number is given and yields is what its section's signature says
+  -- the routine of a number is given and yields what its section's signature says
   pub signed : (q : Program) (n : ℕ) (r : RoutineSaid) (s : tree.SectionTree) (parts : Parts) → slice_get (values_of t.routines) n ≡ Some r → slice_get p.sections r.section ≡ Some s → parts.modes ≡ parameters.modes_of (locals_of w s) → slice_get q.routines n ≡ Some (routine_of r.given r.yielding parts) → IsSigned signatures q n r
   signed q n r s parts e f m h =
       let entry = entry_of_value t.routines n r e in
@@ -194,7 +194,7 @@ module _ (p : tree.ProgramTree) (k : IsKept (table p)) (g : KeepsAllRules (whole
 
   -- ---- sections
 
-  -- the parts of a section, with the modes that are said of its local variables
+  -- the parts of a section, with the declared modes of its local variables
   pub record HasParts (s : tree.SectionTree) (parts : Parts) : Type 0 where
     pub resolved : parts_of t w s ≡ Some parts
     pub modes : HasModes s parts.modes
@@ -226,9 +226,9 @@ module _ (p : tree.ProgramTree) (k : IsKept (table p)) (g : KeepsAllRules (whole
       let modes = modes_there s r in
       let sc = scope_of outline s modes.0 in
       let tables = has_tables sketches.0 [] [] Done in
-      let told = told_meaning t signatures is k sc tables (locals_of w s) modes.1.resolved (told_of t.names name) (knowns.Class class_words.EventNotice) e in
-      let m = class_told t signatures is k sc tables (locals_of w s) modes.1.resolved told.0 name class_words.EventNotice told.1 told.2 in
-      let is_class : told_of t.names name ≡ Some (globals.Class m.0 m.1) = told.1 ∙ ap Some m.2 in
+      let found = meaning_found t signatures is k sc tables (locals_of w s) modes.1.resolved (told_of t.names name) (knowns.Class class_words.EventNotice) e in
+      let m = class_numbered t signatures is k sc tables (locals_of w s) modes.1.resolved found.0 name class_words.EventNotice found.1 found.2 in
+      let is_class : told_of t.names name ≡ Some (globals.Class m.0 m.1) = found.1 ∙ ap Some m.2 in
       let c = is.names name (globals.Class m.0 m.1) is_class in
       let known : Some (knowns.Class c.0.kind) ≡ Some (knowns.Class class_words.EventNotice) =
       sym (ap class_meaning (value_at t.classes m.0 name c.0 c.2)) ∙ sym (ap (meaning_of t) is_class) ∙ e in

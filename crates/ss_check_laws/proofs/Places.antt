@@ -42,53 +42,53 @@ module _ (w : Whole) (locals : Moded) (s : Scope) where
   -- ---- what is assigned to
 
   abbrev TakesValues : Mode → Meaning → Option Expression → Type 0
-  TakesValues m stands e = (x : Place) × (mode_of stands ≡ Some m) × (place_of stands e ≡ Some x) × TakesMode s x m
+  TakesValues m referent e = (x : Place) × (mode_of referent ≡ Some m) × (place_of referent e ≡ Some x) × TakesMode s x m
 
-  variable_place : (m : Mode) (stands : Meaning) (e : Option Expression) → IsVariable w locals s m stands → Alone w locals s e → TakesValues m stands e
+  variable_place : (m : Mode) (referent : Meaning) (e : Option Expression) → IsVariable w locals s m referent → Alone w locals s e → TakesValues m referent e
   variable_place m (meanings.Variable x mode) None f a = (ToVariable x, f.0, refl, f.1)
   variable_place m (meanings.Variable x mode) (Some e) f a = absurd a
   variable_place m _ e f a = absurd f
 
-  count_place : (stands : Meaning) (e : Option Expression) → IsCount w locals s stands → Alone w locals s e → TakesValues modes.Integer stands e
+  count_place : (referent : Meaning) (e : Option Expression) → IsCount w locals s referent → Alone w locals s e → TakesValues modes.Integer referent e
   count_place (meanings.Count n) None f a = (ToCount n, refl, refl, (refl, f.0))
   count_place (meanings.Count n) (Some e) f a = absurd a
   count_place _ e f a = absurd f
 
-  attribute_place : (class : NameBytes) (m : Mode) (stands : Meaning) (e : Option Expression) → IsAttribute w locals s class m stands → EntityFits w locals s class e → TakesValues m stands e
+  attribute_place : (class : NameBytes) (m : Mode) (referent : Meaning) (e : Option Expression) → IsAttribute w locals s class m referent → EntityFits w locals s class e → TakesValues m referent e
   attribute_place class m (meanings.Attribute k field mode implied) e f g =
       (ToAttribute k field (entity_of implied e), f.0, refl, (f.1, entity_is_number w locals s class implied e f.2 g))
   attribute_place class m _ e f g = absurd f
 
   abbrev KnownPlace : Known → Meaning → Option Expression → Type 0
-  KnownPlace known stands e = (m : Mode) × (known_mode_of known ≡ Some m) × TakesValues m stands e
+  KnownPlace known referent e = (m : Mode) × (known_mode_of known ≡ Some m) × TakesValues m referent e
 
-  known_place : (known : Known) (stands : Meaning) (e : Option Expression) → Fits w locals s known stands → SubscriptFits w locals s known e → takes_values known ≡ true → KnownPlace known stands e
-  known_place (knowns.Local m) stands e f d h = (m, refl, variable_place m stands e f (alone w locals s (knowns.Local m) e refl d))
-  known_place (knowns.Variable m) stands e f d h = (m, refl, variable_place m stands e f (alone w locals s (knowns.Variable m) e refl d))
-  known_place (knowns.Class kind) stands e f d h = (modes.Integer, refl, variable_place modes.Integer stands e f (alone w locals s (knowns.Class kind) e refl d))
-  known_place (knowns.Attribute class m) stands e f d h =
-      (m, refl, attribute_place class m stands e f (entity_fits w locals s (knowns.Attribute class m) class e refl d))
-  known_place knowns.EntityCount stands e f d h = (modes.Integer, refl, count_place stands e f (alone w locals s knowns.EntityCount e refl d))
-  known_place _ stands e f d h = absurd cc
+  known_place : (known : Known) (referent : Meaning) (e : Option Expression) → Fits w locals s known referent → SubscriptFits w locals s known e → takes_values known ≡ true → KnownPlace known referent e
+  known_place (knowns.Local m) referent e f d h = (m, refl, variable_place m referent e f (alone w locals s (knowns.Local m) e refl d))
+  known_place (knowns.Variable m) referent e f d h = (m, refl, variable_place m referent e f (alone w locals s (knowns.Variable m) e refl d))
+  known_place (knowns.Class kind) referent e f d h = (modes.Integer, refl, variable_place modes.Integer referent e f (alone w locals s (knowns.Class kind) e refl d))
+  known_place (knowns.Attribute class m) referent e f d h =
+      (m, refl, attribute_place class m referent e f (entity_fits w locals s (knowns.Attribute class m) class e refl d))
+  known_place knowns.EntityCount referent e f d h = (modes.Integer, refl, count_place referent e f (alone w locals s knowns.EntityCount e refl d))
+  known_place _ referent e f d h = absurd cc
 
   -- ---- sets
 
   abbrev Owned : SetMeant → Option Expression → Type 0
-  Owned stands e = (p : ℕ × SetOwner) × (owned_by stands e ≡ Some p) × OwnerFits s p.0 p.1
+  Owned referent e = (p : ℕ × SetOwner) × (owned_by referent e ≡ Some p) × OwnerFits s p.0 p.1
 
-  system_owned : (stands : SetMeant) (e : Option Expression) → IsSetOf w locals s TheProgram stands → Alone w locals s e → Owned stands e
+  system_owned : (referent : SetMeant) (e : Option Expression) → IsSetOf w locals s TheProgram referent → Alone w locals s e → Owned referent e
   system_owned (OfSystem set) None f a = ((set, TheSystem), refl, f)
   system_owned (OfSystem set) (Some e) f a = absurd a
   system_owned (OfEntity set implied) e f a = absurd f
 
-  entity_owned : (class : NameBytes) (stands : SetMeant) (e : Option Expression) → IsSetOf w locals s (EachOf class) stands → EntityFits w locals s class e → Owned stands e
+  entity_owned : (class : NameBytes) (referent : SetMeant) (e : Option Expression) → IsSetOf w locals s (EachOf class) referent → EntityFits w locals s class e → Owned referent e
   entity_owned class (OfSystem set) e f g = absurd f
   entity_owned class (OfEntity set implied) e f g =
       ((set, Entity (entity_of implied e)), refl, (f.0, entity_is_number w locals s class implied e f.1 g))
 
-  set_owned : (holder : Holder) (stands : SetMeant) (e : Option Expression) → IsSetOf w locals s holder stands → SubscriptFits w locals s (knowns.Set holder) e → Owned stands e
-  set_owned TheProgram stands e f d = system_owned stands e f (alone w locals s (knowns.Set TheProgram) e refl d)
-  set_owned (EachOf class) stands e f d = entity_owned class stands e f (entity_fits w locals s (knowns.Set (EachOf class)) class e refl d)
+  set_owned : (holder : Holder) (referent : SetMeant) (e : Option Expression) → IsSetOf w locals s holder referent → SubscriptFits w locals s (knowns.Set holder) e → Owned referent e
+  set_owned TheProgram referent e f d = system_owned referent e f (alone w locals s (knowns.Set TheProgram) e refl d)
+  set_owned (EachOf class) referent e f d = entity_owned class referent e f (entity_fits w locals s (knowns.Set (EachOf class)) class e refl d)
 
   known_set : (known : Known) → is_set known ≡ true → (holder : Holder) × (known ≡ knowns.Set holder)
   known_set (knowns.Set holder) h = (holder, refl)
@@ -114,17 +114,17 @@ module _ (w : Whole) (locals : Moded) (c : Context) (s : Scope) (linked : Linked
       TargetResolves w locals c s (record { designator = d; subscripts = es })
   target_by (Name name) es m d n =
       let known = known_of (meaning_in w.meanings locals name) has_value m.0 in
-      let stands = linked.value name known.0 known.1 known.2 in
+      let referent = linked.value name known.0 known.1 known.2 in
       let e = subscripted name es known.0 known.1 m.1 d n in
       let takes : not (takes_values known.0) ≡ false = subst (λ o. not (if_known takes_values o) ≡ false) known.1 m.2 in
-      let r = known_place w locals s known.0 stands.0 e.0 stands.2 e.2 (of_not (takes_values known.0) takes) in (
+      let r = known_place w locals s known.0 referent.0 e.0 referent.2 e.2 (of_not (takes_values known.0) takes) in (
         r.2.0,
         r.0,
-        two_steps (subscript c es) (c.meaning (Name name)) (λ y u. place_of u y) e.0 stands.0 r.2.0 e.1 stands.1 r.2.2,
+        two_steps (subscript c es) (c.meaning (Name name)) (λ y u. place_of u y) e.0 referent.0 r.2.0 e.1 referent.1 r.2.2,
         ap known_mode known.1 ∙ r.1,
         r.2.3,
-        stands.0,
-        stands.1,
+        referent.0,
+        referent.1,
         r.2.1,
       )
   target_by TimeV es m d n = absurd cc

@@ -28,9 +28,9 @@ use Rattle.ss_names_meaning.specs.Layouts.{laid_out, tie_keys}
 use Rattle.ss_names_meaning.specs.Meanings.{context_in}
 use Rattle.ss_names_meaning.specs.Resolved.{Parts, body, class_event, is_known, is_main, local_modes, main_parts, parts_at, parts_of, resolved, resolved_event, resolved_routine, saved}
 use Rattle.ss_check_laws.specs.SizeLaws.{ProgramsStaySmall}
-use Rattle.ss_check_laws.proofs.Within.{Within, within_of, after, behind}
+use Rattle.ss_check_laws.proofs.Within.{Within, within_of, after, after_lookup}
 use Rattle.ss_check_laws.proofs.StatementSizes.{row_small}
-use Rattle.ss_check_laws.proofs.Sums.{each_numbered, every_first, firsts_less, firsts_once, there_within, told_less, total_flat, total_same, total_values}
+use Rattle.ss_check_laws.proofs.Sums.{each_numbered, every_first, firsts_less, firsts_once, there_within, entries_less, total_flat, total_same, total_values}
 use Rattle.ss_check_laws.proofs.SectionSizes.{of_event, of_routine, of_saying, said_less, weight, weight_at, weights_less}
 
 abbrev parts_nodes : Parts → ℕ
@@ -39,7 +39,7 @@ parts_nodes p = 1 + block_nodes p.body
 module _ (t : Table) (w : Whole) where
   parts_small : (s : SectionTree) → Within parts_nodes (weight s) (parts_of t w s)
   parts_small s =
-      behind parts_nodes (weight s) (local_modes (locals_of w s)) _ (λ modes.
+      after_lookup parts_nodes (weight s) (local_modes (locals_of w s)) _ (λ modes.
       after block_nodes parts_nodes (tree.statements_nodes (statement_row s.body)) (weight s) (body t (locals_of w s) s) _ (row_small (context_in t (locals_of w s)) (statement_row s.body)) (λ done lt. omega (arith, lt)))
 
   main_small : (ss : List SectionTree) → Within parts_nodes (option_nodes weight (find is_main ss)) (main_parts t w ss)
@@ -71,9 +71,9 @@ module _ (t : Table) (w : Whole) where
 
     class_event_small : (class : ℕ) (name : NameBytes) (k : EventSection) → Within event_nodes (event_weight k) (class_event t w sections class name k)
     class_event_small class name k =
-        behind event_nodes (event_weight k) (where_holds _ k.given) _ (λ given.
-        behind event_nodes (event_weight k) (tie_keys t class name) _ (λ keys.
-        behind event_nodes (event_weight k) (saved t name k.saving) _ (λ variable.
+        after_lookup event_nodes (event_weight k) (where_holds _ k.given) _ (λ given.
+        after_lookup event_nodes (event_weight k) (tie_keys t class name) _ (λ keys.
+        after_lookup event_nodes (event_weight k) (saved t name k.saving) _ (λ variable.
         after parts_nodes event_nodes (weight_at sections k.section) (event_weight k) (parts_at t w sections k.section) _ (at_small k.section) (λ p lt. lt))))
 
     event_small : (n : ℕ) → Within event_nodes (option_nodes class_weight (slice_get (values_of t.ranks) n)) (resolved_event t w sections n)
@@ -161,7 +161,7 @@ events_less sections w p =
     let t = table p in
     let a = total_values (class_weight t w sections) t.ranks in
     let b = total_same (λ (e : NameBytes × ℕ). class_weight t w sections e.1) (λ e. named_weight t w sections e.0) t.ranks (every_weight t w sections t.ranks (ranks_numbered (sayings p))) in
-    let c = told_less (event_weight t w sections) t.events t.ranks (firsts_once (flat_map (priority_by (classes (sayings p))) (sayings p) ++ flat_map (declared_by (classes (sayings p))) (sayings p))) in
+    let c = entries_less (event_weight t w sections) t.events t.ranks (firsts_once (flat_map (priority_by (classes (sayings p))) (sayings p) ++ flat_map (declared_by (classes (sayings p))) (sayings p))) in
     omega (arith, a, b, c, firsts_less (of_event sections) (flat_map event_by (sayings p)))
 
 -- ---- programs
@@ -176,7 +176,7 @@ unfolding resolved
 program_small p w =
     let t = table p in
     let ss = p.sections in
-    behind nodes (tree.nodes p) (laid_out t) _ (λ laid.
+    after_lookup nodes (tree.nodes p) (laid_out t) _ (λ laid.
     sections_in t w ss ss (list_all (is_known t) ss) (tree.nodes p) _ (
     after (total routine_nodes) nodes (total (routine_weight t w ss) (values_of t.routines)) (tree.nodes p) (each (resolved_routine t w ss) (upto (length t.routines))) _ (routines_small t w ss) (λ rs lt.
     after (total event_nodes) nodes (total (class_weight t w ss) (values_of t.ranks)) (tree.nodes p) (each (resolved_event t w ss) (upto (length t.ranks))) _ (events_small t w ss) (λ es lt2.

@@ -29,7 +29,7 @@ use Rattle.ss_names_laws.proofs.Steps.{every_append, every_at, somewhere_left, s
 same : (name : NameBytes) → same_name name name ≡ true
 same name = (bytes_decides name name).1 refl
 
--- ---- what is told of a name by the first of all
+-- ---- the first entry of a name
 
 module _ {V : Type 0} where
   either : (o p q : Option V) → option_or o (option_or p q) ≡ option_or (option_or o p) q
@@ -52,9 +52,9 @@ module _ {V : Type 0} where
   none_or None = refl
   none_or (Some x) = refl
 
-  told_beside : (es : List (NameBytes × V)) (e : NameBytes × V) (known : Option V) (name : NameBytes) → told_of es e.0 ≡ known → told_of (entry_beside es e known) name ≡ option_or (told_of es name) (told_of (e ∷ []) name)
-  told_beside es e None name h = told_append es (e ∷ []) name
-  told_beside es e (Some v) name h = by (same_name name e.0) refl
+  found_beside : (es : List (NameBytes × V)) (e : NameBytes × V) (known : Option V) (name : NameBytes) → told_of es e.0 ≡ known → told_of (entry_beside es e known) name ≡ option_or (told_of es name) (told_of (e ∷ []) name)
+  found_beside es e None name h = told_append es (e ∷ []) name
+  found_beside es e (Some v) name h = by (same_name name e.0) refl
     where
       by : (b : Bool) → same_name name e.0 ≡ b → told_of es name ≡ option_or (told_of es name) (cond b (Some e.1) None)
       by true is =
@@ -66,13 +66,13 @@ module _ {V : Type 0} where
   told_folded start [] name = none_or (told_of start name)
   told_folded start (e ∷ es) name =
       told_folded (with_first start e) es name
-      ∙ ap (λ o. option_or o (told_of es name)) (told_beside start e (told_of start e.0) name refl)
+      ∙ ap (λ o. option_or o (told_of es name)) (found_beside start e (told_of start e.0) name refl)
       ∙ sym (either (told_of start name) (told_of (e ∷ []) name) (told_of es name))
       ∙ ap (option_or (told_of start name)) (sym (told_append (e ∷ []) es name))
 
-  -- the first entries tell what all tell
-  pub told_firsts : (all : List (NameBytes × V)) (name : NameBytes) → told_of (firsts all) name ≡ told_of all name
-  told_firsts all name = told_folded [] all name
+  -- a name is found among the first entries as among all
+  pub found_in_firsts : (all : List (NameBytes × V)) (name : NameBytes) → told_of (firsts all) name ≡ told_of all name
+  found_in_firsts all name = told_folded [] all name
 
   apart : (es : List (NameBytes × V)) (e : NameBytes × V) (j : ℕ) (name : NameBytes) (v : V) → Every (λ k. same_name e.0 k ≡ false) (keys_of es) → e.0 ≡ name → slice_get es j ≡ Some (name, v) → ⊥
   apart es e j name v h is f =
@@ -88,11 +88,11 @@ module _ {V : Type 0} where
   once (e ∷ es) (suc i) zero name u v d f g = absurd (apart es e i name u d.0 (ap (λ (q : NameBytes × V). q.0) (same_Some e (name, v) g)) f)
   once (e ∷ es) (suc i) (suc j) name u v d f g = ap suc (once es i j name u v d.1 f g)
 
-  -- what stands at a place is placed there by its name, where each name stands once
+  -- where names are distinct, an entry's place is found by its name
   pub place_from_place : (es : List (NameBytes × V)) (i : ℕ) (name : NameBytes) (v : V) → IsDistinct same_name (keys_of es) → slice_get es i ≡ Some (name, v) → place_in es name ≡ Some i
   place_from_place es i name v d h =
-      let told = told_from_place es i name v d h in
-      let place = place_of_told es name v told in
+      let found = told_from_place es i name v d h in
+      let place = place_of_told es name v found in
       place.1.0 ∙ ap Some (once es place.0 i name v v d place.1.1 h)
 
 -- ---- ranks
@@ -141,8 +141,8 @@ module _ (cs : List (NameBytes × Class)) where
 
   -- a class that is one of notices
   module _ (name : NameBytes) (class : ℕ) (is_one : is_notice_class (told_of cs name) ≡ true) (placed : place_in cs name ≡ Some class) where
-    notice_told : told_of (notice cs name) name ≡ Some class
-    notice_told = rw (is_one, placed) (ap (λ b. cond b (Some class) None) (same name))
+    notice_found : told_of (notice cs name) name ≡ Some class
+    notice_found = rw (is_one, placed) (ap (λ b. cond b (Some class) None) (same name))
 
     none_of_other : (n : NameBytes) (b : Bool) (o : Option ℕ) → same_name name n ≡ false → told_of (if b then entry_if n o else []) name ≡ None
     none_of_other n false o e = refl
@@ -160,7 +160,7 @@ module _ (cs : List (NameBytes × Class)) where
         by : (b : Bool) → same_name name n ≡ b → Declares line (said.Class kind) (Some n)
         by true is =
             let at : name ≡ n = (bytes_decides name n).0 is in
-            inl (subst (λ m. told_of (notice cs m) name ≡ Some class) at notice_told)
+            inl (subst (λ m. told_of (notice cs m) name ≡ Some class) at notice_found)
         by false is = inr (ap (λ b. cond b (Some (record { kind = kind; line = line })) None) is, none_of_other n (is_notice_class (told_of cs n)) (place_in cs n) is)
     declares line what n = inr (refl, refl)
 
@@ -176,9 +176,9 @@ module _ (cs : List (NameBytes × Class)) where
               ap (λ o. option_or o (told_of (flat_map (declared_by cs) ss) name)) e.1 ∙ class_declared ss v rest
         ]
 
-    rank_told : (says : List Saying) (v : Class) → told_of (flat_map class_by says) name ≡ Some v → told_of (ranks_among cs says) name ≡ Some class
-    rank_told says v h =
-        told_firsts (flat_map (priority_by cs) says ++ flat_map (declared_by cs) says) name
+    rank_found : (says : List Saying) (v : Class) → told_of (flat_map class_by says) name ≡ Some v → told_of (ranks_among cs says) name ≡ Some class
+    rank_found says v h =
+        found_in_firsts (flat_map (priority_by cs) says ++ flat_map (declared_by cs) says) name
         ∙ told_append (flat_map (priority_by cs) says) (flat_map (declared_by cs) says) name
         ∙ ap (option_or (told_of (flat_map (priority_by cs) says) name)) (class_declared says v h)
         ∙ by (told_of (flat_map (priority_by cs) says) name) refl
@@ -200,10 +200,10 @@ module _ (p : tree.ProgramTree) where
   rank_there name class c h kind =
       let cs = classes (sayings p) in
       let once = firsts_once (flat_map class_by (sayings p)) in
-      let told = told_from_place cs class name c once h in
+      let found = told_from_place cs class name c once h in
       let place = place_from_place cs class name c once h in
-      let is_one : is_notice_class (told_of cs name) ≡ true = ap is_notice_class told ∙ ap is_notice_kind kind in
-      rank_told cs name class is_one place (sayings p) c (sym (told_firsts (flat_map class_by (sayings p)) name) ∙ told)
+      let is_one : is_notice_class (told_of cs name) ≡ true = ap is_notice_class found ∙ ap is_notice_kind kind in
+      rank_found cs name class is_one place (sayings p) c (sym (found_in_firsts (flat_map class_by (sayings p)) name) ∙ found)
 
   -- ---- EVENT sections
 
@@ -233,8 +233,8 @@ module _ (p : tree.ProgramTree) where
   sections_said name number (s ∷ ss) (inl h) = somewhere_left (HasEvent name) (section_says number s) (sections_say (number + 1) ss) (head_said name number s h)
   sections_said name number (s ∷ ss) (inr h) = somewhere_right (HasEvent name) (section_says number s) (sections_say (number + 1) ss) (sections_said name (number + 1) ss h)
 
-  -- an EVENT section is told by its name
+  -- an EVENT section is found by its name
   pub event_there : (name : NameBytes) → Somewhere (IsEventOf name) p.sections → (e : Event) × (told_of (table p).events name ≡ Some e)
   event_there name h =
       let said = event_said name (sayings p) (somewhere_right (HasEvent name) (preambles_say 0 p.preamble) (sections_say 0 p.sections) (sections_said name 0 p.sections h)) in
-      (said.0, told_firsts (flat_map event_by (sayings p)) name ∙ said.1)
+      (said.0, found_in_firsts (flat_map event_by (sayings p)) name ∙ said.1)

@@ -14,7 +14,7 @@ use Rattle.ss_check_scopes.specs.declared.known.Known.{Known}
 use Rattle.ss_check_scopes.specs.declared.known.Known.TheVariants as knowns
 use Rattle.ss_check_scopes.specs.Locals.{Moded}
 use Rattle.ss_check_scopes.specs.Whole.{Whole}
-use Rattle.ss_check_rules.specs.Unknown.{is_told_here}
+use Rattle.ss_check_rules.specs.Unknown.{is_watched_here}
 use Rattle.ss_program.specs.declared.expression.Variable.TheVariants.{Global}
 use Rattle.ss_program.specs.Program.{Expression, Restart, Statement, Reset}
 use Rattle.ss_program.specs.WellTyped.{Scope, GoodRestart}
@@ -36,34 +36,34 @@ use Rattle.ss_check_laws.proofs.Statements.{StatementResolves}
 module _ (w : Whole) (locals : Moded) (s : Scope) where
   -- whose statistic starts afresh
   abbrev Restarts : Meaning → ℕ → Option Expression → Type 0
-  Restarts stands k e = (of : Option Expression) × (told_of stands e ≡ Some of) × GoodRestart s k of
+  Restarts referent k e = (of : Option Expression) × (told_of referent e ≡ Some of) × GoodRestart s k of
 
-  variable_restarts : (m : Mode) (stands : Meaning) (k : ℕ) (e : Option Expression) → IsSubject w locals s (knowns.Variable m) stands k → Alone w locals s e → Restarts stands k e
+  variable_restarts : (m : Mode) (referent : Meaning) (k : ℕ) (e : Option Expression) → IsSubject w locals s (knowns.Variable m) referent k → Alone w locals s e → Restarts referent k e
   variable_restarts m (meanings.Variable (Global n) mode) k None f a = (None, refl, f)
   variable_restarts m (meanings.Variable (Global n) mode) k (Some e) f a = absurd a
   variable_restarts m _ k e f a = absurd f
 
-  attribute_restarts : (class : NameBytes) (m : Mode) (stands : Meaning) (k : ℕ) (e : Option Expression) → IsSubject w locals s (knowns.Attribute class m) stands k → EntityFits w locals s class e → Restarts stands k e
+  attribute_restarts : (class : NameBytes) (m : Mode) (referent : Meaning) (k : ℕ) (e : Option Expression) → IsSubject w locals s (knowns.Attribute class m) referent k → EntityFits w locals s class e → Restarts referent k e
   attribute_restarts class m (meanings.Attribute j field mode implied) k e f g =
       (Some (entity_of implied e), refl, (f.0, entity_is_number w locals s class implied e f.1 g))
   attribute_restarts class m _ k e f g = absurd f
 
-  system_restarts : (stands : Meaning) (k : ℕ) (e : Option Expression) → IsSubject w locals s (knowns.MemberCount TheProgram) stands k → Alone w locals s e → Restarts stands k e
+  system_restarts : (referent : Meaning) (k : ℕ) (e : Option Expression) → IsSubject w locals s (knowns.MemberCount TheProgram) referent k → Alone w locals s e → Restarts referent k e
   system_restarts (meanings.OfSystemSet query set) k None f a = (None, refl, f)
   system_restarts (meanings.OfSystemSet query set) k (Some e) f a = absurd a
   system_restarts _ k e f a = absurd f
 
-  owner_restarts : (class : NameBytes) (stands : Meaning) (k : ℕ) (e : Option Expression) → IsSubject w locals s (knowns.MemberCount (EachOf class)) stands k → EntityFits w locals s class e → Restarts stands k e
+  owner_restarts : (class : NameBytes) (referent : Meaning) (k : ℕ) (e : Option Expression) → IsSubject w locals s (knowns.MemberCount (EachOf class)) referent k → EntityFits w locals s class e → Restarts referent k e
   owner_restarts class (meanings.OfSet query set implied) k e f g =
       (Some (entity_of implied e), refl, (f.0, entity_is_number w locals s class implied e f.1 g))
   owner_restarts class _ k e f g = absurd f
 
-  subject_restarts : (known : Known) (stands : Meaning) (k : ℕ) (e : Option Expression) → IsSubject w locals s known stands k → SubscriptFits w locals s known e → Restarts stands k e
-  subject_restarts (knowns.Variable m) stands k e f d = variable_restarts m stands k e f (alone w locals s (knowns.Variable m) e refl d)
-  subject_restarts (knowns.Attribute class m) stands k e f d = attribute_restarts class m stands k e f (entity_fits w locals s (knowns.Attribute class m) class e refl d)
-  subject_restarts (knowns.MemberCount TheProgram) stands k e f d = system_restarts stands k e f (alone w locals s (knowns.MemberCount TheProgram) e refl d)
-  subject_restarts (knowns.MemberCount (EachOf class)) stands k e f d = owner_restarts class stands k e f (entity_fits w locals s (knowns.MemberCount (EachOf class)) class e refl d)
-  subject_restarts _ stands k e f d = absurd f
+  subject_restarts : (known : Known) (referent : Meaning) (k : ℕ) (e : Option Expression) → IsSubject w locals s known referent k → SubscriptFits w locals s known e → Restarts referent k e
+  subject_restarts (knowns.Variable m) referent k e f d = variable_restarts m referent k e f (alone w locals s (knowns.Variable m) e refl d)
+  subject_restarts (knowns.Attribute class m) referent k e f d = attribute_restarts class m referent k e f (entity_fits w locals s (knowns.Attribute class m) class e refl d)
+  subject_restarts (knowns.MemberCount TheProgram) referent k e f d = system_restarts referent k e f (alone w locals s (knowns.MemberCount TheProgram) e refl d)
+  subject_restarts (knowns.MemberCount (EachOf class)) referent k e f d = owner_restarts class referent k e f (entity_fits w locals s (knowns.MemberCount (EachOf class)) class e refl d)
+  subject_restarts _ referent k e f d = absurd f
 
 module _ (w : Whole) (locals : Moded) (c : Context) (s : Scope) (linked : Linked w locals c s) (line : Line) where
   abbrev RestartResolves : NamedTree → Type 0
@@ -73,13 +73,13 @@ module _ (w : Whole) (locals : Moded) (c : Context) (s : Scope) (linked : Linked
       KeptDemands w locals (demanded.implied line d (demanded.row_length es)) → Numbers w locals c s es →
       RestartResolves (record { designator = d; subscripts = es })
   restart_by (Name name) es m d n =
-      let told = linked.told name (of_not (is_told_here w locals name) m.0) in
-      let e = subscripted w locals c s linked line name es told.0 told.3 m.1 d n in
-      let r = subject_restarts w locals s told.0 told.1 told.2 e.0 told.6 e.2 in
-      let made : Restart = record { statistic = told.2; of = r.0 } in (
+      let watched = linked.watched name (of_not (is_watched_here w locals name) m.0) in
+      let e = subscripted w locals c s linked line name es watched.0 watched.3 m.1 d n in
+      let r = subject_restarts w locals s watched.0 watched.1 watched.2 e.0 watched.6 e.2 in
+      let made : Restart = record { statistic = watched.2; of = r.0 } in (
         made,
-        two_steps (subscript c es) (c.meaning (Name name)) (λ y u. told_of u y >>= λ of. c.statistic (Name name) >>= λ k. Some (record { statistic = k; of = of })) e.0 told.1 made e.1 told.4
-            (two_steps (told_of told.1 e.0) (c.statistic (Name name)) (λ of k. Some (record { statistic = k; of = of })) r.0 told.2 made r.1 told.5 refl),
+        two_steps (subscript c es) (c.meaning (Name name)) (λ y u. told_of u y >>= λ of. c.statistic (Name name) >>= λ k. Some (record { statistic = k; of = of })) e.0 watched.1 made e.1 watched.4
+            (two_steps (told_of watched.1 e.0) (c.statistic (Name name)) (λ of k. Some (record { statistic = k; of = of })) r.0 watched.2 made r.1 watched.5 refl),
         r.2,
       )
   restart_by TimeV es m d n = absurd cc

@@ -41,18 +41,18 @@ at_most count o modes e h =
 module _ (w : Whole) (locals : Moded) (c : Context) (s : Scope) (linked : Linked w locals c s) (line : Line) where
   -- the values that a notice is given
   abbrev GivenResolve : ClassMeant → List ExpressionTree → Type 0
-  GivenResolve stands given = (xs : List Expression) × (each (expression c) given ≡ Some xs) × (nat_le (length xs) stands.attributes ≡ true) × GoodGiven s stands.class xs
+  GivenResolve referent given = (xs : List Expression) × (each (expression c) given ≡ Some xs) × (nat_le (length xs) referent.attributes ≡ true) × GoodGiven s referent.class xs
 
-  given_resolve : (name : NameBytes) (stands : ClassMeant) → IsClass w locals s name class_words.EventNotice stands → (given : List ExpressionTree) →
-      KeptMentions w locals (mentioned.in_all line given) → KeptDemands w locals (demanded.in_given line name given) → GivenResolve stands given
-  given_resolve name stands k given m d =
+  given_resolve : (name : NameBytes) (referent : ClassMeant) → IsClass w locals s name class_words.EventNotice referent → (given : List ExpressionTree) →
+      KeptMentions w locals (mentioned.in_all line given) → KeptDemands w locals (demanded.in_given line name given) → GivenResolve referent given
+  given_resolve name referent k given m d =
       let fields = k.fields_there in
       let few : length given ≤ length fields.0 = at_most (length given) (w.attributes name) fields.0 fields.2 d.0.1 in
       let by : ℕ → Aspect = λ i. aspects.Attribute name i in
       let xs = values_placed w locals c s linked line by given fields.0 (from_first (w.attributes name) fields.0 fields.2) few m d.1 in
-      let within : length xs.0 ≤ stands.attributes = subst (λ n. length xs.0 ≤ n) (sym fields.3) (subst (λ n. n ≤ length fields.0) (sym xs.2) few) in
+      let within : length xs.0 ≤ referent.attributes = subst (λ n. length xs.0 ≤ n) (sym fields.3) (subst (λ n. n ≤ length fields.0) (sym xs.2) few) in
       let moded : HaveModes s xs.0 (take (length xs.0) fields.0) = subst (λ n. HaveModes s xs.0 (take n fields.0)) (sym xs.2) xs.3 in
-      (xs.0, xs.1, le-leb (length xs.0) stands.attributes within, (k.kind_there, (fields.0, fields.1, moded)))
+      (xs.0, xs.1, le-leb (length xs.0) referent.attributes within, (k.kind_there, (fields.0, fields.1, moded)))
 
   when_resolves : (t : WhenTree) → KeptMentions w locals (mentioned.in_when line t) → KeptDemands w locals (demanded.in_when line t) → GoesWell w locals (GoodWhen s) (when c t)
   when_resolves (at_time e) m d =
@@ -79,15 +79,15 @@ module _ (w : Whole) (locals : Moded) (c : Context) (s : Scope) (linked : Linked
       let d2 = dr w locals s (demanded.in_new line name called) (demanded.in_given line name given) d12 in
       let known = known_of (w.meanings name) is_notice m.0.0 in
       let class = notice_there w locals c s linked line name known.0 known.1 known.2 in
-      let stands = class.0 in
-      let x = new_resolves w locals c s linked line name class_words.EventNotice stands class.2 called m1 d1 in
-      let xs = given_resolve name stands class.2 given m2 d2 in
+      let referent = class.0 in
+      let x = new_resolves w locals c s linked line name class_words.EventNotice referent class.2 called m1 d1 in
+      let xs = given_resolve name referent class.2 given m2 d2 in
       let t = when_resolves time m3 d3 in
-      let made : Statement = ScheduleNew line stands.class x.0 xs.0 t.0 in
-      let found : new_notice line stands x.0 xs.0 t.0 ≡ Some made = holds (nat_le (length xs.0) stands.attributes) made xs.2 in (
+      let made : Statement = ScheduleNew line referent.class x.0 xs.0 t.0 in
+      let found : new_notice line referent x.0 xs.0 t.0 ≡ Some made = holds (nat_le (length xs.0) referent.attributes) made xs.2 in (
         made,
-        step (notice_class c name) (λ k. new_place c k.variable called >>= λ u. each (expression c) given >>= λ v. when c time >>= λ z. new_notice line k u v z) stands made class.1
-            (three_steps (new_place c stands.variable called) (each (expression c) given) (when c time) (λ u v z. new_notice line stands u v z) x.0 xs.0 t.0 made x.1 xs.1 t.1 found),
+        step (notice_class c name) (λ k. new_place c k.variable called >>= λ u. each (expression c) given >>= λ v. when c time >>= λ z. new_notice line k u v z) referent made class.1
+            (three_steps (new_place c referent.variable called) (each (expression c) given) (when c time) (λ u v z. new_notice line referent u v z) x.0 xs.0 t.0 made x.1 xs.1 t.1 found),
         (xs.3, x.2, t.2),
       )
 
@@ -107,14 +107,14 @@ module _ (w : Whole) (locals : Moded) (c : Context) (s : Scope) (linked : Linked
       let d2 = dr w locals s (demanded.in_old line name called) (demanded.in_given line name given) d12 in
       let known = known_of (w.meanings name) is_notice m.0.0 in
       let class = notice_there w locals c s linked line name known.0 known.1 known.2 in
-      let stands = class.0 in
-      let x = old_resolves w locals c s linked line name class_words.EventNotice stands class.2 called m1 d1 in
-      let xs = given_resolve name stands class.2 given m2 d2 in
+      let referent = class.0 in
+      let x = old_resolves w locals c s linked line name class_words.EventNotice referent class.2 called m1 d1 in
+      let xs = given_resolve name referent class.2 given m2 d2 in
       let t = when_resolves time m3 d3 in
-      let made : Statement = Schedule line stands.class x.0 xs.0 t.0 in
-      let found : old_notice line stands x.0 xs.0 t.0 ≡ Some made = holds (nat_le (length xs.0) stands.attributes) made xs.2 in (
+      let made : Statement = Schedule line referent.class x.0 xs.0 t.0 in
+      let found : old_notice line referent x.0 xs.0 t.0 ≡ Some made = holds (nat_le (length xs.0) referent.attributes) made xs.2 in (
         made,
-        step (notice_class c name) (λ k. entity_called c k.variable called >>= λ u. each (expression c) given >>= λ v. when c time >>= λ z. old_notice line k u v z) stands made class.1
-            (three_steps (entity_called c stands.variable called) (each (expression c) given) (when c time) (λ u v z. old_notice line stands u v z) x.0 xs.0 t.0 made x.1 xs.1 t.1 found),
+        step (notice_class c name) (λ k. entity_called c k.variable called >>= λ u. each (expression c) given >>= λ v. when c time >>= λ z. old_notice line k u v z) referent made class.1
+            (three_steps (entity_called c referent.variable called) (each (expression c) given) (when c time) (λ u v z. old_notice line referent u v z) x.0 xs.0 t.0 made x.1 xs.1 t.1 found),
         (xs.3, x.2, t.2),
       )

@@ -1,4 +1,4 @@
--- What is said of routines and of EVENT sections, by the nodes of their sections.
+-- The declarations of routines and of EVENT sections have no more nodes than their sections.
 use Rattle.std.proofs.Common.{◌≡◌, ℕ, suc, ◌+◌, ◌≤◌, Bool, true, false, cond, List, [], ◌∷◌, map, Option, Some, refl, ap, ◌∙◌, arith}
 use Rattle.std.specs.Prelude.{slice_get, sum_by}
 use Rattle.std.specs.List.{find, flat_map}
@@ -46,7 +46,7 @@ module _ (all : List SectionTree) where
   abbrev pub of_event : NameBytes × Event → ℕ
   of_event e = weight_at e.1.section
 
-  -- the section of which this is said
+  -- the section of a declaration
   abbrev pub of_saying : Saying → ℕ
   of_saying s = total of_routine (routine_by s) + total of_event (event_by s)
 
@@ -164,7 +164,7 @@ module _ (all : List SectionTree) where
       let found = found_less (weight_at number) (is_main s) s (find is_main ss) (omega (arith, here)) in
       omega (arith, a, here, rest, section_less number s, found)
 
--- what is said of the sections of a program
+-- the declarations of the sections of a program
 pub said_less : (p : ProgramTree) → total (of_saying p.sections) (sayings p) + option_nodes weight (find is_main p.sections) ≤ total weight p.sections
 said_less p =
     let a = total_append (of_saying p.sections) (preambles_say 0 p.preamble) (sections_say 0 p.sections) in

@@ -15,7 +15,7 @@ use Rattle.ss_names_meaning.specs.Expressions.{expression, item, target, set_nam
 use Rattle.ss_names_meaning.specs.Heads.{guard, head, phrase, phrases_of}
 use Rattle.ss_names_meaning.specs.Statements.{entity_called, find, find_by, for_over, loop, new_place, position, reader, restart, statement, statements, when}
 use Rattle.ss_check_laws.specs.SizeLaws.{BodiesStaySmall}
-use Rattle.ss_check_laws.proofs.Within.{Within, within_of, up, after, behind, where_small, each_small, each_as_many}
+use Rattle.ss_check_laws.proofs.Within.{Within, within_of, up, after, after_lookup, where_small, each_small, each_as_many}
 use Rattle.ss_check_laws.proofs.ExpressionSizes.{small, item_small, target_small, set_small}
 use Rattle.ss_check_laws.proofs.PartSizes.{owner_nodes, own_nodes, own_and_phrases, condition_small, phrase_small, guard_small, head_small, reader_small, new_small, called_small, restart_small, position_small, when_small}
 
@@ -66,7 +66,7 @@ module _ (c : Context) where
         after place_nodes statement_nodes (tree.named_nodes n) m (target c n) _ (target_small c n) (λ x lt. omega (arith, lt, lt2)))
     statement_small (call_statement line name given yielding) =
         let m = 1 + 1 + sum_by tree.expression_nodes given + sum_by tree.named_nodes yielding in
-        behind statement_nodes m (c.routine name) _ (λ r.
+        after_lookup statement_nodes m (c.routine name) _ (λ r.
         after (total expression_nodes) statement_nodes (sum_by tree.expression_nodes given) m (each (expression c) given) _ (each_small tree.expression_nodes expression_nodes (expression c) (small c) given) (λ xs lt.
         after (total place_nodes) statement_nodes (sum_by tree.named_nodes yielding) m (each (target c) yielding) _ (each_small tree.named_nodes place_nodes (target c) (target_small c) yielding) (λ ys lt2.
         where_small statement_nodes m _ _ (omega (arith, lt, lt2)))))
@@ -93,13 +93,13 @@ module _ (c : Context) where
         up statement_nodes (1 + tree.head_nodes over + block_nodes a + block_nodes b) m (find_by outcome line c over a b) (find_by_small outcome line over a b) (omega (arith, lt, lt2))))
     statement_small (create_statement line name called) =
         let m = 1 + 1 + tree.option_nodes tree.named_nodes called in
-        behind statement_nodes m (single_class c name) _ (λ class.
+        after_lookup statement_nodes m (single_class c name) _ (λ class.
         after place_nodes statement_nodes (1 + tree.option_nodes tree.named_nodes called) m (new_place c class.variable called) _ (new_small c class.variable called) (λ x lt. omega (arith, lt)))
     statement_small (create_every line names) =
         after length statement_nodes (length names) (1 + length names) (each (counted c) names) _ (each_as_many (counted c) names) (λ ks lt. omega (arith, lt))
     statement_small (destroy_statement line name called) =
         let m = 1 + 1 + tree.option_nodes tree.expression_nodes called in
-        behind statement_nodes m (single_class c name) _ (λ class.
+        after_lookup statement_nodes m (single_class c name) _ (λ class.
         after expression_nodes statement_nodes (1 + tree.option_nodes tree.expression_nodes called) m (entity_called c class.variable called) _ (called_small c class.variable called) (λ x lt. omega (arith, lt)))
     statement_small (file_statement line e at n) =
         let m = 1 + tree.expression_nodes e + tree.position_nodes at + tree.named_nodes n in
@@ -116,21 +116,21 @@ module _ (c : Context) where
         after owner_nodes statement_nodes (tree.named_nodes n) m (set_named c n) _ (set_small c n) (λ z lt2. omega (arith, lt, lt2)))
     statement_small (schedule_new line name called given time) =
         let m = 1 + 1 + tree.option_nodes tree.named_nodes called + sum_by tree.expression_nodes given + tree.when_nodes time in
-        behind statement_nodes m (notice_class c name) _ (λ class.
+        after_lookup statement_nodes m (notice_class c name) _ (λ class.
         after place_nodes statement_nodes (1 + tree.option_nodes tree.named_nodes called) m (new_place c class.variable called) _ (new_small c class.variable called) (λ x lt.
         after (total expression_nodes) statement_nodes (sum_by tree.expression_nodes given) m (each (expression c) given) _ (each_small tree.expression_nodes expression_nodes (expression c) (small c) given) (λ xs lt2.
         after when_nodes statement_nodes (tree.when_nodes time) m (when c time) _ (when_small c time) (λ due lt3.
         where_small statement_nodes m _ _ (omega (arith, lt, lt2, lt3))))))
     statement_small (schedule_statement line name called given time) =
         let m = 1 + 1 + tree.option_nodes tree.expression_nodes called + sum_by tree.expression_nodes given + tree.when_nodes time in
-        behind statement_nodes m (notice_class c name) _ (λ class.
+        after_lookup statement_nodes m (notice_class c name) _ (λ class.
         after expression_nodes statement_nodes (1 + tree.option_nodes tree.expression_nodes called) m (entity_called c class.variable called) _ (called_small c class.variable called) (λ x lt.
         after (total expression_nodes) statement_nodes (sum_by tree.expression_nodes given) m (each (expression c) given) _ (each_small tree.expression_nodes expression_nodes (expression c) (small c) given) (λ xs lt2.
         after when_nodes statement_nodes (tree.when_nodes time) m (when c time) _ (when_small c time) (λ due lt3.
         where_small statement_nodes m _ _ (omega (arith, lt, lt2, lt3))))))
     statement_small (cancel_statement line name called) =
         let m = 1 + 1 + tree.option_nodes tree.expression_nodes called in
-        behind statement_nodes m (notice_class c name) _ (λ class.
+        after_lookup statement_nodes m (notice_class c name) _ (λ class.
         after expression_nodes statement_nodes (1 + tree.option_nodes tree.expression_nodes called) m (entity_called c class.variable called) _ (called_small c class.variable called) (λ x lt. omega (arith, lt)))
     statement_small (reset_statement line targets) =
         after (total restart_nodes) statement_nodes (sum_by tree.named_nodes targets) (1 + sum_by tree.named_nodes targets) (each (restart c) targets) _ (each_small tree.named_nodes restart_nodes (restart c) (restart_small c) targets) (λ xs lt. omega (arith, lt))

@@ -1,4 +1,4 @@
--- Sums over lists, over numbers and over what is told of names.
+-- Sums over lists, over numbers and over the entries of names.
 use Rattle.std.proofs.Common.{◌≡◌, ℕ, zero, suc, ◌+◌, ◌≤◌, Bool, true, false, cond, List, [], ◌∷◌, ◌++◌, length, Option, Some, None, refl, sym, ap, subst, ◌∙◌, arith}
 use Rattle.std.specs.Prelude.{sum_by, slice_get}
 use Rattle.std.specs.List.{AllByRecursion as Every, flat_map, fold}
@@ -47,7 +47,7 @@ below_same : (f g : ℕ → ℕ) (n : ℕ) → ((i : ℕ) → f i ≡ g i) → b
 below_same f g zero h = refl
 below_same f g (suc n) h = let i = below_same f g n h in let a = h n in omega (arith, i, a)
 
--- what stands at each place of a list
+-- the sum over the places of a list is that over its items
 pub list_below : {A : Type 0} (h : A → ℕ) (xs : List A) → below (λ i. option_nodes h (slice_get xs i)) (length xs) ≡ total h xs
 list_below h [] = refl
 list_below h (x ∷ xs) =
@@ -56,7 +56,7 @@ list_below h (x ∷ xs) =
     let i = list_below h xs in
     omega (arith, a, b, i)
 
--- a step for each number below the length of a list, which looks at what stands there
+-- a step for each number below the length of a list, which reads the item of that number
 pub each_numbered : {A B : Type 0} (h : A → ℕ) (k : B → ℕ) (xs : List A) (n : ℕ) (step : ℕ → Option B) → n ≡ length xs →
     ((i : ℕ) → Within k (option_nodes h (slice_get xs i)) (step i)) → Within (total k) (total h xs) (each step (upto n))
 each_numbered h k xs n step e f =
@@ -70,7 +70,7 @@ pub there_within : {A B : Type 0} (h : A → ℕ) (k : B → ℕ) (o : Option A)
 there_within h k None f g = tt
 there_within h k (Some x) f g = g x
 
--- ---- the first of what is told of each name
+-- ---- the first entry of each name
 
 beside_less : {V : Type 0} (g : NameBytes × V → ℕ) (acc : List (NameBytes × V)) (e : NameBytes × V) (known : Option V) → total g (entry_beside acc e known) ≤ total g acc + g e
 beside_less g acc e None = let a = total_append g acc (e ∷ []) in omega (arith, a)
@@ -86,7 +86,7 @@ fold_less g (e ∷ es) acc =
 pub firsts_less : {V : Type 0} (g : NameBytes × V → ℕ) (es : List (NameBytes × V)) → total g (firsts es) ≤ total g es
 firsts_less g es = omega (arith, fold_less g es [])
 
--- what holds of all entries holds of the firsts
+-- what holds of all entries holds of the first ones
 every_beside : {V : Type 0} (P : NameBytes × V → Type 0) (acc : List (NameBytes × V)) (e : NameBytes × V) (known : Option V) → Every P acc → P e → Every P (entry_beside acc e known)
 every_beside P acc e (Some v) h p = h
 every_beside P [] e None h p = (p, tt)
@@ -99,9 +99,9 @@ every_fold P (e ∷ es) acc h k = every_fold P es (with_first acc e) (every_besi
 pub every_first : {V : Type 0} (P : NameBytes × V → Type 0) (es : List (NameBytes × V)) → Every P es → Every P (firsts es)
 every_first P es h = every_fold P es [] tt h
 
--- ---- names that stand once
+-- ---- distinct names
 
--- nothing is told of a name behind it
+-- each name has one entry
 abbrev pub Once : {V : Type 0} → List (NameBytes × V) → Type 0
 Once [] = Unit {0}
 Once (e ∷ es) = (told_of es e.0 ≡ None) × Once es
@@ -119,17 +119,17 @@ missed : {V : Type 0} (b : Bool) (v : V) (rest : Option V) → cond b (Some v) r
 missed true v rest h = absurd cc
 missed false v rest h = (refl, h)
 
-told_more : {V : Type 0} (acc : List (NameBytes × V)) (e : NameBytes × V) (name : NameBytes) → told_of acc name ≡ None → same_name name e.0 ≡ false → told_of (acc ++ e ∷ []) name ≡ None
-told_more [] e name h other = ap (λ b. cond b (Some e.1) None) other
-told_more (a ∷ acc) e name h other =
+none_more : {V : Type 0} (acc : List (NameBytes × V)) (e : NameBytes × V) (name : NameBytes) → told_of acc name ≡ None → same_name name e.0 ≡ false → told_of (acc ++ e ∷ []) name ≡ None
+none_more [] e name h other = ap (λ b. cond b (Some e.1) None) other
+none_more (a ∷ acc) e name h other =
     let m = missed (same_name name a.0) a.1 (told_of acc name) h in
-    ap (λ b. cond b (Some a.1) (told_of (acc ++ e ∷ []) name)) m.0 ∙ told_more acc e name m.1 other
+    ap (λ b. cond b (Some a.1) (told_of (acc ++ e ∷ []) name)) m.0 ∙ none_more acc e name m.1 other
 
 once_more : {V : Type 0} (acc : List (NameBytes × V)) (e : NameBytes × V) → told_of acc e.0 ≡ None → Once acc → Once (acc ++ e ∷ [])
 once_more [] e h o = (refl, tt)
 once_more (a ∷ acc) e h o =
     let m = missed (same_name e.0 a.0) a.1 (told_of acc e.0) h in
-    (told_more acc e a.0 o.0 (same_back a.0 e.0 m.0), once_more acc e m.1 o.1)
+    (none_more acc e a.0 o.0 (same_back a.0 e.0 m.0), once_more acc e m.1 o.1)
 
 once_beside : {V : Type 0} (acc : List (NameBytes × V)) (e : NameBytes × V) (known : Option V) → told_of acc e.0 ≡ known → Once acc → Once (entry_beside acc e known)
 once_beside acc e None h o = once_more acc e h o
@@ -143,11 +143,11 @@ pub firsts_once : {V : Type 0} (es : List (NameBytes × V)) → Once (firsts es)
 firsts_once es = once_fold es [] tt
 
 module _ {V U : Type 0} (h : V → ℕ) where
-  abbrev told_sum : List (NameBytes × V) → List (NameBytes × U) → ℕ
-  told_sum es xs = total (λ x. option_nodes h (told_of es x.0)) xs
+  abbrev found_sum : List (NameBytes × V) → List (NameBytes × U) → ℕ
+  found_sum es xs = total (λ x. option_nodes h (told_of es x.0)) xs
 
   -- names that differ from one
-  untouched : (f : NameBytes × V) (es : List (NameBytes × V)) (xs : List (NameBytes × U)) → told_of xs f.0 ≡ None → told_sum (f ∷ es) xs ≡ told_sum es xs
+  untouched : (f : NameBytes × V) (es : List (NameBytes × V)) (xs : List (NameBytes × U)) → told_of xs f.0 ≡ None → found_sum (f ∷ es) xs ≡ found_sum es xs
   untouched f es [] none = refl
   untouched f es (x ∷ xs) none =
       let m = missed (same_name f.0 x.0) x.1 (told_of xs f.0) none in
@@ -155,26 +155,26 @@ module _ {V U : Type 0} (h : V → ℕ) where
       let rest = untouched f es xs m.1 in
       omega (arith, here, rest)
 
-  told_step : (f : NameBytes × V) (es : List (NameBytes × V)) (x : NameBytes × U) (xs : List (NameBytes × U)) (b : Bool) → same_name x.0 f.0 ≡ b → told_of xs x.0 ≡ None →
-      told_sum (f ∷ es) xs ≤ h f.1 + told_sum es xs → told_sum (f ∷ es) (x ∷ xs) ≤ h f.1 + told_sum es (x ∷ xs)
-  told_step f es x xs true e none i =
+  found_step : (f : NameBytes × V) (es : List (NameBytes × V)) (x : NameBytes × U) (xs : List (NameBytes × U)) (b : Bool) → same_name x.0 f.0 ≡ b → told_of xs x.0 ≡ None →
+      found_sum (f ∷ es) xs ≤ h f.1 + found_sum es xs → found_sum (f ∷ es) (x ∷ xs) ≤ h f.1 + found_sum es (x ∷ xs)
+  found_step f es x xs true e none i =
       let same : x.0 ≡ f.0 = (bytes_decides x.0 f.0).0 e in
       let rest = untouched f es xs (subst (λ n. told_of xs n ≡ None) same none) in
       let here = ap (λ b. option_nodes h (cond b (Some f.1) (told_of es x.0))) e in
       omega (arith, here, rest)
-  told_step f es x xs false e none i =
+  found_step f es x xs false e none i =
       let here = ap (λ b. option_nodes h (cond b (Some f.1) (told_of es x.0))) e in
       omega (arith, here, i)
 
-  one_more_told : (f : NameBytes × V) (es : List (NameBytes × V)) (xs : List (NameBytes × U)) → Once xs → told_sum (f ∷ es) xs ≤ h f.1 + told_sum es xs
-  one_more_told f es [] o = omega arith
-  one_more_told f es (x ∷ xs) o = told_step f es x xs (same_name x.0 f.0) refl o.0 (one_more_told f es xs o.1)
+  one_more_found : (f : NameBytes × V) (es : List (NameBytes × V)) (xs : List (NameBytes × U)) → Once xs → found_sum (f ∷ es) xs ≤ h f.1 + found_sum es xs
+  one_more_found f es [] o = omega arith
+  one_more_found f es (x ∷ xs) o = found_step f es x xs (same_name x.0 f.0) refl o.0 (one_more_found f es xs o.1)
 
-  nothing_told : (xs : List (NameBytes × U)) → told_sum [] xs ≡ 0
-  nothing_told [] = refl
-  nothing_told (x ∷ xs) = let e = nothing_told xs in omega (arith, e)
+  nothing_found : (xs : List (NameBytes × U)) → found_sum [] xs ≡ 0
+  nothing_found [] = refl
+  nothing_found (x ∷ xs) = let e = nothing_found xs in omega (arith, e)
 
-  -- names that stand once are told of no more than there is
-  pub told_less : (es : List (NameBytes × V)) (xs : List (NameBytes × U)) → Once xs → total (λ x. option_nodes h (told_of es x.0)) xs ≤ total (λ e. h e.1) es
-  told_less [] xs o = let e = nothing_told xs in omega (arith, e)
-  told_less (f ∷ es) xs o = omega (arith, one_more_told f es xs o, told_less es xs o)
+  -- the entries that are found by distinct names have no more nodes than all entries
+  pub entries_less : (es : List (NameBytes × V)) (xs : List (NameBytes × U)) → Once xs → total (λ x. option_nodes h (told_of es x.0)) xs ≤ total (λ e. h e.1) es
+  entries_less [] xs o = let e = nothing_found xs in omega (arith, e)
+  entries_less (f ∷ es) xs o = omega (arith, one_more_found f es xs o, entries_less es xs o)

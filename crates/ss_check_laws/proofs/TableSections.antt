@@ -1,4 +1,4 @@
--- What the table of a program says of sections is what stands in it.
+-- The sections in the table of a program are those of the program.
 use Rattle.std.proofs.Common.{◌≡◌, ℕ, suc, inl, inr, ◌+◌, List, [], ◌∷◌, length, map, Some, refl, ap, ◌∙◌, arith}
 use Rattle.std.specs.Prelude.{slice_get}
 use Rattle.std.specs.List.{AllByRecursion as Every, flat_map}

@@ -265,8 +265,8 @@ module _ (p : tree.ProgramTree) (k : IsKept (table p)) (g : KeepsAllRules (whole
   kind_known s (tree.routine name given yielding) r e = refl
   kind_known s (tree.event name given saving) r e =
       let c = notice_known p k g laws s r name e.0 in
-      let told = rank_there p name c.0 c.1 c.2 c.3 in
-      let place = place_of_told (table p).ranks name c.0 told in
+      let rank_is = rank_there p name c.0 c.1 c.2 c.3 in
+      let place = place_of_told (table p).ranks name c.0 rank_is in
       ap is_some place.1.0
 
   pub all_known : list_all (is_known (table p)) p.sections ≡ true

@@ -29,10 +29,10 @@ pub after : {A B : Type 0} (m : A → ℕ) (k : B → ℕ) (a n : ℕ) (r : Opti
 after m k a n None f h g = tt
 after m k a n (Some x) f h g = g x h
 
--- a step behind one that has no nodes
-pub behind : {A B : Type 0} (k : B → ℕ) (n : ℕ) (r : Option A) (f : A → Option B) → ((x : A) → Within k n (f x)) → Within k n (r >>= f)
-behind k n None f g = tt
-behind k n (Some x) f g = g x
+-- a step after a look-up, whose result has no nodes
+pub after_lookup : {A B : Type 0} (k : B → ℕ) (n : ℕ) (r : Option A) (f : A → Option B) → ((x : A) → Within k n (f x)) → Within k n (r >>= f)
+after_lookup k n None f g = tt
+after_lookup k n (Some x) f g = g x
 
 pub plain_small : {A : Type 0} (k : A → ℕ) (n : ℕ) (e : Option Expression) (x : A) → k x ≤ n → Within k n (plain e x)
 plain_small k n None x h = h
@@ -60,5 +60,5 @@ pub each_as_many : {A B : Type 0} (step : A → Option B) (xs : List A) → With
 unfolding each
 each_as_many step [] = omega arith
 each_as_many step (x ∷ xs) =
-    behind length (length (x ∷ xs)) (step x) _ (λ y.
+    after_lookup length (length (x ∷ xs)) (step x) _ (λ y.
     after length length (length xs) (length (x ∷ xs)) (each step xs) _ (each_as_many step xs) (λ ys lts. omega (arith, lts)))

@@ -1,4 +1,4 @@
--- What keeps the rules on uses resolves, and is well typed.
+-- Expressions, statements and sections that keep the rules on uses resolve, and are well typed.
 use Rattle.std.specs.Prelude.{◌≡◌, ℕ, List, Some}
 use Rattle.std.specs.List.{AllByRecursion as Every}
 use Rattle.ss_base.specs.declared.line.Line.{Line}
@@ -34,7 +34,7 @@ Resolves w locals c s e = (x : Expression) × (m : Mode) × (expression c e ≡ 
 abbrev pub TargetResolves : Whole → Moded → Context → Scope → NamedTree → Type 0
 TargetResolves w locals c s n =
     (x : Place) × (m : Mode) × (target c n ≡ Some x) × (aspect_mode w locals (demanded.target_mode n) ≡ Some m) × TakesMode s x m ×
-    (stands : Meaning) × (c.meaning n.designator ≡ Some stands) × (mode_of stands ≡ Some m)
+    (referent : Meaning) × (c.meaning n.designator ≡ Some referent) × (mode_of referent ≡ Some m)
 
 -- the set has a resolved form, with an owner such as its sets have
 abbrev pub SetResolves : Context → Scope → NamedTree → Type 0
@@ -53,7 +53,7 @@ abbrev pub ForResolves : Context → Scope → HeadTree → Type 0
 ForResolves c s over =
     (h : Head) × (head c over ≡ Some h) × GoodHead s h × (ps : List Phrase) × (each (phrase c) (phrases_of over) ≡ Some ps) × Every (GoodPhrase s) ps
 
--- the same of the head of a loop; one that begins with WHILE or UNTIL has conditions alone
+-- the head of a loop has a resolved form, which is well typed; one that begins with WHILE or UNTIL has conditions alone
 abbrev pub HeadResolves : Context → Scope → LoopHeadTree → Type 0
 HeadResolves c s (for_head over) = ForResolves c s over
 HeadResolves c s (guarded guards) = (gs : List Guard) × (each (guard c) guards ≡ Some gs) × Every (λ g. GoodCondition s g.condition) gs
@@ -69,49 +69,49 @@ KeptExpressionsResolve =
     KeptMentions w locals (mentioned.in_expression line e) → KeptDemands w locals (demanded.in_expression line e) →
     Resolves w locals c s e
 
--- the same of a target
+-- a target without a broken mention or demand resolves
 abbrev pub KeptTargetsResolve : Type 0
 KeptTargetsResolve =
     (w : Whole) (locals : Moded) (c : Context) (s : Scope) → Linked w locals c s → (line : Line) (n : NamedTree) →
     KeptMentions w locals (mentioned.in_named line roles.Target n) → KeptDemands w locals (demanded.in_named line n) →
     TargetResolves w locals c s n
 
--- the same of a set
+-- a set without a broken mention or demand resolves
 abbrev pub KeptSetsResolve : Type 0
 KeptSetsResolve =
     (w : Whole) (locals : Moded) (c : Context) (s : Scope) → Linked w locals c s → (line : Line) (n : NamedTree) →
     KeptMentions w locals (mentioned.in_named line roles.Set n) → KeptDemands w locals (demanded.in_named line n) →
     SetResolves c s n
 
--- the same of an item of PRINT, to one that its field takes
+-- an item of PRINT without a broken mention or demand resolves, to one that its field takes
 abbrev pub KeptItemsResolve : Type 0
 KeptItemsResolve =
     (w : Whole) (locals : Moded) (c : Context) (s : Scope) → Linked w locals c s → (line : Line) (field : Field) (e : ExpressionTree) →
     KeptMentions w locals (mentioned.in_expression line e) → KeptDemands w locals (demanded.in_field line e field) → KeptDemands w locals (demanded.in_item line e) →
     ItemResolves c s field e
 
--- the same of a condition
+-- a condition without a broken mention or demand resolves
 abbrev pub KeptConditionsResolve : Type 0
 KeptConditionsResolve =
     (w : Whole) (locals : Moded) (c : Context) (s : Scope) → Linked w locals c s → (line : Line) (t : ConditionTree) →
     KeptMentions w locals (mentioned.in_condition line t) → KeptDemands w locals (demanded.in_condition line t) →
     ConditionResolves c s t
 
--- the same of the head of a loop
+-- the head of a loop without a broken mention or demand resolves
 abbrev pub KeptHeadsResolve : Type 0
 KeptHeadsResolve =
     (w : Whole) (locals : Moded) (c : Context) (s : Scope) → Linked w locals c s → (line : Line) (over : LoopHeadTree) →
     KeptMentions w locals (mentioned.in_loop_head line over) → KeptDemands w locals (demanded.in_loop_head line over) →
     HeadResolves c s over
 
--- the same of statements, with those in them
+-- statements without a broken mention or demand resolve, with those in them
 abbrev pub KeptBodiesResolve : Type 0
 KeptBodiesResolve =
     (w : Whole) (locals : Moded) (c : Context) (s : Scope) → Linked w locals c s → (body : List StatementTree) →
     KeptMentions w locals (mentioned.in_body body) → KeptStarts s.is_main (mentioned.in_body body) → KeptDemands w locals (demanded.in_body body) →
     BodyResolves c s body
 
--- the same of a section
+-- a section that keeps the rules on uses resolves
 abbrev pub KeptSectionsResolve : Type 0
 KeptSectionsResolve =
     (w : Whole) (section : SectionTree) (c : Context) (s : Scope) → Linked w (locals_of w section) c s → s.is_main ≡ is_main section.kind →

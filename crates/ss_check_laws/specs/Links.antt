@@ -1,4 +1,4 @@
--- What a name stands for is what the rules on uses know of it, and its numbers are those of something in the program.
+-- What a name refers to is what the rules on uses know of it, and its numbers are those of something in the program.
 use Rattle.std.specs.Prelude.{◌≡◌, ℕ, true, List, length, slice_get, Some, Contains}
 use Rattle.ss_base.specs.declared.layout.Mode.{Mode}
 use Rattle.ss_base.specs.declared.layout.Mode.TheVariants.{Integer}
@@ -16,7 +16,7 @@ use Rattle.ss_check_scopes.specs.declared.known.Known.TheVariants as knowns
 use Rattle.ss_check_scopes.specs.Locals.{Moded}
 use Rattle.ss_check_scopes.specs.Meanings.{meaning_in}
 use Rattle.ss_check_scopes.specs.Whole.{Whole}
-use Rattle.ss_check_rules.specs.Unknown.{has_value, is_told_here}
+use Rattle.ss_check_rules.specs.Unknown.{has_value, is_watched_here}
 use Rattle.ss_check_rules.specs.Modes.{mode_in}
 use Rattle.ss_program.specs.declared.expression.Variable.{Variable}
 use Rattle.ss_program.specs.declared.expression.Variable.TheVariants.{Global}
@@ -53,12 +53,12 @@ module _ (w : Whole) (locals : Moded) (s : Scope) where
   IsCount (meanings.Count n) = Contains s.program.counts n × (mode_at s (Global n.variable) ≡ Some Integer)
   IsCount _ = ⊥
 
-  -- what is told of a set, or of a member
-  abbrev pub IsTold : Holder → Meaning → Type 0
-  IsTold TheProgram (meanings.OfSystemSet query set) = owner_of s.program set ≡ Some System
-  IsTold (EachOf class) (meanings.OfSet query set implied) = IsOwned s.program set × IsImplied class implied
-  IsTold (EachOf class) (meanings.OfMember query set implied) = IsSet s.program set × IsImplied class implied
-  IsTold _ _ = ⊥
+  -- F., L. or N. of a set, and P., S. or M. of a member
+  abbrev pub IsQuery : Holder → Meaning → Type 0
+  IsQuery TheProgram (meanings.OfSystemSet query set) = owner_of s.program set ≡ Some System
+  IsQuery (EachOf class) (meanings.OfSet query set implied) = IsOwned s.program set × IsImplied class implied
+  IsQuery (EachOf class) (meanings.OfMember query set implied) = IsSet s.program set × IsImplied class implied
+  IsQuery _ _ = ⊥
 
   -- a statistic that is a value
   abbrev pub IsFigure : Holder → Meaning → Type 0
@@ -72,21 +72,21 @@ module _ (w : Whole) (locals : Moded) (s : Scope) where
   IsMean (EachOf class) (meanings.MeanOf statistic implied) = HasSubject s.program IsOfEntities statistic × IsImplied class implied
   IsMean _ _ = ⊥
 
-  -- what the rules know of a name, and what it stands for; a set and a routine have no meaning as values, targets or items
+  -- what the rules know of a name, and what it refers to; a set and a routine are no values, targets or items
   abbrev pub Fits : Known → Meaning → Type 0
-  Fits (knowns.Local m) stands = IsVariable m stands
-  Fits (knowns.Variable m) stands = IsVariable m stands
-  Fits (knowns.Class kind) stands = IsVariable Integer stands
-  Fits (knowns.Attribute class m) stands = IsAttribute class m stands
-  Fits (knowns.Set holder) stands = ⊥
-  Fits (knowns.MemberCount holder) stands = IsTold holder stands
-  Fits (knowns.Membership holder) stands = IsTold holder stands
-  Fits knowns.EntityCount stands = IsCount stands
-  Fits (knowns.Statistic holder) stands = IsFigure holder stands
-  Fits (knowns.Mean holder) stands = IsMean holder stands
-  Fits knowns.Routine stands = ⊥
+  Fits (knowns.Local m) referent = IsVariable m referent
+  Fits (knowns.Variable m) referent = IsVariable m referent
+  Fits (knowns.Class kind) referent = IsVariable Integer referent
+  Fits (knowns.Attribute class m) referent = IsAttribute class m referent
+  Fits (knowns.Set holder) referent = ⊥
+  Fits (knowns.MemberCount holder) referent = IsQuery holder referent
+  Fits (knowns.Membership holder) referent = IsQuery holder referent
+  Fits knowns.EntityCount referent = IsCount referent
+  Fits (knowns.Statistic holder) referent = IsFigure holder referent
+  Fits (knowns.Mean holder) referent = IsMean holder referent
+  Fits knowns.Routine referent = ⊥
 
-  -- what the rules know of the subject of a TALLY or an ACCUMULATE, what it stands for, and the number of its statistic
+  -- what the rules know of the subject of a TALLY or an ACCUMULATE, what it refers to, and the number of its statistic
   abbrev pub IsSubject : Known → Meaning → ℕ → Type 0
   IsSubject (knowns.Variable m) (meanings.Variable (Global n) mode) statistic = HasSubject s.program IsAlone statistic
   IsSubject (knowns.Attribute class m) (meanings.Attribute k field mode implied) statistic = HasSubject s.program IsOfEntities statistic × IsImplied class implied
@@ -110,39 +110,39 @@ kind_said class_words.EventNotice = class_kinds.Notice
 
 -- N. of a class, by its variable
 abbrev pub count_of : ClassMeant → (variable : ℕ) → Counted
-count_of stands variable = record { class = stands.class; variable = variable }
+count_of referent variable = record { class = referent.class; variable = variable }
 
 -- a permanent class has its N.
 abbrev pub HasCount : Scope → ClassWord → ClassMeant → Type 0
-HasCount s class_words.Permanent stands = (variable : ℕ) × (stands.count ≡ Some variable) × Contains s.program.counts (count_of stands variable)
-HasCount s class_words.Temporary stands = Unit {0}
-HasCount s class_words.EventNotice stands = Unit {0}
+HasCount s class_words.Permanent referent = (variable : ℕ) × (referent.count ≡ Some variable) × Contains s.program.counts (count_of referent variable)
+HasCount s class_words.Temporary referent = Unit {0}
+HasCount s class_words.EventNotice referent = Unit {0}
 
 -- the class of a name and a kind: what its name means as a variable in the section, and its attributes
-pub record IsClass (w : Whole) (locals : Moded) (s : Scope) (name : NameBytes) (kind : ClassWord) (stands : ClassMeant) : Type 0 where
-  pub kind_meant : stands.kind ≡ kind_said kind
-  pub kind_there : kind_of s.program stands.class ≡ Some (kind_said kind)
-  pub variable_there : (m : Mode) × (mode_in w locals name ≡ Some m) × TakesMode s (ToVariable stands.variable) m
-  pub fields_there : (modes : List Mode) × (fields_of s.program stands.class ≡ Some modes) × (w.attributes name ≡ Some modes) × (stands.attributes ≡ length modes)
-  pub count_there : HasCount s kind stands
+pub record IsClass (w : Whole) (locals : Moded) (s : Scope) (name : NameBytes) (kind : ClassWord) (referent : ClassMeant) : Type 0 where
+  pub kind_meant : referent.kind ≡ kind_said kind
+  pub kind_there : kind_of s.program referent.class ≡ Some (kind_said kind)
+  pub variable_there : (m : Mode) × (mode_in w locals name ≡ Some m) × TakesMode s (ToVariable referent.variable) m
+  pub fields_there : (modes : List Mode) × (fields_of s.program referent.class ≡ Some modes) × (w.attributes name ≡ Some modes) × (referent.attributes ≡ length modes)
+  pub count_there : HasCount s kind referent
 
 -- the routine of a name: what it is given and yields
-pub record IsRoutine (w : Whole) (s : Scope) (name : NameBytes) (stands : RoutineMeant) : Type 0 where
+pub record IsRoutine (w : Whole) (s : Scope) (name : NameBytes) (referent : RoutineMeant) : Type 0 where
   pub resolved : Routine
-  pub there : slice_get s.program.routines stands.routine ≡ Some resolved
+  pub there : slice_get s.program.routines referent.routine ≡ Some resolved
   pub given_known : w.given name ≡ Some resolved.given
-  pub given_counted : stands.given ≡ length resolved.given
+  pub given_counted : referent.given ≡ length resolved.given
   pub yielding_known : w.yielding name ≡ Some resolved.yielding
-  pub yielding_counted : stands.yielding ≡ length resolved.yielding
+  pub yielding_counted : referent.yielding ≡ length resolved.yielding
 
--- what a context says of names is what the rules on uses know of them
+-- a context gives each name the meaning that the rules on uses know
 pub record Linked (w : Whole) (locals : Moded) (c : Context) (s : Scope) : Type 0 where
-  pub value : (name : NameBytes) (known : Known) → meaning_in w.meanings locals name ≡ Some known → has_value known ≡ true → (stands : Meaning) × (c.meaning (Name name) ≡ Some stands) × Fits w locals s known stands
+  pub value : (name : NameBytes) (known : Known) → meaning_in w.meanings locals name ≡ Some known → has_value known ≡ true → (referent : Meaning) × (c.meaning (Name name) ≡ Some referent) × Fits w locals s known referent
   pub clock : c.meaning TimeV ≡ Some meanings.Clock
   pub notice_time : c.meaning TimeA ≡ Some meanings.NoticeTime
   -- a set isn't hidden
-  pub set : (name : NameBytes) (holder : Holder) → w.meanings name ≡ Some (knowns.Set holder) → (stands : SetMeant) × (meaning_in w.meanings locals name ≡ Some (knowns.Set holder)) × (c.set (Name name) ≡ Some stands) × IsSetOf w locals s holder stands
-  pub class : (name : NameBytes) (kind : ClassWord) → w.meanings name ≡ Some (knowns.Class kind) → (stands : ClassMeant) × (c.class name ≡ Some stands) × IsClass w locals s name kind stands
-  pub routine : (name : NameBytes) → w.meanings name ≡ Some knowns.Routine → (stands : RoutineMeant) × (c.routine name ≡ Some stands) × IsRoutine w s name stands
-  -- what a statistic is kept of, unless a local variable hides it
-  pub told : (name : NameBytes) → is_told_here w locals name ≡ true → (known : Known) × (stands : Meaning) × (statistic : ℕ) × (meaning_in w.meanings locals name ≡ Some known) × (c.meaning (Name name) ≡ Some stands) × (c.statistic (Name name) ≡ Some statistic) × IsSubject w locals s known stands statistic
+  pub set : (name : NameBytes) (holder : Holder) → w.meanings name ≡ Some (knowns.Set holder) → (referent : SetMeant) × (meaning_in w.meanings locals name ≡ Some (knowns.Set holder)) × (c.set (Name name) ≡ Some referent) × IsSetOf w locals s holder referent
+  pub class : (name : NameBytes) (kind : ClassWord) → w.meanings name ≡ Some (knowns.Class kind) → (referent : ClassMeant) × (c.class name ≡ Some referent) × IsClass w locals s name kind referent
+  pub routine : (name : NameBytes) → w.meanings name ≡ Some knowns.Routine → (referent : RoutineMeant) × (c.routine name ≡ Some referent) × IsRoutine w s name referent
+  -- the subject of a TALLY or an ACCUMULATE, unless a local variable hides it
+  pub watched : (name : NameBytes) → is_watched_here w locals name ≡ true → (known : Known) × (referent : Meaning) × (statistic : ℕ) × (meaning_in w.meanings locals name ≡ Some known) × (c.meaning (Name name) ≡ Some referent) × (c.statistic (Name name) ≡ Some statistic) × IsSubject w locals s known referent statistic

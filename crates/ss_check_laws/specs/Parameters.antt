@@ -1,4 +1,4 @@
--- The parameters of a section stand first among its local variables.
+-- The parameters of a section are the first of its local variables.
 use Rattle.std.specs.Prelude.{◌≡◌, ◌≢◌, ◌≤◌, ℕ, Bool, List, [], ◌∷◌, ◌++◌, length, map, take, drop, slice_get, Option, Some}
 use Rattle.std.specs.List.{AllByRecursion as Every}
 use Rattle.std.specs.Map.{lookup}
@@ -13,7 +13,7 @@ use Rattle.ss_check_scopes.specs.Signatures.{given_to, yielded_by, signature}
 use Rattle.ss_check_scopes.specs.Whole.{Whole, locals_of}
 use Rattle.ss_names_laws.specs.Uses.{KeptSection}
 
--- no name stands again
+-- no two names are the same
 abbrev pub AreDistinct : List NameBytes → Type 0
 AreDistinct [] = Unit {0}
 AreDistinct (name ∷ names) = Every (λ other. other ≢ name) names × AreDistinct names
@@ -30,21 +30,21 @@ local_mode entry = value_mode entry.1
 abbrev pub modes_of : Moded → List ValueMode
 modes_of locals = map local_mode locals
 
--- each local variable stands once: by its name its own mode is found
-abbrev pub LocalsStandOnce : Type 0
-LocalsStandOnce =
+-- the local variables are distinct: by each one's name its own mode is found
+abbrev pub LocalsAreDistinct : Type 0
+LocalsAreDistinct =
     (w : Whole) (section : SectionTree) (n : ℕ) (entry : NameBytes × Option Mode) → slice_get (locals_of w section) n ≡ Some entry →
     lookup (same_name entry.0) (locals_of w section) ≡ Some entry.1
 
 -- the first local variables are the parameters, in their order
-abbrev pub ParametersStandFirst : Type 0
-ParametersStandFirst =
+abbrev pub ParametersAreFirst : Type 0
+ParametersAreFirst =
     (w : Whole) (section : SectionTree) → AreDistinct (parameters section) →
     (others : Moded) × (locals_of w section ≡ map (moded w.usual section.definitions) (parameters section) ++ others)
 
 -- so their modes are those of the signature
-abbrev pub SignaturesStandFirst : Type 0
-SignaturesStandFirst =
+abbrev pub SignaturesAreFirst : Type 0
+SignaturesAreFirst =
     (w : Whole) (section : SectionTree) → AreDistinct (parameters section) →
     (take (length (given_to section.kind)) (modes_of (locals_of w section)) ≡ map value_mode (signature w.usual section).given) ×
     (take (length (yielded_by section.kind)) (drop (length (given_to section.kind)) (modes_of (locals_of w section))) ≡ map value_mode (signature w.usual section).yielding)

@@ -1,4 +1,4 @@
--- What names stand for is what the rules know of them.
+-- What names refer to is what the rules know of them.
 use Rattle.std.specs.Prelude.{◌≡◌, List, Some}
 use Rattle.ss_tree.specs.Tree.{ProgramTree}
 use Rattle.ss_names.specs.Table.{table}
@@ -18,7 +18,7 @@ use Rattle.ss_check_laws.specs.Programs.{KeepsAllRules}
 use Rattle.ss_names_laws.specs.LaidOut.{HasTables}
 use Rattle.ss_check_laws.specs.Signed.{AreSigned}
 
--- what names stand for in a section with these local variables is what the rules on uses know of them
+-- what names refer to in a section with these local variables is what the rules on uses know of them
 abbrev pub ContextsAreLinked : Type 0
 ContextsAreLinked =
     (tree : ProgramTree) (signatures : List Signed) (locals : Moded) (s : Scope) →
@@ -32,7 +32,7 @@ ProgramsResolve =
     (tree : ProgramTree) → IsKept (table tree) → KeepsAllRules (whole_of tree) tree →
     (p : Program) × (resolved (table tree) (whole_of tree) tree.sections ≡ Some p) × WellTyped p
 
--- so has a program that breaks no rule
+-- a program that breaks no rule has a resolved form, which is well typed
 abbrev pub KeptProgramsResolve : Type 0
 KeptProgramsResolve =
     (tree : ProgramTree) → declarations.KeepsDeclarations tree → uses.KeepsUses (whole_of tree) tree →

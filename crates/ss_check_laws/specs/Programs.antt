@@ -1,4 +1,4 @@
--- Programs that keep the rules, and what they come to.
+-- Programs that keep the rules.
 use Rattle.std.specs.Prelude.{◌≡◌}
 use Rattle.std.specs.List.{AllByRecursion as Every, flat_map}
 use Rattle.ss_tree.specs.Tree.{SectionTree, ProgramTree, main}

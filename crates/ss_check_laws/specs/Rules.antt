@@ -1,4 +1,4 @@
--- Where the rules on uses let START SIMULATION stand: in MAIN alone.
+-- Where the rules on uses allow START SIMULATION: in MAIN alone.
 use Rattle.std.specs.Prelude.{◌≡◌, Bool, false, List}
 use Rattle.std.specs.List.{AllByRecursion as Every}
 use Rattle.ss_names_uses.specs.declared.mention.Mention.{Mention}

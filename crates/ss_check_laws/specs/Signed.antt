@@ -18,6 +18,6 @@ pub record IsSigned (signatures : List Signed) (p : Program) (n : ℕ) (r : Rout
   pub given_counted : r.given ≡ length signed.given
   pub yielding_counted : r.yielding ≡ length signed.yielding
 
--- the same of all routines
+-- all routines are given and yield what their signatures say
 abbrev pub AreSigned : Table → List Signed → Program → Type 0
 AreSigned t signatures p = (n : ℕ) (r : RoutineSaid) → slice_get (values_of t.routines) n ≡ Some r → IsSigned signatures p n r

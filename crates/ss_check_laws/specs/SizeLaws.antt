@@ -1,4 +1,4 @@
--- What each name is replaced in has no more nodes than its tree.
+-- A program with each name replaced by what it refers to has no more nodes than its tree.
 use Rattle.std.specs.Prelude.{◌≡◌, ◌≤◌, Some}
 use Rattle.ss_tree.specs.Tree.{ProgramTree, StatementRow}
 use Rattle.ss_tree.specs.Nodes.{nodes as tree_nodes, statements_nodes}

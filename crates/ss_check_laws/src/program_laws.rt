@@ -6,7 +6,7 @@ use crate::body_laws::{laws, laws_of_parameters};
 use ss_names_laws::table_laws::laws_of_tables;
 use ss_names_laws::use_laws::{laws_of_declarations, laws_of_uses};
 
-/// What is proved of the names in a section of such a program: each stands for what the rules on uses know
+/// What is proved of the names in a section of such a program: each refers to what the rules on uses know
 /// of it, where the resolved program is laid out by the table, its routines are given and yield what their
 /// signatures say, and no local variable hides a set.
 pub fn contexts_are_linked()

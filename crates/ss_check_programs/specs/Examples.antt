@@ -107,7 +107,7 @@ pub system_subscript : expression in_main (with_subscript (Name (codes "N.POOL")
 unfolding context_in expression subscript
 system_subscript = refl
 
--- S.POOL is told of the JOB in the variable JOB
+-- S.POOL is that of the JOB in the variable JOB
 pub member_implied : expression in_main (plain_name (codes "S.POOL")) ≡ Some (OfMember Successor 1 (Fetch (Global 2)))
 unfolding context_in expression subscript
 member_implied = refl

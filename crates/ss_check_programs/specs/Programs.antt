@@ -1,4 +1,4 @@
--- A worked example: a whole program, with what it comes to read off by hand.
+-- A worked example: a whole program, with its resolved form read off by hand.
 use Rattle.std.specs.Prelude.{◌≡◌, ℕ, Bool, true, false, is_some, if◌then◌else◌, List, [], ◌∷◌, pos, Some, None, codes, refl}
 use Rattle.ss_base.specs.declared.layout.ClassKind.TheVariants.{Permanent, Temporary, Notice}
 use Rattle.ss_base.specs.declared.layout.Discipline.TheVariants as orders
@@ -109,18 +109,18 @@ yard = record {
       ∷ [];
 }
 
--- what is said of its names: which are global, and what NORMALLY gives
+-- what is known of its names: which are global, and what NORMALLY gives
 abbrev yard_whole : Whole
 yard_whole = record {
   usual = Some mode_words.Integer;
   meanings = λ name. if is_some (told_of (table yard).names name) then Some meanings.Routine else None;
-  is_told = λ name. false;
+  is_watched = λ name. false;
   attributes = λ name. None;
   given = λ name. None;
   yielding = λ name. None;
 }
 
--- ---- what is laid out
+-- ---- the layout
 
 abbrev yard_layout : PlainLayout
 yard_layout = record {
@@ -180,7 +180,7 @@ mark = record {
 }
 
 -- The global variables are TITLE, TRACK, N.TRACK, WAGON, ARRIVAL and CHECK. CHECK comes before ARRIVAL at one time,
--- though it is declared behind it.
+-- though it is declared after it.
 abbrev yard_resolved : Program
 yard_resolved = record {
   layout = yard_layout;
@@ -198,7 +198,7 @@ pub yard_comes_to : resolved (table yard) yard_whole yard.sections ≡ Some yard
 unfolding resolved each upto context_in statement statements expression subscript
 yard_comes_to = refl
 
--- ---- programs that come to nothing
+-- ---- programs without a resolved form
 
 -- without MAIN
 abbrev without_main : List SectionTree

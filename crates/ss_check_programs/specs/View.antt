@@ -1,4 +1,4 @@
--- The plain data that what a section comes to is, without where it lies in memory.
+-- The plain data of a resolved section, without its place in memory.
 use Rattle.ss_program.specs.View.{view_body}
 use Rattle.ss_names_meaning.specs.Resolved.{Parts}
 use Rattle.ss_check_programs.specs.declared.sections.Parts.{Parts as PartsValue}

@@ -1,4 +1,4 @@
-//! Whole programs with each name replaced by what it stands for.
+//! Whole programs with their names resolved.
 #![tactic(auto)]
 
 mod events;

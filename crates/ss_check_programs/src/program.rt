@@ -58,7 +58,7 @@ fn main_number(sections: &[Section]) -> Option<usize>
     sections.iter().position(|section| is_main(section))
 }
 
-// What MAIN comes to.
+// The resolved section of MAIN.
 #[tactic(auto, using(crate::proofs::Found::position_viewed))]
 fn main_parts(
     alloc: Global,
@@ -104,7 +104,7 @@ fn resolved(
     })
 }
 
-/// The program with each name replaced by what it stands for, by the table of its names and the local variables
+/// The program with its names resolved, by the table of its names and the local variables
 /// of each of its sections, in their order. None where a name isn't of the kind that its place needs, a
 /// subscript is missing or too many, or a count of arguments doesn't fit.
 ///

@@ -1,4 +1,4 @@
-//! Sections in which each name is replaced by what it stands for.
+//! Sections with their names resolved.
 
 ghost use Rattle.std.specs.Prelude.{◌≡◌, drop, length, map, take};
 ghost use Rattle.ss_tree.specs.View.{view_section};
@@ -16,7 +16,7 @@ use ss_program::statement::Statement;
 use ss_tree::program::Section;
 use std::alloc::Global;
 
-/// What a section comes to: the line of its head, the modes of its local variables, and its statements.
+/// A resolved section: the line of its head, the modes of its local variables, and its statements.
 #[derive(Drop)]
 pub(crate) struct Parts {
     pub(crate) line: Line,

@@ -28,7 +28,7 @@ pub first_of_both : (xs ys : List Line) → first_of (xs ++ ys) ≡ option_or (f
 first_of_both [] ys = refl
 first_of_both (x ∷ xs) ys = refl
 
--- one more of a list, the first of whose lines is looked for
+-- one more item of a list, where the first line of all items is looked for
 pub next_first : {X Y : Type 0} (f : Y → List Line) (v : X → Y) (xs : List X) (i : ℕ) (x : X) (found one new : Option Line) → i < length xs → x ≡ get_or xs i x → found ≡ first_of (flat_map f (map v (take i xs))) → one ≡ first_of (f (v x)) → new ≡ option_or found one → new ≡ first_of (flat_map f (map v (take (i + 1) xs)))
 next_first f v xs i x found one new lt is h e n =
     let before = map v (take i xs) in
@@ -37,19 +37,19 @@ next_first f v xs i x found one new lt is h e n =
     n ∙ ap (λ o. option_or o one) h ∙ ap (option_or (first_of (flat_map f before))) e ∙ sym (first_of_both (flat_map f before) (f (v x))) ∙
     ap first_of (flat_map_more f [] before (v x) ∙ ap (flat_map f) (sym taken))
 
--- the same of a list as it is
+-- one more item of a list of plain data
 pub next_first_plain : {X : Type 0} (f : X → List Line) (xs : List X) (i : ℕ) (x : X) (found one new : Option Line) → i < length xs → x ≡ get_or xs i x → found ≡ first_of (flat_map f (take i xs)) → one ≡ first_of (f x) → new ≡ option_or found one → new ≡ first_of (flat_map f (take (i + 1) xs))
 next_first_plain f xs i x found one new lt is h e n =
     let before = take i xs in
     n ∙ ap (λ o. option_or o one) h ∙ ap (option_or (first_of (flat_map f before))) e ∙ sym (first_of_both (flat_map f before) (f x)) ∙
     ap first_of (flat_map_more f [] before x ∙ ap (flat_map f) (sym (take_more xs i x lt ∙ ap (λ y. before ++ y ∷ []) (sym is))))
 
--- the first of the lines of what each of a list stands for
+-- the lines of lists, one list after the other
 pub flat_twice : {X Y Z : Type 0} (f : Y → List Z) (v : X → List Y) (xs : List X) → flat_map f (flat_map v xs) ≡ flat_map (λ x. flat_map f (v x)) xs
 flat_twice f v [] = refl
 flat_twice f v (x ∷ xs) = flat_map-append f (v x) (flat_map v xs) ∙ ap (λ l. flat_map f (v x) ++ l) (flat_twice f v xs)
 
--- where a number has to be: the first line of what is demanded of a name, by what it means
+-- where a number has to be: the first line of the demands on a name, by its meaning
 three_lines : (x y z : Bool) (line : Line) → first_of (line_if (x || y || z) line) ≡ first_of (line_if (x || false) line ++ (line_if y line ++ (line_if (z || false) line ++ [])))
 three_lines true y z line = refl
 three_lines false true z line = refl

@@ -25,7 +25,7 @@ abbrev pub is_more : ℕ → Option ℕ → Bool
 is_more count None = false
 is_more count (Some n) = nat_lt n count
 
--- whether so many are miscounted where this is wanted: a function and a CALL take as many as they do, SCHEDULE and
+-- whether so many arguments are wrong where this is wanted: a function and a CALL take as many as they have, SCHEDULE and
 -- EVENT at most as many as their class has attributes
 abbrev pub is_miscounted : Whole → ℕ → Aspect → Bool
 is_miscounted w count (ArgumentCount function) = not (count == argument_count function)

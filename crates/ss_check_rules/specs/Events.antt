@@ -1,4 +1,4 @@
--- Rules 71, 72 and 78: MAIN, the event routine of each class of notices, and where START SIMULATION stands.
+-- Rules 71, 72 and 78: MAIN, the event routine of each class of notices, and the place of START SIMULATION.
 use Rattle.std.specs.Prelude.{Bool, true, false, not, ◌&&◌, List, [], ◌∷◌}
 use Rattle.std.specs.List.{list_any, flat_map}
 use Rattle.ss_base.specs.declared.line.Line.{Line}

@@ -45,7 +45,7 @@ whole =
     record {
       usual = Some said.Integer;
       meanings = λ name. lookup (same_name name) known;
-      is_told = λ name. same_name name (codes "X");
+      is_watched = λ name. same_name name (codes "X");
       attributes = modes_in ((codes "MACHINE", []) ∷ (codes "JOB", values.Integer ∷ []) ∷ (codes "BELL", values.Integer ∷ []) ∷ []);
       given = modes_in ((codes "R", []) ∷ (codes "T", values.Alpha ∷ []) ∷ []);
       yielding = modes_in ((codes "R", []) ∷ (codes "T", []) ∷ []);
@@ -251,7 +251,7 @@ pub ten_decimals : in_main (print_statement (line 16) (name (codes "M1") ∷ [])
 unfolding picture_fields
 ten_decimals = refl
 
--- the same in line 16, and in line 18 LET POOL = 1, which breaks 79
+-- 77 is broken in line 16, and LET POOL = 1 in line 18 breaks 79, which comes first
 pub a_later_place : in_main (print_statement (line 16) (one ∷ one ∷ []) (codes "*" ∷ []) ∷ let_statement (line 18) (at (codes "POOL")) one ∷ []) ≡ broken rules.Unknown 18
 unfolding picture_fields
 a_later_place = refl

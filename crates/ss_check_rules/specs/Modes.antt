@@ -110,6 +110,6 @@ abbrev pub breaks_modes : Whole → Moded → Demand → Bool
 breaks_modes w locals d = mixes w locals d || misplaces w locals d
 
 -- the line of a TALLY or an ACCUMULATE of texts
-abbrev pub tells_of_text : Whole → PreambleTree → List Line
-tells_of_text w (statistics line weighting found subject) = line_if (differ (known_mode (w.meanings subject)) (Some modes.Integer)) line
-tells_of_text w _ = []
+abbrev pub text_subjects : Whole → PreambleTree → List Line
+text_subjects w (statistics line weighting found subject) = line_if (differ (known_mode (w.meanings subject)) (Some modes.Integer)) line
+text_subjects w _ = []

@@ -1,4 +1,4 @@
--- Rule 73 where a number has to be and a name stands without subscript: all that is demanded of it, at once.
+-- Rule 73 where a number has to be and a name without subscript is: all demands on it at once.
 use Rattle.std.specs.Prelude.{Bool, ◌||◌, Some}
 use Rattle.ss_base.specs.declared.layout.Mode.TheVariants as modes
 use Rattle.ss_names_uses.specs.Mentions.{NameBytes}
@@ -15,6 +15,6 @@ abbrev pub means_no_number : Whole → Moded → Known → Bool
 means_no_number w locals meaning =
     differ (mode_of meaning) (Some modes.Integer) || is_mean meaning || differ (class_mode w locals (class_implied meaning)) (Some modes.Integer)
 
--- the same of a name that means anything
+-- whether a name, if it means anything, breaks the rule there
 abbrev pub is_no_number : Whole → Moded → NameBytes → Bool
 is_no_number w locals name = if_known (means_no_number w locals) (meaning_in w.meanings locals name)

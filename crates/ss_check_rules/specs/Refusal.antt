@@ -13,18 +13,18 @@ use Rattle.ss_check_rules.specs.declared.rule.Broken.{Broken}
 use Rattle.ss_check_rules.specs.Lines.{first_of, mention_lines, demand_lines}
 use Rattle.ss_check_rules.specs.Uses.{Uses, uses_of}
 use Rattle.ss_check_rules.specs.Events.{has_main, event_names, lacks_event, declares_eventless, is_misplaced}
-use Rattle.ss_check_rules.specs.Unknown.{is_unknown, tells_of_unknown}
+use Rattle.ss_check_rules.specs.Unknown.{is_unknown, unknown_subjects}
 use Rattle.ss_check_rules.specs.Subscripts.{has_wrong_subscripts}
 use Rattle.ss_check_rules.specs.Targets.{is_not_assignable}
 use Rattle.ss_check_rules.specs.Arguments.{miscounts}
-use Rattle.ss_check_rules.specs.Modes.{breaks_modes, tells_of_text}
+use Rattle.ss_check_rules.specs.Modes.{breaks_modes, text_subjects}
 use Rattle.ss_check_rules.specs.Fields.{misfits}
 
 -- the lines in which a statement of the preamble breaks a rule, where these names lack an EVENT section
 abbrev pub in_preamble : Rule → Whole → (NameBytes → Bool) → PreambleTree → List Line
 in_preamble NoEventRoutine w lacks s = declares_eventless lacks s
-in_preamble Unknown w lacks s = tells_of_unknown w s
-in_preamble Mode w lacks s = tells_of_text w s
+in_preamble Unknown w lacks s = unknown_subjects w s
+in_preamble Mode w lacks s = text_subjects w s
 in_preamble _ w lacks s = []
 
 -- whether a mention in a section breaks a rule

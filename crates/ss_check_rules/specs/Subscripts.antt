@@ -1,4 +1,4 @@
--- Rule 75: subscripts where none may stand, or more than one, or none where one is wanted.
+-- Rule 75: subscripts where none may be, or more than one, or none where one is needed.
 use Rattle.std.specs.Prelude.{ℕ, zero, suc, Bool, true, false}
 use Rattle.ss_names_uses.specs.declared.mention.Mentioned.{Mentioned}
 use Rattle.ss_names_uses.specs.declared.mention.Mentioned.TheVariants.{Name, TimeV, TimeA, Simulation}

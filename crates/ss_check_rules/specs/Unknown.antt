@@ -18,7 +18,7 @@ use Rattle.ss_check_scopes.specs.Whole.{Whole}
 use Rattle.ss_check_scopes.specs.Meanings.{meaning_in}
 use Rattle.ss_check_rules.specs.Lines.{line_if}
 
--- what may stand as a value or a target: all but sets and routines
+-- what may be a value or a target: all but sets and routines
 abbrev pub has_value : Known → Bool
 has_value (Set holder) = false
 has_value Routine = false
@@ -58,8 +58,8 @@ if_known suits None = false
 if_known suits (Some meaning) = suits meaning
 
 -- whether a TALLY or an ACCUMULATE is of what the name means here: a local variable that hides it has none
-abbrev pub is_told_here : Whole → Moded → NameBytes → Bool
-is_told_here w locals name = w.is_told name && not (is_some (lookup (same_name name) locals))
+abbrev pub is_watched_here : Whole → Moded → NameBytes → Bool
+is_watched_here w locals name = w.is_watched name && not (is_some (lookup (same_name name) locals))
 
 -- whether what a name means in a section is of the kind that a value, a target or a loop's name needs
 abbrev pub suits_here : Role → Known → Bool
@@ -85,7 +85,7 @@ suits w locals roles.Given name = true
 suits w locals roles.Yielding name = true
 suits w locals (roles.Define mode) name = true
 suits w locals roles.Start name = true
-suits w locals roles.Reset name = is_told_here w locals name
+suits w locals roles.Reset name = is_watched_here w locals name
 suits w locals roles.Value name = if_known (suits_here roles.Value) (meaning_in w.meanings locals name)
 suits w locals roles.Target name = if_known (suits_here roles.Target) (meaning_in w.meanings locals name)
 suits w locals roles.LoopVariable name = if_known (suits_here roles.LoopVariable) (meaning_in w.meanings locals name)
@@ -108,13 +108,13 @@ abbrev pub is_unknown : Whole → Moded → Mention → Bool
 is_unknown w locals m = not (suits_place w locals m.role m.what)
 
 -- what TALLY and ACCUMULATE may be of: a global variable made by DEFINE, an attribute or N. of a set
-abbrev pub may_be_told : Known → Bool
-may_be_told (Variable mode) = true
-may_be_told (Attribute class mode) = true
-may_be_told (MemberCount holder) = true
-may_be_told _ = false
+abbrev pub may_be_watched : Known → Bool
+may_be_watched (Variable mode) = true
+may_be_watched (Attribute class mode) = true
+may_be_watched (MemberCount holder) = true
+may_be_watched _ = false
 
 -- the line of a TALLY or an ACCUMULATE of something else
-abbrev pub tells_of_unknown : Whole → PreambleTree → List Line
-tells_of_unknown w (statistics line weighting found subject) = line_if (not (if_known may_be_told (w.meanings subject))) line
-tells_of_unknown w _ = []
+abbrev pub unknown_subjects : Whole → PreambleTree → List Line
+unknown_subjects w (statistics line weighting found subject) = line_if (not (if_known may_be_watched (w.meanings subject))) line
+unknown_subjects w _ = []

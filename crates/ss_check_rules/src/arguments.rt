@@ -37,7 +37,7 @@ fn is_more(count: usize, most: Option<usize>) -> bool
     }
 }
 
-// Whether so many are miscounted where this is wanted.
+// Whether so many arguments are wrong where this is wanted.
 fn is_miscounted<G: Globals>(globals: &G, count: usize, wanted: &Aspect) -> bool
     ensures { result ≡ is_miscounted (G.whole globals.now) count wanted.now }
 {

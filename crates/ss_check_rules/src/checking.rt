@@ -61,9 +61,9 @@ fn first_line<G: Globals>(
     ensures { result ≡ first_of (lines_in (G.whole globals.now) (view_program program.now) (lacks_event events.now) (map uses_seen all.now) rule) }
 {
     let here = first_in_program(rule, &program.sections);
-    let told = first_in_preamble(globals, events, rule, &program.preamble);
+    let declared = first_in_preamble(globals, events, rule, &program.preamble);
     let used = first_in_sections(globals, rule, all);
-    here.or(told).or(used)
+    here.or(declared).or(used)
 }
 
 // The first of some rules that is broken, with its first line.
@@ -85,7 +85,7 @@ fn first_broken<G: Globals>(
 }
 
 /// The first rule that a program breaks, in the order 71, 72, 78, 79, 75, 76, 74, 73, 77, each over the
-/// whole program, with the line of its first place in the text; 0 for 71. None where every rule is kept. And the
+/// whole program, with the line of its first place in the text; 0 for 71. None where no rule is broken. And the
 /// local variables of each of its sections, in their order, which the rules look at.
 ///
 /// # Errors

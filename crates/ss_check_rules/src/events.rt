@@ -1,4 +1,4 @@
-//! MAIN, event routines, and where START SIMULATION stands.
+//! MAIN, event routines, and the place of START SIMULATION.
 
 ghost use Rattle.std.specs.Prelude.{◌≡◌, [], map, IfOk};
 ghost use Rattle.std.specs.List.{flat_map};
@@ -71,7 +71,7 @@ fn eventless(events: &Keys<Name>, line: Line, class: Name) -> Option<Line>
     line_if(!events.contains(&class), line)
 }
 
-// The same of some classes.
+// The line, if one of some classes of notices has no EVENT section.
 pub(crate) fn first_eventless(events: &Keys<Name>, line: Line, classes: &[Name]) -> Option<Line>
     ensures { result ≡ first_of (flat_map (eventless line (lacks_event events.now)) classes.now) }
 {
@@ -82,7 +82,7 @@ pub(crate) fn first_eventless(events: &Keys<Name>, line: Line, classes: &[Name])
     found
 }
 
-// The same of a class of a kind.
+// The line of a class that is one of notices, by its kind, and has no EVENT section.
 pub(crate) fn eventless_of(
     events: &Keys<Name>,
     line: Line,

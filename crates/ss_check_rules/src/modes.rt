@@ -195,7 +195,7 @@ fn means_no_number<G: Globals>(globals: &G, locals: &Locals, meaning: &Known) ->
         )
 }
 
-// The same of a name that means anything.
+// Whether a name without subscript means no number, or a MEAN, or what is of an entity in a variable of texts.
 pub(crate) fn is_no_number<G: Globals>(globals: &G, locals: &Locals, name: Name) -> bool
     ensures { result ≡ is_no_number (G.whole globals.now) locals.now name }
 {

@@ -5,15 +5,15 @@ ghost use Rattle.std.specs.List.{flat_map};
 ghost use Rattle.ss_tree.specs.View.{view_preamble};
 ghost use Rattle.ss_check_rules.specs.Events.{declares_eventless, lacks_event};
 ghost use Rattle.ss_check_rules.specs.Lines.{first_of};
-ghost use Rattle.ss_check_rules.specs.Modes.{tells_of_text};
+ghost use Rattle.ss_check_rules.specs.Modes.{text_subjects};
 ghost use Rattle.ss_check_rules.specs.Refusal.{in_preamble};
-ghost use Rattle.ss_check_rules.specs.Unknown.{tells_of_unknown};
+ghost use Rattle.ss_check_rules.specs.Unknown.{unknown_subjects};
 
 use crate::events::{eventless_of, first_eventless};
 use crate::lines::line_if;
 use crate::modes::{differ, global_mode};
 use crate::rule::Rule;
-use crate::unknown::tells_of_known;
+use crate::unknown::is_known_subject;
 use ss_base::{Line, Mode, Name};
 use ss_check_scopes::Globals;
 use ss_names_declarations::Keys;
@@ -37,21 +37,21 @@ fn declares_eventless(events: &Keys<Name>, statement: &PreambleStatement) -> Opt
     }
 }
 
-// The line of a TALLY or an ACCUMULATE of what none can be of.
-fn tells_of_unknown<G: Globals>(globals: &G, statement: &PreambleStatement) -> Option<Line>
-    ensures { result ≡ first_of (tells_of_unknown (G.whole globals.now) (view_preamble statement.now)) }
+// The line of a TALLY or an ACCUMULATE of what can have none.
+fn unknown_subjects<G: Globals>(globals: &G, statement: &PreambleStatement) -> Option<Line>
+    ensures { result ≡ first_of (unknown_subjects (G.whole globals.now) (view_preamble statement.now)) }
 {
     match statement {
         PreambleStatement::Statistics { line, subject, .. } => {
-            line_if(!tells_of_known(globals, *subject), *line)
+            line_if(!is_known_subject(globals, *subject), *line)
         }
         _ => None,
     }
 }
 
 // The line of a TALLY or an ACCUMULATE of texts.
-fn tells_of_text<G: Globals>(globals: &G, statement: &PreambleStatement) -> Option<Line>
-    ensures { result ≡ first_of (tells_of_text (G.whole globals.now) (view_preamble statement.now)) }
+fn text_subjects<G: Globals>(globals: &G, statement: &PreambleStatement) -> Option<Line>
+    ensures { result ≡ first_of (text_subjects (G.whole globals.now) (view_preamble statement.now)) }
 {
     match statement {
         PreambleStatement::Statistics { line, subject, .. } => line_if(
@@ -73,13 +73,13 @@ fn first_in_statement<G: Globals>(
 {
     match rule {
         Rule::NoEventRoutine => declares_eventless(events, statement),
-        Rule::Unknown => tells_of_unknown(globals, statement),
-        Rule::Mode => tells_of_text(globals, statement),
+        Rule::Unknown => unknown_subjects(globals, statement),
+        Rule::Mode => text_subjects(globals, statement),
         _ => None,
     }
 }
 
-/// The first line in which a preamble breaks a rule, where EVENT sections have these names; None where it keeps it.
+/// The first line in which a preamble breaks a rule, where EVENT sections have these names; None where it breaks none.
 pub fn first_in_preamble<G: Globals>(
     globals: &G,
     events: &Keys<Name>,

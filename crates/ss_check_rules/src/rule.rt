@@ -9,12 +9,12 @@ pub enum Rule {
     NoMain,
     /// 72: a class of notices has no EVENT section.
     NoEventRoutine,
-    /// 73: a text stands where a number has to be, or a MEAN where a value has to be, or two modes are
+    /// 73: a text is where a number has to be, or a MEAN where a value has to be, or two modes are
     /// joined.
     Mode,
     /// 74: other counts of arguments than are taken.
     Arguments,
-    /// 75: a subscript where none may stand, or none where one has to, or more than one.
+    /// 75: a subscript where none may be, or none where one has to be, or more than one.
     Subscript,
     /// 76: a target to which nothing can be assigned.
     NotAssignable,

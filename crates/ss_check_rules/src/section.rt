@@ -161,7 +161,7 @@ fn first_demanded<G: Globals>(globals: &G, rule: Rule, uses: &SectionUses) -> Op
     first_demand(globals, rule, uses)
 }
 
-/// The first line in which a section of these uses breaks a rule; None where it keeps it.
+/// The first line in which a section with these uses breaks a rule; None where there is none.
 pub fn first_in_section<G: Globals>(globals: &G, rule: Rule, uses: &SectionUses) -> Option<Line>
     ensures { result ≡ first_of (in_section rule (G.whole globals.now) (uses_seen uses.now)) }
 {
@@ -170,7 +170,7 @@ pub fn first_in_section<G: Globals>(globals: &G, rule: Rule, uses: &SectionUses)
     mentioned.or(demanded)
 }
 
-/// The first line in which sections of these uses break a rule; None where they keep it.
+/// The first line in which sections with these uses break a rule; None where there is none.
 pub fn first_in_sections<G: Globals>(globals: &G, rule: Rule, all: &[SectionUses]) -> Option<Line>
     ensures { result ≡ first_of (flat_map (in_section rule (G.whole globals.now)) (map uses_seen all.now)) }
 {

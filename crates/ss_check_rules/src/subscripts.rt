@@ -1,4 +1,4 @@
-//! Subscripts where none may stand, or more than one, or none where one is wanted.
+//! Subscripts where none may be, or more than one, or none where one is needed.
 
 ghost use Rattle.std.specs.Prelude.{◌≡◌};
 ghost use Rattle.ss_check_rules.specs.Subscripts.{has_wrong_subscripts, is_of_program, is_single};
@@ -41,7 +41,7 @@ fn names_single<G: Globals>(globals: &G, locals: &Locals, name: Name) -> bool
     }
 }
 
-// Whether a mention has subscripts where none may stand, or more than one, or none where one is wanted.
+// Whether a mention has subscripts where none may be, or more than one, or none where one is needed.
 pub(crate) fn has_wrong_subscripts<G: Globals>(
     globals: &G,
     locals: &Locals,

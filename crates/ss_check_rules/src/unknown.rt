@@ -1,14 +1,14 @@
 //! Names that are not of the kind that their place needs.
 
 ghost use Rattle.std.specs.Prelude.{◌≡◌};
-ghost use Rattle.ss_check_rules.specs.Unknown.{has_value, if_known, is_notice, is_permanent, is_routine, is_set, is_told_here, is_transient, is_unknown, is_variable, may_be_told, suits, suits_here, suits_there, suits_times};
+ghost use Rattle.ss_check_rules.specs.Unknown.{has_value, if_known, is_notice, is_permanent, is_routine, is_set, is_watched_here, is_transient, is_unknown, is_variable, may_be_watched, suits, suits_here, suits_there, suits_times};
 
 use ss_base::Name;
 use ss_check_scopes::{Globals, Known, Locals, meaning_in};
 use ss_names_uses::{Mention, Mentioned, Role};
 use ss_tree::preamble::ClassKind;
 
-// Whether it may stand as a value or a target.
+// Whether it may be a value or a target.
 fn has_value(meaning: &Known) -> bool
     ensures { result ≡ has_value meaning.now }
 {
@@ -63,9 +63,9 @@ fn is_transient(meaning: &Known) -> bool
     )
 }
 
-// Whether TALLY and ACCUMULATE may be of it.
-fn may_be_told(meaning: &Known) -> bool
-    ensures { result ≡ may_be_told meaning.now }
+// Whether a TALLY or an ACCUMULATE may be of it.
+fn may_be_watched(meaning: &Known) -> bool
+    ensures { result ≡ may_be_watched meaning.now }
 {
     matches!(
         meaning,
@@ -73,21 +73,21 @@ fn may_be_told(meaning: &Known) -> bool
     )
 }
 
-// Whether TALLY and ACCUMULATE may be of what a name means in the whole program.
-pub(crate) fn tells_of_known<G: Globals>(globals: &G, subject: Name) -> bool
-    ensures { result ≡ if_known may_be_told ((G.whole globals.now).meanings subject) }
+// Whether a TALLY or an ACCUMULATE may be of what a name means in the whole program.
+pub(crate) fn is_known_subject<G: Globals>(globals: &G, subject: Name) -> bool
+    ensures { result ≡ if_known may_be_watched ((G.whole globals.now).meanings subject) }
 {
     match globals.meaning_of(subject) {
-        Some(meaning) => may_be_told(&meaning),
+        Some(meaning) => may_be_watched(&meaning),
         None => false,
     }
 }
 
 // Whether a TALLY or an ACCUMULATE is of what the name means here.
-fn is_told_here<G: Globals>(globals: &G, locals: &Locals, name: Name) -> bool
-    ensures { result ≡ is_told_here (G.whole globals.now) locals.now name }
+fn is_watched_here<G: Globals>(globals: &G, locals: &Locals, name: Name) -> bool
+    ensures { result ≡ is_watched_here (G.whole globals.now) locals.now name }
 {
-    globals.is_told(name) && locals.mode(name).is_none()
+    globals.is_watched(name) && locals.mode(name).is_none()
 }
 
 // Whether a meaning in a section is of the kind that a value, a target or a loop's name needs.
@@ -120,7 +120,7 @@ fn suits<G: Globals>(globals: &G, locals: &Locals, role: Role, name: Name) -> bo
 {
     match role {
         Role::Given | Role::Yielding | Role::Define(_) | Role::Start => true,
-        Role::Reset => is_told_here(globals, locals, name),
+        Role::Reset => is_watched_here(globals, locals, name),
         Role::Value | Role::Target | Role::LoopVariable => match meaning_in(globals, locals, name) {
             Some(meaning) => suits_here(role, &meaning),
             None => false,
@@ -132,7 +132,7 @@ fn suits<G: Globals>(globals: &G, locals: &Locals, role: Role, name: Name) -> bo
     }
 }
 
-// Whether TIME.V and TIME.A may stand there.
+// Whether TIME.V and TIME.A may be in this role.
 fn suits_times(role: Role) -> bool
     ensures { result ≡ suits_times role }
 {

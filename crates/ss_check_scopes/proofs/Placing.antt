@@ -1,4 +1,4 @@
--- Where the names stand that are entered once each.
+-- The places of names that are entered once each.
 use Rattle.std.proofs.Common.{◌≡◌, ℕ, Some}
 use Rattle.std.specs.Prelude.{slice_get}
 use Rattle.std.specs.Map.{keys_of}

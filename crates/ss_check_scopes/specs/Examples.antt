@@ -42,7 +42,7 @@ pub used : locals is_global (Some Integer) (a_section main [] (let_statement lin
     (codes "X", Some Integer) ∷ (codes "Y", Some Integer) ∷ []
 used = refl
 
--- the same without NORMALLY: nothing gives them a mode
+-- without NORMALLY nothing gives X a mode
 pub used_unmoded : locals is_global None (a_section main [] (let_statement line (at (codes "X")) (number (pos 1)) ∷ [])) ≡ (codes "X", None) ∷ []
 used_unmoded = refl
 

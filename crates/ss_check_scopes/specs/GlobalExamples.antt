@@ -1,4 +1,4 @@
--- Worked examples: what a small program says of names, read off by hand.
+-- Worked examples: what the names of a small program mean, read off by hand.
 use Rattle.std.specs.Prelude.{◌≡◌, ℕ, true, false, [], ◌∷◌, Some, None, codes, refl}
 use Rattle.ss_base.specs.declared.line.Line.{Line}
 use Rattle.ss_base.specs.declared.layout.Mode.TheVariants as values
@@ -67,11 +67,11 @@ a_statistic = refl
 pub a_mean : (whole_of p).meanings (codes "M1") ≡ Some (AMean (Entity (codes "JOB")))
 a_mean = refl
 
-pub told : (whole_of p).is_told (codes "RANK") ≡ true
-told = refl
+pub watched : (whole_of p).is_watched (codes "RANK") ≡ true
+watched = refl
 
-pub not_told : (whole_of p).is_told (codes "W") ≡ false
-not_told = refl
+pub not_watched : (whole_of p).is_watched (codes "W") ≡ false
+not_watched = refl
 
 pub unknown : (whole_of p).meanings (codes "A") ≡ None
 unknown = refl

@@ -1,4 +1,4 @@
--- What stands at the numbers of local variables.
+-- The numbers of local variables.
 use Rattle.std.specs.Prelude.{◌≡◌, ℕ, Bool, slice_get, Option, Some}
 use Rattle.std.specs.Map.{keys_of}
 use Rattle.ss_tree.specs.declared.preamble.Mode.{Mode}
@@ -6,7 +6,7 @@ use Rattle.ss_tree.specs.Tree.{SectionTree}
 use Rattle.ss_names_uses.specs.Mentions.{NameBytes}
 use Rattle.ss_check_scopes.specs.Locals.{locals, number_of}
 
--- the number of the local variable that stands at a place is that place; so each stands once
+-- the number of the local variable at a place is that place; so they are distinct
 abbrev pub NumbersArePlaces : Type 0
 NumbersArePlaces =
     (is_global : NameBytes → Bool) (usual : Option Mode) (s : SectionTree) (n : ℕ) (name : NameBytes) →

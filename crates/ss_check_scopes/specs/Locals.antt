@@ -61,7 +61,7 @@ is_variable Reset = true
 is_variable LoopVariable = true
 is_variable _ = false
 
--- whether a name that stands so is a local variable: it is declared in the section, or it is used without subscript as
+-- whether a name in this role is a local variable: it is declared in the section, or it is used without subscript as
 -- a variable and isn't global
 abbrev pub is_local_at : (NameBytes → Bool) → Mention → NameBytes → Bool
 is_local_at is_global m name = declares m.role || (is_variable m.role && (m.subscripts == 0) && not (is_global name))

@@ -11,7 +11,7 @@ use Rattle.ss_check_scopes.specs.declared.known.Known.TheVariants.{Local}
 use Rattle.ss_names_declarations.specs.Firsts.{same_name}
 use Rattle.ss_check_scopes.specs.Locals.{Moded}
 
--- the mode of values of a mode that is said; REAL, and a name without a mode, are refused before
+-- the mode of the values of a name with this declared mode; REAL, and a name without a mode, are refused before
 abbrev pub value_mode : Option Mode → ValueMode
 value_mode (Some said.Alpha) = Alpha
 value_mode _ = Integer

@@ -1,4 +1,4 @@
--- What the whole program says of names.
+-- What names mean in the whole program.
 use Rattle.std.specs.Prelude.{ℕ, Bool, is_some, List, slice_get, Option, Some, None}
 use Rattle.ss_base.specs.declared.layout.Mode.{Mode as ValueMode}
 use Rattle.ss_tree.specs.declared.preamble.Mode.{Mode}
@@ -13,7 +13,7 @@ pub record Whole : Type 0 where
   -- what a name means in the whole program
   pub meanings : NameBytes → Option Known
   -- whether a TALLY or an ACCUMULATE is of it
-  pub is_told : NameBytes → Bool
+  pub is_watched : NameBytes → Bool
   -- the modes of the attributes of a class
   pub attributes : NameBytes → Option (List ValueMode)
   -- the modes of what a routine is given, and of what it yields

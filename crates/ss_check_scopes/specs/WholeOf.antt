@@ -1,4 +1,4 @@
--- What the table of a program says of names.
+-- What names mean in the whole program, by its table of names.
 use Rattle.std.specs.Prelude.{ℕ, is_some, List, [], map, get_or, slice_get, Option, Some, None}
 use Rattle.std.specs.Map.{keys_of, values_of}
 use Rattle.ss_base.specs.declared.layout.Mode.{Mode as ValueMode}
@@ -54,7 +54,7 @@ abbrev pub member_holder : Table → Option ℕ → Holder
 member_holder t (Some class) = entity_at t class
 member_holder t None = Program
 
--- who has a set, and of whose membership its derived names tell
+-- the owner of a set, which has F., L. and N. of it, and the class of its members, which has P., S. and M. of it
 abbrev pub set_holder : Table → Option SetSaid → Holder
 set_holder t (Some set) = owner_holder t set.owner
 set_holder t None = Program
@@ -115,7 +115,7 @@ abbrev pub statistic_meaning : Table → Option StatisticSaid → Known
 statistic_meaning t (Some s) = statistic_known (statistic_holder t s) s.kind
 statistic_meaning t None = Statistic Program
 
--- what a name means by what it stands for in the table
+-- what a name means by its entry in the table
 abbrev pub meaning_by : Table → Numbered → Option Known
 meaning_by t (numbered.Variable variable) = variable_meaning (slice_get (values_of t.variables) variable)
 meaning_by t (numbered.Class class variable) = class_meaning (slice_get (values_of t.classes) class)
@@ -128,7 +128,7 @@ meaning_by t (numbered.Routine routine) = Some Routine
 
 abbrev pub meaning_of : Table → Option Numbered → Option Known
 meaning_of t None = None
-meaning_of t (Some stands) = meaning_by t stands
+meaning_of t (Some global) = meaning_by t global
 
 -- ---- attributes of classes, and parameters of routines
 
@@ -168,18 +168,18 @@ yielded_modes None = None
 
 -- ---- the whole program
 
--- what a table says of names, where sections have these signatures
+-- what names mean by a table, where sections have these signatures
 abbrev pub whole_in : Table → List Signed → Whole
 whole_in t signatures =
     record {
       usual = t.usual;
       meanings = λ name. meaning_of t (told_of t.names name);
-      is_told = λ name. is_some (place_in t.weighings name);
+      is_watched = λ name. is_some (place_in t.weighings name);
       attributes = λ name. attributes_of t (told_of t.names name);
       given = λ name. given_modes (routine_signed t signatures (told_of t.names name));
       yielding = λ name. yielded_modes (routine_signed t signatures (told_of t.names name));
     }
 
--- what a program says of names
+-- what names mean in a program
 abbrev pub whole_of : ProgramTree → Whole
 whole_of p = whole_in (table p) (map (signature (table p).usual) p.sections)

@@ -1,4 +1,4 @@
-//! What the whole program says of names.
+//! What names mean in the whole program.
 
 ghost use Rattle.std.specs.Prelude.{◌≡◌, length, option_map};
 ghost use Rattle.ss_check_scopes.specs.Whole.{Whole, mode_at};
@@ -7,7 +7,7 @@ use crate::known::Known;
 use ss_base::{Mode as ValueMode, Name};
 use ss_tree::preamble::Mode;
 
-/// What the whole program says of names.
+/// What names mean in the whole program.
 ///
 /// A contract sees it as plain data (`Whole`).
 pub trait Globals {
@@ -22,8 +22,8 @@ pub trait Globals {
         ensures { result ≡ (whole self.now).meanings name };
 
     /// Whether a TALLY or an ACCUMULATE is of it.
-    fn is_told(&self, name: Name) -> bool
-        ensures { result ≡ (whole self.now).is_told name };
+    fn is_watched(&self, name: Name) -> bool
+        ensures { result ≡ (whole self.now).is_watched name };
 
     /// How many attributes a class has. None where it is no class.
     fn attribute_count(&self, class: Name) -> Option<usize>

@@ -48,7 +48,7 @@ pub(crate) fn set_holder(names: &Names, set: usize) -> Holder
     }
 }
 
-// Of whose membership the set of this number tells.
+// The class of the members of the set of this number.
 pub(crate) fn membership_holder(names: &Names, set: usize) -> Holder
     ensures { result ≡ membership_holder names.now (slice_get names.now.sets set) }
 {

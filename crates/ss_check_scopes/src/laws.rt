@@ -2,7 +2,7 @@
 
 ghost use Rattle.ss_check_scopes.specs.Laws.{NumbersArePlaces};
 
-/// Each local variable stands once, and its number is its place.
+/// Local variables are distinct, and the number of each is its place.
 pub fn numbers_are_places()
     ensures { NumbersArePlaces }
 {}

@@ -57,7 +57,7 @@ fn is_variable(role: Role) -> bool
     }
 }
 
-// Whether a name that stands so is a local variable.
+// Whether a name in this role is a local variable.
 fn is_local_at<G: Globals>(globals: &G, mention: &Mention, name: Name) -> bool
     ensures { result ≡ is_local_at (is_global (G.whole globals.now).meanings) mention.now name }
 {
@@ -106,7 +106,7 @@ fn add_mentioned<G: Globals>(
 impl Locals {
     /// The local variables of a section: its parameters, given ones before yielded ones, those that its
     /// DEFINEs name, and those that its statements only use. Their modes are those of its DEFINEs, else
-    /// that of NORMALLY. All that the section mentions is at hand.
+    /// that of NORMALLY. `all` is what the section mentions.
     ///
     /// # Errors
     /// `AllocError` where memory is refused.

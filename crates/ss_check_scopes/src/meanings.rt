@@ -1,4 +1,4 @@
-//! What names mean by what they stand for in the table.
+//! What names mean by their entries in the table.
 
 ghost use Rattle.std.specs.Prelude.{◌≡◌, slice_get};
 ghost use Rattle.std.specs.Map.{keys_of, values_of};
@@ -93,11 +93,11 @@ fn statistic_meaning(names: &Names, statistic: usize) -> Known
     }
 }
 
-// What a name means by what it stands for.
-pub(crate) fn meaning_by(names: &Names, stands: Numbered) -> Option<Known>
-    ensures { result ≡ meaning_by names.now stands }
+// What a name means by its entry in the table.
+pub(crate) fn meaning_by(names: &Names, global: Numbered) -> Option<Known>
+    ensures { result ≡ meaning_by names.now global }
 {
-    match stands {
+    match global {
         Numbered::Variable(variable) => variable_meaning(names, variable),
         Numbered::Class { class, .. } => class_meaning(names, class),
         Numbered::Count { .. } => Some(Known::EntityCount),

@@ -1,4 +1,4 @@
-//! What a program says of names.
+//! What names mean in a program, by its table of names.
 
 ghost use Rattle.std.specs.Prelude.{◌≡◌, map, length, option_map, slice_get, IfOk};
 ghost use Rattle.std.specs.Option.{option_copied};
@@ -20,7 +20,7 @@ use ss_tree::preamble::Mode;
 use ss_tree::program::{Program, Section};
 use std::alloc::{AllocError, Global};
 
-/// What a program says of names: its table of names, and the signature of each of its sections.
+/// What names mean in a program: its table of names, and the signature of each of its sections.
 #[derive(Drop)]
 pub struct ProgramGlobals {
     pub names: Names,
@@ -43,7 +43,7 @@ fn signatures_of(
     Ok(all)
 }
 
-// The fields of the class that a name stands for. None where it is no class.
+// The fields of the class of a name. None where it is no class.
 fn fields_of(names: &Names, class: Name) -> Option<&[Name]>
     ensures { option_map (λ fields. map (field_mode names.now) fields.now) result ≡ attributes_of names.now (told_of names.now.names class) }
 {
@@ -54,7 +54,7 @@ fn fields_of(names: &Names, class: Name) -> Option<&[Name]>
 }
 
 impl ProgramGlobals {
-    /// What a program says of names, of which this is the table.
+    /// What names mean in a program, of which this is the table.
     ///
     /// # Errors
     /// `AllocError` where memory is refused.
@@ -72,13 +72,13 @@ impl ProgramGlobals {
         }
     }
 
-    /// Gives its memory back. To drop it in line does the same, and has the drops of its parts proved there once more.
+    /// Gives its memory back. An implicit drop would do so too, but each function with one proves the drops of its parts again.
     pub fn release(self) {
         let ProgramGlobals { names, .. } = self;
         names.release();
     }
 
-    // The signature of the routine that a name stands for. None where it is no routine.
+    // The signature of the routine of a name. None where it is no routine.
     fn signed(&self, routine: Name) -> Option<&Signature>
         ensures { option_copied result ≡ routine_signed self.now.names self.now.signatures.items (told_of self.now.names.names routine) }
     {
@@ -101,12 +101,12 @@ impl Globals for ProgramGlobals {
 
     fn meaning_of(&self, name: Name) -> Option<Known> {
         match self.names.meaning(&name) {
-            Some(stands) => meaning_by(&self.names, stands),
+            Some(global) => meaning_by(&self.names, global),
             None => None,
         }
     }
 
-    fn is_told(&self, name: Name) -> bool {
+    fn is_watched(&self, name: Name) -> bool {
         self.names.history_of(&name).is_some()
     }
 

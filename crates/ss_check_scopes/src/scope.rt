@@ -9,7 +9,7 @@ use crate::locals::Locals;
 use ss_base::{Mode as ValueMode, Name};
 use ss_tree::preamble::Mode;
 
-/// The mode of values of a mode that is said: ALPHA where that is, else INTEGER.
+/// The mode of the values of a name with this declared mode: ALPHA for ALPHA, else INTEGER.
 pub fn value_mode(mode: Option<Mode>) -> ValueMode
     ensures { result ≡ value_mode mode }
 {

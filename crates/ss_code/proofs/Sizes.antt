@@ -11,7 +11,7 @@ use Rattle.ss_program.specs.Program.{Expression, Constant, Fetch, Attribute, OfS
 use Rattle.ss_program.specs.Nodes.{total, option_nodes, expression_nodes, subscript_nodes, set_nodes, test_nodes, alternative_nodes, condition_nodes, guard_nodes, phrase_nodes, place_nodes, target_nodes, start_nodes, head_nodes, position_nodes, when_nodes, restart_nodes, item_nodes, statement_nodes, block_nodes, routine_nodes, event_nodes, nodes}
 use Rattle.ss_code_instructions.specs.declared.instruction.Instruction.{Instruction}
 use Rattle.ss_code_instructions.specs.declared.instruction.Instruction.TheVariants as i
-use Rattle.ss_code_instructions.specs.Translation.{expression_code, values_code, entity_code, member_code, owner_code, is_system, is_absent, any_code, test_code, tests_code, alternatives_code, condition_code, negated_code, guard_code, guards_code, phrase_code, phrases_code, items_code, step_code, range_code, outset_code, kept, kept_by, members_code, for_code, find_code, if_code, loop_code, destination_of, spot_code, give_code, gives_code, reads_code, creates_code, filing_of, beside_code, file_code, when_code, schedule_new_code, schedule_code, restarts_code, item_code, shown_code, values_taken, block_prints, statement_prints, statement_code, block_code, section_code, sections_code, routine_bodies, event_bodies, prints_of_main, prints_before_events, main_code, routines_code, events_code, code_of}
+use Rattle.ss_code_instructions.specs.Translation.{expression_code, values_code, entity_code, member_code, owner_code, is_system, is_absent, any_code, test_code, tests_code, alternatives_code, condition_code, negated_code, guard_code, guards_code, phrase_code, phrases_code, items_code, step_code, range_code, outset_code, members_cells, loop_cells, members_code, for_code, find_code, if_code, loop_code, destination_of, spot_code, give_code, gives_code, reads_code, creates_code, filing_of, beside_code, file_code, when_code, schedule_new_code, schedule_code, restarts_code, item_code, shown_code, values_taken, block_prints, statement_prints, statement_code, block_code, section_code, sections_code, routine_bodies, event_bodies, prints_of_main, prints_before_events, main_code, routines_code, events_code, code_of}
 
 -- code, and one instruction more
 one_more : (xs : List Instruction) (x : Instruction) → length (xs ++ x ∷ []) ≡ length xs + 1
@@ -149,7 +149,7 @@ items_size : (l : Line) (x : Variable) (turn : List Instruction) → length (ite
 items_size l x turn = omega (arith, length-append turn (i.Next (length turn + 1) ∷ (i.Forget 3 ∷ [])))
 
 members_size : (l : Line) (x : Variable) (set : ℕ) (system reverse : Bool) (turn : List Instruction) → length (members_code l x set system reverse turn) ≡ length turn + 3
-members_size l x set system reverse turn = omega (arith, length-append turn (i.NextMember set system (length turn + 1) l ∷ (i.Forget (kept system) ∷ [])))
+members_size l x set system reverse turn = omega (arith, length-append turn (i.NextMember set system (length turn + 1) l ∷ (i.Forget (members_cells system) ∷ [])))
 
 step_size : (l : Line) (e : Option Expression) → length (step_code l e) ≤ 1 + 2 * option_nodes expression_nodes e
 step_size l None = omega arith
@@ -176,8 +176,8 @@ for_size l (Numbers x a b c) turn =
 for_size l (Each x class) turn = omega (arith, items_size l x turn)
 for_size l (Members x set owner start reverse) turn =
     let before = outset_code l (length turn + 2) set owner start reverse in
-    let behind = members_code l x set (is_system owner) reverse turn in
-    omega (arith, outset_size l (length turn + 2) set owner start reverse, members_size l x set (is_system owner) reverse turn, length-append before behind)
+    let after = members_code l x set (is_system owner) reverse turn in
+    omega (arith, outset_size l (length turn + 2) set owner start reverse, members_size l x set (is_system owner) reverse turn, length-append before after)
 
 -- ---- places
 
@@ -275,7 +275,7 @@ loop_size l gs body =
 find_size : (l : Line) (h : Head) (ps : List Phrase) (found none : List Instruction) → length (find_code l h ps found none) ≤ 11 + 2 * head_nodes h + 4 * total phrase_nodes ps + length found + length none
 find_size l h ps found none =
     let turn = phrases_code l ps (i.Jump (length none + 3) ∷ []) in
-    let tail = i.Jump (length found + 1) ∷ (i.Forget (kept_by h) ∷ found) in
+    let tail = i.Jump (length found + 1) ∷ (i.Forget (loop_cells h) ∷ found) in
     omega (arith, phrases_size l ps (i.Jump (length none + 3) ∷ []), for_size l h turn, length-append (for_code l h turn) (none ++ tail), length-append none tail)
 
 mutual
@@ -291,15 +291,15 @@ mutual
   statement_size first (Read l targets) = omega (arith, reads_size l targets)
   statement_size first Simulate = omega arith
   statement_size first (If l c a b) =
-      let behind = first + length (block_prints a) in
-      omega (arith, if_size l c (block_code first a) (block_code behind b), block_size first a, block_size behind b)
+      let after = first + length (block_prints a) in
+      omega (arith, if_size l c (block_code first a) (block_code after b), block_size first a, block_size after b)
   statement_size first (Loop l gs a) = omega (arith, loop_size l gs (block_code first a), block_size first a)
   statement_size first (For l h ps a) =
       let turn = phrases_code l ps (block_code first a) in
       omega (arith, for_size l h turn, phrases_size l ps (block_code first a), block_size first a)
   statement_size first (Find l h ps a b) =
-      let behind = first + length (block_prints a) in
-      omega (arith, find_size l h ps (block_code first a) (block_code behind b), block_size first a, block_size behind b)
+      let after = first + length (block_prints a) in
+      omega (arith, find_size l h ps (block_code first a) (block_code after b), block_size first a, block_size after b)
   statement_size first (Create l class x) = omega (arith, give_size l x (i.Create class l ∷ []))
   statement_size first (CreateEvery l classes) = omega (arith, creates_size l classes)
   statement_size first (Destroy l class e) = omega (arith, expression_size l e, one_more (expression_code l e) (i.Destroy class l))
@@ -320,8 +320,8 @@ mutual
   block_size : (first : ℕ) (b : Block) → length (block_code first b) ≤ 64 * block_nodes b
   block_size first Done = omega arith
   block_size first (Then s rest) =
-      let behind = first + length (statement_prints s) in
-      omega (arith, statement_size first s, block_size behind rest, length-append (statement_code first s) (block_code behind rest))
+      let after = first + length (statement_prints s) in
+      omega (arith, statement_size first s, block_size after rest, length-append (statement_code first s) (block_code after rest))
 
 -- ---- programs
 
@@ -331,14 +331,14 @@ section_size first b = omega (arith, block_size first b, one_more (block_code fi
 routines_size : (first : ℕ) (rs : List Routine) → length (sections_code first (routine_bodies rs)) ≤ 64 * total routine_nodes rs
 routines_size first [] = omega arith
 routines_size first (r ∷ rs) =
-    let behind = first + length (block_prints r.body) in
-    omega (arith, section_size first r.body, routines_size behind rs, length-append (section_code first r.body) (sections_code behind (routine_bodies rs)))
+    let after = first + length (block_prints r.body) in
+    omega (arith, section_size first r.body, routines_size after rs, length-append (section_code first r.body) (sections_code after (routine_bodies rs)))
 
 events_size : (first : ℕ) (es : List Event) → length (sections_code first (event_bodies es)) ≤ 64 * total event_nodes es
 events_size first [] = omega arith
 events_size first (e ∷ es) =
-    let behind = first + length (block_prints e.body) in
-    omega (arith, section_size first e.body, events_size behind es, length-append (section_code first e.body) (sections_code behind (event_bodies es)))
+    let after = first + length (block_prints e.body) in
+    omega (arith, section_size first e.body, events_size after es, length-append (section_code first e.body) (sections_code after (event_bodies es)))
 
 pub code_size : (p : Program) → length (code_of p).instructions ≤ 64 * nodes p
 code_size p =

@@ -1,4 +1,4 @@
--- One more item of a list whose code, lines and entries are made one behind the other.
+-- One more item of a list whose code, lines and entries are made one after the other.
 use Rattle.std.proofs.Common.{◌≡◌, ℕ, List, [], ◌∷◌, ◌+◌, ◌++◌, length, ap, sym, ◌∙◌, append_assoc, length-append}
 use Rattle.ss_program.specs.Program.{Routine, Event, Block}
 use Rattle.ss_code_instructions.specs.Machine.{Entry, Lines}

@@ -1,4 +1,4 @@
--- The parts of the code of a program, one behind the other.
+-- The parts of the code of a program, one after the other.
 use Rattle.std.proofs.Common.{◌≡◌, ℕ, List, [], Result, Ok, Err, IfOk, IsErrAnd, ◌+◌, ◌++◌, length, map, ap, ◌∙◌, append_assoc, length-append}
 use Rattle.ss_meaning.specs.Meaning.{setting_of, tie_shapes}
 use Rattle.ss_base.specs.declared.layout.Mode.{Mode}
@@ -8,7 +8,7 @@ use Rattle.ss_code_instructions.specs.declared.instruction.Instruction.{Instruct
 use Rattle.ss_code_instructions.specs.Machine.{Entry, Lines, Code}
 use Rattle.ss_code_instructions.specs.Translation.{section_code, block_prints, sections_prints, sections_code, routine_bodies, event_bodies, routine_entries, event_entries, main_code, routines_code, prints_of_main, code_of}
 
--- how many PRINTs stand before the events
+-- how many PRINTs come before the events
 before_events : (p : Program) → length (block_prints p.main ++ sections_prints (routine_bodies p.routines)) ≡ prints_of_main p + length (sections_prints (routine_bodies p.routines))
 before_events p = length-append (block_prints p.main) (sections_prints (routine_bodies p.routines))
 
@@ -49,7 +49,7 @@ made_whole p =
     ∙ ap (λ x. record (code_made p) { instructions = (code_of p).instructions; prints = x }) (whole_prints p)
     ∙ ap (λ x. record (code_made p) { instructions = (code_of p).instructions; prints = (code_of p).prints; events = x }) (whole_events p)
 
--- the instructions of MAIN, behind them those of the routines, and behind them those of the events' routines
+-- the instructions of MAIN, after them those of the routines, and then those of the events' routines
 pub instructions_whole : (p : Program) (m : Block) (rs : List Routine) (es : List Event) (c0 c1 c2 c3 : List Instruction) (p0 p1 p2 : List Lines) → m ≡ p.main → rs ≡ p.routines → es ≡ p.events → c0 ≡ [] → p0 ≡ [] → c1 ≡ c0 ++ section_code (length p0) m → p1 ≡ p0 ++ block_prints m → c2 ≡ c1 ++ sections_code (length p1) (routine_bodies rs) → p2 ≡ p1 ++ sections_prints (routine_bodies rs) → c3 ≡ c2 ++ sections_code (length p2) (event_bodies es) → c3 ≡ (code_of p).instructions
 instructions_whole p m rs es c0 c1 c2 c3 p0 p1 p2 main routines events no_code no_prints first first_prints second second_prints third =
     rw (third, second, second_prints, first, first_prints, no_code, no_prints, main, routines, events) (whole_code p)

@@ -40,7 +40,7 @@ impl Backward {
         self.code.len()
     }
 
-    /// What stands before the instructions that were made so far.
+    /// Adds instructions before those that were made so far.
     pub(crate) fn put_before(&mut self, piece: Vec<Instruction>) -> Result<(), AllocError>
         ensures { OnOk result (self.new ≡ piece.items ++ self.old) }
     {
@@ -50,7 +50,7 @@ impl Backward {
     }
 
     /// All of them, the first first.
-    pub(crate) fn laid(self) -> Vec<Instruction>
+    pub(crate) fn in_order(self) -> Vec<Instruction>
         ensures { result.items ≡ self }
     {
         let mut code = self.code;

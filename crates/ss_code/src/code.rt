@@ -99,7 +99,7 @@ impl Code {
         self.instructions.len()
     }
 
-    /// The instruction at a place, the first of which is 0; None behind the last one.
+    /// The instruction at a place, the first of which is 0; None past the last one.
     pub fn instruction(&self, place: usize) -> Option<Instruction>
         ensures { result ≡ slice_get self.now.instructions place }
     {

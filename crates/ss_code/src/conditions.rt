@@ -130,7 +130,7 @@ fn emit_tests(
         emit_test(&mut front, line, past, &tests[i])?;
         rest.put_before(front)?;
     }
-    Ok(rest.laid())
+    Ok(rest.in_order())
 }
 
 // Alternatives of which one must hold, the last of them first.
@@ -157,7 +157,7 @@ fn emit_alternatives(
         put(&mut front, Instruction::Jump { skip: rest.len() })?;
         rest.put_before(front)?;
     }
-    Ok(rest.laid())
+    Ok(rest.in_order())
 }
 
 /// A condition, which jumps where it does not hold.
@@ -204,27 +204,27 @@ fn emit_guard(
     }
 }
 
-/// The guards of a loop before what follows them, the last of them first. Where one fails it goes on behind that, or behind
+/// The guards of a loop before what follows them, the last of them first. Where one fails it goes on after that, or after
 /// so many instructions more.
 pub fn emit_guards(
     alloc: Global,
     line: Line,
     more: usize,
     guards: &[Guard],
-    behind: Vec<Instruction>,
+    following: Vec<Instruction>,
 ) -> Result<Vec<Instruction>, AllocError>
     requires { more ≤ 1 }
-    ensures { IfOk result (λ code. code.items ≡ guards_code line (length behind.items + more) (map view_guard guards.now) ++ behind.items) }
+    ensures { IfOk result (λ code. code.items ≡ guards_code line (length following.items + more) (map view_guard guards.now) ++ following.items) }
 {
     let mut rest = Backward::new(alloc);
-    rest.put_before(behind)?;
+    rest.put_before(following)?;
     for i in (0..guards.len()).rev() {
         let guard = &guards[i];
         let past = rest.len() + more;
         let front = emit_guard(alloc, line, past, guard.kind, &guard.condition)?;
         rest.put_before(front)?;
     }
-    Ok(rest.laid())
+    Ok(rest.in_order())
 }
 
 // A phrase before the rest of a turn, of so many instructions.
@@ -263,5 +263,5 @@ pub fn emit_phrases(
         let front = emit_phrase(alloc, line, rest.len(), phrase.kind, &phrase.condition)?;
         rest.put_before(front)?;
     }
-    Ok(rest.laid())
+    Ok(rest.in_order())
 }

@@ -23,7 +23,7 @@ use ss_program::checked::Checked;
 use ss_program::sections::{Event, Program, Routine};
 use std::alloc::{AllocError, Global};
 
-// Modes and further ones behind them.
+// Modes and further ones after them.
 fn joined(alloc: Global, first: &[Mode], second: &[Mode]) -> Result<Vec<Mode>, AllocError>
     ensures { IfOk result (λ modes. modes.items ≡ first.now ++ second.now) }
 {

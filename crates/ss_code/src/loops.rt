@@ -4,7 +4,7 @@ ghost use Rattle.std.specs.Prelude.{◌≡◌, ◌∷◌, ◌++◌, [], map, len
 ghost use Rattle.ss_program.specs.View.{view_expression, view_option, view_owner, view_start, view_head, view_guard, view_phrase};
 ghost use Rattle.ss_program.specs.Program.{Numbers, Members, Each};
 ghost use Rattle.ss_code_instructions.specs.declared.instruction.Instruction.TheVariants.{Begin};
-ghost use Rattle.ss_code_instructions.specs.Translation.{expression_code, step_code, items_code, outset_code, members_code, kept, kept_by, is_system, for_code, find_code, guards_code, loop_code};
+ghost use Rattle.ss_code_instructions.specs.Translation.{expression_code, step_code, items_code, outset_code, members_code, members_cells, loop_cells, is_system, for_code, find_code, guards_code, loop_code};
 
 use crate::conditions::{emit_guards, emit_phrases};
 use crate::emit::{emit_expression, emit_step, put, system_owns};
@@ -52,8 +52,8 @@ pub fn emit_loop(
     ensures { OnOk result (code.new.items ≡ code.old.items ++ loop_code line (map view_guard guards.now) body.items) }
 {
     let turn = emit_turn(alloc, line, guards, body)?;
-    let behind = closed(turn)?;
-    let mut first = emit_guards(alloc, line, 0, guards, behind)?;
+    let following = closed(turn)?;
+    let mut first = emit_guards(alloc, line, 0, guards, following)?;
     code.append(&mut first)
 }
 
@@ -91,8 +91,8 @@ fn emit_items(
 }
 
 // How many values a FOR over members keeps on the stack.
-fn kept_for(system: bool) -> usize
-    ensures { result ≡ kept system }
+fn cells_for(system: bool) -> usize
+    ensures { result ≡ members_cells system }
 {
     if system { 1 } else { 2 }
 }
@@ -132,7 +132,7 @@ fn emit_members(
     put(
         code,
         Instruction::Forget {
-            count: kept_for(system),
+            count: cells_for(system),
         },
     )
 }
@@ -219,12 +219,12 @@ pub fn emit_for(
 }
 
 // How many values a FOR keeps on the stack.
-fn kept_for_head(head: &Head) -> usize
-    ensures { result ≡ kept_by (view_head head.now) }
+fn cells_for_head(head: &Head) -> usize
+    ensures { result ≡ loop_cells (view_head head.now) }
 {
     match head {
         Head::Numbers { .. } | Head::Each { .. } => 3,
-        Head::Members { owner, .. } => kept_for(system_owns(owner)),
+        Head::Members { owner, .. } => cells_for(system_owns(owner)),
     }
 }
 
@@ -259,7 +259,7 @@ pub fn emit_find(
     put(
         code,
         Instruction::Forget {
-            count: kept_for_head(head),
+            count: cells_for_head(head),
         },
     )?;
     code.append(&mut found)

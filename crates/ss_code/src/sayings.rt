@@ -55,7 +55,7 @@ fn all_shapes(
     Ok(made)
 }
 
-// What is said of a class of notices.
+// The description of a class of notices.
 fn notice_class(alloc: Global, event: &Event) -> Result<NoticeClass, AllocError>
     ensures { IfOk result (λ made. made ≡ said_of (view_event event.now)) }
 {
@@ -69,7 +69,7 @@ fn notice_class(alloc: Global, event: &Event) -> Result<NoticeClass, AllocError>
     ))
 }
 
-// What is said of all classes of notices.
+// The descriptions of all classes of notices.
 fn notice_classes(alloc: Global, events: &[Event]) -> Result<Vec<NoticeClass>, AllocError>
     ensures { IfOk result (λ made. made.items ≡ map said_of (map view_event events.now)) }
 {

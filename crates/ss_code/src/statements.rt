@@ -38,7 +38,7 @@ fn emit_one_side(
     code.append(&mut then)
 }
 
-// A condition, and two sides: a jump stands before the second, past it.
+// A condition, and two sides: a jump comes before the second, past it.
 fn emit_two_sides(
     alloc: Global,
     code: &mut Vec<Instruction>,

@@ -98,7 +98,7 @@ module _ (code : Code) (n : ℕ) where
             (subst (λ j. Reaches code (at (p + length ca + 1) stack frames w) (arrive (λ u w'. at j stack frames w') frames (mb w))) q
             (rb.by (p + length ca + 1) stack frames w h' le))
 
-    -- the same without a jump, where nothing stands on the second side
+    -- an if without a jump, where the second side is empty
     pub if_alone_run : {ca : List Instruction} {ma mb : Part (Unit {0})} → Runs code n same ca done ma → Runs code n same [] done mb → Runs code n same (test (length ca) ++ ca) done (λ w. and_then (mt w) (λ b. choose b ma mb))
     if_alone_run {ca = ca} {ma = ma} {mb = mb} ra rb = record {
       by = λ place stack frames w has le.

@@ -74,7 +74,7 @@ calls_such p (suc n) routine count vs w = from w.ticks
     from zero = tt
     from (suc t) = called_such (slice_get p.routines routine) (calls p n) n vs count (ticked t w)
 
--- ## Where routines and events stand in the code
+-- ## Where routines and events lie in the code
 
 pub record IsSection (code : Code) (body : Block) (given : List Mode) (yielding : ℕ) (others : List Mode) (e : Entry) : Type 0 where
   pub place : ℕ
@@ -116,7 +116,7 @@ module _ (code : Code) where
   back_run n p f frames s (Left OutOfTicks w) has g = g
   back_run n p f frames s (Left Wrong w) has g = g
 
-  -- a due instruction that enters a section: with a tick it goes into it, and comes back behind the instruction
+  -- a due instruction that enters a section: with a tick it goes into it, and comes back after the instruction
   enclosed_run : (n : ℕ) (h : Calls) → CallsRun code n h → (body : Block) (given others : List Mode) (yielding : ℕ) (link : (e : Entry) × IsSection code body given yielding others e) (called : Called) (vs : List Value) (count : ℕ) (i : Instruction) (place : ℕ) (stack rest : List Value) (frames : List Frame) (s : Store) (w : World) → w.ticks ≤ n → slice_get code.instructions place ≡ Some i → is_due i ≡ true → act code i (core_of place stack frames s) ≡ enter_with (opened given others vs) (record { place = link.1.place; given = given; yielding = yielding; others = others }) called count rest (core_of place stack frames s) w.store → Ticks code (with_core (core_of place stack frames s) (ticked (suc w.ticks) w)) w.ticks (arrive (λ us w. at (place + 1) (us ++ rest) frames w) frames (enclosed given others (effects h n body) vs count w))
   enclosed_run n h ok body given others yielding link called vs count i place stack rest frames s w le has due acts = opens (opened given others vs) acts
     where

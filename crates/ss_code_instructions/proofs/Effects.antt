@@ -97,15 +97,15 @@ module _ (code : Code) (n : ℕ) where
       seq code n (give_runs l t.place (get_runs code n (i.Read t.mode l) l same put_on (read_word t.mode) refl (λ place stack frames s. refl))) (λ u. reads_run l ts)
 
   -- an instruction that writes the bytes that a look gives
-  pub told_runs : (i : Instruction) (l : Line) (before : List Value → List Value) (f : Store → OkOr (List ℕ) Trouble) → is_due i ≡ false → ((place : ℕ) (stack : List Value) (frames : List Frame) (s : Store) → act code i (core_of place (before stack) frames s) ≡ did l (f s) (λ bytes. Sends bytes (core_of (place + 1) stack frames s))) → Runs code n before (i ∷ []) done (λ w. and_then (look l f w) send)
-  told_runs i l before f free e = record {
-    by = λ place stack frames w has le. tells place stack frames w has.0 (f w.store) (ap (λ b. when_due b w.report w.ticks (act code i (core_of place (before stack) frames w.store))) free ∙ ap (with_rest w.report w.ticks) (e place stack frames w.store));
+  pub output_runs : (i : Instruction) (l : Line) (before : List Value → List Value) (f : Store → OkOr (List ℕ) Trouble) → is_due i ≡ false → ((place : ℕ) (stack : List Value) (frames : List Frame) (s : Store) → act code i (core_of place (before stack) frames s) ≡ did l (f s) (λ bytes. Sends bytes (core_of (place + 1) stack frames s))) → Runs code n before (i ∷ []) done (λ w. and_then (look l f w) send)
+  output_runs i l before f free e = record {
+    by = λ place stack frames w has le. sends place stack frames w has.0 (f w.store) (ap (λ b. when_due b w.report w.ticks (act code i (core_of place (before stack) frames w.store))) free ∙ ap (with_rest w.report w.ticks) (e place stack frames w.store));
   }
     where
-      tells : (place : ℕ) (stack : List Value) (frames : List Frame) (w : World) → slice_get code.instructions place ≡ Some i → (r : OkOr (List ℕ) Trouble) → when_due (is_due i) w.report w.ticks (act code i (core_of place (before stack) frames w.store)) ≡ with_rest w.report w.ticks (did l r (λ bytes. Sends bytes (core_of (place + 1) stack frames w.store))) → Reaches code (at place (before stack) frames w) (arrive (λ u w'. at (place + 1) stack frames w') frames (and_then (looked l r w) send))
-      tells place stack frames w has (Ok bytes) q = goes code (at place (before stack) frames w) (at (place + 1) stack frames (record w { report = w.report ++ bytes })) i _ has q here
-      tells place stack frames w has (Err (Fails kind)) q = rests code (at place (before stack) frames w) i _ w.ticks has q
-      tells place stack frames w has (Err Misfit) q = sticks code (at place (before stack) frames w) i has q
+      sends : (place : ℕ) (stack : List Value) (frames : List Frame) (w : World) → slice_get code.instructions place ≡ Some i → (r : OkOr (List ℕ) Trouble) → when_due (is_due i) w.report w.ticks (act code i (core_of place (before stack) frames w.store)) ≡ with_rest w.report w.ticks (did l r (λ bytes. Sends bytes (core_of (place + 1) stack frames w.store))) → Reaches code (at place (before stack) frames w) (arrive (λ u w'. at (place + 1) stack frames w') frames (and_then (looked l r w) send))
+      sends place stack frames w has (Ok bytes) q = goes code (at place (before stack) frames w) (at (place + 1) stack frames (record w { report = w.report ++ bytes })) i _ has q here
+      sends place stack frames w has (Err (Fails kind)) q = rests code (at place (before stack) frames w) i _ w.ticks has q
+      sends place stack frames w has (Err Misfit) q = sticks code (at place (before stack) frames w) i has q
 
   then_sent : {A : Type 0} (l : Line) (r : OkOr A Trouble) (g : A → OkOr (List ℕ) Trouble) (w : World) → and_then (looked l r w) (λ a w. and_then (looked l (g a) w) send) ≡ and_then (looked l (if_ok r g) w) send
   then_sent l (Ok a) g w = refl
@@ -115,7 +115,7 @@ module _ (code : Code) (n : ℕ) where
   pub skip_runs : (l : Line) (e : Expression) → Runs code n same (expression_code l e ++ i.Skip l ∷ []) done (λ w. and_then (look l (λ s. if_ok (value e s) empty_lines) w) send)
   skip_runs l e =
       alike code n (λ w. then_sent l (value e w.store) empty_lines w)
-      (seq code n (value_runs code n l e) (λ v. told_runs (i.Skip l) l (put_on v) (λ s. empty_lines v) refl (λ place stack frames s. refl)))
+      (seq code n (value_runs code n l e) (λ v. output_runs (i.Skip l) l (put_on v) (λ s. empty_lines v) refl (λ place stack frames s. refl)))
 
   -- ## Entities and sets
 

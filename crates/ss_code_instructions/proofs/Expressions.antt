@@ -19,7 +19,7 @@ use Rattle.ss_meaning.specs.Expressions.{value, values, value_if_any, looked_at,
 use Rattle.ss_meaning.specs.Parts.{World, Part, and_then, looked, look}
 use Rattle.ss_code_instructions.specs.States.{Frame, State, Moved, To, did, core_of, take_off, with_taken, with_owner, with_spot}
 use Rattle.ss_code_instructions.specs.Machine.{Code, act, is_due}
-use Rattle.ss_code_instructions.specs.Translation.{expression_code, values_code, entity_code, member_code, owner_code, is_system, any_code, is_absent, kept, destination_of, spot_code}
+use Rattle.ss_code_instructions.specs.Translation.{expression_code, values_code, entity_code, member_code, owner_code, is_system, any_code, is_absent, members_cells, destination_of, spot_code}
 use Rattle.ss_code_instructions.proofs.Steps.{Reaches, at, arrive}
 use Rattle.ss_code_instructions.proofs.Parts.{Lands, Runs, at_end, IfWentOn, same, put_on, onto, seq, seq_look, above, none, alike, look_lands, sure_lands}
 
@@ -108,7 +108,7 @@ owner_on (Some v) stack = v ∷ stack
 -- the instruction finds the owner
 pub record Owned (system : Bool) (o : Option Value) : Type 0 where
   pub by : (stack : List Value) (go : Option Value → List Value → Moved) → with_owner system (owner_on o stack) go ≡ go o stack
-  pub forgets : (v : Value) (stack : List Value) (go : List Value → Moved) → with_taken (take_off (kept system) (v ∷ owner_on o stack) []) (λ vs rest. go rest) ≡ go stack
+  pub forgets : (v : Value) (stack : List Value) (go : List Value → Moved) → with_taken (take_off (members_cells system) (v ∷ owner_on o stack) []) (λ vs rest. go rest) ≡ go stack
 
 pub owned_system : Owned true None
 owned_system = record { by = λ stack go. refl; forgets = λ v stack go. refl }

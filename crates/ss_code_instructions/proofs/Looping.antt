@@ -26,16 +26,16 @@ use Rattle.ss_code_instructions.proofs.Loops.{turned, Turns, loop_run}
 use Rattle.ss_code_instructions.proofs.Expressions.{value_runs}
 use Rattle.ss_code_instructions.proofs.Conditions.{condition_lands, negated_lands, guards_land}
 
--- where a turn of a FOR leads: to its end, behind the next instruction, or to where the case was found
+-- where a turn of a FOR leads: to its end, past the next instruction, or to where the case was found
 abbrev pub leads : ℕ → Turn → ℕ → ℕ
 leads found GoesOn end = end
 leads found EndsLoop end = end + 1
 leads found IsFound end = end + found
 
 -- where a FOR leads
-abbrev pub behind : ℕ → Bool → ℕ → ℕ
-behind found false end = end + 2
-behind found true end = end + found + 1
+abbrev pub past_loop : ℕ → Bool → ℕ → ℕ
+past_loop found false end = end + 2
+past_loop found true end = end + found + 1
 
 module _ (code : Code) (n : ℕ) where
   -- one step that leads to a place named otherwise
@@ -103,7 +103,7 @@ module _ (code : Code) (n : ℕ) where
   -- ## Phrases
 
   module _ (found : ℕ) where
-    -- a test before the rest of a turn: where it does not hold, the turn comes to another end
+    -- a test before the rest of a turn: where it does not hold, the turn ends elsewhere
     tested : {c rest : List Instruction} {mt : Part Bool} {m : Part Turn} (skip : ℕ) (other : Turn) → ((p : ℕ) → p + skip ≡ leads found other (p + length rest)) → Lands code n same c (past skip) done mt → Lands code n same rest (leads found) done m → Lands code n same (c ++ rest) (leads found) done (λ w. and_then (mt w) (λ b. choose b m (WentOn other)))
     tested {c = c} {rest = rest} {mt = mt} {m = m} skip other q rc rr = record {
       by = λ place stack frames w has le.
@@ -172,7 +172,7 @@ module _ (code : Code) (n : ℕ) where
       forget_has : slice_get code.instructions (end + 1) ≡ Some (i.Forget 3)
       forget_has = subst (λ p. slice_get code.instructions (p + 1) ≡ Some (i.Forget 3)) len (has_back code.instructions (place + 1) turn _ has.1).1.0
 
-      -- what the next instruction comes to
+      -- where the next instruction leads
       nexts : (item : ℤ) (b : Bool) → int_le (item +ℤ step) limit ≡ b → (w : World) → act code (i.Next (length turn + 1)) (core_of end (hold_item step limit item stack) frames w.store) ≡ To (core_of (backwards (length turn + 1) b end) (hold_item step limit (later b item step) stack) frames w.store)
       nexts item b q w =
           ap (λ t. unless_below t (To (core_of (backwards (length turn + 1) (int_le (item +ℤ step) limit) end) (hold_item step limit (later (int_le (item +ℤ step) limit) item step) stack) frames w.store))) rises ∙
@@ -180,19 +180,19 @@ module _ (code : Code) (n : ℕ) where
 
       -- the items from this one on
       abbrev ItemsRun : ℕ → Type 0
-      ItemsRun k = (item : ℤ) (w : World) → int_le item limit ≡ true → suc w.ticks ≤ k → w.ticks ≤ n → Reaches code (at place (hold_item step limit item stack) frames w) (arrive (λ b w'. at (behind found b end) stack frames w') frames (over_items (visit l x m) (items_from k limit step item) w))
+      ItemsRun k = (item : ℤ) (w : World) → int_le item limit ≡ true → suc w.ticks ≤ k → w.ticks ≤ n → Reaches code (at place (hold_item step limit item stack) frames w) (arrive (λ b w'. at (past_loop found b end) stack frames w') frames (over_items (visit l x m) (items_from k limit step item) w))
 
-      next_run : (k : ℕ) → ItemsRun k → (item : ℤ) (w : World) → suc w.ticks ≤ k → w.ticks ≤ n → (b : Bool) → int_le (item +ℤ step) limit ≡ b → Reaches code (at end (hold_item step limit item stack) frames w) (arrive (λ b w'. at (behind found b end) stack frames w') frames (over_items (visit l x m) (items_from k limit step (item +ℤ step)) w))
+      next_run : (k : ℕ) → ItemsRun k → (item : ℤ) (w : World) → suc w.ticks ≤ k → w.ticks ≤ n → (b : Bool) → int_le (item +ℤ step) limit ≡ b → Reaches code (at end (hold_item step limit item stack) frames w) (arrive (λ b w'. at (past_loop found b end) stack frames w') frames (over_items (visit l x m) (items_from k limit step (item +ℤ step)) w))
       next_run k again item w lek le true q =
           leap (i.Next (length turn + 1)) end (end - (length turn + 1)) place (hold_item step limit item stack) (hold_item step limit (item +ℤ step) stack) frames w _ next_has refl (nexts item true q w) (omega (arith, len))
           (again (item +ℤ step) w q lek le)
       next_run k again item w lek le false q =
-          subst (λ is. Reaches code (at end (hold_item step limit item stack) frames w) (arrive (λ b w'. at (behind found b end) stack frames w') frames (over_items (visit l x m) is w))) (sym (no_more k (item +ℤ step) q))
+          subst (λ is. Reaches code (at end (hold_item step limit item stack) frames w) (arrive (λ b w'. at (past_loop found b end) stack frames w') frames (over_items (visit l x m) is w))) (sym (no_more k (item +ℤ step) q))
           (leap (i.Next (length turn + 1)) end (end + 1) (end + 1) (hold_item step limit item stack) (hold_item step limit item stack) frames w _ next_has refl (nexts item false q w) refl
           (forget (end + 1) (end + 2) item stack frames w forget_has (omega arith)))
 
-      -- behind a turn
-      after_run : (k : ℕ) → ItemsRun k → (t : Turn) (item : ℤ) (w : World) → suc w.ticks ≤ k → w.ticks ≤ n → Reaches code (at (leads found t end) (hold_item step limit item stack) frames w) (arrive (λ b w'. at (behind found b end) stack frames w') frames (after_turn t (over_items (visit l x m) (items_from k limit step (item +ℤ step))) w))
+      -- after a turn
+      after_run : (k : ℕ) → ItemsRun k → (t : Turn) (item : ℤ) (w : World) → suc w.ticks ≤ k → w.ticks ≤ n → Reaches code (at (leads found t end) (hold_item step limit item stack) frames w) (arrive (λ b w'. at (past_loop found b end) stack frames w') frames (after_turn t (over_items (visit l x m) (items_from k limit step (item +ℤ step))) w))
       after_run k again GoesOn item w lek le = next_run k again item w lek le (int_le (item +ℤ step) limit) refl
       after_run k again EndsLoop item w lek le = forget (end + 1) (end + 2) item stack frames w forget_has (omega arith)
       after_run k again IsFound item w lek le = forget (end + found) (end + found + 1) item stack frames w hf refl
@@ -200,9 +200,9 @@ module _ (code : Code) (n : ℕ) where
       pub items_run : (k : ℕ) → ItemsRun k
       items_run zero item w q lek le = absurd (omega (arith, lek))
       items_run (suc k) item w q lek le =
-          subst (λ is. Reaches code (at place (hold_item step limit item stack) frames w) (arrive (λ b w'. at (behind found b end) stack frames w') frames (over_items (visit l x m) is w))) (sym (one_more k item q))
+          subst (λ is. Reaches code (at place (hold_item step limit item stack) frames w) (arrive (λ b w'. at (past_loop found b end) stack frames w') frames (over_items (visit l x m) is w))) (sym (one_more k item q))
           (tick_run code {A = Turn} {B = Bool} (i.Take x l) (core_of place (hold_item step limit item stack) frames w.store) frames w
-          (λ t w'. at (leads found t end) (hold_item step limit item stack) frames w') (λ b w'. at (behind found b end) stack frames w')
+          (λ t w'. at (leads found t end) (hold_item step limit item stack) frames w') (λ b w'. at (past_loop found b end) stack frames w')
           (visit l x m item) (λ t. after_turn t (over_items (visit l x m) (items_from k limit step (item +ℤ step)))) has.0 refl
           (λ t lt.
           change_due code (i.Take x l) l (core_of place (hold_item step limit item stack) frames w.store) frames w t (written (InVariable x) (Whole item) w.store) (λ s. core_of (place + 1) (hold_item step limit item stack) frames s) (λ t w'. at (leads found t end) (hold_item step limit item stack) frames w') m has.0 refl refl
@@ -212,14 +212,14 @@ module _ (code : Code) (n : ℕ) where
 
   -- from the range on the stack
   module _ (l : Line) (x : Variable) (turn : List Instruction) (m : Part Turn) (found : ℕ) (r : Lands code n same turn (leads found) done m) where
-    pub ranged_run : (b : Range) → Rises b → (place end : ℕ) (stack : List Value) (frames : List Frame) (w : World) → HasAt code.instructions place (items_code l x turn) → place + 1 + length turn ≡ end → slice_get code.instructions (end + found) ≡ Some (i.Forget 3) → w.ticks ≤ n → Reaches code (at (past (length turn + 2) (int_le b.first (limit_of b)) place) (hold_range b stack) frames w) (arrive (λ b w'. at (behind found b end) stack frames w') frames (over_items (visit l x m) (items (suc n) b) w))
+    pub ranged_run : (b : Range) → Rises b → (place end : ℕ) (stack : List Value) (frames : List Frame) (w : World) → HasAt code.instructions place (items_code l x turn) → place + 1 + length turn ≡ end → slice_get code.instructions (end + found) ≡ Some (i.Forget 3) → w.ticks ≤ n → Reaches code (at (past (length turn + 2) (int_le b.first (limit_of b)) place) (hold_range b stack) frames w) (arrive (λ b w'. at (past_loop found b end) stack frames w') frames (over_items (visit l x m) (items (suc n) b) w))
     ranged_run b up place end stack frames w has len hf le = sides (int_le b.first (limit_of b)) refl
       where
-        sides : (t : Bool) → int_le b.first (limit_of b) ≡ t → Reaches code (at (past (length turn + 2) t place) (hold_range b stack) frames w) (arrive (λ b w'. at (behind found b end) stack frames w') frames (over_items (visit l x m) (items (suc n) b) w))
+        sides : (t : Bool) → int_le b.first (limit_of b) ≡ t → Reaches code (at (past (length turn + 2) t place) (hold_range b stack) frames w) (arrive (λ b w'. at (past_loop found b end) stack frames w') frames (over_items (visit l x m) (items (suc n) b) w))
         sides true q = items_run l x turn m found r b.step (limit_of b) up place end stack frames has len hf (suc n) b.first w q (omega (arith, le)) le
         sides false q =
             let e : end + 1 ≡ place + (length turn + 2) = omega (arith, len) in
-            subst (λ is. Reaches code (at (place + (length turn + 2)) (hold_range b stack) frames w) (arrive (λ b w'. at (behind found b end) stack frames w') frames (over_items (visit l x m) is w))) (sym (no_more l x turn m found r b.step (limit_of b) up (suc n) b.first q))
+            subst (λ is. Reaches code (at (place + (length turn + 2)) (hold_range b stack) frames w) (arrive (λ b w'. at (past_loop found b end) stack frames w') frames (over_items (visit l x m) is w))) (sym (no_more l x turn m found r b.step (limit_of b) up (suc n) b.first q))
             (forget l x turn m found r b.step (limit_of b) up (place + (length turn + 2)) (end + 2) b.first stack frames w (subst (λ p. slice_get code.instructions p ≡ Some (i.Forget 3)) e (forget_has l x turn m found r b.step (limit_of b) up place end stack frames has len hf)) (omega (arith, len)))
 
   -- the numbers of a FOR, and the look at them

@@ -13,7 +13,7 @@ use Rattle.ss_code_instructions.specs.Machine.{Code, act, is_due, Goes, Over, No
 use Rattle.ss_code_instructions.specs.Running.{Result, Underway, Ends, IsStuck}
 use Rattle.ss_code_instructions.proofs.Steps.{HasAt, has_front, has_back, Reaches, here, over, stuck, more, reaches_on, fewer_ticks, at, arrive, join, Ticks, onwards, ends, ticks_join}
 
--- Wherever the code c stands, and with at most n ticks, it does what m does, and comes to where `land` says, from its end.
+-- Wherever the code c lies, and with at most n ticks, it does what m does, and ends where `land` says, counted from its end.
 -- It finds what `before` puts on the stack, and leaves what `after` puts there.
 pub record Lands {A : Type 0} (code : Code) (n : ℕ) (before : List Value → List Value) (c : List Instruction) (land : A → ℕ → ℕ) (after : A → List Value → List Value) (m : Part A) : Type 0 where
   pub by : (place : ℕ) (stack : List Value) (frames : List Frame) (w : World) → HasAt code.instructions place c → w.ticks ≤ n → Reaches code (at place (before stack) frames w) (arrive (λ a w'. at (land a (place + length c)) (after a stack) frames w') frames (m w))
@@ -83,7 +83,7 @@ module _ (code : Code) where
   did_run i l c frames w (Err Misfit) next k go has free e f =
       sticks (with_core c w) i has (ap (λ b. when_due b w.report w.ticks (act code i c)) free ∙ ap (with_rest w.report w.ticks) e)
 
-  -- the same of an instruction that takes a tick first
+  -- an instruction that takes a tick first, and looks at the store
   pub due_run : {A B : Type 0} (i : Instruction) (l : Line) (c : Core) (frames : List Frame) (w : World) (t : ℕ) (r : OkOr A Trouble) (next : A → Core) (k : B → World → State) (go : A → Part B) → slice_get code.instructions c.place ≡ Some i → is_due i ≡ true → act code i c ≡ did l r (λ a. To (next a)) → ((a : A) → Reaches code (with_core (next a) (ticked t w)) (arrive k frames (go a (ticked t w)))) → Ticks code (with_core c (ticked (suc t) w)) t (arrive k frames (and_then (looked l r (ticked t w)) go))
   due_run i l c frames w t (Ok a) next k go has due e f =
       onwards (with_core (next a) (ticked t w)) (ap (λ o. step_at o code (with_core c (ticked (suc t) w))) has ∙ ap (λ b. when_due b w.report (suc t) (act code i c)) due ∙ ap (with_rest w.report t) e) refl (f a)
@@ -105,7 +105,7 @@ module _ (code : Code) where
   change_due i l c frames w t (Err Misfit) next k m has due e f =
       ends tt (sticks (with_core c (ticked (suc t) w)) i has (ap (λ b. when_due b w.report (suc t) (act code i c)) due ∙ ap (with_rest w.report t) e))
 
-  -- the same of one that looks for a value before it
+  -- one that takes a tick, looks for a value, and then changes the store
   pub found_due : {A B D : Type 0} (i : Instruction) (l : Line) (c : Core) (frames : List Frame) (w : World) (t : ℕ) (r : OkOr A Trouble) (h : Store → OkOr Store Trouble) (next : A → Store → Core) (k : D → World → State) (m : Part B) (f : A → B → Part D) → slice_get code.instructions c.place ≡ Some i → is_due i ≡ true → act code i c ≡ did {A = A × Store} l (if_ok r (λ a. turned (λ s. (a, s)) (h w.store))) (λ b. To (next b.0 b.1)) → ((a : A) (s : Store) → Reaches code (with_core (next a s) (record (ticked t w) { store = s })) (arrive k frames (and_then (m (record (ticked t w) { store = s })) (f a)))) → Ticks code (with_core c (ticked (suc t) w)) t (arrive k frames (and_then (looked l r (ticked t w)) (λ a w'. and_then (and_then (and_then (look l h w') settle) (λ _. m)) (f a))))
   found_due {A} {B} {D} i l c frames w t (Ok a) h next k m f has due e g = second (h w.store) e
     where
@@ -179,7 +179,7 @@ module _ (code : Code) where
           ((r2 a p).by (place + length c1) stack frames w' (has_back code.instructions place c1 c2 has) (omega (arith, fewer, le))));
     }
 
-    -- the same part, said in another way
+    -- a part that is equal to another lands as it does
     pub alike : {A : Type 0} {before : List Value → List Value} {c : List Instruction} {land : A → ℕ → ℕ} {after : A → List Value → List Value} {m m' : Part A} → ((w : World) → m w ≡ m' w) → Lands code n before c land after m → Lands code n before c land after m'
     alike {before = before} {c = c} {land = land} {after = after} e r = record {
       by = λ place stack frames w has le. subst (λ o. Reaches code (at place (before stack) frames w) (arrive (λ a w'. at (land a (place + length c)) (after a stack) frames w') frames o)) (e w) (r.by place stack frames w has le);
@@ -189,7 +189,7 @@ module _ (code : Code) where
     pub seq_look : {A B : Type 0} {before : List Value → List Value} {c1 c2 : List Instruction} {mid : A → List Value → List Value} {land : B → ℕ → ℕ} {after : B → List Value → List Value} (l : Line) (f : Store → OkOr A Trouble) (g : A → Store → OkOr B Trouble) → Runs code n before c1 mid (look l f) → ((a : A) → Lands code n (mid a) c2 land after (look l (g a))) → Lands code n before (c1 ++ c2) land after (look l (λ s. if_ok (f s) (λ a. g a s)))
     seq_look l f g r1 r2 = alike (λ w. looks_then l (f w.store) g w) (seq r1 r2)
 
-    -- the same above further values on the stack
+    -- code that lands does so above further values on the stack
     pub above : {A : Type 0} {before : List Value → List Value} {c : List Instruction} {land : A → ℕ → ℕ} {after : A → List Value → List Value} {m : Part A} (below : List Value → List Value) → Lands code n before c land after m → Lands code n (λ s. before (below s)) c land (λ a s. after a (below s)) m
     above below r = record { by = λ place stack frames w has le. r.by place (below stack) frames w has le }
 
@@ -205,7 +205,7 @@ module _ (code : Code) where
       by = λ place stack frames w has le. did_run i l (core_of place (before stack) frames w.store) frames w (f w.store) (λ a. core_of (land a (place + 1)) (after a stack) frames w.store) (λ a w'. at (land a (place + 1)) (after a stack) frames w') WentOn has.0 free (e place stack frames w.store) (λ a. here);
     })
 
-    -- the same where there is no fault
+    -- one instruction that looks at the store without a fault, and where it leads
     pub sure_lands : {A : Type 0} (i : Instruction) (l : Line) (before : List Value → List Value) (land : A → ℕ → ℕ) (after : A → List Value → List Value) (f : Store → Option A) → is_due i ≡ false → ((place : ℕ) (stack : List Value) (frames : List Frame) (s : Store) → act code i (core_of place (before stack) frames s) ≡ fit (f s) (λ a. To (core_of (land a (place + 1)) (after a stack) frames s))) → Lands code n before (i ∷ []) land after (look l (λ s. sure (f s)))
     sure_lands i l before land after f free e = look_lands i l before land after (λ s. sure (f s)) free (λ place stack frames s. e place stack frames s ∙ fit_did l (f s) (λ a. To (core_of (land a (place + 1)) (after a stack) frames s)))
 
@@ -215,7 +215,7 @@ module _ (code : Code) where
       by = λ place stack frames w has le. did_run i l (core_of place (before stack) frames w.store) frames w (f w.store) (λ s'. core_of (place + 1) (after tt stack) frames s') (λ u w'. at (place + 1) (after u stack) frames w') settle has.0 free (e place stack frames w.store) (λ s'. here);
     }
 
-    -- the same with a value
+    -- one instruction that changes the store and gives a value
     pub get_runs : (i : Instruction) (l : Line) (before : List Value → List Value) (after : Value → List Value → List Value) (f : Store → OkOr (Value × Store) Trouble) → is_due i ≡ false → ((place : ℕ) (stack : List Value) (frames : List Frame) (s : Store) → act code i (core_of place (before stack) frames s) ≡ did l (f s) (λ b. To (core_of (place + 1) (after b.0 stack) frames b.1))) → Runs code n before (i ∷ []) after (get l f)
     get_runs i l before after f free e = record {
       by = λ place stack frames w has le. did_run i l (core_of place (before stack) frames w.store) frames w (f w.store) (λ b. core_of (place + 1) (after b.0 stack) frames b.1) (λ a w'. at (place + 1) (after a stack) frames w') settle_with has.0 free (e place stack frames w.store) (λ b. here);

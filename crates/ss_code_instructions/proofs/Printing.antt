@@ -1,4 +1,4 @@
--- The code of PRINT: its items, of which means are looked at where they stand, and its lines.
+-- The code of PRINT: its items, of which means are looked at in their place, and its lines.
 use Rattle.std.proofs.Common.{◌≡◌, ℕ, suc, ◌+◌, true, false, List, [], ◌∷◌, ◌++◌, length, Option, Some, None, Ok, Err, refl, sym, ap, ◌∙◌, subst, arith, map}
 use Rattle.std.specs.Prelude.{slice_get, Result as OkOr, ℤ}
 use Rattle.ss_base.specs.declared.line.Line.{Line}
@@ -21,7 +21,7 @@ use Rattle.ss_code_instructions.specs.Machine.{Code, mean_item, item_before, sho
 use Rattle.ss_code_instructions.specs.Translation.{expression_code, shown_code, values_taken, item_kind, lines_of}
 use Rattle.ss_code_instructions.proofs.Parts.{Runs, at_end, IfWentOn, same, done, put_on, onto, take_them, seq_such, seq_look, above, none, alike, look_lands, fit_did}
 use Rattle.ss_code_instructions.proofs.Expressions.{AsMany, one_more, many_looked, mapped, turned_lands, value_runs}
-use Rattle.ss_code_instructions.proofs.Effects.{told_runs}
+use Rattle.ss_code_instructions.proofs.Effects.{output_runs}
 
 -- ## What items take off the stack
 
@@ -29,7 +29,7 @@ use Rattle.ss_code_instructions.proofs.Effects.{told_runs}
 abbrev mean_of_value : (statistic : ℕ) → Expression → Store → OkOr Value Trouble
 mean_of_value j e s = if_ok (value e s) (λ x. turned (λ m. x) (mean j (Some x) s))
 
--- the values that items take, each mean looked at where it stands
+-- the values that items take, each mean looked at in its place
 abbrev values_looked : List Item → Store → OkOr (List Value) Trouble
 values_looked [] s = Ok []
 values_looked (AValue e ∷ xs) s = if_ok (value e s) (λ v. turned (λ vs. v ∷ vs) (values_looked xs s))
@@ -64,21 +64,21 @@ before_sure x None = refl
 before_sure x (Some xs) = refl
 
 module _ (s : Store) (ks : List ItemKind) (others : OkOr (List Shown) Trouble) where
-  -- the items behind one are those that are shown
-  abbrev Told : OkOr (List Value) Trouble → Type 0
-  Told o = if_ok o (λ vs. sure (shown ks vs s)) ≡ others
+  -- the items after one are those that are shown
+  abbrev IsShown : OkOr (List Value) Trouble → Type 0
+  IsShown o = if_ok o (λ vs. sure (shown ks vs s)) ≡ others
 
-  value_shown : (r : OkOr Value Trouble) (o : OkOr (List Value) Trouble) → Told o → if_ok (if_ok r (λ v. turned (λ vs. v ∷ vs) o)) (λ vs. sure (shown (shows.Value ∷ ks) vs s)) ≡ if_ok (turned Is r) (λ x. turned (λ xs. x ∷ xs) others)
+  value_shown : (r : OkOr Value Trouble) (o : OkOr (List Value) Trouble) → IsShown o → if_ok (if_ok r (λ v. turned (λ vs. v ∷ vs) o)) (λ vs. sure (shown (shows.Value ∷ ks) vs s)) ≡ if_ok (turned Is r) (λ x. turned (λ xs. x ∷ xs) others)
   value_shown (Err t) o h = refl
   value_shown (Ok v) (Err t) h = ap (turned (λ xs. Is v ∷ xs)) h
   value_shown (Ok v) (Ok vs) h = before_sure (Is v) (shown ks vs s) ∙ ap (turned (λ xs. Is v ∷ xs)) h
 
-  mean_alone_shown : (r : OkOr (ℤ × ℤ) Trouble) (o : OkOr (List Value) Trouble) → Told o → if_ok (if_ok r (λ m. o)) (λ vs. sure (item_before (mean_item r) (shown ks vs s))) ≡ if_ok (mean_shown r) (λ x. turned (λ xs. x ∷ xs) others)
+  mean_alone_shown : (r : OkOr (ℤ × ℤ) Trouble) (o : OkOr (List Value) Trouble) → IsShown o → if_ok (if_ok r (λ m. o)) (λ vs. sure (item_before (mean_item r) (shown ks vs s))) ≡ if_ok (mean_shown r) (λ x. turned (λ xs. x ∷ xs) others)
   mean_alone_shown (Err t) o h = refl
   mean_alone_shown (Ok m) (Err t) h = ap (turned (λ xs. Mean m.0 m.1 ∷ xs)) h
   mean_alone_shown (Ok m) (Ok vs) h = before_sure (Mean m.0 m.1) (shown ks vs s) ∙ ap (turned (λ xs. Mean m.0 m.1 ∷ xs)) h
 
-  mean_of_shown : (j : ℕ) (r : OkOr Value Trouble) (o : OkOr (List Value) Trouble) → Told o → if_ok (if_ok (if_ok r (λ x. turned (λ m. x) (mean j (Some x) s))) (λ x. turned (λ vs. x ∷ vs) o)) (λ vs. sure (shown (shows.MeanOf j ∷ ks) vs s)) ≡ if_ok (if_ok r (λ x. mean_shown (mean j (Some x) s))) (λ x. turned (λ xs. x ∷ xs) others)
+  mean_of_shown : (j : ℕ) (r : OkOr Value Trouble) (o : OkOr (List Value) Trouble) → IsShown o → if_ok (if_ok (if_ok r (λ x. turned (λ m. x) (mean j (Some x) s))) (λ x. turned (λ vs. x ∷ vs) o)) (λ vs. sure (shown (shows.MeanOf j ∷ ks) vs s)) ≡ if_ok (if_ok r (λ x. mean_shown (mean j (Some x) s))) (λ x. turned (λ xs. x ∷ xs) others)
   mean_of_shown j (Err t) o h = refl
   mean_of_shown j (Ok x) (Err t) h = from (mean j (Some x) s)
     where
@@ -150,7 +150,7 @@ module _ (code : Code) (n : ℕ) where
       let ks = map item_kind xs in
       alike code n (λ w. then_sent l (values_looked xs w.store) (lines_shown ks pictures) w ∙ ap (λ o. and_then (looked l o w) send) (lines_meant xs pictures w.store))
       (seq_such code n (λ vs. values_taken xs ≡ length vs) (taken_length l xs) (items_run l xs) (λ vs such.
-      told_runs code n (i.Print first (values_taken xs)) l (onto vs) (lines_shown ks pictures vs) refl
+      output_runs code n (i.Print first (values_taken xs)) l (onto vs) (lines_shown ks pictures vs) refl
       (λ place stack frames s.
       ap (λ o. fit o (λ p. with_taken (take_off (values_taken xs) (onto vs stack) []) (λ vs rest. fit (shown p.items vs s) (λ ys. fit (printed p.pictures ys) (λ bytes. Sends bytes (core_of (place + 1) rest frames s)))))) has
       ∙ ap (λ o. with_taken o (λ vs rest. fit (shown ks vs s) (λ ys. fit (printed pictures ys) (λ bytes. Sends bytes (core_of (place + 1) rest frames s))))) (take_them vs stack (values_taken xs) such)

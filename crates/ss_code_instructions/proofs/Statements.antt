@@ -27,7 +27,7 @@ use Rattle.ss_code_instructions.proofs.Walking.{for_runs, find_runs}
 use Rattle.ss_code_instructions.proofs.Printing.{print_runs}
 use Rattle.ss_code_instructions.proofs.Effects.{heap_on, give_runs, gives_run, change_by_runs, reads_run, skip_runs, creates_run, destroy_runs, file_runs, remove_runs, remove_end_runs, schedule_new_runs, schedule_runs, cancel_runs, restarts_run}
 
--- the code of a call does what h says, and yields as many values as are wanted; and so does that of an event, behind its tick
+-- the code of a call does what h says, and yields as many values as are wanted; and so does that of an event, after its tick
 pub record CallsRun (code : Code) (n : ℕ) (h : Calls) : Type 0 where
   pub by : (routine given yielding : ℕ) (vs : List Value) → given ≡ length vs → Runs code n (onto vs) (i.Call routine given yielding ∷ []) heap_on (h.call routine vs yielding)
   pub such : (routine yielding : ℕ) (vs : List Value) (w : World) → IfWentOn (λ us. yielding ≡ length us) (h.call routine vs yielding w)

@@ -12,7 +12,7 @@ use Rattle.ss_meaning.specs.Store.{yielded}
 use Rattle.ss_code_instructions.specs.Machine.{Code, act, is_due, Goes, Over, NoStep, with_rest, when_due, step_at, step}
 use Rattle.ss_code_instructions.specs.Running.{Result, Underway, Ends, IsStuck, ended_at, go_on, steps}
 
--- the items stand in the list at this place
+-- the items lie in the list at this place
 abbrev pub HasAt : {A : Type 0} → List A → ℕ → List A → Type 0
 HasAt all place [] = Unit {0}
 HasAt all place (i ∷ is) = (slice_get all place ≡ Some i) × HasAt all (place + 1) is
@@ -55,7 +55,7 @@ in_steps {code} {s} (over e) = (1, ap (λ x. go_on x s (steps code 0)) e)
 in_steps {code} {s} (stuck e) = (1, ap (λ x. go_on x s (steps code 0)) e)
 in_steps {code} {s} (more e f) = let i = in_steps f in (suc i.0, ap (λ x. go_on x s (steps code i.0)) e ∙ i.1)
 
--- what m steps may come to, where the end is known
+-- where m steps may lead, where the end is known
 abbrev pub Agrees : Result → Result → Type 0
 Agrees r (Underway s) = Unit {0}
 Agrees r (Ends r') = Ends r' ≡ r
@@ -127,7 +127,7 @@ pub follow : {A : Type 0} {code : Code} (s : State) (k k' : A → World → Stat
 follow s k k' frames (WentOn a w) g h = reaches_on g (h a w (fewer_ticks g))
 follow s k k' frames (Left e w) g h = g
 
--- a state from which the first step takes a tick, so that t ticks are left, and then the machine comes to a result; or it comes to an end there
+-- a state from which the first step takes a tick, so that t ticks are left, and then the machine ends with a result; or it ends there
 pub data Ticks (code : Code) (s : State) (t : ℕ) (r : Result) : Type 0 where
   onwards : (x : State) → step code s ≡ Goes x → x.ticks ≡ t → Reaches code x r → Ticks code s t r
   ends : IsEnd r → Reaches code s r → Ticks code s t r

@@ -20,14 +20,14 @@ use Rattle.ss_meaning.specs.Loops.{Turn, GoesOn, EndsLoop, IsFound, phrases, vis
 use Rattle.ss_code_instructions.specs.States.{Frame, To, did, core_of, past, onward}
 use Rattle.ss_code_instructions.specs.Machine.{Code, backwards}
 use Rattle.ss_code_instructions.specs.Running.{Underway}
-use Rattle.ss_code_instructions.specs.Translation.{owner_code, is_system, member_code, phrases_code, items_code, range_code, outset_code, kept, members_code, for_code, kept_by, find_code}
+use Rattle.ss_code_instructions.specs.Translation.{owner_code, is_system, member_code, phrases_code, items_code, range_code, outset_code, members_cells, members_code, for_code, loop_cells, find_code}
 use Rattle.ss_code_instructions.proofs.Steps.{HasAt, has_front, has_back, Reaches, here, at, arrive, join, follow}
 use Rattle.ss_code_instructions.proofs.Parts.{Lands, Runs, at_end, IfWentOn, same, done, seq_look, above, alike, look_lands, move_lands, ticked, did_run, found_due, join_such}
 use Rattle.ss_code_instructions.proofs.Branching.{jumps}
 use Rattle.ss_code_instructions.proofs.Loops.{turned, Turns, loop_run}
 use Rattle.ss_code_instructions.proofs.Expressions.{Owned, owner_on, owned_system, owned_entity, member_runs, turned_lands}
 use Rattle.ss_code_instructions.proofs.Conditions.{owner_look}
-use Rattle.ss_code_instructions.proofs.Looping.{leads, behind, leap, phrases_land, Rises, hold_range, limit_of, ranged_run, range_lands, class_lands}
+use Rattle.ss_code_instructions.proofs.Looping.{leads, past_loop, leap, phrases_land, Rises, hold_range, limit_of, ranged_run, range_lands, class_lands}
 
 -- a fact of what a look finds
 abbrev IfFound : {A : Type 0} → (A → Type 0) → OkOr A Trouble → Type 0
@@ -100,20 +100,20 @@ module _ (code : Code) (n : ℕ) where
 
   module _ (l : Line) (x : Variable) (set : ℕ) (reverse system : Bool) (o : Option Value) (h : Owned system o) (turn : List Instruction) (m : Part Turn) (found : ℕ) (r : Lands code n same turn (leads found) done m) where
     -- what a FOR keeps on the stack goes
-    forget : (p place' : ℕ) (v : ℤ) (stack : List Value) (frames : List Frame) (w : World) → slice_get code.instructions p ≡ Some (i.Forget (kept system)) → p + 1 ≡ place' → Reaches code (at p (hold_member o v stack) frames w) (Underway (at place' stack frames w))
+    forget : (p place' : ℕ) (v : ℤ) (stack : List Value) (frames : List Frame) (w : World) → slice_get code.instructions p ≡ Some (i.Forget (members_cells system)) → p + 1 ≡ place' → Reaches code (at p (hold_member o v stack) frames w) (Underway (at place' stack frames w))
     forget p place' v stack frames w has e =
-        leap code n (i.Forget (kept system)) p (p + 1) place' (hold_member o v stack) stack frames w _ has refl
+        leap code n (i.Forget (members_cells system)) p (p + 1) place' (hold_member o v stack) stack frames w _ has refl
         (h.forgets (Whole v) stack (λ rest. onward rest (core_of p (hold_member o v stack) frames w.store) w.store)) e here
 
-    module _ (place end : ℕ) (stack : List Value) (frames : List Frame) (has : HasAt code.instructions place (members_code l x set system reverse turn)) (len : place + 1 + length turn ≡ end) (hf : slice_get code.instructions (end + found) ≡ Some (i.Forget (kept system))) where
+    module _ (place end : ℕ) (stack : List Value) (frames : List Frame) (has : HasAt code.instructions place (members_code l x set system reverse turn)) (len : place + 1 + length turn ≡ end) (hf : slice_get code.instructions (end + found) ≡ Some (i.Forget (members_cells system))) where
       abbrev to : Bool → ℕ
-      to b = behind found b end
+      to b = past_loop found b end
 
       next_has : slice_get code.instructions end ≡ Some (i.NextMember set system (length turn + 1) l)
       next_has = subst (λ p. slice_get code.instructions p ≡ Some (i.NextMember set system (length turn + 1) l)) len (has_back code.instructions (place + 1) turn _ has.1).0
 
-      forget_has : slice_get code.instructions (end + 1) ≡ Some (i.Forget (kept system))
-      forget_has = subst (λ p. slice_get code.instructions (p + 1) ≡ Some (i.Forget (kept system))) len (has_back code.instructions (place + 1) turn _ has.1).1.0
+      forget_has : slice_get code.instructions (end + 1) ≡ Some (i.Forget (members_cells system))
+      forget_has = subst (λ p. slice_get code.instructions (p + 1) ≡ Some (i.Forget (members_cells system))) len (has_back code.instructions (place + 1) turn _ has.1).1.0
 
       last : (next : ℤ) (w : World) (b : Bool) → Reaches code (at (backwards (length turn + 1) b end) (hold_member o next stack) frames w) (arrive (turned {C = ℤ} {A = Bool} (hold_member o) place to stack frames) frames (choose b (WentOn (Again next)) (WentOn (Over false)) w))
       last next w true =
@@ -146,14 +146,14 @@ module _ (code : Code) (n : ℕ) where
               (r.by (place + 1) (hold_member o next stack) frames w (has_front code.instructions (place + 1) turn _ has.1) le))
               (λ t w' fewer. after_run next t w')
 
-      pub members_run : (first : ℤ) (w : World) → w.ticks ≤ n → Reaches code (at (past (length turn + 2) (not (is_none first)) place) (hold_member o first stack) frames w) (arrive (λ b w'. at (behind found b end) stack frames w') frames (choose (is_none first) (WentOn false) (loop n (member_turn l set reverse o (visit l x m)) first) w))
+      pub members_run : (first : ℤ) (w : World) → w.ticks ≤ n → Reaches code (at (past (length turn + 2) (not (is_none first)) place) (hold_member o first stack) frames w) (arrive (λ b w'. at (past_loop found b end) stack frames w') frames (choose (is_none first) (WentOn false) (loop n (member_turn l set reverse o (visit l x m)) first) w))
       members_run first w le = sides (is_none first)
         where
-          sides : (b : Bool) → Reaches code (at (past (length turn + 2) (not b) place) (hold_member o first stack) frames w) (arrive (λ b w'. at (behind found b end) stack frames w') frames (choose b (WentOn false) (loop n (member_turn l set reverse o (visit l x m)) first) w))
+          sides : (b : Bool) → Reaches code (at (past (length turn + 2) (not b) place) (hold_member o first stack) frames w) (arrive (λ b w'. at (past_loop found b end) stack frames w') frames (choose b (WentOn false) (loop n (member_turn l set reverse o (visit l x m)) first) w))
           sides false = loop_run code members_turns n (omega arith) first w le
           sides true =
               let e : end + 1 ≡ place + (length turn + 2) = omega (arith, len) in
-              forget (place + (length turn + 2)) (end + 2) first stack frames w (subst (λ p. slice_get code.instructions p ≡ Some (i.Forget (kept system))) e forget_has) (omega (arith, len))
+              forget (place + (length turn + 2)) (end + 2) first stack frames w (subst (λ p. slice_get code.instructions p ≡ Some (i.Forget (members_cells system))) e forget_has) (omega (arith, len))
 
   -- ## The member with which a FOR begins
 
@@ -193,13 +193,13 @@ module _ (code : Code) (n : ℕ) where
   -- ## Every FOR
 
   module _ (l : Line) (turn : List Instruction) (m : Part Turn) (found : ℕ) (r : Lands code n same turn (leads found) done m) where
-    pub over_run : (head : Head) (place end : ℕ) (stack : List Value) (frames : List Frame) (w : World) → HasAt code.instructions place (for_code l head turn) → place + length (for_code l head turn) ≡ end + 2 → slice_get code.instructions (end + found) ≡ Some (i.Forget (kept_by head)) → w.ticks ≤ n → Reaches code (at place stack frames w) (arrive (λ b w'. at (behind found b end) stack frames w') frames (over n l head m w))
+    pub over_run : (head : Head) (place end : ℕ) (stack : List Value) (frames : List Frame) (w : World) → HasAt code.instructions place (for_code l head turn) → place + length (for_code l head turn) ≡ end + 2 → slice_get code.instructions (end + found) ≡ Some (i.Forget (loop_cells head)) → w.ticks ≤ n → Reaches code (at place stack frames w) (arrive (λ b w'. at (past_loop found b end) stack frames w') frames (over n l head m w))
     over_run (Numbers x a b c) place end stack frames w has len hf le =
         let front = range_code l (length turn + 2) a b c in
         let rest = items_code l x turn in
         let p = place + length front in
         let size : p + 1 + length turn ≡ end = omega (arith, len, length-append front rest, length-append turn (i.Next (length turn + 1) ∷ (i.Forget 3 ∷ []))) in
-        join_such (Rises code n) (at place stack frames w) (λ (b : Range) w'. at (past (length turn + 2) (int_le b.first (limit_of code n b)) p) (hold_range code n b stack) frames w') (λ b w'. at (behind found b end) stack frames w') frames (look l (range a b c) w) (λ r. over_items (visit l x m) (items (suc n) r))
+        join_such (Rises code n) (at place stack frames w) (λ (b : Range) w'. at (past (length turn + 2) (int_le b.first (limit_of code n b)) p) (hold_range code n b stack) frames w') (λ b w'. at (past_loop found b end) stack frames w') frames (look l (range a b c) w) (λ r. over_items (visit l x m) (items (suc n) r))
         (found_went (Rises code n) l (range a b c w.store) w (range_found a b c w.store))
         ((range_lands code n l (length turn + 2) a b c).by place stack frames w (has_front code.instructions place front rest has) le)
         (λ b up w' fewer. ranged_run code n l x turn m found r b up p end stack frames w' (has_back code.instructions place front rest has) size hf (omega (arith, fewer, le)))
@@ -208,7 +208,7 @@ module _ (code : Code) (n : ℕ) where
         let rest = items_code l x turn in
         let p = place + length front in
         let size : p + 1 + length turn ≡ end = omega (arith, len, length-append front rest, length-append turn (i.Next (length turn + 1) ∷ (i.Forget 3 ∷ []))) in
-        join_such (Rises code n) (at place stack frames w) (λ (b : Range) w'. at (past (length turn + 2) (int_le b.first (limit_of code n b)) p) (hold_range code n b stack) frames w') (λ b w'. at (behind found b end) stack frames w') frames (look l (indices class) w) (λ r. over_items (visit l x m) (items (suc n) r))
+        join_such (Rises code n) (at place stack frames w) (λ (b : Range) w'. at (past (length turn + 2) (int_le b.first (limit_of code n b)) p) (hold_range code n b stack) frames w') (λ b w'. at (past_loop found b end) stack frames w') frames (look l (indices class) w) (λ r. over_items (visit l x m) (items (suc n) r))
         (found_went (Rises code n) l (indices class w.store) w (indices_found class w.store))
         ((class_lands code n l (length turn + 2) class).by place stack frames w (has_front code.instructions place front rest has) le)
         (λ b up w' fewer. ranged_run code n l x turn m found r b up p end stack frames w' (has_back code.instructions place front rest has) size hf (omega (arith, fewer, le)))
@@ -216,14 +216,14 @@ module _ (code : Code) (n : ℕ) where
         let front = outset_code l (length turn + 2) set owner start reverse in
         let rest = members_code l x set (is_system owner) reverse turn in
         let p = place + length front in
-        let size : p + 1 + length turn ≡ end = omega (arith, len, length-append front rest, length-append turn (i.NextMember set (is_system owner) (length turn + 1) l ∷ (i.Forget (kept (is_system owner)) ∷ []))) in
-        join_such (OfOwner owner) (at place stack frames w) (λ (b : Outset) w'. at (past (length turn + 2) (not (is_none b.first)) p) (hold_outset b stack) frames w') (λ b w'. at (behind found b end) stack frames w') frames (look l (outset start reverse set owner) w) (over_members n l set reverse (visit l x m))
+        let size : p + 1 + length turn ≡ end = omega (arith, len, length-append front rest, length-append turn (i.NextMember set (is_system owner) (length turn + 1) l ∷ (i.Forget (members_cells (is_system owner)) ∷ []))) in
+        join_such (OfOwner owner) (at place stack frames w) (λ (b : Outset) w'. at (past (length turn + 2) (not (is_none b.first)) p) (hold_outset b stack) frames w') (λ b w'. at (past_loop found b end) stack frames w') frames (look l (outset start reverse set owner) w) (over_members n l set reverse (visit l x m))
         (found_went (OfOwner owner) l (outset start reverse set owner w.store) w (outset_found start reverse set owner w.store))
         ((outset_lands l (length turn + 2) set owner start reverse).by place stack frames w (has_front code.instructions place front rest has) le)
         (λ b h w' fewer. members_run l x set reverse (is_system owner) b.owner h turn m found r p end stack frames (has_back code.instructions place front rest has) size hf b.first w' (omega (arith, fewer, le)))
 
     -- the end of a FOR
-    pub for_forgets : (head : Head) (place end : ℕ) → HasAt code.instructions place (for_code l head turn) → place + length (for_code l head turn) ≡ end + 2 → slice_get code.instructions (end + 1) ≡ Some (i.Forget (kept_by head))
+    pub for_forgets : (head : Head) (place end : ℕ) → HasAt code.instructions place (for_code l head turn) → place + length (for_code l head turn) ≡ end + 2 → slice_get code.instructions (end + 1) ≡ Some (i.Forget (loop_cells head))
     for_forgets (Numbers x a b c) place end has len =
         let front = range_code l (length turn + 2) a b c in
         let rest = items_code l x turn in
@@ -237,14 +237,14 @@ module _ (code : Code) (n : ℕ) where
     for_forgets (Members x set owner start reverse) place end has len =
         let front = outset_code l (length turn + 2) set owner start reverse in
         let rest = members_code l x set (is_system owner) reverse turn in
-        let e : place + length front + 1 + length turn + 1 ≡ end + 1 = omega (arith, len, length-append front rest, length-append turn (i.NextMember set (is_system owner) (length turn + 1) l ∷ (i.Forget (kept (is_system owner)) ∷ []))) in
-        subst (λ p. slice_get code.instructions p ≡ Some (i.Forget (kept (is_system owner)))) e (has_back code.instructions (place + length front + 1) turn _ (has_back code.instructions place front rest has).1).1.0
+        let e : place + length front + 1 + length turn + 1 ≡ end + 1 = omega (arith, len, length-append front rest, length-append turn (i.NextMember set (is_system owner) (length turn + 1) l ∷ (i.Forget (members_cells (is_system owner)) ∷ []))) in
+        subst (λ p. slice_get code.instructions p ≡ Some (i.Forget (members_cells (is_system owner)))) e (has_back code.instructions (place + length front + 1) turn _ (has_back code.instructions place front rest has).1).1.0
 
     -- a FOR is at least its tick, its turn and its end long
     pub for_long : (head : Head) → 2 ≤ length (for_code l head turn)
     for_long (Numbers x a b c) = omega (arith, length-append (range_code l (length turn + 2) a b c) (items_code l x turn), length-append turn (i.Next (length turn + 1) ∷ (i.Forget 3 ∷ [])))
     for_long (Each x class) = omega (arith, length-append turn (i.Next (length turn + 1) ∷ (i.Forget 3 ∷ [])))
-    for_long (Members x set owner start reverse) = omega (arith, length-append (outset_code l (length turn + 2) set owner start reverse) (members_code l x set (is_system owner) reverse turn), length-append turn (i.NextMember set (is_system owner) (length turn + 1) l ∷ (i.Forget (kept (is_system owner)) ∷ [])))
+    for_long (Members x set owner start reverse) = omega (arith, length-append (outset_code l (length turn + 2) set owner start reverse) (members_code l x set (is_system owner) reverse turn), length-append turn (i.NextMember set (is_system owner) (length turn + 1) l ∷ (i.Forget (members_cells (is_system owner)) ∷ [])))
 
   -- a body as the turn of a FOR
   body_lands : (found : ℕ) {c : List Instruction} {m : Part (Unit {0})} → Runs code n same c done m → Lands code n same c (leads found) done (λ w. and_then (m w) (λ _. WentOn GoesOn))
@@ -261,12 +261,12 @@ module _ (code : Code) (n : ℕ) where
         let size = length (for_code l head turn) in
         let end = place + (size - 2) in
         let len : place + size ≡ end + 2 = omega (arith, for_long l turn part 1 lands head) in
-        join (at place stack frames w) (λ b w'. at (behind 1 b end) stack frames w') (λ u w'. at (place + size) stack frames w') frames (over n l head part w) (λ _. WentOn tt)
+        join (at place stack frames w) (λ b w'. at (past_loop 1 b end) stack frames w') (λ u w'. at (place + size) stack frames w') frames (over n l head part w) (λ _. WentOn tt)
         (over_run l turn part 1 lands head place end stack frames w has len (for_forgets l turn part 1 lands head place end has len) le)
         (λ b w' fewer. ends (place + size) end stack frames w' len b);
   }
     where
-      ends : (p end : ℕ) (stack : List Value) (frames : List Frame) (w : World) → p ≡ end + 2 → (b : Bool) → Reaches code (at (behind 1 b end) stack frames w) (Underway (at p stack frames w))
+      ends : (p end : ℕ) (stack : List Value) (frames : List Frame) (w : World) → p ≡ end + 2 → (b : Bool) → Reaches code (at (past_loop 1 b end) stack frames w) (Underway (at p stack frames w))
       ends p end stack frames w len true = let e : p ≡ end + 1 + 1 = omega (arith, len) in subst (λ q. Reaches code (at q stack frames w) (Underway (at p stack frames w))) e here
       ends p end stack frames w len false = subst (λ q. Reaches code (at q stack frames w) (Underway (at p stack frames w))) len here
 
@@ -282,21 +282,21 @@ module _ (code : Code) (n : ℕ) where
         let part = phrases l ps (WentOn IsFound) in
         let lands = phrases_land code n found l ps (found_lands found) in
         let front = for_code l head turn in
-        let rest = cb ++ (i.Jump (length ca + 1) ∷ (i.Forget (kept_by head) ∷ ca)) in
+        let rest = cb ++ (i.Jump (length ca + 1) ∷ (i.Forget (loop_cells head) ∷ ca)) in
         let all = place + length (front ++ rest) in
         let size = length front in
         let end = place + (size - 2) in
         let len : place + size ≡ end + 2 = omega (arith, for_long l turn part found lands head) in
         let h = has_back code.instructions place front rest has in
-        let hb = has_back code.instructions (place + size) cb (i.Jump (length ca + 1) ∷ (i.Forget (kept_by head) ∷ ca)) h in
+        let hb = has_back code.instructions (place + size) cb (i.Jump (length ca + 1) ∷ (i.Forget (loop_cells head) ∷ ca)) h in
         let e : place + size + length cb + 1 ≡ end + found = omega (arith, len) in
-        let len' : place + size + length cb + 2 + length ca ≡ all = omega (arith, length-append front rest, length-append cb (i.Jump (length ca + 1) ∷ (i.Forget (kept_by head) ∷ ca))) in
-        join (at place stack frames w) (λ b w'. at (behind found b end) stack frames w') (λ u w'. at all stack frames w') frames (over n l head part w) (λ t. choose t ma mb)
-        (over_run l turn part found lands head place end stack frames w (has_front code.instructions place front rest has) len (subst (λ p. slice_get code.instructions p ≡ Some (i.Forget (kept_by head))) e hb.1.0) le)
-        (λ b w' fewer. sides (place + size) end all (kept_by head) stack frames w' len len' h (omega (arith, fewer, le)) b);
+        let len' : place + size + length cb + 2 + length ca ≡ all = omega (arith, length-append front rest, length-append cb (i.Jump (length ca + 1) ∷ (i.Forget (loop_cells head) ∷ ca))) in
+        join (at place stack frames w) (λ b w'. at (past_loop found b end) stack frames w') (λ u w'. at all stack frames w') frames (over n l head part w) (λ t. choose t ma mb)
+        (over_run l turn part found lands head place end stack frames w (has_front code.instructions place front rest has) len (subst (λ p. slice_get code.instructions p ≡ Some (i.Forget (loop_cells head))) e hb.1.0) le)
+        (λ b w' fewer. sides (place + size) end all (loop_cells head) stack frames w' len len' h (omega (arith, fewer, le)) b);
   }
     where
-      sides : (p end all k : ℕ) (stack : List Value) (frames : List Frame) (w : World) → p ≡ end + 2 → p + length cb + 2 + length ca ≡ all → HasAt code.instructions p (cb ++ (i.Jump (length ca + 1) ∷ (i.Forget k ∷ ca))) → w.ticks ≤ n → (b : Bool) → Reaches code (at (behind (length cb + 3) b end) stack frames w) (arrive (λ u w'. at all stack frames w') frames (choose b ma mb w))
+      sides : (p end all k : ℕ) (stack : List Value) (frames : List Frame) (w : World) → p ≡ end + 2 → p + length cb + 2 + length ca ≡ all → HasAt code.instructions p (cb ++ (i.Jump (length ca + 1) ∷ (i.Forget k ∷ ca))) → w.ticks ≤ n → (b : Bool) → Reaches code (at (past_loop (length cb + 3) b end) stack frames w) (arrive (λ u w'. at all stack frames w') frames (choose b ma mb w))
       sides p end all k stack frames w e len h le true =
           let p2 = p + length cb + 1 + 1 in
           let q : p2 ≡ end + (length cb + 3) + 1 = omega (arith, e) in

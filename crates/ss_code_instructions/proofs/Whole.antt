@@ -54,24 +54,24 @@ module _ (p : Program) where
   main_here : HasAt code.instructions 0 (main_code p)
   main_here = has_front code.instructions 0 (main_code p) (routines_code p ++ events_code p) all_here
 
-  behind_main : HasAt code.instructions (length (main_code p)) (routines_code p ++ events_code p)
-  behind_main =
+  after_main : HasAt code.instructions (length (main_code p)) (routines_code p ++ events_code p)
+  after_main =
       let e : 0 + length (main_code p) ≡ length (main_code p) = omega arith in
       subst (λ j. HasAt code.instructions j (routines_code p ++ events_code p)) e (has_back code.instructions 0 (main_code p) (routines_code p ++ events_code p) all_here)
 
   all_prints : HasAt code.prints 0 (block_prints p.main ++ (sections_prints (routine_bodies p.routines) ++ sections_prints (event_bodies p.events)))
   all_prints = has_all (block_prints p.main ++ (sections_prints (routine_bodies p.routines) ++ sections_prints (event_bodies p.events))) []
 
-  prints_behind : HasAt code.prints (prints_of_main p) (sections_prints (routine_bodies p.routines) ++ sections_prints (event_bodies p.events))
-  prints_behind =
+  prints_after : HasAt code.prints (prints_of_main p) (sections_prints (routine_bodies p.routines) ++ sections_prints (event_bodies p.events))
+  prints_after =
       let e : 0 + prints_of_main p ≡ prints_of_main p = omega arith in
       subst (λ j. HasAt code.prints j (sections_prints (routine_bodies p.routines) ++ sections_prints (event_bodies p.events))) e
       (has_back code.prints 0 (block_prints p.main) (sections_prints (routine_bodies p.routines) ++ sections_prints (event_bodies p.events)) all_prints)
 
   pub program_linked : Linked code p
   program_linked = record {
-    routines = linked_routines code p.routines (length (main_code p)) (prints_of_main p) (has_front code.instructions (length (main_code p)) (routines_code p) (events_code p) behind_main) (has_front code.prints (prints_of_main p) (sections_prints (routine_bodies p.routines)) (sections_prints (event_bodies p.events)) prints_behind);
-    events = linked_events code p.events (length (main_code p) + length (routines_code p)) (prints_before_events p) (has_back code.instructions (length (main_code p)) (routines_code p) (events_code p) behind_main) (has_back code.prints (prints_of_main p) (sections_prints (routine_bodies p.routines)) (sections_prints (event_bodies p.events)) prints_behind);
+    routines = linked_routines code p.routines (length (main_code p)) (prints_of_main p) (has_front code.instructions (length (main_code p)) (routines_code p) (events_code p) after_main) (has_front code.prints (prints_of_main p) (sections_prints (routine_bodies p.routines)) (sections_prints (event_bodies p.events)) prints_after);
+    events = linked_events code p.events (length (main_code p) + length (routines_code p)) (prints_before_events p) (has_back code.instructions (length (main_code p)) (routines_code p) (events_code p) after_main) (has_back code.prints (prints_of_main p) (sections_prints (routine_bodies p.routines)) (sections_prints (event_bodies p.events)) prints_after);
   }
 
   main_end : (q : ℕ) (s : State) (o : Outcome (Unit {0})) → slice_get code.instructions q ≡ Some i.Leave → Reaches code s (arrive (λ u w. at q [] [] w) [] o) → Reaches code s (result_of (run_of o))
@@ -95,12 +95,12 @@ module _ (p : Program) where
   is_end Paused r = tt
   is_end WentWrong r = tt
 
-  pub meant_end : (r : Run) → IsEnd (result_of r)
-  meant_end r = is_end r.ending r
+  pub end_of_meaning : (r : Run) → IsEnd (result_of r)
+  end_of_meaning r = is_end r.ending r
 
   pub behaves : Behaves p code
   behaves = record {
     comes = λ input n. in_steps (program_runs input n);
-    only = λ input n m r e. sym (subst (Agrees (result_of (meaning p input n))) e (agrees (meant_end (meaning p input n)) (program_runs input n) m));
-    stuck = λ input n m e. sym (subst (Agrees (result_of (meaning p input n))) e (agrees (meant_end (meaning p input n)) (program_runs input n) m));
+    only = λ input n m r e. sym (subst (Agrees (result_of (meaning p input n))) e (agrees (end_of_meaning (meaning p input n)) (program_runs input n) m));
+    stuck = λ input n m e. sym (subst (Agrees (result_of (meaning p input n))) e (agrees (end_of_meaning (meaning p input n)) (program_runs input n) m));
   }

@@ -59,7 +59,7 @@ abbrev pub is_system : SetOwner → Bool
 is_system TheSystem = true
 is_system (Entity e) = false
 
--- the same of a value that there may be
+-- a value that there may be, of which nothing is on the stack where there is none
 abbrev pub any_code : Line → Option Expression → List Instruction
 any_code l None = []
 any_code l (Some e) = expression_code l e
@@ -138,14 +138,14 @@ outset_code l skip set owner (After e) reverse =
     owner_code l owner ++ (i.LookOwner set (is_system owner) l ∷ (member_code l set e ++ i.BeginAt reverse true set (is_system owner) skip l ∷ []))
 
 -- how many values a FOR over members keeps on the stack
-abbrev pub kept : (system : Bool) → ℕ
-kept true = 1
-kept false = 2
+abbrev pub members_cells : (system : Bool) → ℕ
+members_cells true = 1
+members_cells false = 2
 
 -- the members: the tick of one; the turn; on to the next member; and the end of the loop
 abbrev pub members_code : Line → Variable → (set : ℕ) → (system reverse : Bool) → (turn : List Instruction) → List Instruction
 members_code l x set system reverse turn =
-    i.TakeMember x reverse set l ∷ (turn ++ (i.NextMember set system (length turn + 1) l ∷ (i.Forget (kept system) ∷ [])))
+    i.TakeMember x reverse set l ∷ (turn ++ (i.NextMember set system (length turn + 1) l ∷ (i.Forget (members_cells system) ∷ [])))
 
 abbrev pub for_code : Line → Head → (turn : List Instruction) → List Instruction
 for_code l (Numbers x a b c) turn = range_code l (length turn + 2) a b c ++ items_code l x turn
@@ -154,18 +154,18 @@ for_code l (Members x set owner start reverse) turn =
     outset_code l (length turn + 2) set owner start reverse ++ members_code l x set (is_system owner) reverse turn
 
 -- how many values a FOR keeps on the stack
-abbrev pub kept_by : Head → ℕ
-kept_by (Numbers x a b c) = 3
-kept_by (Each x class) = 3
-kept_by (Members x set owner start reverse) = kept (is_system owner)
+abbrev pub loop_cells : Head → ℕ
+loop_cells (Numbers x a b c) = 3
+loop_cells (Each x class) = 3
+loop_cells (Members x set owner start reverse) = members_cells (is_system owner)
 
--- behind a FIND: the end of the loop at which no case was found stands before its side, the other behind a jump past both sides
+-- the sides of a FIND: the end of the loop at which no case was found comes before its side, the other after a jump past both sides
 abbrev pub find_code : Line → Head → List Phrase → (found none : List Instruction) → List Instruction
 find_code l head ps found none =
     for_code l head (phrases_code l ps (i.Jump (length none + 3) ∷ []))
-    ++ (none ++ (i.Jump (length found + 1) ∷ (i.Forget (kept_by head) ∷ found)))
+    ++ (none ++ (i.Jump (length found + 1) ∷ (i.Forget (loop_cells head) ∷ found)))
 
--- a condition, and two sides; before the second stands a jump past it, and nothing where it is empty
+-- a condition, and two sides; before the second comes a jump past it, and nothing where it is empty
 abbrev pub if_code : Line → Condition → List Instruction → List Instruction → List Instruction
 if_code l c a [] = condition_code l (length a) c ++ a
 if_code l c a (j ∷ b) = condition_code l (length a + 1) c ++ (a ++ (i.Jump (length (j ∷ b)) ∷ (j ∷ b)))
@@ -246,7 +246,7 @@ schedule_code l class e given when =
 
 -- ## Items of PRINT
 
--- an item: the value that it takes on top of the stack; a mean is looked at where it stands
+-- an item: the value that it takes on top of the stack; a mean is looked at in its place
 abbrev pub item_code : Line → Item → List Instruction
 item_code l (AValue e) = expression_code l e
 item_code l (AMean j) = i.LookMean j true l ∷ []
@@ -369,7 +369,7 @@ routine_entry place r = record { place = place; given = r.given; yielding = leng
 abbrev pub event_entry : (place : ℕ) → Event → Entry
 event_entry place e = record { place = place; given = e.given; yielding = 0; others = e.others }
 
--- where routines begin, the first of them at this place, behind so many PRINTs
+-- where routines begin, the first of them at this place, after so many PRINTs
 abbrev pub routine_entries : (place first : ℕ) → List Routine → List Entry
 routine_entries place first [] = []
 routine_entries place first (r ∷ rs) =
@@ -392,7 +392,7 @@ routine_bodies rs = map routine_body rs
 abbrev pub event_bodies : List Event → List Block
 event_bodies es = map event_body es
 
--- how many PRINTs stand in MAIN, and in MAIN and the routines
+-- how many PRINTs MAIN has, and MAIN and the routines
 abbrev pub prints_of_main : Program → ℕ
 prints_of_main p = length (block_prints p.main)
 

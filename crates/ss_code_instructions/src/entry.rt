@@ -52,7 +52,7 @@ impl Entry {
         &self.given
     }
 
-    /// How many values it yields: those of the variables behind the given ones.
+    /// How many values it yields: those of the variables after the given ones.
     pub fn yielding(&self) -> usize
         ensures { result ≡ self.now.yielding }
     {

@@ -83,7 +83,7 @@ pub enum Instruction {
         system: bool,
         line: Line,
     },
-    /// Goes on where two values, the right one on top, stand in the relation, and jumps where they don't.
+    /// Goes on where two values, the right one on top, are in the relation, and jumps where they aren't.
     Compare {
         relation: Relation,
         skip: usize,
@@ -180,7 +180,7 @@ pub enum Instruction {
         skip: usize,
         line: Line,
     },
-    /// The same for the indices of a permanent class.
+    /// Begins a FOR over the indices of a permanent class. Jumps where there is none.
     BeginClass {
         class: usize,
         skip: usize,
@@ -203,7 +203,8 @@ pub enum Instruction {
         skip: usize,
         line: Line,
     },
-    /// The same from a member on, or after it, which lies above the owner.
+    /// The first member of a loop goes on top of the owner: the member that lies there, or the one after it. Jumps where
+    /// there is none.
     BeginAt {
         reverse: bool,
         after: bool,
@@ -315,7 +316,7 @@ pub enum Instruction {
     Await {
         skip: usize,
     },
-    /// Takes a tick, takes out the notice that comes next, and begins its event, which comes back behind this.
+    /// Takes a tick, takes out the notice that comes next, and begins its event, which comes back after this.
     TakeEvent,
     /// Jumps back to the taking of the next event, if a notice is pending.
     NextEvent {

@@ -5,7 +5,7 @@ ghost use Rattle.ss_code_instructions.specs.Laws.{CodeBehaves, JumpsLand, NeverS
 /// The code of each program comes, with each input and number of ticks, to the report, the ending and the ticks left
 /// that the program means, and to nothing else; it is stuck just where the program goes wrong. Each jump back leads to an
 /// instruction that takes a tick. Ticks may be handed out
-/// in pieces; more ticks write what fewer wrote, and maybe more; and a run that ended otherwise than for want of ticks
+/// in pieces; more ticks write what fewer wrote, and maybe more; and a run that ended otherwise than for lack of ticks
 /// ends so with more of them. What a run has written on its way is a beginning of its report, and, once all ticks are
 /// taken, goes on from the report of a tick fewer. A run pauses where its program means so.
 pub fn laws()

@@ -15,14 +15,14 @@ abbrev pub further_text : List Operand → List ℕ
 further_text [] = []
 further_text (x ∷ xs) = codes ", " ++ (operand_text x ++ further_text xs)
 
--- a text with blanks behind it up to a width
+-- a text with blanks after it up to a width
 abbrev pub padded : (width : ℕ) → List ℕ → List ℕ
 padded width text = text ++ replicate (width - length text) 32
 
--- the name of an instruction, and its operands in a column behind it
-abbrev pub told : (name : List ℕ) → List Operand → List ℕ
-told name [] = name
-told name (x ∷ xs) = padded 13 name ++ (operand_text x ++ further_text xs)
+-- the name of an instruction, and its operands in a column after it
+abbrev pub instruction_text : (name : List ℕ) → List Operand → List ℕ
+instruction_text name [] = name
+instruction_text name (x ∷ xs) = padded 13 name ++ (operand_text x ++ further_text xs)
 
 -- where a jump from a place leads that skips so many instructions
 abbrev pub landing : (place skip : ℕ) → ℕ
@@ -39,65 +39,65 @@ first_of_routine routines routine = first_of (slice_get routines routine)
 -- the instruction at a place, among these routines and these beginnings of events
 abbrev pub detail : List Entry → (events : List Operand) → (place : ℕ) → Instruction → List ℕ
 detail rs es p (i.Push value) = padded 13 (codes "push") ++ value_text value
-detail rs es p (i.Fetch x) = told (codes "fetch") (o.Place (destinations.Variable x) ∷ [])
-detail rs es p (i.Calculate op l) = told (codes "calculate") (o.Word (w.Operator op) ∷ o.At l ∷ [])
-detail rs es p (i.Signed sign l) = told (codes "signed") (o.Word (w.Sign sign) ∷ o.At l ∷ [])
-detail rs es p (i.Absolute l) = told (codes "absolute") (o.At l ∷ [])
-detail rs es p (i.Attribute class field l) = told (codes "attribute") (o.Place (destinations.Attribute class field) ∷ o.At l ∷ [])
-detail rs es p (i.OfSet query set system l) = told (codes "of set") (o.Word (w.OfSet query) ∷ o.Owned set system ∷ o.At l ∷ [])
-detail rs es p (i.OfMember query set l) = told (codes "of member") (o.Word (w.OfMember query) ∷ o.Set set ∷ o.At l ∷ [])
-detail rs es p i.Clock = told (codes "clock") []
-detail rs es p (i.TimeOf l) = told (codes "time of") (o.At l ∷ [])
-detail rs es p (i.Figure fold statistic system l) = told (codes "figure") (o.Word (w.Fold fold) ∷ o.Statistic statistic system ∷ o.At l ∷ [])
-detail rs es p (i.Compare relation skip) = told (codes "compare") (o.Word (w.Relation relation) ∷ o.Else (landing p skip) ∷ [])
-detail rs es p (i.TestData negated skip l) = told (codes "test data") (o.Word (w.Negated negated) ∷ o.Else (landing p skip) ∷ o.At l ∷ [])
+detail rs es p (i.Fetch x) = instruction_text (codes "fetch") (o.Place (destinations.Variable x) ∷ [])
+detail rs es p (i.Calculate op l) = instruction_text (codes "calculate") (o.Word (w.Operator op) ∷ o.At l ∷ [])
+detail rs es p (i.Signed sign l) = instruction_text (codes "signed") (o.Word (w.Sign sign) ∷ o.At l ∷ [])
+detail rs es p (i.Absolute l) = instruction_text (codes "absolute") (o.At l ∷ [])
+detail rs es p (i.Attribute class field l) = instruction_text (codes "attribute") (o.Place (destinations.Attribute class field) ∷ o.At l ∷ [])
+detail rs es p (i.OfSet query set system l) = instruction_text (codes "of set") (o.Word (w.OfSet query) ∷ o.Owned set system ∷ o.At l ∷ [])
+detail rs es p (i.OfMember query set l) = instruction_text (codes "of member") (o.Word (w.OfMember query) ∷ o.Set set ∷ o.At l ∷ [])
+detail rs es p i.Clock = instruction_text (codes "clock") []
+detail rs es p (i.TimeOf l) = instruction_text (codes "time of") (o.At l ∷ [])
+detail rs es p (i.Figure fold statistic system l) = instruction_text (codes "figure") (o.Word (w.Fold fold) ∷ o.Statistic statistic system ∷ o.At l ∷ [])
+detail rs es p (i.Compare relation skip) = instruction_text (codes "compare") (o.Word (w.Relation relation) ∷ o.Else (landing p skip) ∷ [])
+detail rs es p (i.TestData negated skip l) = instruction_text (codes "test data") (o.Word (w.Negated negated) ∷ o.Else (landing p skip) ∷ o.At l ∷ [])
 detail rs es p (i.TestEmpty negated set system skip l) =
-    told (codes "test empty") (o.Word (w.Negated negated) ∷ o.Owned set system ∷ o.Else (landing p skip) ∷ o.At l ∷ [])
+    instruction_text (codes "test empty") (o.Word (w.Negated negated) ∷ o.Owned set system ∷ o.Else (landing p skip) ∷ o.At l ∷ [])
 detail rs es p (i.TestMember negated set system skip l) =
-    told (codes "test member") (o.Word (w.Negated negated) ∷ o.Owned set system ∷ o.Else (landing p skip) ∷ o.At l ∷ [])
-detail rs es p (i.Jump skip) = told (codes "jump") (o.To (landing p skip) ∷ [])
-detail rs es p (i.LookEntity class l) = told (codes "look entity") (o.Class class ∷ o.At l ∷ [])
-detail rs es p (i.LookMember set l) = told (codes "look member") (o.Set set ∷ o.At l ∷ [])
-detail rs es p (i.LookOwner set system l) = told (codes "look owner") (o.Owned set system ∷ o.At l ∷ [])
-detail rs es p (i.LookMean statistic system l) = told (codes "look mean") (o.Statistic statistic system ∷ o.At l ∷ [])
-detail rs es p (i.Assign place l) = told (codes "assign") (o.Place place ∷ o.At l ∷ [])
-detail rs es p (i.Change sign place l) = told (codes "change") (o.Word (w.Sign sign) ∷ o.Place place ∷ o.At l ∷ [])
-detail rs es p (i.Give place l) = told (codes "give") (o.Place place ∷ o.At l ∷ [])
-detail rs es p (i.Read mode l) = told (codes "read") (o.Word (w.Mode mode) ∷ o.At l ∷ [])
-detail rs es p (i.Print lines values) = told (codes "print") (o.Pictures lines ∷ o.Values values ∷ [])
-detail rs es p (i.Skip l) = told (codes "skip") (o.At l ∷ [])
-detail rs es p i.Turn = told (codes "turn") []
-detail rs es p (i.Repeat back) = told (codes "repeat") (o.To (p - back) ∷ [])
-detail rs es p (i.Begin skip l) = told (codes "begin") (o.Else (landing p skip) ∷ o.At l ∷ [])
-detail rs es p (i.BeginClass class skip l) = told (codes "begin class") (o.Class class ∷ o.Else (landing p skip) ∷ o.At l ∷ [])
-detail rs es p (i.Take x l) = told (codes "take") (o.Place (destinations.Variable x) ∷ o.At l ∷ [])
-detail rs es p (i.Next back) = told (codes "next") (o.To (p - back) ∷ [])
+    instruction_text (codes "test member") (o.Word (w.Negated negated) ∷ o.Owned set system ∷ o.Else (landing p skip) ∷ o.At l ∷ [])
+detail rs es p (i.Jump skip) = instruction_text (codes "jump") (o.To (landing p skip) ∷ [])
+detail rs es p (i.LookEntity class l) = instruction_text (codes "look entity") (o.Class class ∷ o.At l ∷ [])
+detail rs es p (i.LookMember set l) = instruction_text (codes "look member") (o.Set set ∷ o.At l ∷ [])
+detail rs es p (i.LookOwner set system l) = instruction_text (codes "look owner") (o.Owned set system ∷ o.At l ∷ [])
+detail rs es p (i.LookMean statistic system l) = instruction_text (codes "look mean") (o.Statistic statistic system ∷ o.At l ∷ [])
+detail rs es p (i.Assign place l) = instruction_text (codes "assign") (o.Place place ∷ o.At l ∷ [])
+detail rs es p (i.Change sign place l) = instruction_text (codes "change") (o.Word (w.Sign sign) ∷ o.Place place ∷ o.At l ∷ [])
+detail rs es p (i.Give place l) = instruction_text (codes "give") (o.Place place ∷ o.At l ∷ [])
+detail rs es p (i.Read mode l) = instruction_text (codes "read") (o.Word (w.Mode mode) ∷ o.At l ∷ [])
+detail rs es p (i.Print lines values) = instruction_text (codes "print") (o.Pictures lines ∷ o.Values values ∷ [])
+detail rs es p (i.Skip l) = instruction_text (codes "skip") (o.At l ∷ [])
+detail rs es p i.Turn = instruction_text (codes "turn") []
+detail rs es p (i.Repeat back) = instruction_text (codes "repeat") (o.To (p - back) ∷ [])
+detail rs es p (i.Begin skip l) = instruction_text (codes "begin") (o.Else (landing p skip) ∷ o.At l ∷ [])
+detail rs es p (i.BeginClass class skip l) = instruction_text (codes "begin class") (o.Class class ∷ o.Else (landing p skip) ∷ o.At l ∷ [])
+detail rs es p (i.Take x l) = instruction_text (codes "take") (o.Place (destinations.Variable x) ∷ o.At l ∷ [])
+detail rs es p (i.Next back) = instruction_text (codes "next") (o.To (p - back) ∷ [])
 detail rs es p (i.BeginSet reverse set system skip l) =
-    told (codes "begin set") (o.Word (w.Order reverse) ∷ o.Owned set system ∷ o.Else (landing p skip) ∷ o.At l ∷ [])
+    instruction_text (codes "begin set") (o.Word (w.Order reverse) ∷ o.Owned set system ∷ o.Else (landing p skip) ∷ o.At l ∷ [])
 detail rs es p (i.BeginAt reverse after set system skip l) =
-    told (codes "begin at") (o.Word (w.Order reverse) ∷ o.Word (w.Start after) ∷ o.Owned set system ∷ o.Else (landing p skip) ∷ o.At l ∷ [])
+    instruction_text (codes "begin at") (o.Word (w.Order reverse) ∷ o.Word (w.Start after) ∷ o.Owned set system ∷ o.Else (landing p skip) ∷ o.At l ∷ [])
 detail rs es p (i.TakeMember x reverse set l) =
-    told (codes "take member") (o.Place (destinations.Variable x) ∷ o.Word (w.Order reverse) ∷ o.Set set ∷ o.At l ∷ [])
-detail rs es p (i.NextMember set system back l) = told (codes "next member") (o.Owned set system ∷ o.To (p - back) ∷ o.At l ∷ [])
-detail rs es p (i.Forget count) = told (codes "forget") (o.Values count ∷ [])
+    instruction_text (codes "take member") (o.Place (destinations.Variable x) ∷ o.Word (w.Order reverse) ∷ o.Set set ∷ o.At l ∷ [])
+detail rs es p (i.NextMember set system back l) = instruction_text (codes "next member") (o.Owned set system ∷ o.To (p - back) ∷ o.At l ∷ [])
+detail rs es p (i.Forget count) = instruction_text (codes "forget") (o.Values count ∷ [])
 detail rs es p (i.Call routine given yielding) =
-    told (codes "call") (o.Routine routine (first_of_routine rs routine) ∷ o.Given given ∷ o.Yielding yielding ∷ [])
-detail rs es p i.Leave = told (codes "leave") []
-detail rs es p i.Halt = told (codes "halt") []
-detail rs es p (i.Create class l) = told (codes "create") (o.Class class ∷ o.At l ∷ [])
+    instruction_text (codes "call") (o.Routine routine (first_of_routine rs routine) ∷ o.Given given ∷ o.Yielding yielding ∷ [])
+detail rs es p i.Leave = instruction_text (codes "leave") []
+detail rs es p i.Halt = instruction_text (codes "halt") []
+detail rs es p (i.Create class l) = instruction_text (codes "create") (o.Class class ∷ o.At l ∷ [])
 detail rs es p (i.CreateAll c l) =
-    told (codes "create all") (o.Class c.class ∷ o.Place (destinations.Variable (variables.Global c.variable)) ∷ o.At l ∷ [])
-detail rs es p (i.Destroy class l) = told (codes "destroy") (o.Class class ∷ o.At l ∷ [])
-detail rs es p (i.File filing set system l) = told (codes "file") (o.Word (w.Filing filing) ∷ o.Owned set system ∷ o.At l ∷ [])
-detail rs es p (i.Remove set system l) = told (codes "remove") (o.Owned set system ∷ o.At l ∷ [])
-detail rs es p (i.RemoveEnd side set system l) = told (codes "remove end") (o.Word (w.End side) ∷ o.Owned set system ∷ o.At l ∷ [])
-detail rs es p (i.When later l) = told (codes "when") (o.Word (w.Time later) ∷ o.At l ∷ [])
-detail rs es p (i.MakeNotice class given l) = told (codes "make notice") (o.Class class ∷ o.Given given ∷ o.At l ∷ [])
-detail rs es p (i.Name place l) = told (codes "name") (o.Place place ∷ o.At l ∷ [])
-detail rs es p (i.FileNotice class l) = told (codes "file notice") (o.Class class ∷ o.At l ∷ [])
-detail rs es p (i.Reschedule class given l) = told (codes "reschedule") (o.Class class ∷ o.Given given ∷ o.At l ∷ [])
-detail rs es p (i.Cancel class l) = told (codes "cancel") (o.Class class ∷ o.At l ∷ [])
-detail rs es p (i.Await skip) = told (codes "await") (o.Else (landing p skip) ∷ [])
-detail rs es p i.TakeEvent = told (codes "take event") es
-detail rs es p (i.NextEvent back) = told (codes "next event") (o.To (p - back) ∷ [])
-detail rs es p (i.Reset statistic system l) = told (codes "reset") (o.Statistic statistic system ∷ o.At l ∷ [])
+    instruction_text (codes "create all") (o.Class c.class ∷ o.Place (destinations.Variable (variables.Global c.variable)) ∷ o.At l ∷ [])
+detail rs es p (i.Destroy class l) = instruction_text (codes "destroy") (o.Class class ∷ o.At l ∷ [])
+detail rs es p (i.File filing set system l) = instruction_text (codes "file") (o.Word (w.Filing filing) ∷ o.Owned set system ∷ o.At l ∷ [])
+detail rs es p (i.Remove set system l) = instruction_text (codes "remove") (o.Owned set system ∷ o.At l ∷ [])
+detail rs es p (i.RemoveEnd side set system l) = instruction_text (codes "remove end") (o.Word (w.End side) ∷ o.Owned set system ∷ o.At l ∷ [])
+detail rs es p (i.When later l) = instruction_text (codes "when") (o.Word (w.Time later) ∷ o.At l ∷ [])
+detail rs es p (i.MakeNotice class given l) = instruction_text (codes "make notice") (o.Class class ∷ o.Given given ∷ o.At l ∷ [])
+detail rs es p (i.Name place l) = instruction_text (codes "name") (o.Place place ∷ o.At l ∷ [])
+detail rs es p (i.FileNotice class l) = instruction_text (codes "file notice") (o.Class class ∷ o.At l ∷ [])
+detail rs es p (i.Reschedule class given l) = instruction_text (codes "reschedule") (o.Class class ∷ o.Given given ∷ o.At l ∷ [])
+detail rs es p (i.Cancel class l) = instruction_text (codes "cancel") (o.Class class ∷ o.At l ∷ [])
+detail rs es p (i.Await skip) = instruction_text (codes "await") (o.Else (landing p skip) ∷ [])
+detail rs es p i.TakeEvent = instruction_text (codes "take event") es
+detail rs es p (i.NextEvent back) = instruction_text (codes "next event") (o.To (p - back) ∷ [])
+detail rs es p (i.Reset statistic system l) = instruction_text (codes "reset") (o.Statistic statistic system ∷ o.At l ∷ [])

@@ -92,7 +92,7 @@ abbrev pub order_word : (reverse : Bool) → List ℕ
 order_word false = codes "forwards"
 order_word true = codes "backwards"
 
--- whether a walk begins with a member or behind it
+-- whether a walk begins with a member or after it
 abbrev pub start_word : (after : Bool) → List ℕ
 start_word false = codes "from"
 start_word true = codes "after"

@@ -3,7 +3,7 @@
 ghost use Rattle.std.specs.Prelude.{◌≡◌, [], ◌∷◌, ◌+◌, ◌-◌, ◌++◌, codes, OnOk};
 ghost use Rattle.ss_code_listing.specs.declared.operand.Operand.TheVariants.{At};
 ghost use Rattle.ss_code_listing.specs.Operands.{value_text};
-ghost use Rattle.ss_code_listing.specs.Details.{further_text, padded, told, landing as landing_of, first_of_routine, detail};
+ghost use Rattle.ss_code_listing.specs.Details.{further_text, padded, instruction_text, landing as landing_of, first_of_routine, detail};
 
 use crate::operand::{Operand, add_operand, add_value};
 use crate::words::Word;
@@ -16,7 +16,7 @@ use std::alloc::AllocError;
 // The columns that the names of instructions take.
 const NAME_WIDTH: usize = 13;
 
-/// Adds a text with blanks behind it up to a width. The error comes where memory was refused.
+/// Adds a text with blanks after it up to a width. The error comes where memory was refused.
 pub(crate) fn add_padded(text: &mut Vec<u8>, width: usize, word: &[u8]) -> Result<(), AllocError>
     ensures { OnOk result (text.new.items ≡ text.old.items ++ padded width word.now) }
 {
@@ -39,8 +39,12 @@ fn add_further(text: &mut Vec<u8>, operands: &[Operand]) -> Result<(), AllocErro
 }
 
 // The name of an instruction, and its operands.
-fn add_told(text: &mut Vec<u8>, name: &str, operands: &[Operand]) -> Result<(), AllocError>
-    ensures { OnOk result (text.new.items ≡ text.old.items ++ told name.now operands.now) }
+fn add_instruction_text(
+    text: &mut Vec<u8>,
+    name: &str,
+    operands: &[Operand],
+) -> Result<(), AllocError>
+    ensures { OnOk result (text.new.items ≡ text.old.items ++ instruction_text name.now operands.now) }
 {
     match operands {
         [] => text.extend_from_slice(name.as_bytes()),
@@ -86,30 +90,30 @@ fn first_place(routines: &[Entry], routine: usize) -> Option<usize>
 
 // An instruction without operands.
 fn add_bare(text: &mut Vec<u8>, name: &str) -> Result<(), AllocError>
-    ensures { OnOk result (text.new.items ≡ text.old.items ++ told name.now []) }
+    ensures { OnOk result (text.new.items ≡ text.old.items ++ instruction_text name.now []) }
 {
-    add_told(text, name, &[])
+    add_instruction_text(text, name, &[])
 }
 
 // An instruction that has its line alone.
 fn add_bare_at(text: &mut Vec<u8>, name: &str, line: Line) -> Result<(), AllocError>
-    ensures { OnOk result (text.new.items ≡ text.old.items ++ told name.now (At line ∷ [])) }
+    ensures { OnOk result (text.new.items ≡ text.old.items ++ instruction_text name.now (At line ∷ [])) }
 {
-    add_told(text, name, &[Operand::At(line)])
+    add_instruction_text(text, name, &[Operand::At(line)])
 }
 
 // An instruction with one operand.
 fn add_one(text: &mut Vec<u8>, name: &str, first: Operand) -> Result<(), AllocError>
-    ensures { OnOk result (text.new.items ≡ text.old.items ++ told name.now (first ∷ [])) }
+    ensures { OnOk result (text.new.items ≡ text.old.items ++ instruction_text name.now (first ∷ [])) }
 {
-    add_told(text, name, &[first])
+    add_instruction_text(text, name, &[first])
 }
 
 // An instruction with one operand and its line.
 fn add_one_at(text: &mut Vec<u8>, name: &str, first: Operand, line: Line) -> Result<(), AllocError>
-    ensures { OnOk result (text.new.items ≡ text.old.items ++ told name.now (first ∷ At line ∷ [])) }
+    ensures { OnOk result (text.new.items ≡ text.old.items ++ instruction_text name.now (first ∷ At line ∷ [])) }
 {
-    add_told(text, name, &[first, Operand::At(line)])
+    add_instruction_text(text, name, &[first, Operand::At(line)])
 }
 
 // An instruction with two operands.
@@ -119,9 +123,9 @@ fn add_two(
     first: Operand,
     second: Operand,
 ) -> Result<(), AllocError>
-    ensures { OnOk result (text.new.items ≡ text.old.items ++ told name.now (first ∷ second ∷ [])) }
+    ensures { OnOk result (text.new.items ≡ text.old.items ++ instruction_text name.now (first ∷ second ∷ [])) }
 {
-    add_told(text, name, &[first, second])
+    add_instruction_text(text, name, &[first, second])
 }
 
 // An instruction with two operands and its line.
@@ -132,9 +136,9 @@ fn add_two_at(
     second: Operand,
     line: Line,
 ) -> Result<(), AllocError>
-    ensures { OnOk result (text.new.items ≡ text.old.items ++ told name.now (first ∷ second ∷ At line ∷ [])) }
+    ensures { OnOk result (text.new.items ≡ text.old.items ++ instruction_text name.now (first ∷ second ∷ At line ∷ [])) }
 {
-    add_told(text, name, &[first, second, Operand::At(line)])
+    add_instruction_text(text, name, &[first, second, Operand::At(line)])
 }
 
 // An instruction with three operands.
@@ -145,9 +149,9 @@ fn add_three(
     second: Operand,
     third: Operand,
 ) -> Result<(), AllocError>
-    ensures { OnOk result (text.new.items ≡ text.old.items ++ told name.now (first ∷ second ∷ third ∷ [])) }
+    ensures { OnOk result (text.new.items ≡ text.old.items ++ instruction_text name.now (first ∷ second ∷ third ∷ [])) }
 {
-    add_told(text, name, &[first, second, third])
+    add_instruction_text(text, name, &[first, second, third])
 }
 
 // An instruction with three operands and its line.
@@ -159,9 +163,9 @@ fn add_three_at(
     third: Operand,
     line: Line,
 ) -> Result<(), AllocError>
-    ensures { OnOk result (text.new.items ≡ text.old.items ++ told name.now (first ∷ second ∷ third ∷ At line ∷ [])) }
+    ensures { OnOk result (text.new.items ≡ text.old.items ++ instruction_text name.now (first ∷ second ∷ third ∷ At line ∷ [])) }
 {
-    add_told(text, name, &[first, second, third, Operand::At(line)])
+    add_instruction_text(text, name, &[first, second, third, Operand::At(line)])
 }
 
 // An instruction with four operands and its line.
@@ -174,9 +178,9 @@ fn add_four_at(
     fourth: Operand,
     line: Line,
 ) -> Result<(), AllocError>
-    ensures { OnOk result (text.new.items ≡ text.old.items ++ told name.now (first ∷ second ∷ third ∷ fourth ∷ At line ∷ [])) }
+    ensures { OnOk result (text.new.items ≡ text.old.items ++ instruction_text name.now (first ∷ second ∷ third ∷ fourth ∷ At line ∷ [])) }
 {
-    add_told(
+    add_instruction_text(
         text,
         name,
         &[first, second, third, fourth, Operand::At(line)],
@@ -536,7 +540,7 @@ pub(crate) fn add_detail(
             *line,
         ),
         Instruction::Await { skip } => add_one(text, "await", Operand::Else(landing(place, *skip))),
-        Instruction::TakeEvent => add_told(text, "take event", events),
+        Instruction::TakeEvent => add_instruction_text(text, "take event", events),
         Instruction::NextEvent { back } => add_one(
             text,
             "next event",

@@ -30,7 +30,7 @@ pub(crate) enum Operand {
     Yielding(usize),
     /// The number of the instruction to which a jump leads.
     To(u128),
-    /// The same of a jump that is made where a test fails, or where nothing is left.
+    /// The number of the instruction to which a jump leads that is made where a test fails, or where nothing is left.
     Else(u128),
     /// The line of the statement.
     At(Line),
@@ -45,17 +45,12 @@ fn add_number(text: &mut Vec<u8>, word: &str, number: u128) -> Result<(), AllocE
     text.extend_from_slice(Buffer::new().format(number).as_bytes())
 }
 
-// A word, a number, and a word behind it.
-fn add_between(
-    text: &mut Vec<u8>,
-    word: &str,
-    number: usize,
-    behind: &str,
-) -> Result<(), AllocError>
-    ensures { OnOk result (text.new.items ≡ text.old.items ++ (word.now ++ (decimal number ++ behind.now))) }
+// A word, a number, and a word after it.
+fn add_between(text: &mut Vec<u8>, word: &str, number: usize, after: &str) -> Result<(), AllocError>
+    ensures { OnOk result (text.new.items ≡ text.old.items ++ (word.now ++ (decimal number ++ after.now))) }
 {
     add_number(text, word, number as u128)?;
-    text.extend_from_slice(behind.as_bytes())
+    text.extend_from_slice(after.as_bytes())
 }
 
 /// Adds a value. The error comes where memory was refused.
@@ -112,13 +107,13 @@ fn add_pair(
     text: &mut Vec<u8>,
     word: &str,
     number: usize,
-    behind: &str,
+    after: &str,
     other: usize,
 ) -> Result<(), AllocError>
-    ensures { OnOk result (text.new.items ≡ text.old.items ++ (word.now ++ (decimal number ++ (behind.now ++ decimal other)))) }
+    ensures { OnOk result (text.new.items ≡ text.old.items ++ (word.now ++ (decimal number ++ (after.now ++ decimal other)))) }
 {
     add_number(text, word, number as u128)?;
-    add_number(text, behind, other as u128)
+    add_number(text, after, other as u128)
 }
 
 // A set.

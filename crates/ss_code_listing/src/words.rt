@@ -25,7 +25,7 @@ pub(crate) enum Word {
     Negated(bool),
     /// Whether members are taken from the last backwards.
     Order(bool),
-    /// Whether a walk begins behind a member.
+    /// Whether a walk begins after a member.
     Start(bool),
     /// Whether a value says how many units from now, and not a time.
     Time(bool),
@@ -151,7 +151,7 @@ fn of_order(reverse: bool) -> &'static str
     if reverse { "backwards" } else { "forwards" }
 }
 
-// Whether a walk begins with a member or behind it.
+// Whether a walk begins with a member or after it.
 fn of_start(after: bool) -> &'static str
     ensures { result.now ≡ start_word after }
 {

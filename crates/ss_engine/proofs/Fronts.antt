@@ -1,4 +1,4 @@
--- From what each layer refuses to why the text is refused.
+-- From the error of each layer to the refusal of the text.
 use Rattle.std.proofs.Common.{◌≡◌, ◌≢◌, ℕ, ◌≤◌, ◌<◌, List, length, None, refl, arith}
 use Rattle.ss_lex.specs.declared.token.Token.{Token}
 use Rattle.ss_lex.specs.declared.error.LexError.{LexError}
@@ -13,10 +13,10 @@ use Rattle.ss_tree.specs.Nodes as tree
 use Rattle.ss_tables_rules.specs.Broken.{refusal as declaration_refusal}
 use Rattle.ss_tables.specs.declared.error.TableError.{TableError}
 use Rattle.ss_tables.specs.declared.error.TableError.TheVariants as declaring
-use Rattle.ss_tables.specs.Tables.{Tells as TellsOfTables}
+use Rattle.ss_tables.specs.Tables.{Reports as ReportsOnTables}
 use Rattle.ss_check.specs.declared.error.CheckError.{CheckError}
 use Rattle.ss_check.specs.declared.error.CheckError.TheVariants as checking
-use Rattle.ss_check.specs.Checking.{Tells as TellsOfUses, refusal_of as use_refusal}
+use Rattle.ss_check.specs.Checking.{Reports as ReportsOnUses, refusal_of as use_refusal}
 use Rattle.ss_program.specs.Program.{Program}
 use Rattle.ss_program.specs.Nodes as resolved
 use Rattle.ss_code.specs.declared.error.CodeError.{CodeError}
@@ -41,7 +41,7 @@ parser_refused text ts are (parsing.Syntax line) h l = record { tokens = ts; are
 parser_refused text ts are (parsing.TooDeep line) h l = record { tokens = ts; are = are; refused = h; line = l }
 parser_refused text ts are parsing.Memory h l = tt
 
-pub tables_refused : (text : List ℕ) (tree : ProgramTree) → IsTreeOf text tree → (e : TableError) → TellsOfTables e (declaration_refusal tree) → RefusedFor text (refusal_of_tables e)
+pub tables_refused : (text : List ℕ) (tree : ProgramTree) → IsTreeOf text tree → (e : TableError) → ReportsOnTables e (declaration_refusal tree) → RefusedFor text (refusal_of_tables e)
 tables_refused text tree r (declaring.Twice line) h = record { tree = tree; read = r; broken = h }
 tables_refused text tree r (declaring.RealMode line) h = record { tree = tree; read = r; broken = h }
 tables_refused text tree r (declaring.UnknownClass line) h = record { tree = tree; read = r; broken = h }
@@ -54,7 +54,7 @@ tables_refused text tree r (declaring.TooMany line) h = record { tree = tree; re
 tables_refused text tree r (declaring.TieKey line) h = record { tree = tree; read = r; broken = h }
 tables_refused text tree r declaring.Memory h = tt
 
-pub checker_refused : (text : List ℕ) (tree : ProgramTree) → IsTreeOf text tree → declaration_refusal tree ≡ None → (e : CheckError) → TellsOfUses e (use_refusal tree) → RefusedFor text (refusal_of_checker e)
+pub checker_refused : (text : List ℕ) (tree : ProgramTree) → IsTreeOf text tree → declaration_refusal tree ≡ None → (e : CheckError) → ReportsOnUses e (use_refusal tree) → RefusedFor text (refusal_of_checker e)
 checker_refused text tree r d (checking.NoMain line) h = record { tree = tree; read = r; declared = d; broken = h }
 checker_refused text tree r d (checking.NoEventRoutine line) h = record { tree = tree; read = r; declared = d; broken = h }
 checker_refused text tree r d (checking.Mode line) h = record { tree = tree; read = r; declared = d; broken = h }

@@ -1,4 +1,4 @@
--- Ticks that are handed out piece by piece.
+-- Ticks that are given piece by piece.
 use Rattle.std.proofs.Common.{◌≡◌, ℕ, suc, ◌+◌, ◌-◌, ◌^◌, ◌≤◌, ◌<◌, List, [], ◌∷◌, ◌++◌, length, take, min, get_or, refl, sym, ap, subst, ◌∙◌, arith}
 use Rattle.std.specs.List.{sum}
 use Rattle.std.proofs.lemmas.List.{take_all}
@@ -8,16 +8,16 @@ use Rattle.ss_engine.specs.Headline.{handed_out}
 pub next_sum : (pieces : List ℕ) (i : ℕ) → i < length pieces → sum (take (i + 1) pieces) ≡ sum (take i pieces) + get_or pieces i 0
 next_sum pieces i lt = sum_by_more (λ x. x) pieces i 0 lt
 
-behind_first : (first : ℕ) (rest : List ℕ) (i : ℕ) → get_or (first ∷ rest) (i + 1) 0 ≡ get_or rest i 0
-behind_first first rest i =
+after_first : (first : ℕ) (rest : List ℕ) (i : ℕ) → get_or (first ∷ rest) (i + 1) 0 ≡ get_or rest i 0
+after_first first rest i =
     let e : suc i ≡ i + 1 = omega arith in
     subst (λ n. get_or (first ∷ rest) n 0 ≡ get_or rest i 0) e refl
 
--- one piece more, of those behind the first
+-- one piece more, of those after the first
 pub next_piece : (pieces rest : List ℕ) (first i : ℕ) → pieces ≡ first ∷ rest → i < length rest → sum (take (i + 1 + 1) pieces) ≡ sum (take (i + 1) pieces) + get_or rest i 0
 next_piece pieces rest first i e lt =
     let longer : i + 1 < length (first ∷ rest) = omega (arith, lt) in
-    subst (λ l. sum (take (i + 1 + 1) l) ≡ sum (take (i + 1) l) + get_or rest i 0) (sym e) (next_sum (first ∷ rest) (i + 1) longer ∙ ap (λ n. sum (take (i + 1) (first ∷ rest)) + n) (behind_first first rest i))
+    subst (λ l. sum (take (i + 1 + 1) l) ≡ sum (take (i + 1) l) + get_or rest i 0) (sym e) (next_sum (first ∷ rest) (i + 1) longer ∙ ap (λ n. sum (take (i + 1) (first ∷ rest)) + n) (after_first first rest i))
 
 -- no piece at all
 pub no_sum : (pieces : List ℕ) → length pieces ≡ 0 → sum pieces ≡ 0
@@ -59,6 +59,6 @@ still_used pieces ticks used h = omega (arith, h, piece_more pieces ticks)
 pub used_all : (pieces : List ℕ) (ticks old new : ℕ) → old ≡ handed_out pieces → new ≡ min (old + ticks) (2 ^ 64 - 1) → new ≡ handed_out (pieces ++ ticks ∷ [])
 used_all pieces ticks old new h g = omega (arith, h, g, piece_more pieces ticks)
 
--- the first and all behind it are all
+-- the first and all after it are all
 pub all_handed : (pieces rest : List ℕ) (first i : ℕ) → pieces ≡ first ∷ rest → length rest ≤ i → handed_out (take (i + 1) pieces) ≡ handed_out pieces
 all_handed pieces rest first i e past = ap handed_out (take_all (i + 1) pieces (subst (λ ps. length ps ≤ i + 1) (sym e) (omega (arith, past))))

@@ -1,4 +1,4 @@
--- What a run of the machine says of a program that its code behaves as.
+-- A run of the machine is what the program of its code means.
 use Rattle.std.proofs.Common.{◌≡◌, ◌≢◌, ℕ, ◌+◌, ◌<◌, false, List, [], ◌++◌, ◌⊎◌, inl, inr, Option, refl, sym, ap, ◌∙◌, subst, append_assoc, append-nil, arith}
 use Rattle.std.proofs.KnownBytes.{Appends-nil, Consumes-nil}
 use Rattle.ss_input.specs.Blocks.{KnowsEnd}
@@ -25,7 +25,7 @@ result_is (FaultThere kind line) m r right h = cc
 result_is PausedThere m r right h = cc
 result_is WentWrong m r right h = absurd (right refl)
 
--- a run that the machine comes to is what a program means that does not go wrong
+-- a run of the machine is what a program means that does not go wrong
 of_result : (m r : Run) → m.ending ≢ WentWrong → result_of m ≡ Ends r → m ≡ r
 of_result m r right h = result_is m.ending m r right h
 
@@ -35,15 +35,15 @@ no_more n = omega arith
 grows_first : (a b c : List ℕ) (part : List ℕ) → b ≡ a ++ part → Grows b c → Grows a c
 grows_first a b c part e g = record { by = (part ++ g.by.0, g.by.1 ∙ ap (λ l. l ++ g.by.0) e ∙ append_assoc a part g.by.0) }
 
--- what a run of the code of a program says of what the program means
+-- from a run of a program's code to the meaning of the program
 module _ (on_the_way : OnTheWay) (fewer_ticks : OneTickFewer) (pauses : Pauses) (go_on : StepsGoOn) (stay : EndingsStay) (p : Program) (right : (input : List ℕ) (n : ℕ) → (meaning p input n).ending ≢ WentWrong) (code : Code) (behaves : Behaves p code) where
-  -- a run that comes to its end comes to what the program means
+  -- a run that ends is what the program means
   finished : (input : List ℕ) (n m : ℕ) (s : State) (bytes : List ℕ) (ending : Ending) (ticks : ℕ) → s ≡ start code input n → Finishes code s m bytes ending ticks → meaning p input n ≡ record { report = bytes; ending = ending; ticks = ticks }
   finished input n m s bytes ending ticks same f =
       let r : Run = record { report = bytes; ending = ending; ticks = ticks } in
       of_result (meaning p input n) r (right input n) (behaves.only input n m r (subst (λ x. steps code m x ≡ Ends r) same f))
 
-  -- the state behind a step
+  -- the state after a step
   one_step : (m : ℕ) (s x next : State) → steps code m s ≡ Underway x → step code x ≡ Goes next → steps code (m + 1) s ≡ Underway next
   one_step m s x next e f = go_on code m 1 s x e ∙ ap (λ r. goes_on r x (steps code 0)) f
 
@@ -69,7 +69,7 @@ module _ (on_the_way : OnTheWay) (fewer_ticks : OneTickFewer) (pauses : Pauses) 
 
   module _ {R W : Type 0} (remaining : R → Option (List ℕ)) (contents : W → Option (List ℕ)) (reader last_reader : R) (writer last_writer : W) (w new : Working) (source last : Source R) (used made : ℕ)
       (first : (input : List ℕ) (ticks : ℕ) → state_of w input [] ticks ≡ start code input ticks) (fresh : IsFresh reader source) (at_last : source_reader last ≡ last_reader) (knows : KnowsEnd remaining (source_block last)) where
-    -- what is said of the input before a run is said of what the reader gave
+    -- what holds of the input before a run holds of what the reader gave
     gave : (Says Means : List ℕ → Type 0) → ((input : List ℕ) → Says input → Means input) → Finds remaining source last Says → Gave remaining reader last_reader Means
     gave = fresh_gave remaining source last reader last_reader fresh at_last knows
 
@@ -111,7 +111,7 @@ module _ (on_the_way : OnTheWay) (fewer_ticks : OneTickFewer) (pauses : Pauses) 
           (finds (λ input rest. (report : List ℕ) (ticks : ℕ) → steps code made (state_of w input report (used + ticks)) ≡ Underway (state_of new rest (report ++ h.bytes) ticks)) h.says);
     }
 
-    -- what a run from the start came to
+    -- what a run from the start did
     pub ran_simulated : (stop : Stop) → (stop ≡ Failed → ⊥) → Ran remaining stop code w new source last (contents writer) (contents last_writer) used made → Simulated remaining contents p stop used reader last_reader writer last_writer
     ran_simulated Ended right h = over Ended EndedThere (λ bytes input m. m) h
     ran_simulated (Fault kind line) right h = over (Fault kind line) (FaultThere kind line) (λ bytes input m. m) h

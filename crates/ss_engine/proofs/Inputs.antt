@@ -35,9 +35,9 @@ module _ {R : Type 0} (remaining : R → Option (List ℕ)) (a b c : Source R) w
         record { rest = last.rest; stands = last.stands; says = join input first.rest last.rest first.says last.says };
   }
 
--- a fresh source stands for what its reader gives
-pub fresh_stands : {R : Type 0} (reader : R) (s : Source R) (input : List ℕ) → IsFresh reader s → Stands s input input
-fresh_stands reader s input f = record {
+-- a fresh source has what its reader gives
+pub fresh_start : {R : Type 0} (reader : R) (s : Source R) (input : List ℕ) → IsFresh reader s → Stands s input input
+fresh_start reader s input f = record {
   gap = [];
   separators = refl;
   long = sym f.gap;
@@ -53,17 +53,17 @@ pub fresh_knows : {R : Type 0} (remaining : R → Option (List ℕ)) (reader : R
 fresh_knows remaining reader s f e = absurd (not_both (source_block s).ended f.not_ended e)
 
 module _ {R : Type 0} (remaining : R → Option (List ℕ)) (source last : Source R) where
-  -- what is said of the input before a run is said of what the reader of a fresh source gave
+  -- what holds of the input before a run holds of what the reader of a fresh source gave
   pub fresh_gave : (reader last_reader : R) → IsFresh reader source → source_reader last ≡ last_reader → KnowsEnd remaining (source_block last) → (Says Means : List ℕ → Type 0) → ((input : List ℕ) → Says input → Means input) → Finds remaining source last Says → Gave remaining reader last_reader Means
   fresh_gave reader last_reader fresh at_last knows Says Means to f = record {
     read = f.got;
     ended = (source_block last).ended;
     gave = subst (λ r. Consumes (remaining reader) (remaining r) f.got) at_last (subst (λ r. Consumes (remaining r) (remaining (source_reader last)) f.got) fresh.reader_is f.consumed);
     at_end = λ e. subst (λ r. IsAtEnd (remaining r)) at_last (knows e);
-    says = λ more e. to (f.got ++ more) (f.says more (f.got ++ more) e (fresh_stands reader source (f.got ++ more) fresh));
+    says = λ more e. to (f.got ++ more) (f.says more (f.got ++ more) e (fresh_start reader source (f.got ++ more) fresh));
   }
 
-  -- what a call reads it finds
+  -- what a call reads, it finds
   pub reads_find : (Says : (input rest : List ℕ) → Type 0) → Reads remaining source last Says → Finds remaining source last (λ input. (rest : List ℕ) × Says input rest)
   reads_find Says h = record {
     got = h.got;

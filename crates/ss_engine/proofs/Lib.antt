@@ -7,4 +7,4 @@ mod Headline
 mod Sessions
 mod Ticks
 mod Running
-mod Standing
+mod Cuts

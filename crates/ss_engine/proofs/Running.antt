@@ -18,7 +18,7 @@ use Rattle.ss_machine.specs.Held.{kept_after}
 use Rattle.ss_machine.specs.Start.{IsAtStart}
 use Rattle.ss_machine.specs.Runs.{Comes, Ran}
 use Rattle.ss_engine.specs.declared.session.Session.{Session}
-use Rattle.ss_engine.specs.Sessions.{Begins, CameTo, GoesOn, HasRun, session_machine, session_reader, session_source, session_writer, stands_so}
+use Rattle.ss_engine.specs.Sessions.{Begins, CameTo, GoesOn, HasRun, session_machine, session_reader, session_source, session_writer, last_stop}
 use Rattle.ss_engine.proofs.Pieces.{ran_then}
 use Rattle.ss_engine.proofs.Handing.{used_more, still_used, used_all, used_since}
 use Rattle.ss_engine.proofs.Inputs.{fresh_knows}
@@ -43,22 +43,22 @@ kept_some Output kept e = cc
 kept_some Input kept e = cc
 kept_some Failed kept e = cc
 
-pub kept_stands : (stop : Stop) → stop ≡ stands_so (kept_after stop)
-kept_stands Ended = refl
-kept_stands (Fault kind line) = refl
-kept_stands Paused = refl
-kept_stands Memory = refl
-kept_stands Output = refl
-kept_stands Input = refl
-kept_stands Failed = refl
+pub kept_stop : (stop : Stop) → stop ≡ last_stop (kept_after stop)
+kept_stop Ended = refl
+kept_stop (Fault kind line) = refl
+kept_stop Paused = refl
+kept_stop Memory = refl
+kept_stop Output = refl
+kept_stop Input = refl
+kept_stop Failed = refl
 
-pub stands_right : (o : Option Stop) → (o ≡ Some Failed → ⊥) → stands_so o ≡ Failed → ⊥
-stands_right None right e = absurd cc
-stands_right (Some stop) right e = right (ap Some e)
+pub right_stop : (o : Option Stop) → (o ≡ Some Failed → ⊥) → last_stop o ≡ Failed → ⊥
+right_stop None right e = absurd cc
+right_stop (Some stop) right e = right (ap Some e)
 
-pub stands_stopped : (o : Option Stop) (stop : Stop) → stop ≢ Paused → stands_so o ≡ stop → o ≡ Some stop
-stands_stopped None stop other e = absurd (other (sym e))
-stands_stopped (Some kept) stop other e = ap Some e
+pub stopped_by : (o : Option Stop) (stop : Stop) → stop ≢ Paused → last_stop o ≡ stop → o ≡ Some stop
+stopped_by None stop other e = absurd (other (sym e))
+stopped_by (Some kept) stop other e = ap Some e
 
 pub last_some : (pieces : List ℕ) (ticks : ℕ) → pieces ++ ticks ∷ [] ≢ []
 last_some [] ticks e = cc
@@ -72,7 +72,7 @@ pub either_stop : {T : Type 0} (o : Option Stop) → ((stop : Stop) → o ≡ So
 either_stop (Some stop) stopped going = stopped stop refl
 either_stop None stopped going = going refl
 
--- ## Where a machine stands
+-- ## The state of a machine
 
 module _ {R : Type 0} (remaining : R → Option (List ℕ)) (code : Code) (w new : Working) (source last : Source R) (a b : Option (List ℕ)) (taken made : ℕ) where
   pub came_kept : (stop : Stop) → Ran remaining stop code w new source last a b taken made → CameTo remaining (kept_after stop) code w new source last a b taken made
@@ -84,7 +84,7 @@ module _ {R : Type 0} (remaining : R → Option (List ℕ)) (code : Code) (w new
   came_kept Input h = h
   came_kept Failed h = h
 
-  pub came_ran : (o : Option Stop) → CameTo remaining o code w new source last a b taken made → (o ≡ None → (input report : List ℕ) → step code (state_of new input report 0) ≡ Over PausedThere 0) → Ran remaining (stands_so o) code w new source last a b taken made
+  pub came_ran : (o : Option Stop) → CameTo remaining o code w new source last a b taken made → (o ≡ None → (input report : List ℕ) → step code (state_of new input report 0) ≡ Over PausedThere 0) → Ran remaining (last_stop o) code w new source last a b taken made
   came_ran None h due = (h, due refl)
   came_ran (Some stop) h due = h
 
@@ -102,9 +102,9 @@ module _ {R W : Type 0} (remaining : R → Option (List ℕ)) (read_faults : R �
       got = [];
       consumed = Consumes-nil (remaining (session_reader s));
       after_end = λ e. (refl, e);
-      says = λ more input e stands. record {
+      says = λ more input e there. record {
         rest = input;
-        stands = stands;
+        stands = there;
         says = λ report ticks.
             let t : (session_machine s).used + ticks ≡ ticks = omega (arith, b.first.used) in
             ap (λ m. steps code m (state_of (session_machine s).working input report ((session_machine s).used + ticks))) b.first.steps ∙ ap (λ n. Underway (state_of (session_machine s).working input report n)) t ∙

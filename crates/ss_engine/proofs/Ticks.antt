@@ -60,12 +60,12 @@ module _ (code : Code) where
   both NoStep m k s x r so e f = absurd cc
 
   -- and with no more than are left at a state that it passes
-  ends_behind : (m k : ℕ) (s x : State) (r : Run) → steps code m s ≡ Underway x → steps code k s ≡ Ends r → r.ticks ≤ x.ticks
-  ends_behind zero k s x r e f =
+  ends_later : (m k : ℕ) (s x : State) (r : Run) → steps code m s ≡ Underway x → steps code k s ≡ Ends r → r.ticks ≤ x.ticks
+  ends_later zero k s x r e f =
       let same : s.ticks ≡ x.ticks = ap (λ (y : State). y.ticks) (same_state s x e) in
       omega (arith, same, ends_within k s r f)
-  ends_behind (suc m) zero s x r e f = absurd cc
-  ends_behind (suc m) (suc k) s x r e f = both (step code s) m k s x r (λ t g h. ends_behind m k t x r g h) e f
+  ends_later (suc m) zero s x r e f = absurd cc
+  ends_later (suc m) (suc k) s x r e f = both (step code s) m k s x r (λ t g h. ends_later m k t x r g h) e f
 
 ends_at : (e : Ending) (m : Run) → e ≢ WentWrong → result_at e m ≡ Ends m
 ends_at Ended m right = refl
@@ -86,7 +86,7 @@ module _ (stay : EndingsStay) (p : Program) (right : (input : List ℕ) (n : ℕ
       let whole : meaning p input n ≡ record (meaning p input fewer) { ticks = (meaning p input fewer).ticks + (n - fewer) } = subst (λ k. meaning p input k ≡ record (meaning p input fewer) { ticks = (meaning p input fewer).ticks + (n - fewer) }) (rest_of fewer n lt) more in
       let comes = behaves.comes input n in
       let ends : steps code comes.0 (start code input n) ≡ Ends (meaning p input n) = comes.1 ∙ ends_at (meaning p input n).ending (meaning p input n) (right input n) in
-      none_left (meaning p input fewer).ticks fewer n (meaning p input n).ticks x.ticks lt (ap (λ (r : Run). r.ticks) whole) (ends_behind code m comes.0 (start code input n) x (meaning p input n) passed ends) left
+      none_left (meaning p input fewer).ticks fewer n (meaning p input n).ticks x.ticks lt (ap (λ (r : Run). r.ticks) whole) (ends_later code m comes.0 (start code input n) x (meaning p input n) passed ends) left
 
   by-ending : (e : Ending) → (meaning p input fewer).ending ≡ e → e ≡ Paused
   by-ending Paused q = refl

@@ -25,7 +25,7 @@ use Rattle.ss_code.specs.Limits.{instruction_limit, small_program}
 use Rattle.ss_engine.specs.declared.refusal.Refusal.{Refusal}
 use Rattle.ss_engine.specs.declared.refusal.Refusal.TheVariants.{TooLong, NotAscii, BadNumber, OpenText, AlphaTooLong, PictureCut, NameTooLong, Syntax, TooDeep, Twice, RealMode, UnknownClass, UnknownSet, NoOwner, NoMember, RankKey, TallyTwice, TooMany, TieKey, NoMain, NoEventRoutine, Mode, Arguments, Subscript, NotAssignable, Fields, StartPlace, Unknown, CodeTooLong, Memory}
 
--- how deep parentheses, IFs and loops may stand in one another
+-- how deep parentheses, IFs and loops may lie in one another
 abbrev pub nesting_limit : ℕ
 nesting_limit = 64
 
@@ -41,7 +41,7 @@ pub record IsKeptBy (text : List ℕ) (tree : ProgramTree) : Type 0 where
   pub declared : declaration_refusal tree ≡ None
   pub kept : use_refusal tree ≡ None
 
--- the text is well formed, and this is its program: its tree with each name replaced by what it stands for
+-- the text is well formed, and this is its program: its tree with each name resolved
 pub record IsProgramOf (text : List ℕ) (p : Program) : Type 0 where
   pub tree : ProgramTree
   pub keeps : IsKeptBy text tree
@@ -88,7 +88,7 @@ pub record IsLarge (text : List ℕ) : Type 0 where
   pub large : small_program < nodes meant.tree
   pub long : instruction_limit < length (code_of program).instructions
 
--- when a text is refused so; want of memory says nothing of the text
+-- when a text is refused so; a refusal for memory says nothing of the text
 abbrev pub RefusedFor : List ℕ → Refusal → Type 0
 RefusedFor text (TooLong line) = IsRefused text (lexical.TooLong line)
 RefusedFor text (NotAscii line) = IsRefused text (lexical.NotAscii line)

@@ -1,4 +1,4 @@
--- What a run of a model says of the program that it stands for.
+-- What a run of a model says of the meaning of its program.
 use Rattle.std.specs.Prelude.{◌≡◌, ℕ, suc, ◌+◌, ◌-◌, ◌^◌, ◌<◌, min, Bool, true, List, [], ◌++◌}
 use Rattle.std.specs.List.{sum}
 use Rattle.std.specs.declared.option.Option.{Option}
@@ -31,8 +31,8 @@ Means Output p used bytes input = IsBetween p input used bytes
 Means Input p used bytes input = IsBetween p input used bytes
 Means Failed p used bytes input = ⊥
 
--- a reader gave these bytes, and maybe its end. Whatever it would give from there on, and nothing after its end, this is said
--- of the whole input: so it is said of each input that begins with the bytes read, or that is those bytes where the end was met
+-- a reader gave these bytes, and maybe its end. Whatever it would give from there on, and nothing after its end, this holds
+-- of the whole input: so it holds of each input that begins with the bytes read, or that is those bytes where the end was met
 pub record Gave {R : Type 0} (remaining : R → Option (List ℕ)) (old new : R) (Says : List ℕ → Type 0) : Type 0 where
   pub read : List ℕ
   pub ended : Bool

@@ -123,13 +123,13 @@ refusal_of_lexer (lexical.PictureCut line) = PictureCut line
 refusal_of_lexer (lexical.NameTooLong line) = NameTooLong line
 refusal_of_lexer lexical.Memory = Memory
 
--- the same of the parser
+-- the refusal for what the parser refuses
 abbrev pub refusal_of_parser : ParseError → Refusal
 refusal_of_parser (parsing.Syntax line) = Syntax line
 refusal_of_parser (parsing.TooDeep line) = TooDeep line
 refusal_of_parser parsing.Memory = Memory
 
--- the same of the tables
+-- the refusal for what the tables refuse
 abbrev pub refusal_of_tables : TableError → Refusal
 refusal_of_tables (declaring.Twice line) = Twice line
 refusal_of_tables (declaring.RealMode line) = RealMode line
@@ -143,7 +143,7 @@ refusal_of_tables (declaring.TooMany line) = TooMany line
 refusal_of_tables (declaring.TieKey line) = TieKey line
 refusal_of_tables declaring.Memory = Memory
 
--- the same of the checker
+-- the refusal for what the checker refuses
 abbrev pub refusal_of_checker : CheckError → Refusal
 refusal_of_checker (checking.NoMain line) = NoMain line
 refusal_of_checker (checking.NoEventRoutine line) = NoEventRoutine line
@@ -156,7 +156,7 @@ refusal_of_checker (checking.StartPlace line) = StartPlace line
 refusal_of_checker (checking.Unknown line) = Unknown line
 refusal_of_checker checking.Memory = Memory
 
--- the same of the generator
+-- the refusal for what the generator refuses
 abbrev pub refusal_of_generator : CodeError → Refusal
 refusal_of_generator generating.CodeTooLong = CodeTooLong
 refusal_of_generator generating.Memory = Memory

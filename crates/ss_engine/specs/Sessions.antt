@@ -24,11 +24,11 @@ session_machine s = s.machine
 abbrev pub session_source : {R W : Type 0} → Session R W → Source R
 session_source s = s.source
 
--- its reader, as it stands
+-- its reader, in its state now
 abbrev pub session_reader : {R W : Type 0} → Session R W → R
 session_reader s = source_reader s.source
 
--- its writer, as it stands
+-- its writer, in its state now
 abbrev pub session_writer : {R W : Type 0} → Session R W → W
 session_writer s = s.sink.writer
 
@@ -46,19 +46,19 @@ pub record GoesOn {R W : Type 0} (s : Session R W) : Type 0 where
 
 -- ## What a session has done since its start
 
--- why a session stands still that was run: behind a pause the next run goes on
-abbrev pub stands_so : Option Stop → Stop
-stands_so None = Paused
-stands_so (Some stop) = stop
+-- why the last run of a session stopped; after a pause the next run goes on
+abbrev pub last_stop : Option Stop → Stop
+last_stop None = Paused
+last_stop (Some stop) = stop
 
--- what the runs of a machine came to in so many ticks and steps, where it goes on and where it has stopped
+-- what the runs of a machine did in so many ticks and steps, where it goes on and where it has stopped
 abbrev pub CameTo : {R : Type 0} → (R → Option (List ℕ)) → Option Stop → Code → Working → Working → Source R → Source R → Option (List ℕ) → Option (List ℕ) → (taken made : ℕ) → Type 0
 CameTo remaining None code w new source new_source old_bytes new_bytes taken made =
     Comes remaining code w new source new_source old_bytes new_bytes taken made
 CameTo remaining (Some stop) code w new source new_source old_bytes new_bytes taken made =
     Ran remaining stop code w new source new_source old_bytes new_bytes taken made
 
--- A session that started with this code, this reader and this writer stands so after calls of `run` with these ticks: its
+-- A session that started with this code, this reader and this writer is so after calls of `run` with these ticks: its
 -- machine is where the definition's steps lead from the first state, on the input that the reader gave and with the bytes
 -- that the writer took. After a pause all ticks handed out are used; it failed at its reader or its writer only where the
 -- count of failures rose.
@@ -80,7 +80,7 @@ pub record HasRun {R W : Type 0} (remaining : R → Option (List ℕ)) (read_fau
   pub never_falls : HasRisenBy 0 (write_faults writer) (write_faults (session_writer s))
   pub read_never_falls : HasRisenBy 0 (read_faults reader) (read_faults (session_reader s))
 
--- the same after at least one call
+-- a session is so after at least one call of `run`
 pub record WasRun {R W : Type 0} (remaining : R → Option (List ℕ)) (read_faults : R → ℕ) (contents : W → Option (List ℕ)) (write_faults : W → ℕ) (code : Code) (reader : R) (writer : W) (s : Session R W) : Type 0 where
   pub pieces : List ℕ
   pub some : pieces ≢ []

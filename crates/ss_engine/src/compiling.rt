@@ -94,7 +94,7 @@ fn generated(error: CodeError) -> Refusal
 ///
 /// # Errors
 /// In this order, each by the number of [`Refusal::number`]: for its tokens (31 to 37), for the place
-/// that stands first; `Syntax` or `TooDeep` where the tokens spell no program; for what it declares
+/// that is first; `Syntax` or `TooDeep` where the tokens spell no program; for what it declares
 /// (51 to 60) and for what it does with its names (71 to 79), the first rule broken in the line of the
 /// first place; `CodeTooLong` where its tree has more than 16,384 nodes and its code more than
 /// 1,048,576 instructions. `Memory` may come before any of them, and says nothing of the text.

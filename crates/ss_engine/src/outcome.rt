@@ -1,14 +1,14 @@
-//! What came of a text.
+//! The outcome of a text.
 
 ghost use Rattle.std.specs.Prelude.{◌≡◌, IfOk};
-ghost use Rattle.ss_engine.specs.Outcomes.{stop_status, status_of, told, stop_told, outcome_told};
+ghost use Rattle.ss_engine.specs.Outcomes.{stop_status, status_of, line_with, stop_line, outcome_line};
 
 use crate::refusal::Refusal;
 use itoa::Buffer;
 use ss_machine::Stop;
 use std::alloc::{AllocError, Global};
 
-/// What came of a text: why it is refused, or why its run stopped, and the ticks that the run used.
+/// The outcome of a text: why it is refused, or why its run stopped, and the ticks that the run used.
 #[derive(Clone, Copy, Debug, PartialEq, Eq)]
 pub enum Outcome {
     Refused(Refusal),
@@ -28,7 +28,7 @@ fn status(stop: &Stop) -> u8
     }
 }
 
-/// The exit status of a program that comes to this: 0 where the run ended, 1 for a text that is
+/// The exit status for an outcome: 0 where the run ended, 1 for a text that is
 /// refused, 3 for a fault, 4 for a pause, 5 where memory was refused, 6 for input and output.
 pub fn outcome_status(outcome: &Outcome) -> u8
     ensures { result ≡ status_of outcome.now }
@@ -40,14 +40,14 @@ pub fn outcome_status(outcome: &Outcome) -> u8
 }
 
 // A word, a number, a name and a line, with a line feed.
-fn tell(
+fn line_with(
     alloc: Global,
     word: &[u8],
     number: u32,
     name: &str,
     line: u32,
 ) -> Result<Vec<u8>, AllocError>
-    ensures { IfOk result (λ text. text.items ≡ told word.now number name.now line) }
+    ensures { IfOk result (λ text. text.items ≡ line_with word.now number name.now line) }
 {
     let mut buffer = Buffer::new();
     let mut text = Vec::from_slice(alloc, word)?;
@@ -61,9 +61,9 @@ fn tell(
     Ok(text)
 }
 
-// The line that tells of a pause after so many ticks.
-fn tell_pause(alloc: Global, used: u64) -> Result<Vec<u8>, AllocError>
-    ensures { IfOk result (λ text. text.items ≡ stop_told Stop.Paused used) }
+// The line that reports a pause after so many ticks.
+fn pause_line(alloc: Global, used: u64) -> Result<Vec<u8>, AllocError>
+    ensures { IfOk result (λ text. text.items ≡ stop_line Stop.Paused used) }
 {
     let mut buffer = Buffer::new();
     let mut text = Vec::from_slice(alloc, b"paused after ")?;
@@ -72,14 +72,14 @@ fn tell_pause(alloc: Global, used: u64) -> Result<Vec<u8>, AllocError>
     Ok(text)
 }
 
-// The line that tells why a run stopped, after so many ticks.
-fn tell_stop(alloc: Global, stop: &Stop, used: u64) -> Result<Vec<u8>, AllocError>
-    ensures { IfOk result (λ text. text.items ≡ stop_told stop.now used) }
+// The line that reports why a run stopped, after so many ticks.
+fn stop_line(alloc: Global, stop: &Stop, used: u64) -> Result<Vec<u8>, AllocError>
+    ensures { IfOk result (λ text. text.items ≡ stop_line stop.now used) }
 {
     match stop {
         Stop::Ended => Ok(Vec::new(alloc)),
-        Stop::Fault(kind, line) => tell(alloc, b"fault", kind.number(), kind.text(), line.0),
-        Stop::Paused => tell_pause(alloc, used),
+        Stop::Fault(kind, line) => line_with(alloc, b"fault", kind.number(), kind.text(), line.0),
+        Stop::Paused => pause_line(alloc, used),
         Stop::Memory => Vec::from_slice(alloc, b"out of memory\n"),
         Stop::Output => Vec::from_slice(alloc, b"cannot write report\n"),
         Stop::Input => Vec::from_slice(alloc, b"cannot read input\n"),
@@ -87,17 +87,17 @@ fn tell_stop(alloc: Global, stop: &Stop, used: u64) -> Result<Vec<u8>, AllocErro
     }
 }
 
-/// The line that tells of it, with a line feed; nothing where the run ended. The error comes where
+/// The line that reports the outcome, with a line feed; nothing where the run ended. The error comes where
 /// memory was refused.
 pub fn outcome_line(alloc: Global, outcome: &Outcome) -> Result<Vec<u8>, AllocError>
-    ensures { IfOk result (λ text. text.items ≡ outcome_told outcome.now) }
+    ensures { IfOk result (λ text. text.items ≡ outcome_line outcome.now) }
 {
     match outcome {
         Outcome::Refused(refusal) => {
             if refusal.number() == 0 {
                 return Vec::from_slice(alloc, b"out of memory\n");
             }
-            tell(
+            line_with(
                 alloc,
                 b"refused",
                 refusal.number(),
@@ -105,6 +105,6 @@ pub fn outcome_line(alloc: Global, outcome: &Outcome) -> Result<Vec<u8>, AllocEr
                 refusal.line(),
             )
         }
-        Outcome::Stopped(stop, used) => tell_stop(alloc, stop, *used),
+        Outcome::Stopped(stop, used) => stop_line(alloc, stop, *used),
     }
 }

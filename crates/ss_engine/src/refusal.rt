@@ -50,17 +50,17 @@ pub enum Refusal {
     NoMain(Line),
     /// An event notice class without an EVENT section.
     NoEventRoutine(Line),
-    /// Two modes are joined, or a text stands where a number has to.
+    /// Two modes are joined, or a text is where a number has to be.
     Mode(Line),
     /// A routine or a function has another number of arguments than it takes.
     Arguments(Line),
-    /// A subscript stands where none may, or more than one.
+    /// A subscript is where none may be, or more than one.
     Subscript(Line),
     /// Nothing can be assigned to a target.
     NotAssignable(Line),
     /// The pictures of a PRINT have another number of fields than it has items.
     Fields(Line),
-    /// START SIMULATION stands outside MAIN.
+    /// START SIMULATION is outside MAIN.
     StartPlace(Line),
     /// A name isn't of the kind that its place needs.
     Unknown(Line),

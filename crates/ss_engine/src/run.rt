@@ -8,11 +8,11 @@ ghost use Rattle.ss_program.specs.WellTyped.{WellTyped};
 ghost use Rattle.ss_code_instructions.specs.Machine.{Code};
 ghost use Rattle.ss_code_instructions.specs.Running.{Behaves};
 ghost use Rattle.ss_engine.specs.Headline.{Simulated, handed_out};
-ghost use Rattle.ss_engine.specs.Sessions.{GoesOn, HasRun, WasRun, session_machine, stands_so};
-ghost use Rattle.ss_engine.specs.Standing.{Stood};
+ghost use Rattle.ss_engine.specs.Sessions.{GoesOn, HasRun, WasRun, session_machine, last_stop};
+ghost use Rattle.ss_engine.specs.Cuts.{WasCut};
 
 use crate::session::Session;
-use crate::session_laws::{sessions_are_meant, sessions_stand};
+use crate::session_laws::{sessions_are_cut, sessions_are_meant};
 use ss_base::{FaultyRead, FaultyWrite};
 use ss_code::model::Model;
 use ss_machine::Stop;
@@ -24,7 +24,7 @@ fn run_pieces<R: FaultyRead, W: FaultyWrite>(session: &mut Session<R, W>, pieces
     requires goes_on { GoesOn session.old }
     requires first { (session_machine session.old).used ≡ 0 }
     ensures was_run { (code : Code) (reader : R) (writer : W) → HasRun R.remaining R.faults W.contents W.faults code reader writer [] session.old → WasRun R.remaining R.faults W.contents W.faults code reader writer session.new }
-    ensures stopped { result ≡ stands_so (session_machine session.new).stopped }
+    ensures stopped { result ≡ last_stop (session_machine session.new).stopped }
     ensures never_failed { result ≡ Stop.Failed → ⊥ }
     ensures used { (session_machine session.new).used ≤ sum pieces.now }
     ensures paused { result ≡ Stop.Paused → (session_machine session.new).used ≡ handed_out pieces.now }
@@ -45,7 +45,7 @@ fn run_pieces<R: FaultyRead, W: FaultyWrite>(session: &mut Session<R, W>, pieces
 /// Runs a model with the input of this reader and this writer for its report, once for each piece of
 /// ticks up to the first answer other than a pause, or once without a tick where there is no piece.
 ///
-/// It answers why the last run stopped, the ticks used, and the reader and the writer as they stand.
+/// It answers why the last run stopped, the ticks used, and the reader and the writer after the last run.
 /// Where memory was refused before the first instruction, it answers `Memory` and 0.
 pub fn run_model<R: FaultyRead, W: FaultyWrite>(
     alloc: Global,
@@ -55,7 +55,7 @@ pub fn run_model<R: FaultyRead, W: FaultyWrite>(
     pieces: &[u64],
 ) -> (Stop, u64, R, W)
     ensures simulated { (p : Program) → WellTyped p → Behaves p model → Simulated R.remaining W.contents p result.0 result.1 reader result.2 writer result.3 }
-    ensures stood { Stood R.remaining W.contents model result.0 result.1 reader result.2 writer result.3 }
+    ensures where_cut { WasCut R.remaining W.contents model result.0 result.1 reader result.2 writer result.3 }
     ensures used { result.1 ≤ handed_out pieces.now }
     ensures never_failed { result.0 ≡ Stop.Failed → ⊥ }
     ensures paused { result.0 ≡ Stop.Paused → result.1 ≡ handed_out pieces.now }
@@ -63,7 +63,7 @@ pub fn run_model<R: FaultyRead, W: FaultyWrite>(
     ensures input { result.0 ≡ Stop.Input → HasRisen (R.faults reader) (R.faults result.2) }
 {
     sessions_are_meant::<R, W>();
-    sessions_stand::<R, W>();
+    sessions_are_cut::<R, W>();
     let mut session = match Session::start(alloc, model, reader, writer) {
         Ok(session) => session,
         Err((reader, writer)) => return (Stop::Memory, 0, reader, writer),

@@ -51,7 +51,7 @@ impl<R: FaultyRead, W: FaultyWrite> Session<R, W> {
     /// `Input` and `Output` come only where the reader's or the writer's count of failures rose in
     /// this run.
     ///
-    /// What all runs of a session came to, one after another, is what its program means for all their
+    /// What all runs of a session did, one after another, is what its program means for all their
     /// ticks: `laws::sessions_are_meant`.
     pub fn run(&mut self, ticks: u64) -> Stop
         ensures again { (before : Stop) → (session_machine self.old).stopped ≡ Some before → (result ≡ answer_again before) × (self.new ≡ self.old) }
@@ -71,7 +71,7 @@ impl<R: FaultyRead, W: FaultyWrite> Session<R, W> {
         ensures never_falls { HasRisenBy 0 (W.faults (session_writer self.old)) (W.faults (session_writer self.new)) }
         ensures read_never_falls { HasRisenBy 0 (R.faults (session_reader self.old)) (R.faults (session_reader self.new)) }
     {
-        // a source that missed something stands only behind a machine that has stopped
+        // only a machine that has stopped has a source that missed something
         if self.machine.stopped().is_none() && self.source.missed().is_some() {
             return Stop::Failed;
         }
@@ -86,7 +86,7 @@ impl<R: FaultyRead, W: FaultyWrite> Session<R, W> {
         self.machine.used()
     }
 
-    /// The reader and the writer, as they stand.
+    /// The reader and the writer, after the last run.
     pub fn close(self) -> (R, W)
         ensures { result ≡ (session_reader self, session_writer self) }
     {

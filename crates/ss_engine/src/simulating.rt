@@ -4,7 +4,7 @@ ghost use Rattle.std.specs.Prelude.{◌≡◌, ◌≤◌, ℕ};
 ghost use Rattle.ss_base.specs.Failures.{HasRisen};
 ghost use Rattle.ss_engine.specs.declared.refusal.Refusal.{Refusal as RefusalSeen};
 ghost use Rattle.ss_engine.specs.Headline.{handed_out};
-ghost use Rattle.ss_engine.specs.Simulation.{ComesTo, StandsSo};
+ghost use Rattle.ss_engine.specs.Simulation.{ComesTo, ReportIsCut};
 ghost use Rattle.ss_machine.specs.Stop.{Stop as StopSeen};
 
 use crate::compiling::compile;
@@ -20,11 +20,11 @@ use std::alloc::Global;
 /// there is no piece.
 ///
 /// It answers the refusal of the text, or why the last run stopped and the ticks that it used, and
-/// the reader and the writer as they stand. What the writer took is exactly the report that the
+/// the reader and the writer after it. What the writer took is exactly the report that the
 /// text means for the input and the ticks handed out, and the run ended exactly as its meaning does:
 /// ended, a fault at its line, or paused with all ticks used. Where memory, the reader or the writer
 /// failed, the writer took the first bytes of that report, at least those that it means for a tick
-/// fewer than were used, and with these ticks used the text's code comes to a place where its report is
+/// fewer than were used, and with these ticks used the text's code reaches a place where its report is
 /// cut so. A text that is refused leaves both untouched.
 pub fn simulate<R: FaultyRead, W: FaultyWrite>(
     alloc: Global,
@@ -34,7 +34,7 @@ pub fn simulate<R: FaultyRead, W: FaultyWrite>(
     pieces: &[u64],
 ) -> (Outcome, R, W)
     ensures headline { ComesTo R.remaining W.contents text.now result.0 reader result.1 writer result.2 }
-    ensures standing { StandsSo R.remaining W.contents text.now result.0 reader result.1 writer result.2 }
+    ensures where_cut { ReportIsCut R.remaining W.contents text.now result.0 reader result.1 writer result.2 }
     ensures ticks { (stop : StopSeen) (used : ℕ) → result.0 ≡ Outcome.Stopped stop used → used ≤ handed_out pieces.now }
     ensures paused { (used : ℕ) → result.0 ≡ Outcome.Stopped Stop.Paused used → used ≡ handed_out pieces.now }
     ensures untouched { (refusal : RefusalSeen) → result.0 ≡ Outcome.Refused refusal → (result.1 ≡ reader) × (result.2 ≡ writer) }

@@ -21,7 +21,7 @@ pub fn laws()
     laws_of_types();
 }
 
-/// More ticks extend the report of a text; and where it ends otherwise than for want of ticks, its
+/// More ticks extend the report of a text; and where it ends otherwise than by a pause, its
 /// ending and its report stay for every greater number of them.
 pub fn longer_bounds_extend_the_report()
     ensures reports_grow { ReportsGrow }

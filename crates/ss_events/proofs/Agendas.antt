@@ -1,4 +1,4 @@
--- The entries of a heap stand for those of an event list, before and after each call.
+-- The entries of a heap are those of an event list, before and after each call.
 use Rattle.std.proofs.Common.{◌≡◌, ℕ, ◌+◌, ◌-◌, ◌<◌, ◌≤◌, ℤ, Bool, true, false, not, cond, ◌||◌, nat_eq, List, [], ◌∷◌, ◌++◌, fold, length, get_or, position, None, Some, refl, sym, ap, subst, ◌∙◌, ◌⊎◌, ⊎_elim, inl, inr, arith}
 use Rattle.std.specs.Ordering.{int_eq}
 use Rattle.std.specs.List.{list_any, IsDistinct, AllByRecursion, All}
@@ -9,7 +9,7 @@ use Rattle.std.proofs.lemmas.List.Elements.{All-cons, All-tail, recursion_from_A
 use Rattle.std.proofs.lemmas.Map.Keys.{IsDistinct-IsPermutation, IsDistinct-head, IsDistinct-tail, IsDistinct-cons}
 use Rattle.std.proofs.lemmas.Bool.{cases_lt, cases_Bool}
 use Rattle.ss_events.specs.declared.entry.Entry.{Entry}
-use Rattle.ss_events.specs.HeapEntries.{HeapEntries, all_of, notices_of, IsLed, AreBehind}
+use Rattle.ss_events.specs.HeapEntries.{HeapEntries, all_of, notices_of, IsLed, AreAfterHeads}
 use Rattle.ss_events.specs.Slots.{no_entry}
 use Rattle.ss_events.specs.Sifting.{IsLogarithmic}
 use Rattle.ss_events.specs.HeapOrder.{IsHeap}
@@ -117,9 +117,9 @@ one_each (f ∷ fs) x y r m n e = ⊎_elim
     (λ rest. ⊎_elim (λ is. absurd (omega (arith, e, r.0 x rest, ap (λ z. z.number) is))) (λ later. one_each fs x y r.1 rest later e) n)
     m
 
--- the first head is the least, where each of the others comes behind a head
-pub least_first : (heads followers : List Entry) (count : ℕ) → IsAgenda heads (heads ++ followers) count → AreBehind heads followers → (x : Entry) → 0 < length heads → x ≡ get_or heads 0 x → least (in_order (heads ++ followers)) ≡ Some x
-least_first heads followers count a behind x some is =
+-- the first head is the least, where each of the others comes after a head
+pub least_first : (heads followers : List Entry) (count : ℕ) → IsAgenda heads (heads ++ followers) count → AreAfterHeads heads followers → (x : Entry) → 0 < length heads → x ≡ get_or heads 0 x → least (in_order (heads ++ followers)) ≡ Some x
+least_first heads followers count a following x some is =
     let old = heads ++ followers in
     let here : get_or old 0 x ≡ x = get_or_append_left heads followers x 0 some ∙ sym is in
     let long : length old ≡ length heads + length followers = length-append heads followers in
@@ -135,7 +135,7 @@ least_first heads followers count a behind x some is =
     (λ past.
     let k = c.0 - length heads in
     let read : get_or followers k y ≡ y = sym (get_or-append_right heads followers (length heads) c.0 y refl past) ∙ c.2 in
-    let led : IsLed heads y = subst (IsLed heads) read (behind k y (omega (arith, past, c.1, long))) in
+    let led : IsLed heads y = subst (IsLed heads) read (following k y (omega (arith, past, c.1, long))) in
     entries_rank.chain y (get_or heads led.place y) x
     (entries_rank.one_way (get_or heads led.place y) y (led.before y))
     (head led.place y led.within))
@@ -196,7 +196,7 @@ module _ (heads old : List Entry) (count : ℕ) (a : IsAgenda heads old count) w
         ∙ sym (without-put notice x (in_order new) t)
         ∙ ap (without notice) (sym (in_order-permutation old (x ∷ new) a.numbers p))
 
--- ---- heads and followers that stand for the entries of a list
+-- ---- heads and followers that are the entries of a list
 
 notices-append : (es fs : List Entry) → notices_of (es ++ fs) ≡ notices_of es ++ notices_of fs
 notices-append es fs = map-append (λ (e : Entry). e.notice) es fs
@@ -220,21 +220,21 @@ module _ (h : HeapEntries) (entries : List Entry) (view : in_order (all_of h) �
       record { comparisons = omega (arith, w.comparisons, more); moves = omega (arith, w.moves, more) }
 
   -- where there is an entry there is a head
-  pub some_head : AreBehind h.entries h.followers → 0 < length entries → 0 < length h.entries
-  some_head behind some = ⊎_elim
+  pub some_head : AreAfterHeads h.entries h.followers → 0 < length entries → 0 < length h.entries
+  some_head following some = ⊎_elim
       (λ lt. lt)
       (λ none.
       let long = sym (length-in_order (all_of h)) ∙ ap length view in
       let follower : 0 < length h.followers = omega (arith, none, long, length-append h.entries h.followers) in
-      let led = behind 0 no_entry follower in omega (arith, led.within))
+      let led = following 0 no_entry follower in omega (arith, led.within))
       (cases_lt 0 (length h.entries))
 
 -- ---- the answers of `least` and `take`
 
-module _ (h : HeapEntries) (p : PendingList) (view : in_order (all_of h) ≡ p.entries) (behind : AreBehind h.entries h.followers) where
+module _ (h : HeapEntries) (p : PendingList) (view : in_order (all_of h) ≡ p.entries) (following : AreAfterHeads h.entries h.followers) where
   -- where there is no head
   pub none_left : length h.entries ≡ 0 → p.entries ≡ []
-  none_left e = nil_from_length p.entries (⊎_elim (λ some. absurd (omega (arith, e, some_head h p.entries view behind some))) (λ none. omega (arith, none)) (cases_lt 0 (length p.entries)))
+  none_left e = nil_from_length p.entries (⊎_elim (λ some. absurd (omega (arith, e, some_head h p.entries view following some))) (λ none. omega (arith, none)) (cases_lt 0 (length p.entries)))
 
   pub next-none : length h.entries ≡ 0 → next p ≡ None
   next-none e = ap (λ es. option_map (λ (x : Entry). (x.key.time, x.notice)) (least es)) (none_left e)
@@ -246,7 +246,7 @@ module _ (h : HeapEntries) (p : PendingList) (view : in_order (all_of h) ≡ p.e
 
   module _ (count : ℕ) (a : IsAgenda h.entries (all_of h) count) (x : Entry) (some : 0 < length h.entries) (is : x ≡ get_or h.entries 0 x) where
     least_now : least p.entries ≡ Some x
-    least_now = ap least (sym view) ∙ least_first h.entries h.followers count a behind x some is
+    least_now = ap least (sym view) ∙ least_first h.entries h.followers count a following x some is
 
     pub next-first : next p ≡ Some (x.key.time, x.notice)
     next-first = ap (option_map (λ (e : Entry). (e.key.time, e.notice))) least_now
@@ -266,7 +266,7 @@ none_apart : {K : Type 0} (e : K → K → Bool) → IsDistinct e []
 unfolding IsDistinct
 none_apart e = tt
 
--- an empty heap stands for an empty list
+-- the list of an empty heap is empty
 pub agenda-none : (es fs : List Entry) → es ≡ [] → fs ≡ [] → IsAgenda es (es ++ fs) 0
 agenda-none es fs e f = subst (λ (l : List Entry × List Entry). IsAgenda l.0 (l.0 ++ l.1) 0) (λ i. (sym e i, sym f i))
     record {

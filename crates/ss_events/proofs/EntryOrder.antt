@@ -62,7 +62,7 @@ then_equal Less s e = absurd (cc)
 then_equal Equal s e = e
 then_equal Greater s e = absurd (cc)
 
--- entries that the order doesn't tell apart are of one scheduling
+-- entries of which neither comes before the other are of one scheduling
 pub tied_numbers : (a b : Entry) → comes_before a b ≡ false → comes_before b a ≡ false → a.number ≡ b.number
 unfolding comes_before
 tied_numbers a b f g =

@@ -12,11 +12,11 @@ either : {A B C : Type 0} → A ⊎ B → (A → C) → (B → C) → C
 either s f g = ⊎_elim f g s
 
 module _ {X : Type 0} (before : X → X → Bool) where
-  -- the same of what stands elsewhere
+  -- the item at any other place
   along : (a b x y : X) → a ≡ x → b ≡ y → before x y ≡ false → before a b ≡ false
   along a b x y p q h = (λ i. before (p i) (q i)) ∙ h
 
-  -- what stands at the same place
+  -- the item at the same place
   here : (xs : List X) (i j : ℕ) (d : X) → i ≡ j → get_or xs i d ≡ get_or xs j d
   here xs i j d e = ap (λ k. get_or xs k d) e
 

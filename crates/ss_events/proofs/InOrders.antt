@@ -15,7 +15,7 @@ abbrev pub Member : Entry → List Entry → Type 0
 Member x [] = ⊥
 Member x (e ∷ es) = (x ≡ e) ⊎ Member x es
 
--- each comes before those behind it
+-- each comes before those after it
 abbrev pub Rising : List Entry → Type 0
 Rising [] = Unit {0}
 Rising (e ∷ es) = ((x : Entry) → Member x es → e.number < x.number) × Rising es
@@ -98,11 +98,11 @@ rising-in_order (e ∷ es) a = rising-put e (in_order es) (rising-in_order es a.
 -- rising lists of the same entries are one list
 same_heads : (x y : Entry) (xs ys : List Entry) → Rising (x ∷ xs) → Rising (y ∷ ys) → Member x (y ∷ ys) → Member y (x ∷ xs) → x ≡ y
 same_heads x y xs ys r s m n = ⊎_elim (λ is. is)
-    (λ behind. ⊎_elim (λ is. sym is) (λ ahead. absurd (omega (arith, s.0 x behind, r.0 y ahead))) n) m
+    (λ following. ⊎_elim (λ is. sym is) (λ ahead. absurd (omega (arith, s.0 x following, r.0 y ahead))) n) m
 
--- an entry that isn't the first is behind it
-behind : (x : Entry) (xs ys : List Entry) (e : Entry) → Rising (x ∷ xs) → Member e xs → Member e (x ∷ ys) → Member e ys
-behind x xs ys e r m n = ⊎_elim (λ is. absurd (omega (arith, subst (λ y. x.number < y.number) is (r.0 e m)))) (λ rest. rest) n
+-- an entry that isn't the first comes after it
+following : (x : Entry) (xs ys : List Entry) (e : Entry) → Rising (x ∷ xs) → Member e xs → Member e (x ∷ ys) → Member e ys
+following x xs ys e r m n = ⊎_elim (λ is. absurd (omega (arith, subst (λ y. x.number < y.number) is (r.0 e m)))) (λ rest. rest) n
 
 pub same_rising : (xs ys : List Entry) → Rising xs → Rising ys → ((e : Entry) → Member e xs → Member e ys) → ((e : Entry) → Member e ys → Member e xs) → xs ≡ ys
 same_rising [] [] r s f g = refl
@@ -112,8 +112,8 @@ same_rising (x ∷ xs) (y ∷ ys) r s f g =
     let is = same_heads x y xs ys r s (f x (inl refl)) (g y (inl refl)) in
     let s' : Rising (x ∷ ys) = subst (λ z. Rising (z ∷ ys)) (sym is) s in
     (λ i. is i ∷ same_rising xs ys r.1 s.1
-    (λ e m. behind x xs ys e r m (subst (λ z. Member e (z ∷ ys)) (sym is) (f e (inr m))))
-    (λ e m. behind x ys xs e s' m (g e (inr m))) i)
+    (λ e m. following x xs ys e r m (subst (λ z. Member e (z ∷ ys)) (sym is) (f e (inr m))))
+    (λ e m. following x ys xs e s' m (g e (inr m))) i)
 
 -- from the tests of the numbers
 apart_from_head : (n : ℕ) (es : List Entry) → AllByRecursion (λ m. nat_eq n m ≡ false) (numbers_of es) → (x : Entry) → Member x es → x.number ≢ n

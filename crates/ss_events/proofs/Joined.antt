@@ -1,4 +1,4 @@
--- An entry that its mark tells, behind the last of a line.
+-- A plain entry, put after the last of a line.
 use Rattle.std.proofs.Common.{◌≡◌, ◌≢◌, ℕ, ◌+◌, ◌*◌, ◌-◌, ◌<◌, ◌≤◌, ℤ, List, ◌∷◌, length, get_or, set, refl, sym, ap, subst, ◌∙◌, ⊎_elim, inl, inr, arith}
 use Rattle.std.specs.List.Sorted.{IsPermutation}
 use Rattle.std.proofs.lemmas.Bool.{cases_eq, cases_lt}
@@ -7,37 +7,37 @@ use Rattle.ss_events.specs.declared.entry.Entry.{Entry}
 use Rattle.ss_events.specs.declared.entry.Mark.{Mark}
 use Rattle.ss_events.specs.declared.entry.directory.Directory.{Directory}
 use Rattle.ss_events.specs.declared.entry.places.Slot.{Slot}
-use Rattle.ss_events.specs.declared.entry.places.Stand.{Stand}
-use Rattle.ss_events.specs.Slots.{no_entry, no_slot, behind, kept, stand, told_ranks, told_numbers, mark_of, told_by, entry_in, entry_at, heads, followers, first_guess, second_guess, Leads, IsTaken, IsBefore, AreHeld, next_put}
-use Rattle.ss_events.proofs.Marks.{in-told, told_tells, told_mark}
-use Rattle.ss_events.proofs.Lines.{kept-same, kept-other, same_heads, follower, followers-placed, followers-kept, followers-joined}
+use Rattle.ss_events.specs.declared.entry.places.HeapNode.{HeapNode}
+use Rattle.ss_events.specs.Slots.{no_entry, no_slot, following, slot_at, node, plain_ranks, plain_numbers, mark_of, plain_entry, entry_in, entry_at, heads, followers, first_guess, second_guess, Leads, IsTaken, IsBefore, AreHeld, next_put}
+use Rattle.ss_events.proofs.Marks.{in-plain, plain_differs, plain_mark}
+use Rattle.ss_events.proofs.Lines.{slot_at-same, slot_at-other, same_heads, follower, followers-placed, followers-kept, followers-joined}
 
--- a slot with another one behind it
+-- a slot with another one after it
 abbrev pub followed : Slot → ℕ → Slot
 followed x next = record x { next = next }
 
--- what is kept of the new one
+-- the slot of the new one
 abbrev pub lined_up : ℤ → Mark → ℕ → Slot
-lined_up notice mark before = record { notice = notice; mark = mark; next = no_slot; at = behind + before }
+lined_up notice mark before = record { notice = notice; mark = mark; next = no_slot; at = following + before }
 
--- what is kept by slot then
+-- the slots then
 abbrev pub joined : List Slot → ℕ → ℕ → ℤ → Mark → List Slot
 joined slots before slot notice mark = set (next_put slots before slot) slot (lined_up notice mark before)
 
 pub length-joined : (slots : List Slot) (p s : ℕ) (n : ℤ) (m : Mark) → length (joined slots p s n m) ≡ length slots
-length-joined slots p s n m = length-set (next_put slots p s) s (lined_up n m p) ∙ length-set slots p (followed (kept slots p) s)
+length-joined slots p s n m = length-set (next_put slots p s) s (lined_up n m p) ∙ length-set slots p (followed (slot_at slots p) s)
 
 -- a notice for which no slot is named is that of no entry
-pub never_led : (count free : ℕ) (slots : List Slot) (wholes : List Entry) (stands : List Stand) (d : Directory) → AreHeld count free slots wholes stands d
-    → (n : ℤ) → first_guess d n ≡ no_slot → second_guess d n ≡ no_slot → (t : ℕ) → t < length slots → IsTaken count (kept slots t) → (kept slots t).notice ≢ n
-never_led count free slots wholes stands d h n first second t t_in taken is = ⊎_elim
+pub never_led : (count free : ℕ) (slots : List Slot) (wholes : List Entry) (nodes : List HeapNode) (d : Directory) → AreHeld count free slots wholes nodes d
+    → (n : ℤ) → first_guess d n ≡ no_slot → second_guess d n ≡ no_slot → (t : ℕ) → t < length slots → IsTaken count (slot_at slots t) → (slot_at slots t).notice ≢ n
+never_led count free slots wholes nodes d h n first second t t_in taken is = ⊎_elim
     (λ here. omega (arith, here, first, t_in, h.small))
     (λ here. omega (arith, here, second, t_in, h.small))
     (subst (λ i. Leads d i t) is (h.led t t_in taken))
 
-module _ (count free : ℕ) (slots : List Slot) (wholes : List Entry) (stands : List Stand) (d : Directory) (h : AreHeld count free slots wholes stands d)
-    (some : 0 < free) (s : ℕ) (slot : s ≡ (stand stands (count + free - 1)).slot)
-    (p : ℕ) (p_in : p < length slots) (p_taken : IsTaken count (kept slots p)) (last : (kept slots p).next ≡ no_slot)
+module _ (count free : ℕ) (slots : List Slot) (wholes : List Entry) (nodes : List HeapNode) (d : Directory) (h : AreHeld count free slots wholes nodes d)
+    (some : 0 < free) (s : ℕ) (slot : s ≡ (node nodes (count + free - 1)).slot)
+    (p : ℕ) (p_in : p < length slots) (p_taken : IsTaken count (slot_at slots p)) (last : (slot_at slots p).next ≡ no_slot)
     (n : ℤ) (m : Mark) where
   abbrev then : List Slot
   then = joined slots p s n m
@@ -49,117 +49,117 @@ module _ (count free : ℕ) (slots : List Slot) (wholes : List Entry) (stands : 
   as_many = length-joined slots p s n m
 
   -- the slot is free
-  place : ((stand stands (count + free - 1)).slot < length slots) × ((kept slots (stand stands (count + free - 1)).slot).at ≡ count + free - 1)
+  place : ((node nodes (count + free - 1)).slot < length slots) × ((slot_at slots (node nodes (count + free - 1)).slot).at ≡ count + free - 1)
   place = h.there (count + free - 1) (omega (arith, some))
 
   pub free_within : s < length slots
   free_within = omega (arith, place.0, slot)
 
-  free_at : (kept slots s).at ≡ count + free - 1
-  free_at = ap (λ t. (kept slots t).at) slot ∙ place.1
+  free_at : (slot_at slots s).at ≡ count + free - 1
+  free_at = ap (λ t. (slot_at slots t).at) slot ∙ place.1
 
-  free_low : (kept slots s).at < behind
+  free_low : (slot_at slots s).at < following
   free_low = omega (arith, free_at, some, h.few, h.many, h.small)
 
-  not_taken : IsTaken count (kept slots s) → ⊥
+  not_taken : IsTaken count (slot_at slots s) → ⊥
   not_taken = ⊎_elim (λ lt. omega (arith, lt, free_at, some)) (λ past. omega (arith, past, free_low))
 
   -- so it is not the one that is taken
-  apart : (t : ℕ) → IsTaken count (kept slots t) → t ≡ s → ⊥
-  apart t taken is = not_taken (subst (λ u. IsTaken count (kept slots u)) is taken)
+  apart : (t : ℕ) → IsTaken count (slot_at slots t) → t ≡ s → ⊥
+  apart t taken is = not_taken (subst (λ u. IsTaken count (slot_at slots u)) is taken)
 
-  -- what is kept then
-  kept-new : kept then s ≡ new
-  kept-new = kept-same (next_put slots p s) s new (omega (arith, free_within, length-set slots p (followed (kept slots p) s)))
+  -- each slot then
+  slot_at-new : slot_at then s ≡ new
+  slot_at-new = slot_at-same (next_put slots p s) s new (omega (arith, free_within, length-set slots p (followed (slot_at slots p) s)))
 
-  kept-before : kept then p ≡ followed (kept slots p) s
-  kept-before = kept-other (next_put slots p s) s p new (apart p p_taken) ∙ kept-same slots p (followed (kept slots p) s) p_in
+  slot_at-before : slot_at then p ≡ followed (slot_at slots p) s
+  slot_at-before = slot_at-other (next_put slots p s) s p new (apart p p_taken) ∙ slot_at-same slots p (followed (slot_at slots p) s) p_in
 
-  kept-else : (t : ℕ) → (t ≡ s → ⊥) → (t ≡ p → ⊥) → kept then t ≡ kept slots t
-  kept-else t not_s not_p = kept-other (next_put slots p s) s t new not_s ∙ kept-other slots p t (followed (kept slots p) s) not_p
+  slot_at-else : (t : ℕ) → (t ≡ s → ⊥) → (t ≡ p → ⊥) → slot_at then t ≡ slot_at slots t
+  slot_at-else t not_s not_p = slot_at-other (next_put slots p s) s t new not_s ∙ slot_at-other slots p t (followed (slot_at slots p) s) not_p
 
   module _ (t : ℕ) (old : t ≡ s → ⊥) where
-    kept-old : (next : ℕ) × (kept then t ≡ followed (kept slots t) next)
-    kept-old = ⊎_elim
-        (λ is. (s, ap (kept then) is ∙ kept-before ∙ ap (λ u. followed (kept slots u) s) (sym is)))
-        (λ other. ((kept slots t).next, kept-else t old other))
+    slot_at-old : (next : ℕ) × (slot_at then t ≡ followed (slot_at slots t) next)
+    slot_at-old = ⊎_elim
+        (λ is. (s, ap (slot_at then) is ∙ slot_at-before ∙ ap (λ u. followed (slot_at slots u) s) (sym is)))
+        (λ other. ((slot_at slots t).next, slot_at-else t old other))
         (cases_eq t p)
 
-    at_then : (kept then t).at ≡ (kept slots t).at
-    at_then = ap (λ (x : Slot). x.at) kept-old.1
+    at_then : (slot_at then t).at ≡ (slot_at slots t).at
+    at_then = ap (λ (x : Slot). x.at) slot_at-old.1
 
-    mark_then : (kept then t).mark ≡ (kept slots t).mark
-    mark_then = ap (λ (x : Slot). x.mark) kept-old.1
+    mark_then : (slot_at then t).mark ≡ (slot_at slots t).mark
+    mark_then = ap (λ (x : Slot). x.mark) slot_at-old.1
 
-    notice_then : (kept then t).notice ≡ (kept slots t).notice
-    notice_then = ap (λ (x : Slot). x.notice) kept-old.1
+    notice_then : (slot_at then t).notice ≡ (slot_at slots t).notice
+    notice_then = ap (λ (x : Slot). x.notice) slot_at-old.1
 
     entry_then : entry_at then wholes t ≡ entry_at slots wholes t
-    entry_then = ap (λ (x : Slot). entry_in x.mark x.notice (get_or wholes t no_entry)) kept-old.1
+    entry_then = ap (λ (x : Slot). entry_in x.mark x.notice (get_or wholes t no_entry)) slot_at-old.1
 
-    taken_then : IsTaken count (kept slots t) → IsTaken count (kept then t)
-    taken_then = ⊎_elim (λ lt. inl (subst (λ k. k < count) (sym at_then) lt)) (λ past. inr (subst (λ k. behind ≤ k) (sym at_then) past))
+    taken_then : IsTaken count (slot_at slots t) → IsTaken count (slot_at then t)
+    taken_then = ⊎_elim (λ lt. inl (subst (λ k. k < count) (sym at_then) lt)) (λ past. inr (subst (λ k. following ≤ k) (sym at_then) past))
 
-    taken_before : IsTaken count (kept then t) → IsTaken count (kept slots t)
-    taken_before = ⊎_elim (λ lt. inl (subst (λ k. k < count) at_then lt)) (λ past. inr (subst (λ k. behind ≤ k) at_then past))
+    taken_before : IsTaken count (slot_at then t) → IsTaken count (slot_at slots t)
+    taken_before = ⊎_elim (λ lt. inl (subst (λ k. k < count) at_then lt)) (λ past. inr (subst (λ k. following ≤ k) at_then past))
 
-  -- what stands in one of the other places
-  stands_apart : (k : ℕ) → k < count + (free - 1) → (stand stands k).slot ≡ s → ⊥
-  stands_apart k k_in is = omega (arith, k_in, (h.there k (omega (arith, k_in))).1, ap (λ t. (kept slots t).at) is, free_at, some)
+  -- the node of any other place
+  nodes_apart : (k : ℕ) → k < count + (free - 1) → (node nodes k).slot ≡ s → ⊥
+  nodes_apart k k_in is = omega (arith, k_in, (h.there k (omega (arith, k_in))).1, ap (λ t. (slot_at slots t).at) is, free_at, some)
 
-  there : (k : ℕ) → k < count + (free - 1) → ((stand stands k).slot < length then) × ((kept then (stand stands k).slot).at ≡ k)
+  there : (k : ℕ) → k < count + (free - 1) → ((node nodes k).slot < length then) × ((slot_at then (node nodes k).slot).at ≡ k)
   there k k_in =
       let old = h.there k (omega (arith, k_in)) in (
         omega (arith, old.0, as_many),
-        at_then (stand stands k).slot (stands_apart k k_in) ∙ old.1,
+        at_then (node nodes k).slot (nodes_apart k k_in) ∙ old.1,
       )
 
-  back : (t : ℕ) → t < length then → (kept then t).at < behind → ((kept then t).at < count + (free - 1)) × ((stand stands (kept then t).at).slot ≡ t)
+  back : (t : ℕ) → t < length then → (slot_at then t).at < following → ((slot_at then t).at < count + (free - 1)) × ((node nodes (slot_at then t).at).slot ≡ t)
   back t t_then lt = ⊎_elim
-      (λ is. absurd (omega (arith, lt, ap (λ u. (kept then u).at) is, ap (λ (x : Slot). x.at) kept-new)))
+      (λ is. absurd (omega (arith, lt, ap (λ u. (slot_at then u).at) is, ap (λ (x : Slot). x.at) slot_at-new)))
       (λ other.
       let was = h.back t (omega (arith, t_then, as_many)) (omega (arith, lt, at_then t other)) in
-      let not_last : (kept slots t).at ≡ count + free - 1 → ⊥ = λ is. other (sym was.1 ∙ ap (λ k. (stand stands k).slot) is ∙ sym slot) in (
+      let not_last : (slot_at slots t).at ≡ count + free - 1 → ⊥ = λ is. other (sym was.1 ∙ ap (λ k. (node nodes k).slot) is ∙ sym slot) in (
         omega (arith, was.0, not_last, at_then t other),
-        ap (λ k. (stand stands k).slot) (at_then t other) ∙ was.1,
+        ap (λ k. (node nodes k).slot) (at_then t other) ∙ was.1,
       ))
       (cases_eq t s)
 
-  marked : (k : ℕ) → k < count → (stand stands k).mark ≡ (kept then (stand stands k).slot).mark
-  marked k k_in = h.marked k k_in ∙ sym (mark_then (stand stands k).slot (stands_apart k (omega (arith, k_in))))
+  marked : (k : ℕ) → k < count → (node nodes k).mark ≡ (slot_at then (node nodes k).slot).mark
+  marked k k_in = h.marked k k_in ∙ sym (mark_then (node nodes k).slot (nodes_apart k (omega (arith, k_in))))
 
-  next : (t : ℕ) → t < length then → IsTaken count (kept then t) → (kept then t).next ≢ no_slot → ((kept then t).next < length then) × ((kept then (kept then t).next).at ≡ behind + t)
+  next : (t : ℕ) → t < length then → IsTaken count (slot_at then t) → (slot_at then t).next ≢ no_slot → ((slot_at then t).next < length then) × ((slot_at then (slot_at then t).next).at ≡ following + t)
   next t t_then taken any = ⊎_elim
-      (λ is. absurd (any (ap (λ u. (kept then u).next) is ∙ ap (λ (x : Slot). x.next) kept-new)))
+      (λ is. absurd (any (ap (λ u. (slot_at then u).next) is ∙ ap (λ (x : Slot). x.next) slot_at-new)))
       (λ not_s. ⊎_elim
       (λ is.
-      let to : (kept then t).next ≡ s = ap (λ u. (kept then u).next) is ∙ ap (λ (x : Slot). x.next) kept-before in (
+      let to : (slot_at then t).next ≡ s = ap (λ u. (slot_at then u).next) is ∙ ap (λ (x : Slot). x.next) slot_at-before in (
         omega (arith, to, free_within, as_many),
-        ap (λ u. (kept then u).at) to ∙ ap (λ (x : Slot). x.at) kept-new ∙ ap (λ u. behind + u) (sym is),
+        ap (λ u. (slot_at then u).at) to ∙ ap (λ (x : Slot). x.at) slot_at-new ∙ ap (λ u. following + u) (sym is),
       ))
       (λ not_p.
-      let to : (kept then t).next ≡ (kept slots t).next = ap (λ (x : Slot). x.next) (kept-else t not_s not_p) in
+      let to : (slot_at then t).next ≡ (slot_at slots t).next = ap (λ (x : Slot). x.next) (slot_at-else t not_s not_p) in
       let was = h.next t (omega (arith, t_then, as_many)) (taken_before t not_s taken) (λ none. any (to ∙ none)) in
-      let other : (kept slots t).next ≡ s → ⊥ = λ is. omega (arith, was.1, ap (λ u. (kept slots u).at) is, free_low) in (
+      let other : (slot_at slots t).next ≡ s → ⊥ = λ is. omega (arith, was.1, ap (λ u. (slot_at slots u).at) is, free_low) in (
         omega (arith, to, was.0, as_many),
-        ap (λ u. (kept then u).at) to ∙ at_then (kept slots t).next other ∙ was.1,
+        ap (λ u. (slot_at then u).at) to ∙ at_then (slot_at slots t).next other ∙ was.1,
       ))
       (cases_eq t p))
       (cases_eq t s)
 
-  module _ (told : m.order < told_ranks * told_numbers) where
-    fits : (t : ℕ) → t < length then → IsTaken count (kept then t) → (kept then t).mark ≡ mark_of (entry_at then wholes t)
+  module _ (plain : m.order < plain_ranks * plain_numbers) where
+    fits : (t : ℕ) → t < length then → IsTaken count (slot_at then t) → (slot_at then t).mark ≡ mark_of (entry_at then wholes t)
     fits t t_then taken = ⊎_elim
-        (λ is. subst (λ u. (kept then u).mark ≡ mark_of (entry_at then wholes u)) (sym is)
-        (ap (λ (x : Slot). x.mark) kept-new
-        ∙ sym (told_mark m n told)
-        ∙ ap mark_of (sym (in-told m n (get_or wholes s no_entry) (told_tells m.order told)))
-        ∙ ap (λ (x : Slot). mark_of (entry_in x.mark x.notice (get_or wholes s no_entry))) (sym kept-new)))
+        (λ is. subst (λ u. (slot_at then u).mark ≡ mark_of (entry_at then wholes u)) (sym is)
+        (ap (λ (x : Slot). x.mark) slot_at-new
+        ∙ sym (plain_mark m n plain)
+        ∙ ap mark_of (sym (in-plain m n (get_or wholes s no_entry) (plain_differs m.order plain)))
+        ∙ ap (λ (x : Slot). mark_of (entry_in x.mark x.notice (get_or wholes s no_entry))) (sym slot_at-new)))
         (λ other.
         mark_then t other ∙ h.fits t (omega (arith, t_then, as_many)) (taken_before t other taken) ∙ ap mark_of (sym (entry_then t other)))
         (cases_eq t s)
 
-    module _ (time : (kept slots p).mark.time ≡ m.time) (order : (kept slots p).mark.order < m.order) where
+    module _ (time : (slot_at slots p).mark.time ≡ m.time) (order : (slot_at slots p).mark.order < m.order) where
       p_apart : p ≡ s → ⊥
       p_apart = apart p p_taken
 
@@ -167,37 +167,37 @@ module _ (count free : ℕ) (slots : List Slot) (wholes : List Entry) (stands : 
       new_before = record {
         within = omega (arith, p_in, as_many);
         taken = taken_then p p_apart p_taken;
-        next = ap (λ (x : Slot). x.next) kept-before;
-        time = ap (λ (x : Mark). x.time) (mark_then p p_apart) ∙ time ∙ ap (λ (x : Slot). x.mark.time) (sym kept-new);
-        order = omega (arith, order, ap (λ (x : Mark). x.order) (mark_then p p_apart), ap (λ (x : Slot). x.mark.order) kept-new);
-        told = omega (arith, told, ap (λ (x : Slot). x.mark.order) kept-new);
+        next = ap (λ (x : Slot). x.next) slot_at-before;
+        time = ap (λ (x : Mark). x.time) (mark_then p p_apart) ∙ time ∙ ap (λ (x : Slot). x.mark.time) (sym slot_at-new);
+        order = omega (arith, order, ap (λ (x : Mark). x.order) (mark_then p p_apart), ap (λ (x : Slot). x.mark.order) slot_at-new);
+        plain = omega (arith, plain, ap (λ (x : Slot). x.mark.order) slot_at-new);
       }
 
-      before : (t q : ℕ) → t < length then → (kept then t).at ≡ behind + q → IsBefore count then q t
+      before : (t q : ℕ) → t < length then → (slot_at then t).at ≡ following + q → IsBefore count then q t
       before t q t_then e = ⊎_elim
           (λ is.
-          let here : q ≡ p = omega (arith, e, ap (λ u. (kept then u).at) is, ap (λ (x : Slot). x.at) kept-new) in
+          let here : q ≡ p = omega (arith, e, ap (λ u. (slot_at then u).at) is, ap (λ (x : Slot). x.at) slot_at-new) in
           subst (λ u. IsBefore count then q u) (sym is) (subst (λ u. IsBefore count then u s) (sym here) new_before))
           (λ other.
           let t_in : t < length slots = omega (arith, t_then, as_many) in
           let was = h.before t q t_in (sym (at_then t other) ∙ e) in
           let q_apart : q ≡ s → ⊥ = apart q was.taken in
-          let q_other : q ≡ p → ⊥ = λ is. omega (arith, t_in, h.small, was.next, ap (λ u. (kept slots u).next) is, last) in record {
+          let q_other : q ≡ p → ⊥ = λ is. omega (arith, t_in, h.small, was.next, ap (λ u. (slot_at slots u).next) is, last) in record {
             within = omega (arith, was.within, as_many);
             taken = taken_then q q_apart was.taken;
-            next = ap (λ (x : Slot). x.next) (kept-else q q_apart q_other) ∙ was.next;
+            next = ap (λ (x : Slot). x.next) (slot_at-else q q_apart q_other) ∙ was.next;
             time = ap (λ (x : Mark). x.time) (mark_then q q_apart) ∙ was.time ∙ ap (λ (x : Mark). x.time) (sym (mark_then t other));
             order = omega (arith, was.order, ap (λ (x : Mark). x.order) (mark_then q q_apart), ap (λ (x : Mark). x.order) (mark_then t other));
-            told = omega (arith, was.told, ap (λ (x : Mark). x.order) (mark_then t other));
+            plain = omega (arith, was.plain, ap (λ (x : Mark). x.order) (mark_then t other));
           })
           (cases_eq t s)
 
-      module _ (fresh : (t : ℕ) → t < length slots → IsTaken count (kept slots t) → (kept slots t).notice ≢ n) where
-        distinct : (t u : ℕ) → t < length then → u < length then → IsTaken count (kept then t) → IsTaken count (kept then u) → (kept then t).notice ≡ (kept then u).notice → t ≡ u
+      module _ (fresh : (t : ℕ) → t < length slots → IsTaken count (slot_at slots t) → (slot_at slots t).notice ≢ n) where
+        distinct : (t u : ℕ) → t < length then → u < length then → IsTaken count (slot_at then t) → IsTaken count (slot_at then u) → (slot_at then t).notice ≡ (slot_at then u).notice → t ≡ u
         distinct t u t_then u_then t_taken u_taken same =
             let t_in : t < length slots = omega (arith, t_then, as_many) in
             let u_in : u < length slots = omega (arith, u_then, as_many) in
-            let noticed : (v : ℕ) → v ≡ s → (kept then v).notice ≡ n = λ v is. ap (λ w. (kept then w).notice) is ∙ ap (λ (x : Slot). x.notice) kept-new in
+            let noticed : (v : ℕ) → v ≡ s → (slot_at then v).notice ≡ n = λ v is. ap (λ w. (slot_at then w).notice) is ∙ ap (λ (x : Slot). x.notice) slot_at-new in
             ⊎_elim
             (λ t_is. ⊎_elim
             (λ u_is. t_is ∙ sym u_is)
@@ -210,17 +210,17 @@ module _ (count free : ℕ) (slots : List Slot) (wholes : List Entry) (stands : 
             (cases_eq t s)
 
         module _ (g : Directory) (noted : Leads g n s) (others : (i : ℤ) (t : ℕ) → i ≢ n → t ≢ no_slot → Leads d i t → Leads g i t) where
-          led : (t : ℕ) → t < length then → IsTaken count (kept then t) → Leads g (kept then t).notice t
+          led : (t : ℕ) → t < length then → IsTaken count (slot_at then t) → Leads g (slot_at then t).notice t
           led t t_then taken = ⊎_elim
-              (λ is. subst (λ u. Leads g (kept then u).notice u) (sym is) (subst (λ i. Leads g i s) (ap (λ (x : Slot). x.notice) (sym kept-new)) noted))
+              (λ is. subst (λ u. Leads g (slot_at then u).notice u) (sym is) (subst (λ i. Leads g i s) (ap (λ (x : Slot). x.notice) (sym slot_at-new)) noted))
               (λ other.
               let t_in : t < length slots = omega (arith, t_then, as_many) in
               let was = taken_before t other taken in
               subst (λ i. Leads g i t) (sym (notice_then t other))
-              (others (kept slots t).notice t (fresh t t_in was) (λ none. omega (arith, none, t_in, h.small)) (h.led t t_in was)))
+              (others (slot_at slots t).notice t (fresh t t_in was) (λ none. omega (arith, none, t_in, h.small)) (h.led t t_in was)))
               (cases_eq t s)
 
-          pub held-joined : AreHeld count (free - 1) (joined slots p s n m) wholes stands g
+          pub held-joined : AreHeld count (free - 1) (joined slots p s n m) wholes nodes g
           held-joined = record {
             many = h.many ∙ sym as_many;
             few = omega (arith, h.few);
@@ -236,19 +236,19 @@ module _ (count free : ℕ) (slots : List Slot) (wholes : List Entry) (stands : 
           }
 
   -- what is seen then
-  pub heads-joined : heads count (joined slots p s n m) wholes stands ≡ heads count slots wholes stands
+  pub heads-joined : heads count (joined slots p s n m) wholes nodes ≡ heads count slots wholes nodes
   heads-joined =
-      let few : count ≤ length stands = omega (arith, h.few) in
-      same_heads count count slots then wholes wholes stands stands refl few few (λ k k_in. entry_then (stand stands k).slot (stands_apart k (omega (arith, k_in))))
+      let few : count ≤ length nodes = omega (arith, h.few) in
+      same_heads count count slots then wholes wholes nodes nodes refl few few (λ k k_in. entry_then (node nodes k).slot (nodes_apart k (omega (arith, k_in))))
 
   put_before : followers (next_put slots p s) ≡ followers slots
   put_before = ⊎_elim
-      (λ lt. followers-placed slots p (followed (kept slots p) s) p_in lt lt)
-      (λ past. followers-kept slots p (followed (kept slots p) s) p_in past past refl)
-      (cases_lt (kept slots p).at behind)
+      (λ lt. followers-placed slots p (followed (slot_at slots p) s) p_in lt lt)
+      (λ past. followers-kept slots p (followed (slot_at slots p) s) p_in past past refl)
+      (cases_lt (slot_at slots p).at following)
 
-  pub followers-lined_up : IsPermutation (told_by m n ∷ followers slots) (followers (joined slots p s n m))
+  pub followers-lined_up : IsPermutation (plain_entry m n ∷ followers slots) (followers (joined slots p s n m))
   followers-lined_up =
-      let low : (kept (next_put slots p s) s).at < behind = subst (λ (x : Slot). x.at < behind) (sym (kept-other slots p s (followed (kept slots p) s) (λ is. apart p p_taken (sym is)))) free_low in
+      let low : (slot_at (next_put slots p s) s).at < following = subst (λ (x : Slot). x.at < following) (sym (slot_at-other slots p s (followed (slot_at slots p) s) (λ is. apart p p_taken (sym is)))) free_low in
       subst (λ l. IsPermutation (follower new ∷ l) (followers then)) put_before
-      (followers-joined (next_put slots p s) s new (omega (arith, free_within, length-set slots p (followed (kept slots p) s))) low (omega arith))
+      (followers-joined (next_put slots p s) s new (omega (arith, free_within, length-set slots p (followed (slot_at slots p) s))) low (omega arith))

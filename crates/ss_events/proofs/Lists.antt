@@ -58,7 +58,7 @@ removed_by_swap xs i n d long within =
     ∙ sym (take-set (set xs i (get_or xs n d)) n (get_or xs i d))
     ∙ ap (take n) (swap_is xs i n d within (omega (arith, long)))
 
--- what stands for an item that isn't there is read of an empty list alone
+-- the default for an item that isn't there is read of an empty list alone
 pub whatever_default : {X : Type 0} (xs : List X) (i : ℕ) (d c : X) → 0 < length xs → swap_remove xs i d ≡ swap_remove xs i c
 whatever_default xs i d c some = ap (λ x. take (length xs - 1) (set xs i x)) (get_or_default xs (length xs - 1) d c (omega arith))
 

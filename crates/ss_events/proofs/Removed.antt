@@ -1,4 +1,4 @@
--- Entries that go out: what is kept once their slots are free.
+-- Entries that go out: the slots once theirs are free.
 use Rattle.std.proofs.Common.{◌≡◌, ◌≢◌, ◌⊎◌, ℕ, ◌+◌, ◌-◌, ◌<◌, ◌≤◌, ℤ, int_eq, true, false, cond, List, ◌∷◌, length, get_or, take, refl, sym, ap, subst, ◌∙◌, ⊎_elim, inl, inr, arith, if◌then◌else◌}
 use Rattle.std.specs.Prelude.{◌==◌, slice_index_or, slice_set}
 use Rattle.std.specs.List.Sorted.{IsPermutation}
@@ -9,10 +9,10 @@ use Rattle.std.proofs.lemmas.List.{length-set, length-take-le, same_lists, get_o
 use Rattle.ss_events.specs.declared.entry.Entry.{Entry}
 use Rattle.ss_events.specs.declared.entry.directory.Directory.{Directory}
 use Rattle.ss_events.specs.declared.entry.places.Slot.{Slot}
-use Rattle.ss_events.specs.declared.entry.places.Stand.{Stand}
-use Rattle.ss_events.specs.Slots.{no_entry, no_slot, no_stand, behind, kept, stand, mark_of, entry_in, entry_at, IsTaken, IsBefore, AreDistinct, AreLed, AreHeld, Leads, heads, followers, at_put, next_put}
-use Rattle.ss_events.proofs.Marks.{in-told, told_tells}
-use Rattle.ss_events.proofs.Lines.{kept-same, kept-other, long_heads, head_at, same_heads, follower, followers-placed, followers-kept, followers-left}
+use Rattle.ss_events.specs.declared.entry.places.HeapNode.{HeapNode}
+use Rattle.ss_events.specs.Slots.{no_entry, no_slot, no_node, following, slot_at, node, mark_of, entry_in, entry_at, IsTaken, IsBefore, AreDistinct, AreLed, AreHeld, Leads, heads, followers, at_put, next_put}
+use Rattle.ss_events.proofs.Marks.{in-plain, plain_differs}
+use Rattle.ss_events.proofs.Lines.{slot_at-same, slot_at-other, long_heads, head_at, same_heads, follower, followers-placed, followers-kept, followers-left}
 use Rattle.ss_events.proofs.Fewer.{fewer_below}
 
 is_test : (a b : ℕ) → a ≡ b → (a == b) ≡ true
@@ -26,45 +26,45 @@ differ m n h = grind (arith, ints)
 
 -- a line without the one between two
 abbrev pub close : List Slot → ℕ → ℕ → List Slot
-close xs before next = if next == no_slot then next_put xs before next else at_put (next_put xs before next) next (behind + before)
+close xs before next = if next == no_slot then next_put xs before next else at_put (next_put xs before next) next (following + before)
 
 -- ---- a slot put into a place
 
-abbrev pub freed : List Stand → ℕ → ℕ → List Stand
-freed ss n s = slice_set ss n (record (stand ss n) { slot = s })
+abbrev pub freed : List HeapNode → ℕ → ℕ → List HeapNode
+freed ss n s = slice_set ss n (record (node ss n) { slot = s })
 
-pub freed-same : (ss : List Stand) (n s : ℕ) → n < length ss → (stand (freed ss n s) n).slot ≡ s
-freed-same ss n s n_in = ap (λ (x : Stand). x.slot) (get_or-set_same ss n (record (stand ss n) { slot = s }) no_stand n_in)
+pub freed-same : (ss : List HeapNode) (n s : ℕ) → n < length ss → (node (freed ss n s) n).slot ≡ s
+freed-same ss n s n_in = ap (λ (x : HeapNode). x.slot) (get_or-set_same ss n (record (node ss n) { slot = s }) no_node n_in)
 
-pub freed-other : (ss : List Stand) (n s k : ℕ) → k ≢ n → stand (freed ss n s) k ≡ stand ss k
-freed-other ss n s k other = get_or-set_other ss n k (record (stand ss n) { slot = s }) no_stand other
+pub freed-other : (ss : List HeapNode) (n s k : ℕ) → k ≢ n → node (freed ss n s) k ≡ node ss k
+freed-other ss n s k other = get_or-set_other ss n k (record (node ss n) { slot = s }) no_node other
 
-pub freed-long : (ss : List Stand) (n s : ℕ) → length (freed ss n s) ≡ length ss
-freed-long ss n s = length-set ss n (record (stand ss n) { slot = s })
+pub freed-long : (ss : List HeapNode) (n s : ℕ) → length (freed ss n s) ≡ length ss
+freed-long ss n s = length-set ss n (record (node ss n) { slot = s })
 
-module _ (count free : ℕ) (slots : List Slot) (wholes : List Entry) (stands : List Stand) (d : Directory) (h : AreHeld count free slots wholes stands d) where
-  -- a slot that stands behind another leaves room for one more that is free
-  pub room_behind : (s : ℕ) → s < length slots → behind ≤ (kept slots s).at → count + free < length stands
-  room_behind s s_in s_behind =
+module _ (count free : ℕ) (slots : List Slot) (wholes : List Entry) (nodes : List HeapNode) (d : Directory) (h : AreHeld count free slots wholes nodes d) where
+  -- where a slot follows another, there is room for one more free slot
+  pub room_of_follower : (s : ℕ) → s < length slots → following ≤ (slot_at slots s).at → count + free < length nodes
+  room_of_follower s s_in s_follows =
       let fewer =
-      fewer_below (length slots) (count + free) s (λ k. (stand stands k).slot) s_in
+      fewer_below (length slots) (count + free) s (λ k. (node nodes k).slot) s_in
       (λ k k_in. (h.there k k_in).0)
-      (λ k k_in e. omega (arith, k_in, (h.there k k_in).1, ap (λ t. (kept slots t).at) e, s_behind, h.few, h.many, h.small))
-      (λ j k j_in k_in e. sym (h.there j j_in).1 ∙ ap (λ t. (kept slots t).at) e ∙ (h.there k k_in).1) in
+      (λ k k_in e. omega (arith, k_in, (h.there k k_in).1, ap (λ t. (slot_at slots t).at) e, s_follows, h.few, h.many, h.small))
+      (λ j k j_in k_in e. sym (h.there j j_in).1 ∙ ap (λ t. (slot_at slots t).at) e ∙ (h.there k k_in).1) in
       omega (arith, fewer, h.many)
 
-  -- what is kept of the others, once one has gone
+  -- the other slots, once one has gone
   module _ (n : ℕ) (now : List Slot) (vs : List Entry) (g : Directory) (s : ℕ) (long : length now ≡ length slots)
-      (mark : (t : ℕ) → t ≢ s → (kept now t).mark ≡ (kept slots t).mark)
-      (notice : (t : ℕ) → t ≢ s → (kept now t).notice ≡ (kept slots t).notice)
+      (mark : (t : ℕ) → t ≢ s → (slot_at now t).mark ≡ (slot_at slots t).mark)
+      (notice : (t : ℕ) → t ≢ s → (slot_at now t).notice ≡ (slot_at slots t).notice)
       (whole : (t : ℕ) → t ≢ s → slice_index_or vs t no_entry ≡ slice_index_or wholes t no_entry)
-      (taken : (t : ℕ) → t < length slots → IsTaken n (kept now t) → (t ≢ s) × IsTaken count (kept slots t))
-      (s_in : s < length slots) (s_taken : IsTaken count (kept slots s))
-      (others : (m : ℤ) (t : ℕ) → m ≢ (kept slots s).notice → t ≢ s → Leads d m t → Leads g m t) where
+      (taken : (t : ℕ) → t < length slots → IsTaken n (slot_at now t) → (t ≢ s) × IsTaken count (slot_at slots t))
+      (s_in : s < length slots) (s_taken : IsTaken count (slot_at slots s))
+      (others : (m : ℤ) (t : ℕ) → m ≢ (slot_at slots s).notice → t ≢ s → Leads d m t → Leads g m t) where
     pub entry-released : (t : ℕ) → t ≢ s → entry_at now vs t ≡ entry_at slots wholes t
     entry-released t other = λ i. entry_in (mark t other i) (notice t other i) (whole t other i)
 
-    pub fits-released : (t : ℕ) → t < length now → IsTaken n (kept now t) → (kept now t).mark ≡ mark_of (entry_at now vs t)
+    pub fits-released : (t : ℕ) → t < length now → IsTaken n (slot_at now t) → (slot_at now t).mark ≡ mark_of (entry_at now vs t)
     fits-released t t_in is =
         let within : t < length slots = omega (arith, t_in, long) in
         let was = taken t within is in
@@ -83,49 +83,49 @@ module _ (count free : ℕ) (slots : List Slot) (wholes : List Entry) (stands : 
         let within : t < length slots = omega (arith, t_in, long) in
         let was = taken t within is in
         subst (λ m. Leads g m t) (sym (notice t was.0))
-        (others (kept slots t).notice t (λ e. was.0 (h.distinct t s within s_in was.1 s_taken e)) was.0 (h.led t within was.1))
+        (others (slot_at slots t).notice t (λ e. was.0 (h.distinct t s within s_in was.1 s_taken e)) was.0 (h.led t within was.1))
 
-  -- ---- one that stands behind another goes
+  -- ---- a follower goes
 
-  module _ (s : ℕ) (s_in : s < length slots) (s_behind : behind ≤ (kept slots s).at) where
+  module _ (s : ℕ) (s_in : s < length slots) (s_follows : following ≤ (slot_at slots s).at) where
     -- the one before it
     abbrev pub before : ℕ
-    before = (kept slots s).at - behind
+    before = (slot_at slots s).at - following
 
     -- the one after it
     abbrev pub after : ℕ
-    after = (kept slots s).next
+    after = (slot_at slots s).next
 
-    -- where it comes to stand
+    -- the place that it gets
     abbrev pub place : ℕ
     place = count + free
 
-    room : place < length stands
-    room = room_behind s s_in s_behind
+    room : place < length nodes
+    room = room_of_follower s s_in s_follows
 
-    place_apart : place < behind
+    place_apart : place < following
     place_apart = omega (arith, room, h.many, h.small)
 
-    at_is : (kept slots s).at ≡ behind + before
-    at_is = omega (arith, s_behind)
+    at_is : (slot_at slots s).at ≡ following + before
+    at_is = omega (arith, s_follows)
 
     pub is_before : IsBefore count slots before s
     is_before = h.before s before s_in at_is
 
-    pub s_taken : IsTaken count (kept slots s)
-    s_taken = inr s_behind
+    pub s_taken : IsTaken count (slot_at slots s)
+    s_taken = inr s_follows
 
     pub before_in : before < length slots
     before_in = is_before.within
 
     before_other : before ≢ s
-    before_other e = omega (arith, is_before.order, ap (λ t. (kept slots t).mark.order) e)
+    before_other e = omega (arith, is_before.order, ap (λ t. (slot_at slots t).mark.order) e)
 
-    pub after_there : after ≢ no_slot → (after < length slots) × ((kept slots after).at ≡ behind + s)
+    pub after_there : after ≢ no_slot → (after < length slots) × ((slot_at slots after).at ≡ following + s)
     after_there real = h.next s s_in s_taken real
 
     after_other : after ≢ no_slot → after ≢ s
-    after_other real e = before_other (omega (arith, at_is, (after_there real).1, ap (λ t. (kept slots t).at) e))
+    after_other real e = before_other (omega (arith, at_is, (after_there real).1, ap (λ t. (slot_at slots t).at) e))
 
     after_past : after ≢ no_slot → after ≢ before
     after_past real e =
@@ -133,7 +133,7 @@ module _ (count free : ℕ) (slots : List Slot) (wholes : List Entry) (stands : 
           arith,
           is_before.order,
           (h.before after s (after_there real).0 (after_there real).1).order,
-          ap (λ t. (kept slots t).mark.order) e,
+          ap (λ t. (slot_at slots t).mark.order) e,
         )
 
     -- the line without it
@@ -144,49 +144,49 @@ module _ (count free : ℕ) (slots : List Slot) (wholes : List Entry) (stands : 
     closed = close slots before after
 
     closed_none : after ≡ no_slot → closed ≡ joined
-    closed_none e = ap (λ b. cond b joined (at_put joined after (behind + before))) (is_test after no_slot e)
+    closed_none e = ap (λ b. cond b joined (at_put joined after (following + before))) (is_test after no_slot e)
 
-    closed_some : after ≢ no_slot → closed ≡ at_put joined after (behind + before)
-    closed_some real = ap (λ b. cond b joined (at_put joined after (behind + before))) (other_test after no_slot real)
+    closed_some : after ≢ no_slot → closed ≡ at_put joined after (following + before)
+    closed_some real = ap (λ b. cond b joined (at_put joined after (following + before))) (other_test after no_slot real)
 
     pub closed_long : length closed ≡ length slots
     closed_long = ⊎_elim
-        (λ e. ap length (closed_none e) ∙ length-set slots before (record (kept slots before) { next = after }))
+        (λ e. ap length (closed_none e) ∙ length-set slots before (record (slot_at slots before) { next = after }))
         (λ real.
-        ap length (closed_some real) ∙ length-set joined after (record (kept joined after) { at = behind + before })
-        ∙ length-set slots before (record (kept slots before) { next = after }))
+        ap length (closed_some real) ∙ length-set joined after (record (slot_at joined after) { at = following + before })
+        ∙ length-set slots before (record (slot_at slots before) { next = after }))
         (cases_eq after no_slot)
 
     joined_long : length joined ≡ length slots
-    joined_long = length-set slots before (record (kept slots before) { next = after })
+    joined_long = length-set slots before (record (slot_at slots before) { next = after })
 
-    joined_same : kept joined before ≡ record (kept slots before) { next = after }
-    joined_same = kept-same slots before (record (kept slots before) { next = after }) before_in
+    joined_same : slot_at joined before ≡ record (slot_at slots before) { next = after }
+    joined_same = slot_at-same slots before (record (slot_at slots before) { next = after }) before_in
 
-    joined_other : (t : ℕ) → t ≢ before → kept joined t ≡ kept slots t
-    joined_other t other = kept-other slots before t (record (kept slots before) { next = after }) other
+    joined_other : (t : ℕ) → t ≢ before → slot_at joined t ≡ slot_at slots t
+    joined_other t other = slot_at-other slots before t (record (slot_at slots before) { next = after }) other
 
-    closed_before : kept closed before ≡ record (kept slots before) { next = after }
+    closed_before : slot_at closed before ≡ record (slot_at slots before) { next = after }
     closed_before = ⊎_elim
-        (λ e. ap (λ l. kept l before) (closed_none e) ∙ joined_same)
+        (λ e. ap (λ l. slot_at l before) (closed_none e) ∙ joined_same)
         (λ real.
-        ap (λ l. kept l before) (closed_some real)
-        ∙ kept-other joined after before (record (kept joined after) { at = behind + before }) (λ e. after_past real (sym e))
+        ap (λ l. slot_at l before) (closed_some real)
+        ∙ slot_at-other joined after before (record (slot_at joined after) { at = following + before }) (λ e. after_past real (sym e))
         ∙ joined_same)
         (cases_eq after no_slot)
 
-    closed_after : after ≢ no_slot → kept closed after ≡ record (kept slots after) { at = behind + before }
+    closed_after : after ≢ no_slot → slot_at closed after ≡ record (slot_at slots after) { at = following + before }
     closed_after real =
-        ap (λ l. kept l after) (closed_some real)
-        ∙ kept-same joined after (record (kept joined after) { at = behind + before }) (omega (arith, (after_there real).0, joined_long))
-        ∙ ap (λ (x : Slot). record x { at = behind + before }) (joined_other after (after_past real))
+        ap (λ l. slot_at l after) (closed_some real)
+        ∙ slot_at-same joined after (record (slot_at joined after) { at = following + before }) (omega (arith, (after_there real).0, joined_long))
+        ∙ ap (λ (x : Slot). record x { at = following + before }) (joined_other after (after_past real))
 
-    closed_other : (t : ℕ) → t ≢ before → (after ≢ no_slot → t ≢ after) → kept closed t ≡ kept slots t
+    closed_other : (t : ℕ) → t ≢ before → (after ≢ no_slot → t ≢ after) → slot_at closed t ≡ slot_at slots t
     closed_other t other apart = ⊎_elim
-        (λ e. ap (λ l. kept l t) (closed_none e) ∙ joined_other t other)
+        (λ e. ap (λ l. slot_at l t) (closed_none e) ∙ joined_other t other)
         (λ real.
-        ap (λ l. kept l t) (closed_some real)
-        ∙ kept-other joined after t (record (kept joined after) { at = behind + before }) (apart real)
+        ap (λ l. slot_at l t) (closed_some real)
+        ∙ slot_at-other joined after t (record (slot_at joined after) { at = following + before }) (apart real)
         ∙ joined_other t other)
         (cases_eq after no_slot)
 
@@ -195,181 +195,181 @@ module _ (count free : ℕ) (slots : List Slot) (wholes : List Entry) (stands : 
     left = at_put closed s place
 
     pub left_long : length left ≡ length slots
-    left_long = length-set closed s (record (kept closed s) { at = place }) ∙ closed_long
+    left_long = length-set closed s (record (slot_at closed s) { at = place }) ∙ closed_long
 
-    left_at : (kept left s).at ≡ place
-    left_at = ap (λ (x : Slot). x.at) (kept-same closed s (record (kept closed s) { at = place }) (omega (arith, s_in, closed_long)))
+    left_at : (slot_at left s).at ≡ place
+    left_at = ap (λ (x : Slot). x.at) (slot_at-same closed s (record (slot_at closed s) { at = place }) (omega (arith, s_in, closed_long)))
 
-    left_closed : (t : ℕ) → t ≢ s → kept left t ≡ kept closed t
-    left_closed t other = kept-other closed s t (record (kept closed s) { at = place }) other
+    left_closed : (t : ℕ) → t ≢ s → slot_at left t ≡ slot_at closed t
+    left_closed t other = slot_at-other closed s t (record (slot_at closed s) { at = place }) other
 
-    -- what is kept of another slot
+    -- the contents of another slot
     abbrev IsAfter : ℕ → Type 0
-    IsAfter t = (after ≢ no_slot) × (t ≡ after) × (kept left t ≡ record (kept slots t) { at = behind + before })
+    IsAfter t = (after ≢ no_slot) × (t ≡ after) × (slot_at left t ≡ record (slot_at slots t) { at = following + before })
 
-    abbrev IsKept : ℕ → Type 0
-    IsKept t = (t ≢ before) × (after ≢ no_slot → t ≢ after) × (kept left t ≡ kept slots t)
+    abbrev IsAsBefore : ℕ → Type 0
+    IsAsBefore t = (t ≢ before) × (after ≢ no_slot → t ≢ after) × (slot_at left t ≡ slot_at slots t)
 
     abbrev Another : ℕ → Type 0
-    Another t = ((t ≡ before) × (kept left t ≡ record (kept slots t) { next = after })) ⊎ (IsAfter t ⊎ IsKept t)
+    Another t = ((t ≡ before) × (slot_at left t ≡ record (slot_at slots t) { next = after })) ⊎ (IsAfter t ⊎ IsAsBefore t)
 
-    past_before : (t : ℕ) → t ≢ s → t ≢ before → IsAfter t ⊎ IsKept t
+    past_before : (t : ℕ) → t ≢ s → t ≢ before → IsAfter t ⊎ IsAsBefore t
     past_before t other apart = ⊎_elim
         (λ none. inr (apart, (λ real. absurd (real none)), left_closed t other ∙ closed_other t apart (λ real. absurd (real none))))
         (λ real. ⊎_elim
-        (λ e. inl (real, e, subst (λ u. kept left u ≡ record (kept slots u) { at = behind + before }) (sym e) (left_closed after (after_other real) ∙ closed_after real)))
+        (λ e. inl (real, e, subst (λ u. slot_at left u ≡ record (slot_at slots u) { at = following + before }) (sym e) (left_closed after (after_other real) ∙ closed_after real)))
         (λ not. inr (apart, (λ _. not), left_closed t other ∙ closed_other t apart (λ _. not)))
         (cases_eq t after))
         (cases_eq after no_slot)
 
     another : (t : ℕ) → t ≢ s → Another t
     another t other = ⊎_elim
-        (λ e. inl (e, subst (λ u. kept left u ≡ record (kept slots u) { next = after }) (sym e) (left_closed before before_other ∙ closed_before)))
+        (λ e. inl (e, subst (λ u. slot_at left u ≡ record (slot_at slots u) { next = after }) (sym e) (left_closed before before_other ∙ closed_before)))
         (λ apart. inr (past_before t other apart))
         (cases_eq t before)
 
-    pub left_mark : (t : ℕ) → t ≢ s → (kept left t).mark ≡ (kept slots t).mark
+    pub left_mark : (t : ℕ) → t ≢ s → (slot_at left t).mark ≡ (slot_at slots t).mark
     left_mark t other = ⊎_elim
         (λ b. ap (λ (x : Slot). x.mark) b.1)
         (λ r. ⊎_elim (λ a. ap (λ (x : Slot). x.mark) a.2) (λ k. ap (λ (x : Slot). x.mark) k.2) r)
         (another t other)
 
-    pub left_notice : (t : ℕ) → t ≢ s → (kept left t).notice ≡ (kept slots t).notice
+    pub left_notice : (t : ℕ) → t ≢ s → (slot_at left t).notice ≡ (slot_at slots t).notice
     left_notice t other = ⊎_elim
         (λ b. ap (λ (x : Slot). x.notice) b.1)
         (λ r. ⊎_elim (λ a. ap (λ (x : Slot). x.notice) a.2) (λ k. ap (λ (x : Slot). x.notice) k.2) r)
         (another t other)
 
-    -- where it stands: at the same place, or behind another one as before
-    left_stands : (t : ℕ) → t ≢ s → ((kept left t).at ≡ (kept slots t).at) ⊎ ((behind ≤ (kept left t).at) × (behind ≤ (kept slots t).at))
-    left_stands t other = ⊎_elim
+    -- where it is: in the same place, or after another one as before
+    at_left : (t : ℕ) → t ≢ s → ((slot_at left t).at ≡ (slot_at slots t).at) ⊎ ((following ≤ (slot_at left t).at) × (following ≤ (slot_at slots t).at))
+    at_left t other = ⊎_elim
         (λ b. inl (ap (λ (x : Slot). x.at) b.1))
         (λ r. ⊎_elim
         (λ a. inr (
           omega (arith, ap (λ (x : Slot). x.at) a.2),
-          omega (arith, (after_there a.0).1, ap (λ u. (kept slots u).at) a.1),
+          omega (arith, (after_there a.0).1, ap (λ u. (slot_at slots u).at) a.1),
         ))
         (λ k. inl (ap (λ (x : Slot). x.at) k.2)) r)
         (another t other)
 
-    taken_same : (t : ℕ) → t ≢ s → IsTaken count (kept slots t) → IsTaken count (kept left t)
+    taken_same : (t : ℕ) → t ≢ s → IsTaken count (slot_at slots t) → IsTaken count (slot_at left t)
     taken_same t other is = ⊎_elim
-        (λ e. subst (λ a. (a < count) ⊎ (behind ≤ a)) (sym e) is)
+        (λ e. subst (λ a. (a < count) ⊎ (following ≤ a)) (sym e) is)
         (λ both. inr both.0)
-        (left_stands t other)
+        (at_left t other)
 
-    left_taken : (t : ℕ) → t < length slots → IsTaken count (kept left t) → (t ≢ s) × IsTaken count (kept slots t)
+    left_taken : (t : ℕ) → t < length slots → IsTaken count (slot_at left t) → (t ≢ s) × IsTaken count (slot_at slots t)
     left_taken t t_in is =
         let other : t ≢ s = (λ e.
-        let here : (kept left t).at ≡ place = ap (λ u. (kept left u).at) e ∙ left_at in
+        let here : (slot_at left t).at ≡ place = ap (λ u. (slot_at left u).at) e ∙ left_at in
         ⊎_elim (λ lt. omega (arith, lt, here)) (λ ge. omega (arith, ge, here, place_apart)) is) in (
           other,
-          ⊎_elim (λ e. subst (λ a. (a < count) ⊎ (behind ≤ a)) e is) (λ both. inr both.1) (left_stands t other),
+          ⊎_elim (λ e. subst (λ a. (a < count) ⊎ (following ≤ a)) e is) (λ both. inr both.1) (at_left t other),
         )
 
-    -- one that stands in a place
-    left_apart : (t : ℕ) → (kept slots t).at < behind → (kept left t).at ≡ (kept slots t).at
+    -- a slot in a place
+    left_apart : (t : ℕ) → (slot_at slots t).at < following → (slot_at left t).at ≡ (slot_at slots t).at
     left_apart t lt = ⊎_elim
         (λ e. e)
         (λ both. absurd (omega (arith, both.1, lt)))
-        (left_stands t (λ e. omega (arith, s_behind, lt, ap (λ u. (kept slots u).at) e)))
+        (at_left t (λ e. omega (arith, s_follows, lt, ap (λ u. (slot_at slots u).at) e)))
 
-    abbrev pub left_stood : List Stand
-    left_stood = freed stands place s
+    abbrev pub left_nodes : List HeapNode
+    left_nodes = freed nodes place s
 
-    there_left : (k : ℕ) → k < count + (free + 1) → ((stand left_stood k).slot < length left) × ((kept left (stand left_stood k).slot).at ≡ k)
+    there_left : (k : ℕ) → k < count + (free + 1) → ((node left_nodes k).slot < length left) × ((slot_at left (node left_nodes k).slot).at ≡ k)
     there_left k k_in = ⊎_elim
         (λ e.
-        let here : (stand left_stood k).slot ≡ s = ap (λ j. (stand left_stood j).slot) e ∙ freed-same stands place s room in
-        subst (λ u. (u < length left) × ((kept left u).at ≡ k)) (sym here) (omega (arith, s_in, left_long), left_at ∙ sym e))
+        let here : (node left_nodes k).slot ≡ s = ap (λ j. (node left_nodes j).slot) e ∙ freed-same nodes place s room in
+        subst (λ u. (u < length left) × ((slot_at left u).at ≡ k)) (sym here) (omega (arith, s_in, left_long), left_at ∙ sym e))
         (λ other.
-        let here : (stand left_stood k).slot ≡ (stand stands k).slot = ap (λ (x : Stand). x.slot) (freed-other stands place s k other) in
+        let here : (node left_nodes k).slot ≡ (node nodes k).slot = ap (λ (x : HeapNode). x.slot) (freed-other nodes place s k other) in
         let was = h.there k (omega (arith, k_in, other)) in
         let at = was.1 in
-        subst (λ u. (u < length left) × ((kept left u).at ≡ k)) (sym here)
-        (omega (arith, was.0, left_long), left_apart (stand stands k).slot (omega (arith, at, k_in, other, place_apart)) ∙ at))
+        subst (λ u. (u < length left) × ((slot_at left u).at ≡ k)) (sym here)
+        (omega (arith, was.0, left_long), left_apart (node nodes k).slot (omega (arith, at, k_in, other, place_apart)) ∙ at))
         (cases_eq k place)
 
-    back_left : (t : ℕ) → t < length left → (kept left t).at < behind → ((kept left t).at < count + (free + 1)) × ((stand left_stood (kept left t).at).slot ≡ t)
+    back_left : (t : ℕ) → t < length left → (slot_at left t).at < following → ((slot_at left t).at < count + (free + 1)) × ((node left_nodes (slot_at left t).at).slot ≡ t)
     back_left t t_in lt = ⊎_elim
         (λ e.
-        let here : (kept left t).at ≡ place = ap (λ u. (kept left u).at) e ∙ left_at in (
+        let here : (slot_at left t).at ≡ place = ap (λ u. (slot_at left u).at) e ∙ left_at in (
           omega (arith, here),
-          ap (λ k. (stand left_stood k).slot) here ∙ freed-same stands place s room ∙ sym e,
+          ap (λ k. (node left_nodes k).slot) here ∙ freed-same nodes place s room ∙ sym e,
         ))
         (λ other. ⊎_elim
         (λ same.
         let was = h.back t (omega (arith, t_in, left_long)) (omega (arith, lt, same)) in (
           omega (arith, was.0, same),
-          ap (λ k. (stand left_stood k).slot) same
-              ∙ ap (λ (x : Stand). x.slot) (freed-other stands place s (kept slots t).at (λ e. omega (arith, e, was.0)))
+          ap (λ k. (node left_nodes k).slot) same
+              ∙ ap (λ (x : HeapNode). x.slot) (freed-other nodes place s (slot_at slots t).at (λ e. omega (arith, e, was.0)))
               ∙ was.1,
         ))
         (λ both. absurd (omega (arith, both.0, lt)))
-        (left_stands t other))
+        (at_left t other))
         (cases_eq t s)
 
     -- no place's slot is the one that goes
-    head_other : (k : ℕ) → k < count → (stand stands k).slot ≢ s
-    head_other k k_in e = omega (arith, (h.there k (omega (arith, k_in))).1, ap (λ u. (kept slots u).at) e, s_behind, k_in, place_apart)
+    head_other : (k : ℕ) → k < count → (node nodes k).slot ≢ s
+    head_other k k_in e = omega (arith, (h.there k (omega (arith, k_in))).1, ap (λ u. (slot_at slots u).at) e, s_follows, k_in, place_apart)
 
-    marked_left : (k : ℕ) → k < count → (stand left_stood k).mark ≡ (kept left (stand left_stood k).slot).mark
+    marked_left : (k : ℕ) → k < count → (node left_nodes k).mark ≡ (slot_at left (node left_nodes k).slot).mark
     marked_left k k_in =
-        let same = freed-other stands place s k (λ e. omega (arith, e, k_in)) in
-        ap (λ (x : Stand). x.mark) same ∙ h.marked k k_in ∙ sym (left_mark (stand stands k).slot (head_other k k_in))
-        ∙ ap (λ (x : Stand). (kept left x.slot).mark) (sym same)
+        let same = freed-other nodes place s k (λ e. omega (arith, e, k_in)) in
+        ap (λ (x : HeapNode). x.mark) same ∙ h.marked k k_in ∙ sym (left_mark (node nodes k).slot (head_other k k_in))
+        ∙ ap (λ (x : HeapNode). (slot_at left x.slot).mark) (sym same)
 
-    next_left : (t : ℕ) → t < length left → IsTaken count (kept left t) → (kept left t).next ≢ no_slot → ((kept left t).next < length left) × ((kept left (kept left t).next).at ≡ behind + t)
+    next_left : (t : ℕ) → t < length left → IsTaken count (slot_at left t) → (slot_at left t).next ≢ no_slot → ((slot_at left t).next < length left) × ((slot_at left (slot_at left t).next).at ≡ following + t)
     next_left t t_in is real =
         let within : t < length slots = omega (arith, t_in, left_long) in
         let was = left_taken t within is in
-        let by_next : (u : ℕ) → (kept left t).next ≡ u → (u < length slots) × ((kept left u).at ≡ behind + t) → ((kept left t).next < length left) × ((kept left (kept left t).next).at ≡ behind + t)
-        = (λ u e it. subst (λ v. (v < length left) × ((kept left v).at ≡ behind + t)) (sym e) (omega (arith, it.0, left_long), it.1)) in
-        let of_other : (kept left t).next ≡ (kept slots t).next → t ≢ before → ((kept left t).next < length left) × ((kept left (kept left t).next).at ≡ behind + t)
+        let by_next : (u : ℕ) → (slot_at left t).next ≡ u → (u < length slots) × ((slot_at left u).at ≡ following + t) → ((slot_at left t).next < length left) × ((slot_at left (slot_at left t).next).at ≡ following + t)
+        = (λ u e it. subst (λ v. (v < length left) × ((slot_at left v).at ≡ following + t)) (sym e) (omega (arith, it.0, left_long), it.1)) in
+        let of_other : (slot_at left t).next ≡ (slot_at slots t).next → t ≢ before → ((slot_at left t).next < length left) × ((slot_at left (slot_at left t).next).at ≡ following + t)
         = (λ e apart.
-        let u = (kept slots t).next in
+        let u = (slot_at slots t).next in
         let it = h.next t within was.1 (λ none. real (e ∙ none)) in
-        let u_other : u ≢ s = (λ is. apart (omega (arith, at_is, it.1, ap (λ v. (kept slots v).at) is))) in
+        let u_other : u ≢ s = (λ is. apart (omega (arith, at_is, it.1, ap (λ v. (slot_at slots v).at) is))) in
         by_next u e (
           it.0,
           ⊎_elim
               (λ b. ap (λ (x : Slot). x.at) b.1 ∙ it.1)
               (λ r. ⊎_elim
-              (λ a. absurd (was.0 (omega (arith, (after_there a.0).1, it.1, ap (λ v. (kept slots v).at) a.1))))
+              (λ a. absurd (was.0 (omega (arith, (after_there a.0).1, it.1, ap (λ v. (slot_at slots v).at) a.1))))
               (λ k. ap (λ (x : Slot). x.at) k.2 ∙ it.1) r)
               (another u u_other),
         )) in
         ⊎_elim
         (λ b.
-        let e : (kept left t).next ≡ after = ap (λ (x : Slot). x.next) b.1 in
+        let e : (slot_at left t).next ≡ after = ap (λ (x : Slot). x.next) b.1 in
         let after_real : after ≢ no_slot = (λ none. real (e ∙ none)) in
         by_next after e (
           (after_there after_real).0,
-          ap (λ (x : Slot). x.at) (left_closed after (after_other after_real) ∙ closed_after after_real) ∙ ap (λ u. behind + u) (sym b.0),
+          ap (λ (x : Slot). x.at) (left_closed after (after_other after_real) ∙ closed_after after_real) ∙ ap (λ u. following + u) (sym b.0),
         ))
         (λ r. ⊎_elim
         (λ a. of_other (ap (λ (x : Slot). x.next) a.2) (λ e. after_past a.0 (sym a.1 ∙ e)))
         (λ k. of_other (ap (λ (x : Slot). x.next) k.2) k.0) r)
         (another t was.0)
 
-    before_left : (t r : ℕ) → t < length left → (kept left t).at ≡ behind + r → IsBefore count left r t
+    before_left : (t r : ℕ) → t < length left → (slot_at left t).at ≡ following + r → IsBefore count left r t
     before_left t r t_in at =
         let within : t < length slots = omega (arith, t_in, left_long) in
-        let other : t ≢ s = (λ e. omega (arith, at, ap (λ u. (kept left u).at) e ∙ left_at, place_apart)) in
-        let of_other : (kept slots t).at ≡ behind + r → (after ≢ no_slot → t ≢ after) → IsBefore count left r t
+        let other : t ≢ s = (λ e. omega (arith, at, ap (λ u. (slot_at left u).at) e ∙ left_at, place_apart)) in
+        let of_other : (slot_at slots t).at ≡ following + r → (after ≢ no_slot → t ≢ after) → IsBefore count left r t
         = (λ was apart.
         let b = h.before t r within was in
         let r_other : r ≢ s = (λ e.
-        let is : after ≡ t = ap (λ u. (kept slots u).next) (sym e) ∙ b.next in
+        let is : after ≡ t = ap (λ u. (slot_at slots u).next) (sym e) ∙ b.next in
         apart (λ none. omega (arith, none, is, within, h.small)) (sym is)) in
-        let r_apart : r ≢ before = (λ e. other (sym b.next ∙ ap (λ u. (kept slots u).next) e ∙ is_before.next)) in
+        let r_apart : r ≢ before = (λ e. other (sym b.next ∙ ap (λ u. (slot_at slots u).next) e ∙ is_before.next)) in
         record {
           within = omega (arith, b.within, left_long);
           taken = taken_same r r_other b.taken;
           next = ⊎_elim (λ k. ap (λ (x : Slot). x.next) k.2) (λ k. ap (λ (x : Slot). x.next) k.2) (past_before r r_other r_apart) ∙ b.next;
           time = ap (λ m. m.time) (left_mark r r_other) ∙ b.time ∙ sym (ap (λ m. m.time) (left_mark t other));
           order = omega (arith, b.order, ap (λ m. m.order) (left_mark r r_other), ap (λ m. m.order) (left_mark t other));
-          told = omega (arith, b.told, ap (λ m. m.order) (left_mark t other));
+          plain = omega (arith, b.plain, ap (λ m. m.order) (left_mark t other));
         }) in
         ⊎_elim
         (λ b. of_other (sym (ap (λ (x : Slot). x.at) b.1) ∙ at) (λ real e. after_past real (sym e ∙ b.0)))
@@ -385,18 +385,18 @@ module _ (count free : ℕ) (slots : List Slot) (wholes : List Entry) (stands : 
           next = ap (λ (x : Slot). x.next) (left_closed before before_other ∙ closed_before);
           time = ap (λ m. m.time) first_mark ∙ is_before.time ∙ of_after.time ∙ sym (ap (λ m. m.time) last_mark);
           order = omega (arith, is_before.order, of_after.order, ap (λ m. m.order) first_mark, ap (λ m. m.order) last_mark);
-          told = omega (arith, of_after.told, ap (λ m. m.order) last_mark);
+          plain = omega (arith, of_after.plain, ap (λ m. m.order) last_mark);
         } in
         subst (λ u. IsBefore count left r u) (sym a.1) (subst (λ u. IsBefore count left u after) (sym r_is) it))
         (λ k. of_other (sym (ap (λ (x : Slot). x.at) k.2) ∙ at) k.1) r')
         (another t other)
 
-    module _ (g : Directory) (others : (m : ℤ) (t : ℕ) → m ≢ (kept slots s).notice → t ≢ s → Leads d m t → Leads g m t) where
-      -- what is kept once it has gone
-      pub held-left : AreHeld count (free + 1) left wholes left_stood g
+    module _ (g : Directory) (others : (m : ℤ) (t : ℕ) → m ≢ (slot_at slots s).notice → t ≢ s → Leads d m t → Leads g m t) where
+      -- the slots once it has gone
+      pub held-left : AreHeld count (free + 1) left wholes left_nodes g
       held-left = record {
-        many = freed-long stands place s ∙ h.many ∙ sym left_long;
-        few = omega (arith, room, freed-long stands place s);
+        many = freed-long nodes place s ∙ h.many ∙ sym left_long;
+        few = omega (arith, room, freed-long nodes place s);
         small = omega (arith, left_long, h.small);
         there = there_left;
         back = back_left;
@@ -409,94 +409,94 @@ module _ (count free : ℕ) (slots : List Slot) (wholes : List Entry) (stands : 
       }
 
     -- the same heads
-    pub heads-left : heads count left wholes left_stood ≡ heads count slots wholes stands
+    pub heads-left : heads count left wholes left_nodes ≡ heads count slots wholes nodes
     heads-left =
-        same_heads count count slots left wholes wholes stands left_stood refl (omega (arith, h.few))
-        (omega (arith, h.few, freed-long stands place s))
+        same_heads count count slots left wholes wholes nodes left_nodes refl (omega (arith, h.few))
+        (omega (arith, h.few, freed-long nodes place s))
         (λ k k_in.
-        let same = freed-other stands place s k (λ e. omega (arith, e, k_in)) in
-        let u = (stand stands k).slot in
-        ap (λ (x : Stand). entry_at left wholes x.slot) same
+        let same = freed-other nodes place s k (λ e. omega (arith, e, k_in)) in
+        let u = (node nodes k).slot in
+        ap (λ (x : HeapNode). entry_at left wholes x.slot) same
         ∙ (λ i. entry_in (left_mark u (head_other k k_in) i) (left_notice u (head_other k k_in) i) (slice_index_or wholes u no_entry)))
 
     followers_joined : followers joined ≡ followers slots
     followers_joined = ⊎_elim
-        (λ lt. followers-placed slots before (record (kept slots before) { next = after }) before_in lt lt)
-        (λ ge. followers-kept slots before (record (kept slots before) { next = after }) before_in ge ge refl)
-        (cases_lt (kept slots before).at behind)
+        (λ lt. followers-placed slots before (record (slot_at slots before) { next = after }) before_in lt lt)
+        (λ ge. followers-kept slots before (record (slot_at slots before) { next = after }) before_in ge ge refl)
+        (cases_lt (slot_at slots before).at following)
 
     followers_closed : followers closed ≡ followers slots
     followers_closed = ⊎_elim
         (λ e. ap followers (closed_none e) ∙ followers_joined)
         (λ real.
         let same = joined_other after (after_past real) in
-        let at : behind ≤ (kept joined after).at = omega (arith, (after_there real).1, ap (λ (x : Slot). x.at) same) in
+        let at : following ≤ (slot_at joined after).at = omega (arith, (after_there real).1, ap (λ (x : Slot). x.at) same) in
         ap followers (closed_some real)
-        ∙ followers-kept joined after (record (kept joined after) { at = behind + before }) (omega (arith, (after_there real).0, joined_long)) at (omega arith) refl
+        ∙ followers-kept joined after (record (slot_at joined after) { at = following + before }) (omega (arith, (after_there real).0, joined_long)) at (omega arith) refl
         ∙ followers_joined)
         (cases_eq after no_slot)
 
-    closed_same : kept closed s ≡ kept slots s
+    closed_same : slot_at closed s ≡ slot_at slots s
     closed_same = closed_other s (λ e. before_other (sym e)) (λ real e. after_other real (sym e))
 
-    -- and one less behind others
-    pub followers_left : IsPermutation (followers slots) (follower (kept slots s) ∷ followers left)
+    -- and one follower less
+    pub followers_left : IsPermutation (followers slots) (follower (slot_at slots s) ∷ followers left)
     followers_left =
-        subst (λ l. IsPermutation l (follower (kept slots s) ∷ followers left)) followers_closed
+        subst (λ l. IsPermutation l (follower (slot_at slots s) ∷ followers left)) followers_closed
         (subst (λ x. IsPermutation (followers closed) (follower x ∷ followers left)) closed_same
-        (followers-left closed s (record (kept closed s) { at = place }) (omega (arith, s_in, closed_long)) (omega (arith, s_behind, ap (λ (x : Slot). x.at) closed_same)) place_apart))
+        (followers-left closed s (record (slot_at closed s) { at = place }) (omega (arith, s_in, closed_long)) (omega (arith, s_follows, ap (λ (x : Slot). x.at) closed_same)) place_apart))
 
   -- ---- the first of a line goes, and the next comes into its place
 
-  module _ (k : ℕ) (k_in : k < count) (real : (kept slots (stand stands k).slot).next ≢ no_slot) where
+  module _ (k : ℕ) (k_in : k < count) (real : (slot_at slots (node nodes k).slot).next ≢ no_slot) where
     abbrev pub head : ℕ
-    head = (stand stands k).slot
+    head = (node nodes k).slot
 
     abbrev pub second : ℕ
-    second = (kept slots head).next
+    second = (slot_at slots head).next
 
     abbrev pub spare : ℕ
     spare = count + free
 
-    pub head_there : (head < length slots) × ((kept slots head).at ≡ k)
+    pub head_there : (head < length slots) × ((slot_at slots head).at ≡ k)
     head_there = h.there k (omega (arith, k_in))
 
-    head_taken : IsTaken count (kept slots head)
+    head_taken : IsTaken count (slot_at slots head)
     head_taken = inl (omega (arith, k_in, head_there.1))
 
-    pub second_there : (second < length slots) × ((kept slots second).at ≡ behind + head)
+    pub second_there : (second < length slots) × ((slot_at slots second).at ≡ following + head)
     second_there = h.next head head_there.0 head_taken real
 
-    pub second_behind : behind ≤ (kept slots second).at
-    second_behind = omega (arith, second_there.1)
+    pub second_follows : following ≤ (slot_at slots second).at
+    second_follows = omega (arith, second_there.1)
 
     second_after : IsBefore count slots head second
     second_after = h.before second head second_there.0 second_there.1
 
-    pub room_spare : spare < length stands
-    room_spare = room_behind second second_there.0 second_behind
+    pub room_spare : spare < length nodes
+    room_spare = room_of_follower second second_there.0 second_follows
 
-    spare_apart : spare < behind
+    spare_apart : spare < following
     spare_apart = omega (arith, room_spare, h.many, h.small)
 
-    k_apart : k < behind
+    k_apart : k < following
     k_apart = omega (arith, k_in, spare_apart)
 
-    head_low : (kept slots head).at < behind
+    head_low : (slot_at slots head).at < following
     head_low = omega (arith, k_apart, head_there.1)
 
     second_other : second ≢ head
-    second_other e = omega (arith, second_behind, head_low, ap (λ u. (kept slots u).at) e)
+    second_other e = omega (arith, second_follows, head_low, ap (λ u. (slot_at slots u).at) e)
 
     -- what comes into the place
-    abbrev pub comes : Stand
-    comes = record { mark = (kept slots second).mark; slot = second }
+    abbrev pub comes : HeapNode
+    comes = record { mark = (slot_at slots second).mark; slot = second }
 
-    abbrev pub raised : List Stand
-    raised = slice_set stands k comes
+    abbrev pub raised : List HeapNode
+    raised = slice_set nodes k comes
 
-    abbrev pub advanced_stood : List Stand
-    advanced_stood = freed raised spare head
+    abbrev pub advanced_nodes : List HeapNode
+    advanced_nodes = freed raised spare head
 
     abbrev pub raised_slots : List Slot
     raised_slots = at_put slots second k
@@ -504,173 +504,173 @@ module _ (count free : ℕ) (slots : List Slot) (wholes : List Entry) (stands : 
     abbrev pub advanced : List Slot
     advanced = at_put raised_slots head spare
 
-    pub raised_long : length raised ≡ length stands
-    raised_long = length-set stands k comes
+    pub raised_long : length raised ≡ length nodes
+    raised_long = length-set nodes k comes
 
-    pub stood_long : length advanced_stood ≡ length stands
-    stood_long = freed-long raised spare head ∙ raised_long
+    pub nodes_long : length advanced_nodes ≡ length nodes
+    nodes_long = freed-long raised spare head ∙ raised_long
 
     pub raised_slots_long : length raised_slots ≡ length slots
-    raised_slots_long = length-set slots second (record (kept slots second) { at = k })
+    raised_slots_long = length-set slots second (record (slot_at slots second) { at = k })
 
     pub advanced_long : length advanced ≡ length slots
-    advanced_long = length-set raised_slots head (record (kept raised_slots head) { at = spare }) ∙ raised_slots_long
+    advanced_long = length-set raised_slots head (record (slot_at raised_slots head) { at = spare }) ∙ raised_slots_long
 
-    advanced_head : (kept advanced head).at ≡ spare
-    advanced_head = ap (λ (x : Slot). x.at) (kept-same raised_slots head (record (kept raised_slots head) { at = spare }) (omega (arith, head_there.0, raised_slots_long)))
+    advanced_head : (slot_at advanced head).at ≡ spare
+    advanced_head = ap (λ (x : Slot). x.at) (slot_at-same raised_slots head (record (slot_at raised_slots head) { at = spare }) (omega (arith, head_there.0, raised_slots_long)))
 
-    raised_second : kept raised_slots second ≡ record (kept slots second) { at = k }
-    raised_second = kept-same slots second (record (kept slots second) { at = k }) second_there.0
+    raised_second : slot_at raised_slots second ≡ record (slot_at slots second) { at = k }
+    raised_second = slot_at-same slots second (record (slot_at slots second) { at = k }) second_there.0
 
-    raised_other : (u : ℕ) → u ≢ second → kept raised_slots u ≡ kept slots u
-    raised_other u other = kept-other slots second u (record (kept slots second) { at = k }) other
+    raised_other : (u : ℕ) → u ≢ second → slot_at raised_slots u ≡ slot_at slots u
+    raised_other u other = slot_at-other slots second u (record (slot_at slots second) { at = k }) other
 
-    advanced_other : (u : ℕ) → u ≢ head → kept advanced u ≡ kept raised_slots u
-    advanced_other u other = kept-other raised_slots head u (record (kept raised_slots head) { at = spare }) other
+    advanced_other : (u : ℕ) → u ≢ head → slot_at advanced u ≡ slot_at raised_slots u
+    advanced_other u other = slot_at-other raised_slots head u (record (slot_at raised_slots head) { at = spare }) other
 
-    -- what is kept of another slot
+    -- the contents of another slot
     abbrev IsSecond : ℕ → Type 0
-    IsSecond u = (u ≡ second) × (kept advanced u ≡ record (kept slots u) { at = k })
+    IsSecond u = (u ≡ second) × (slot_at advanced u ≡ record (slot_at slots u) { at = k })
 
     abbrev IsSame : ℕ → Type 0
-    IsSame u = (u ≢ second) × (kept advanced u ≡ kept slots u)
+    IsSame u = (u ≢ second) × (slot_at advanced u ≡ slot_at slots u)
 
     moved_or_not : (u : ℕ) → u ≢ head → IsSecond u ⊎ IsSame u
     moved_or_not u other = ⊎_elim
-        (λ e. inl (e, subst (λ v. kept advanced v ≡ record (kept slots v) { at = k }) (sym e) (advanced_other second second_other ∙ raised_second)))
+        (λ e. inl (e, subst (λ v. slot_at advanced v ≡ record (slot_at slots v) { at = k }) (sym e) (advanced_other second second_other ∙ raised_second)))
         (λ apart. inr (apart, advanced_other u other ∙ raised_other u apart))
         (cases_eq u second)
 
-    advanced_mark : (u : ℕ) → u ≢ head → (kept advanced u).mark ≡ (kept slots u).mark
+    advanced_mark : (u : ℕ) → u ≢ head → (slot_at advanced u).mark ≡ (slot_at slots u).mark
     advanced_mark u other = ⊎_elim (λ m. ap (λ (x : Slot). x.mark) m.1) (λ m. ap (λ (x : Slot). x.mark) m.1) (moved_or_not u other)
 
-    advanced_notice : (u : ℕ) → u ≢ head → (kept advanced u).notice ≡ (kept slots u).notice
+    advanced_notice : (u : ℕ) → u ≢ head → (slot_at advanced u).notice ≡ (slot_at slots u).notice
     advanced_notice u other = ⊎_elim (λ m. ap (λ (x : Slot). x.notice) m.1) (λ m. ap (λ (x : Slot). x.notice) m.1) (moved_or_not u other)
 
-    advanced_next : (u : ℕ) → u ≢ head → (kept advanced u).next ≡ (kept slots u).next
+    advanced_next : (u : ℕ) → u ≢ head → (slot_at advanced u).next ≡ (slot_at slots u).next
     advanced_next u other = ⊎_elim (λ m. ap (λ (x : Slot). x.next) m.1) (λ m. ap (λ (x : Slot). x.next) m.1) (moved_or_not u other)
 
-    advanced_taken : (u : ℕ) → u < length slots → IsTaken count (kept advanced u) → (u ≢ head) × IsTaken count (kept slots u)
+    advanced_taken : (u : ℕ) → u < length slots → IsTaken count (slot_at advanced u) → (u ≢ head) × IsTaken count (slot_at slots u)
     advanced_taken u u_in is =
         let other : u ≢ head = (λ e.
-        let here : (kept advanced u).at ≡ spare = ap (λ v. (kept advanced v).at) e ∙ advanced_head in
+        let here : (slot_at advanced u).at ≡ spare = ap (λ v. (slot_at advanced v).at) e ∙ advanced_head in
         ⊎_elim (λ lt. omega (arith, lt, here)) (λ ge. omega (arith, ge, here, spare_apart)) is) in (
           other,
           ⊎_elim
-              (λ m. inr (omega (arith, second_behind, ap (λ v. (kept slots v).at) m.0)))
+              (λ m. inr (omega (arith, second_follows, ap (λ v. (slot_at slots v).at) m.0)))
               (λ m. subst (λ x. IsTaken count x) m.1 is)
               (moved_or_not u other),
         )
 
-    taken_advanced : (u : ℕ) → u ≢ head → IsTaken count (kept slots u) → IsTaken count (kept advanced u)
+    taken_advanced : (u : ℕ) → u ≢ head → IsTaken count (slot_at slots u) → IsTaken count (slot_at advanced u)
     taken_advanced u other is = ⊎_elim
         (λ m. inl (omega (arith, k_in, ap (λ (x : Slot). x.at) m.1)))
         (λ m. subst (λ x. IsTaken count x) (sym m.1) is)
         (moved_or_not u other)
 
-    -- what stands where
-    stood_spare : (stand advanced_stood spare).slot ≡ head
-    stood_spare = freed-same raised spare head (omega (arith, room_spare, raised_long))
+    -- which slot is in which place
+    nodes_spare : (node advanced_nodes spare).slot ≡ head
+    nodes_spare = freed-same raised spare head (omega (arith, room_spare, raised_long))
 
-    stood_there : stand advanced_stood k ≡ comes
-    stood_there =
+    nodes_put_there : node advanced_nodes k ≡ comes
+    nodes_put_there =
         freed-other raised spare head k (λ e. omega (arith, e, k_in))
-        ∙ get_or-set_same stands k comes no_stand (omega (arith, k_in, h.few))
+        ∙ get_or-set_same nodes k comes no_node (omega (arith, k_in, h.few))
 
-    stood_elsewhere : (j : ℕ) → j ≢ spare → j ≢ k → stand advanced_stood j ≡ stand stands j
-    stood_elsewhere j other apart = freed-other raised spare head j other ∙ get_or-set_other stands k j comes no_stand apart
+    nodes_elsewhere : (j : ℕ) → j ≢ spare → j ≢ k → node advanced_nodes j ≡ node nodes j
+    nodes_elsewhere j other apart = freed-other raised spare head j other ∙ get_or-set_other nodes k j comes no_node apart
 
     -- the slot in another place
-    elsewhere_other : (j : ℕ) → j < count + free → j ≢ k → (stand stands j).slot ≢ head
-    elsewhere_other j j_in apart e = omega (arith, apart, (h.there j j_in).1, head_there.1, ap (λ u. (kept slots u).at) e)
+    elsewhere_other : (j : ℕ) → j < count + free → j ≢ k → (node nodes j).slot ≢ head
+    elsewhere_other j j_in apart e = omega (arith, apart, (h.there j j_in).1, head_there.1, ap (λ u. (slot_at slots u).at) e)
 
-    elsewhere_apart : (j : ℕ) → j < count + free → (stand stands j).slot ≢ second
-    elsewhere_apart j j_in e = omega (arith, (h.there j j_in).1, ap (λ u. (kept slots u).at) e, second_behind, j_in, spare_apart)
+    elsewhere_apart : (j : ℕ) → j < count + free → (node nodes j).slot ≢ second
+    elsewhere_apart j j_in e = omega (arith, (h.there j j_in).1, ap (λ u. (slot_at slots u).at) e, second_follows, j_in, spare_apart)
 
-    there_advanced : (j : ℕ) → j < count + (free + 1) → ((stand advanced_stood j).slot < length advanced) × ((kept advanced (stand advanced_stood j).slot).at ≡ j)
+    there_advanced : (j : ℕ) → j < count + (free + 1) → ((node advanced_nodes j).slot < length advanced) × ((slot_at advanced (node advanced_nodes j).slot).at ≡ j)
     there_advanced j j_in =
-        let by_slot : (u : ℕ) → (stand advanced_stood j).slot ≡ u → u < length slots → (kept advanced u).at ≡ j → ((stand advanced_stood j).slot < length advanced) × ((kept advanced (stand advanced_stood j).slot).at ≡ j)
-        = (λ u e u_in at. (omega (arith, e, u_in, advanced_long), ap (λ v. (kept advanced v).at) e ∙ at)) in
+        let by_slot : (u : ℕ) → (node advanced_nodes j).slot ≡ u → u < length slots → (slot_at advanced u).at ≡ j → ((node advanced_nodes j).slot < length advanced) × ((slot_at advanced (node advanced_nodes j).slot).at ≡ j)
+        = (λ u e u_in at. (omega (arith, e, u_in, advanced_long), ap (λ v. (slot_at advanced v).at) e ∙ at)) in
         ⊎_elim
-        (λ e. by_slot head (ap (λ i. (stand advanced_stood i).slot) e ∙ stood_spare) head_there.0 (advanced_head ∙ sym e))
+        (λ e. by_slot head (ap (λ i. (node advanced_nodes i).slot) e ∙ nodes_spare) head_there.0 (advanced_head ∙ sym e))
         (λ other. ⊎_elim
         (λ e.
-        by_slot second (ap (λ i. (stand advanced_stood i).slot) e ∙ ap (λ (x : Stand). x.slot) stood_there) second_there.0
+        by_slot second (ap (λ i. (node advanced_nodes i).slot) e ∙ ap (λ (x : HeapNode). x.slot) nodes_put_there) second_there.0
         (ap (λ (x : Slot). x.at) (advanced_other second second_other ∙ raised_second) ∙ sym e))
         (λ apart.
         let lt : j < count + free = omega (arith, j_in, other) in
-        let u = (stand stands j).slot in
-        by_slot u (ap (λ (x : Stand). x.slot) (stood_elsewhere j other apart)) (h.there j lt).0
+        let u = (node nodes j).slot in
+        by_slot u (ap (λ (x : HeapNode). x.slot) (nodes_elsewhere j other apart)) (h.there j lt).0
         (ap (λ (x : Slot). x.at) (advanced_other u (elsewhere_other j lt apart) ∙ raised_other u (elsewhere_apart j lt)) ∙ (h.there j lt).1))
         (cases_eq j k))
         (cases_eq j spare)
 
-    back_advanced : (u : ℕ) → u < length advanced → (kept advanced u).at < behind → ((kept advanced u).at < count + (free + 1)) × ((stand advanced_stood (kept advanced u).at).slot ≡ u)
+    back_advanced : (u : ℕ) → u < length advanced → (slot_at advanced u).at < following → ((slot_at advanced u).at < count + (free + 1)) × ((node advanced_nodes (slot_at advanced u).at).slot ≡ u)
     back_advanced u u_in lt =
-        let by_place : (j : ℕ) → (kept advanced u).at ≡ j → j < count + (free + 1) → (stand advanced_stood j).slot ≡ u → ((kept advanced u).at < count + (free + 1)) × ((stand advanced_stood (kept advanced u).at).slot ≡ u)
-        = (λ j e j_in is. (omega (arith, e, j_in), ap (λ i. (stand advanced_stood i).slot) e ∙ is)) in
+        let by_place : (j : ℕ) → (slot_at advanced u).at ≡ j → j < count + (free + 1) → (node advanced_nodes j).slot ≡ u → ((slot_at advanced u).at < count + (free + 1)) × ((node advanced_nodes (slot_at advanced u).at).slot ≡ u)
+        = (λ j e j_in is. (omega (arith, e, j_in), ap (λ i. (node advanced_nodes i).slot) e ∙ is)) in
         ⊎_elim
-        (λ e. by_place spare (ap (λ v. (kept advanced v).at) e ∙ advanced_head) (omega arith) (stood_spare ∙ sym e))
+        (λ e. by_place spare (ap (λ v. (slot_at advanced v).at) e ∙ advanced_head) (omega arith) (nodes_spare ∙ sym e))
         (λ other. ⊎_elim
-        (λ m. by_place k (ap (λ (x : Slot). x.at) m.1) (omega (arith, k_in)) (ap (λ (x : Stand). x.slot) stood_there ∙ sym m.0))
+        (λ m. by_place k (ap (λ (x : Slot). x.at) m.1) (omega (arith, k_in)) (ap (λ (x : HeapNode). x.slot) nodes_put_there ∙ sym m.0))
         (λ m.
         let same = ap (λ (x : Slot). x.at) m.1 in
         let was = h.back u (omega (arith, u_in, advanced_long)) (omega (arith, lt, same)) in
-        let j = (kept slots u).at in
+        let j = (slot_at slots u).at in
         by_place j same (omega (arith, was.0))
-        (ap (λ (x : Stand). x.slot) (stood_elsewhere j (λ e. omega (arith, e, was.0)) (λ e. other (sym was.1 ∙ ap (λ i. (stand stands i).slot) e))) ∙ was.1))
+        (ap (λ (x : HeapNode). x.slot) (nodes_elsewhere j (λ e. omega (arith, e, was.0)) (λ e. other (sym was.1 ∙ ap (λ i. (node nodes i).slot) e))) ∙ was.1))
         (moved_or_not u other))
         (cases_eq u head)
 
-    marked_advanced : (j : ℕ) → j < count → (stand advanced_stood j).mark ≡ (kept advanced (stand advanced_stood j).slot).mark
+    marked_advanced : (j : ℕ) → j < count → (node advanced_nodes j).mark ≡ (slot_at advanced (node advanced_nodes j).slot).mark
     marked_advanced j j_in = ⊎_elim
         (λ e.
-        let is : stand advanced_stood j ≡ comes = ap (stand advanced_stood) e ∙ stood_there in
-        ap (λ (x : Stand). x.mark) is ∙ sym (advanced_mark second second_other) ∙ ap (λ (x : Stand). (kept advanced x.slot).mark) (sym is))
+        let is : node advanced_nodes j ≡ comes = ap (node advanced_nodes) e ∙ nodes_put_there in
+        ap (λ (x : HeapNode). x.mark) is ∙ sym (advanced_mark second second_other) ∙ ap (λ (x : HeapNode). (slot_at advanced x.slot).mark) (sym is))
         (λ apart.
-        let same = stood_elsewhere j (λ e. omega (arith, e, j_in)) apart in
-        ap (λ (x : Stand). x.mark) same ∙ h.marked j j_in ∙ sym (advanced_mark (stand stands j).slot (elsewhere_other j (omega (arith, j_in)) apart))
-        ∙ ap (λ (x : Stand). (kept advanced x.slot).mark) (sym same))
+        let same = nodes_elsewhere j (λ e. omega (arith, e, j_in)) apart in
+        ap (λ (x : HeapNode). x.mark) same ∙ h.marked j j_in ∙ sym (advanced_mark (node nodes j).slot (elsewhere_other j (omega (arith, j_in)) apart))
+        ∙ ap (λ (x : HeapNode). (slot_at advanced x.slot).mark) (sym same))
         (cases_eq j k)
 
-    next_advanced : (u : ℕ) → u < length advanced → IsTaken count (kept advanced u) → (kept advanced u).next ≢ no_slot → ((kept advanced u).next < length advanced) × ((kept advanced (kept advanced u).next).at ≡ behind + u)
+    next_advanced : (u : ℕ) → u < length advanced → IsTaken count (slot_at advanced u) → (slot_at advanced u).next ≢ no_slot → ((slot_at advanced u).next < length advanced) × ((slot_at advanced (slot_at advanced u).next).at ≡ following + u)
     next_advanced u u_in is some =
         let within : u < length slots = omega (arith, u_in, advanced_long) in
         let was = advanced_taken u within is in
         let e = advanced_next u was.0 in
-        let v = (kept slots u).next in
+        let v = (slot_at slots u).next in
         let it = h.next u within was.1 (λ none. some (e ∙ none)) in
-        let v_other : v ≢ head = (λ same. omega (arith, it.1, head_low, ap (λ w. (kept slots w).at) same)) in
-        let v_apart : v ≢ second = (λ same. was.0 (omega (arith, it.1, second_there.1, ap (λ w. (kept slots w).at) same))) in (
+        let v_other : v ≢ head = (λ same. omega (arith, it.1, head_low, ap (λ w. (slot_at slots w).at) same)) in
+        let v_apart : v ≢ second = (λ same. was.0 (omega (arith, it.1, second_there.1, ap (λ w. (slot_at slots w).at) same))) in (
           omega (arith, e, it.0, advanced_long),
-          ap (λ w. (kept advanced w).at) e ∙ ap (λ (x : Slot). x.at) (advanced_other v v_other ∙ raised_other v v_apart) ∙ it.1,
+          ap (λ w. (slot_at advanced w).at) e ∙ ap (λ (x : Slot). x.at) (advanced_other v v_other ∙ raised_other v v_apart) ∙ it.1,
         )
 
-    before_advanced : (u r : ℕ) → u < length advanced → (kept advanced u).at ≡ behind + r → IsBefore count advanced r u
+    before_advanced : (u r : ℕ) → u < length advanced → (slot_at advanced u).at ≡ following + r → IsBefore count advanced r u
     before_advanced u r u_in at =
         let within : u < length slots = omega (arith, u_in, advanced_long) in
-        let other : u ≢ head = (λ e. omega (arith, at, ap (λ v. (kept advanced v).at) e ∙ advanced_head, spare_apart)) in
+        let other : u ≢ head = (λ e. omega (arith, at, ap (λ v. (slot_at advanced v).at) e ∙ advanced_head, spare_apart)) in
         ⊎_elim
         (λ m. absurd (omega (arith, at, ap (λ (x : Slot). x.at) m.1, k_apart)))
         (λ m.
         let b = h.before u r within (sym (ap (λ (x : Slot). x.at) m.1) ∙ at) in
-        let r_other : r ≢ head = (λ e. m.0 (sym b.next ∙ ap (λ v. (kept slots v).next) e)) in
+        let r_other : r ≢ head = (λ e. m.0 (sym b.next ∙ ap (λ v. (slot_at slots v).next) e)) in
         record {
           within = omega (arith, b.within, advanced_long);
           taken = taken_advanced r r_other b.taken;
           next = advanced_next r r_other ∙ b.next;
           time = ap (λ m. m.time) (advanced_mark r r_other) ∙ b.time ∙ sym (ap (λ m. m.time) (advanced_mark u other));
           order = omega (arith, b.order, ap (λ m. m.order) (advanced_mark r r_other), ap (λ m. m.order) (advanced_mark u other));
-          told = omega (arith, b.told, ap (λ m. m.order) (advanced_mark u other));
+          plain = omega (arith, b.plain, ap (λ m. m.order) (advanced_mark u other));
         })
         (moved_or_not u other)
 
-    module _ (g : Directory) (others : (m : ℤ) (t : ℕ) → m ≢ (kept slots head).notice → t ≢ head → Leads d m t → Leads g m t) where
-      -- what is kept then
-      pub held-advanced : AreHeld count (free + 1) advanced wholes advanced_stood g
+    module _ (g : Directory) (others : (m : ℤ) (t : ℕ) → m ≢ (slot_at slots head).notice → t ≢ head → Leads d m t → Leads g m t) where
+      -- each slot then
+      pub held-advanced : AreHeld count (free + 1) advanced wholes advanced_nodes g
       held-advanced = record {
-        many = stood_long ∙ h.many ∙ sym advanced_long;
-        few = omega (arith, room_spare, stood_long);
+        many = nodes_long ∙ h.many ∙ sym advanced_long;
+        few = omega (arith, room_spare, nodes_long);
         small = omega (arith, advanced_long, h.small);
         there = there_advanced;
         back = back_advanced;
@@ -685,87 +685,87 @@ module _ (count free : ℕ) (slots : List Slot) (wholes : List Entry) (stands : 
     entry_advanced : (u : ℕ) → u ≢ head → entry_at advanced wholes u ≡ entry_at slots wholes u
     entry_advanced u other = λ i. entry_in (advanced_mark u other i) (advanced_notice u other i) (slice_index_or wholes u no_entry)
 
-    -- the next is told by its mark
-    second_told : entry_at slots wholes second ≡ follower (kept slots second)
-    second_told = in-told (kept slots second).mark (kept slots second).notice (slice_index_or wholes second no_entry) (told_tells (kept slots second).mark.order second_after.told)
+    -- the next is a plain entry
+    second_plain : entry_at slots wholes second ≡ follower (slot_at slots second)
+    second_plain = in-plain (slot_at slots second).mark (slot_at slots second).notice (slice_index_or wholes second no_entry) (plain_differs (slot_at slots second).mark.order second_after.plain)
 
-    pub heads-advanced : heads count advanced wholes advanced_stood ≡ slice_set (heads count slots wholes stands) k (follower (kept slots second))
+    pub heads-advanced : heads count advanced wholes advanced_nodes ≡ slice_set (heads count slots wholes nodes) k (follower (slot_at slots second))
     heads-advanced =
-        let few : count ≤ length stands = omega (arith, h.few) in
-        let few_then : count ≤ length advanced_stood = omega (arith, few, stood_long) in
-        let old = heads count slots wholes stands in
-        let e = follower (kept slots second) in
-        let long_old = long_heads count slots wholes stands few in
-        let long_new = long_heads count advanced wholes advanced_stood few_then in
-        same_lists (heads count advanced wholes advanced_stood) (slice_set old k e) (long_new ∙ sym long_old ∙ sym (length-set old k e))
+        let few : count ≤ length nodes = omega (arith, h.few) in
+        let few_then : count ≤ length advanced_nodes = omega (arith, few, nodes_long) in
+        let old = heads count slots wholes nodes in
+        let e = follower (slot_at slots second) in
+        let long_old = long_heads count slots wholes nodes few in
+        let long_new = long_heads count advanced wholes advanced_nodes few_then in
+        same_lists (heads count advanced wholes advanced_nodes) (slice_set old k e) (long_new ∙ sym long_old ∙ sym (length-set old k e))
         (λ j c j_then.
         let j_in : j < count = omega (arith, j_then, long_new) in
-        head_at count advanced wholes advanced_stood few_then j c j_in ∙ ⊎_elim
+        head_at count advanced wholes advanced_nodes few_then j c j_in ∙ ⊎_elim
         (λ is.
-        ap (λ (x : Stand). entry_at advanced wholes x.slot) (ap (stand advanced_stood) is ∙ stood_there)
-        ∙ entry_advanced second second_other ∙ second_told
+        ap (λ (x : HeapNode). entry_at advanced wholes x.slot) (ap (node advanced_nodes) is ∙ nodes_put_there)
+        ∙ entry_advanced second second_other ∙ second_plain
         ∙ sym (ap (λ i. get_or (slice_set old k e) i c) is ∙ get_or-set_same old k e c (omega (arith, k_in, long_old))))
         (λ apart.
-        ap (λ (x : Stand). entry_at advanced wholes x.slot) (stood_elsewhere j (λ e. omega (arith, e, j_in)) apart)
-        ∙ entry_advanced (stand stands j).slot (elsewhere_other j (omega (arith, j_in)) apart)
-        ∙ sym (head_at count slots wholes stands few j c j_in)
+        ap (λ (x : HeapNode). entry_at advanced wholes x.slot) (nodes_elsewhere j (λ e. omega (arith, e, j_in)) apart)
+        ∙ entry_advanced (node nodes j).slot (elsewhere_other j (omega (arith, j_in)) apart)
+        ∙ sym (head_at count slots wholes nodes few j c j_in)
         ∙ sym (get_or-set_other old k j e c apart))
         (cases_eq j k))
 
-    -- and one less behind others
-    pub followers-advanced : IsPermutation (followers slots) (follower (kept slots second) ∷ followers advanced)
+    -- and one follower less
+    pub followers-advanced : IsPermutation (followers slots) (follower (slot_at slots second) ∷ followers advanced)
     followers-advanced =
         let same = raised_other head (λ e. second_other (sym e)) in
-        subst (λ l. IsPermutation (followers slots) (follower (kept slots second) ∷ l))
-        (sym (followers-placed raised_slots head (record (kept raised_slots head) { at = spare }) (omega (arith, head_there.0, raised_slots_long)) (omega (arith, head_low, ap (λ (x : Slot). x.at) same)) spare_apart))
-        (followers-left slots second (record (kept slots second) { at = k }) second_there.0 second_behind k_apart)
+        subst (λ l. IsPermutation (followers slots) (follower (slot_at slots second) ∷ l))
+        (sym (followers-placed raised_slots head (record (slot_at raised_slots head) { at = spare }) (omega (arith, head_there.0, raised_slots_long)) (omega (arith, head_low, ap (λ (x : Slot). x.at) same)) spare_apart))
+        (followers-left slots second (record (slot_at slots second) { at = k }) second_there.0 second_follows k_apart)
 
   -- ---- the first of the last line goes, which has no other
 
-  module _ (n : ℕ) (one : count ≡ n + 1) (s : ℕ) (s_is : (stand stands n).slot ≡ s) (none : (kept slots s).next ≡ no_slot)
+  module _ (n : ℕ) (one : count ≡ n + 1) (s : ℕ) (s_is : (node nodes n).slot ≡ s) (none : (slot_at slots s).next ≡ no_slot)
       (vs : List Entry) (same : (t : ℕ) → t ≢ s → slice_index_or vs t no_entry ≡ slice_index_or wholes t no_entry) where
-    last_there : (s < length slots) × ((kept slots s).at ≡ n)
-    last_there = subst (λ u. (u < length slots) × ((kept slots u).at ≡ n)) s_is (h.there n (omega (arith, one)))
+    last_there : (s < length slots) × ((slot_at slots s).at ≡ n)
+    last_there = subst (λ u. (u < length slots) × ((slot_at slots u).at ≡ n)) s_is (h.there n (omega (arith, one)))
 
-    last_taken : IsTaken count (kept slots s)
+    last_taken : IsTaken count (slot_at slots s)
     last_taken = inl (omega (arith, last_there.1, one))
 
-    last_apart : n < behind
+    last_apart : n < following
     last_apart = omega (arith, one, h.few, h.many, h.small)
 
-    dropped_taken : (t : ℕ) → t < length slots → IsTaken n (kept slots t) → (t ≢ s) × IsTaken count (kept slots t)
+    dropped_taken : (t : ℕ) → t < length slots → IsTaken n (slot_at slots t) → (t ≢ s) × IsTaken count (slot_at slots t)
     dropped_taken t t_in is = (
       (λ e.
-          let here : (kept slots t).at ≡ n = ap (λ u. (kept slots u).at) e ∙ last_there.1 in
+          let here : (slot_at slots t).at ≡ n = ap (λ u. (slot_at slots u).at) e ∙ last_there.1 in
           ⊎_elim (λ lt. omega (arith, lt, here)) (λ ge. omega (arith, ge, here, last_apart)) is),
       ⊎_elim (λ lt. inl (omega (arith, lt, one))) (λ ge. inr ge) is,
     )
 
-    taken_dropped : (t : ℕ) → t < length slots → t ≢ s → IsTaken count (kept slots t) → IsTaken n (kept slots t)
+    taken_dropped : (t : ℕ) → t < length slots → t ≢ s → IsTaken count (slot_at slots t) → IsTaken n (slot_at slots t)
     taken_dropped t t_in other is = ⊎_elim
         (λ lt. ⊎_elim
         (λ e.
         let was = h.back t t_in (omega (arith, e, last_apart)) in
-        absurd (other (sym was.1 ∙ ap (λ j. (stand stands j).slot) e ∙ s_is)))
+        absurd (other (sym was.1 ∙ ap (λ j. (node nodes j).slot) e ∙ s_is)))
         (λ apart. inl (omega (arith, apart, lt, one)))
-        (cases_eq (kept slots t).at n))
+        (cases_eq (slot_at slots t).at n))
         (λ ge. inr ge)
         is
 
-    before_dropped : (t p : ℕ) → t < length slots → (kept slots t).at ≡ behind + p → IsBefore n slots p t
+    before_dropped : (t p : ℕ) → t < length slots → (slot_at slots t).at ≡ following + p → IsBefore n slots p t
     before_dropped t p t_in at =
         let b = h.before t p t_in at in record {
           within = b.within;
-          taken = taken_dropped p b.within (λ e. omega (arith, t_in, h.small, sym b.next ∙ ap (λ u. (kept slots u).next) e ∙ none)) b.taken;
+          taken = taken_dropped p b.within (λ e. omega (arith, t_in, h.small, sym b.next ∙ ap (λ u. (slot_at slots u).next) e ∙ none)) b.taken;
           next = b.next;
           time = b.time;
           order = b.order;
-          told = b.told;
+          plain = b.plain;
         }
 
-    module _ (g : Directory) (others : (m : ℤ) (t : ℕ) → m ≢ (kept slots s).notice → t ≢ s → Leads d m t → Leads g m t) where
-      -- what is kept then
-      pub held-dropped : AreHeld n (free + 1) slots vs stands g
+    module _ (g : Directory) (others : (m : ℤ) (t : ℕ) → m ≢ (slot_at slots s).notice → t ≢ s → Leads d m t → Leads g m t) where
+      -- each slot then
+      pub held-dropped : AreHeld n (free + 1) slots vs nodes g
       held-dropped = record {
         many = h.many;
         few = omega (arith, h.few, one);
@@ -780,19 +780,19 @@ module _ (count free : ℕ) (slots : List Slot) (wholes : List Entry) (stands : 
         led = led-released n slots vs g s refl (λ t _. refl) (λ t _. refl) same dropped_taken last_there.0 last_taken others;
       }
 
-    pub heads-dropped : heads n slots vs stands ≡ take n (heads count slots wholes stands)
+    pub heads-dropped : heads n slots vs nodes ≡ take n (heads count slots wholes nodes)
     heads-dropped =
-        let few : count ≤ length stands = omega (arith, h.few) in
-        let few_then : n ≤ length stands = omega (arith, few, one) in
-        let old = heads count slots wholes stands in
-        let long_old = long_heads count slots wholes stands few in
-        let long_new = long_heads n slots vs stands few_then in
-        same_lists (heads n slots vs stands) (take n old) (long_new ∙ sym (length-take-le n old (omega (arith, long_old, one))))
+        let few : count ≤ length nodes = omega (arith, h.few) in
+        let few_then : n ≤ length nodes = omega (arith, few, one) in
+        let old = heads count slots wholes nodes in
+        let long_old = long_heads count slots wholes nodes few in
+        let long_new = long_heads n slots vs nodes few_then in
+        same_lists (heads n slots vs nodes) (take n old) (long_new ∙ sym (length-take-le n old (omega (arith, long_old, one))))
         (λ j c j_then.
         let j_in : j < n = omega (arith, j_then, long_new) in
-        let u = (stand stands j).slot in
-        let other : u ≢ s = (λ e. omega (arith, (h.there j (omega (arith, j_in, one))).1, last_there.1, j_in, ap (λ v. (kept slots v).at) e)) in
-        head_at n slots vs stands few_then j c j_in
-        ∙ ap (λ w. entry_in (kept slots u).mark (kept slots u).notice w) (same u other)
-        ∙ sym (head_at count slots wholes stands few j c (omega (arith, j_in, one)))
+        let u = (node nodes j).slot in
+        let other : u ≢ s = (λ e. omega (arith, (h.there j (omega (arith, j_in, one))).1, last_there.1, j_in, ap (λ v. (slot_at slots v).at) e)) in
+        head_at n slots vs nodes few_then j c j_in
+        ∙ ap (λ w. entry_in (slot_at slots u).mark (slot_at slots u).notice w) (same u other)
+        ∙ sym (head_at count slots wholes nodes few j c (omega (arith, j_in, one)))
         ∙ sym (get_or-take n old j c j_in))

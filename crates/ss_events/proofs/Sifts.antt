@@ -101,7 +101,7 @@ module _ (old was new : HeapEntries) (from at : ℕ) (some : 0 < at) (r : Rising
     followers = followers ∙ r.followers;
   }
 
--- it stands at the top
+-- it is at the top
 pub rising_tops : (old new : HeapEntries) (from at : ℕ) → at ≤ 0 → Rising old new from at → Raises old.entries new.entries from at × CostsToRaise old new from at
 rising_tops old new from at top r = (
   record {
@@ -146,7 +146,7 @@ rising_rests old was new from at some r f entries comparisons moves followers = 
   },
 )
 
--- the same of one that comes before its parent, once the two were compared
+-- rising of an entry that comes before its parent, once the two were compared
 pub record Outranking (old new : HeapEntries) (from at parent : ℕ) : Type 0 where
   pub rising : Rising (but_one old) (but_one new) from at
   pub some : 0 < at
@@ -356,7 +356,7 @@ tried_work new held none one moved = record {
   moves = omega arith;
 }
 
--- one that only went behind another
+-- where the new entry only follows another
 pub append_work : (new : HeapEntries) (held : ℕ) → 0 < held → new.comparisons ≡ 1 → new.moves ≡ 1 → IsLogarithmic held new
 append_work new held some one moved = record { comparisons = omega (arith, one_digit held some); moves = omega arith }
 
@@ -377,7 +377,7 @@ module _ (old mid : List Entry) (at : ℕ) (entry : Entry) (within : at < length
   pub taken_mended : (new : List Entry) → Mends mid new at → IsPermutation old (entry ∷ new)
   taken_mended new m = IsPermutation-trans old (entry ∷ mid) (entry ∷ new) taken_all (IsPermutation-cons entry mid new m.permutation)
 
--- the same for one that went where the next of its line took its place
+-- taking out an entry whose place the next of its line took
 module _ (old mid : List Entry) (at : ℕ) (next : Entry) (within : at < length old) (rest : mid ≡ set old at next) where
   pub followed_long : length mid ≡ length old
   followed_long = ap length rest ∙ length-set old at next

@@ -1,4 +1,4 @@
--- An entry that goes out of its place, with the next of its line there behind it, or the last head.
+-- An entry that goes out of its place, where the next of its line comes, or the last head.
 use Rattle.std.proofs.Common.{◌≡◌, ◌<◌, ◌≤◌, [], ◌∷◌, ◌++◌, ℕ, ℤ, zero, suc, ap, get_or, set, length, List, IsPermutation, sym, subst, ⊎_elim, arith}
 use Rattle.std.proofs.lemmas.List.Sorted.{IsPermutation-append_left, IsPermutation-append_right, IsPermutation-middle, IsPermutation-cons, IsPermutation-trans}
 use Rattle.ss_events.specs.declared.entry.Entry.{Entry}

@@ -5,12 +5,12 @@ use Rattle.std.specs.List.Sorted.{IsPermutation}
 use Rattle.ss_events.specs.declared.entry.Entry.{Entry}
 use Rattle.ss_world.specs.Order.{comes_before}
 
--- the first of each line, by place, and all that stand behind another one
+-- the first of each line, by place, and the others, each of which follows another
 pub record Lines : Type 0 where
   pub heads : List Entry
   pub followers : List Entry
 
--- the same, and how many comparisons of two keys and how many moves of an entry were counted
+-- heads and followers, and how many comparisons of two keys and how many moves of an entry were counted
 pub record HeapEntries : Type 0 where
   pub entries : List Entry
   pub followers : List Entry
@@ -25,7 +25,7 @@ lines_of h = record { heads = h.entries; followers = h.followers }
 abbrev pub all_of : HeapEntries → List Entry
 all_of h = h.entries ++ h.followers
 
--- the same with a comparison fewer
+-- a heap with one comparison fewer
 abbrev pub but_one : HeapEntries → HeapEntries
 but_one h = record h { comparisons = h.comparisons - 1 }
 
@@ -43,11 +43,11 @@ pub record IsLed (heads : List Entry) (e : Entry) : Type 0 where
   pub within : place < length heads
   pub before : (d : Entry) → comes_before (slice_index_or heads place d) e ≡ true
 
--- each that stands behind another comes behind one of the heads
-abbrev pub AreBehind : List Entry → List Entry → Type 0
-AreBehind heads followers = All (IsLed heads) followers
+-- each follower comes after one of the heads
+abbrev pub AreAfterHeads : List Entry → List Entry → Type 0
+AreAfterHeads heads followers = All (IsLed heads) followers
 
--- the entry that stood behind another is the first of its line now, in the place `at`
+-- a follower is the first of its line now, in the place `at`
 pub record Advances (old new : Lines) (at : ℕ) : Type 0 where
   pub next : Entry
   pub heads : new.heads ≡ slice_set old.heads at next
@@ -61,7 +61,7 @@ pub record Removes (old new : Lines) (at : ℕ) (event : ℤ × ℤ) : Type 0 wh
   pub is : event ≡ event_of entry
   pub rest : (new ≡ record old { heads = swap_remove old.heads at entry }) ⊎ Advances old new at
 
--- one that stood behind another went out, and had this notice
+-- a follower went out, and had this notice
 pub record Leaves (old new : Lines) (notice : ℤ) : Type 0 where
   pub entry : Entry
   pub noticed : entry.notice ≡ notice

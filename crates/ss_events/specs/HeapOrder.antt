@@ -7,7 +7,7 @@ pub record IsChild (p k : ℕ) : Type 0 where
   pub to : k ≤ 4 * p + 4
 
 module _ {X : Type 0} (before : X → X → Bool) where
-  -- what stands at k doesn't come before what stands at p
+  -- the item at k doesn't come before the item at p
   abbrev pub InOrder : List X → ℕ → ℕ → Type 0
   InOrder xs p k = (d : X) → before (slice_index_or xs k d) (slice_index_or xs p d) ≡ false
 
@@ -23,7 +23,7 @@ module _ {X : Type 0} (before : X → X → Bool) where
   pub record IsOverChildren (xs : List X) (at : ℕ) : Type 0 where
     pub order : (k : ℕ) → IsChild at k → k < length xs → InOrder xs at k
 
-  -- a heap, but for what stands at `at`: the others are in order, those below `at` and that above it too
+  -- a heap, but for the item at `at`: the others are in order, those below `at` and that above it too
   pub record IsHeapBut (xs : List X) (at : ℕ) : Type 0 where
     pub others : (p k : ℕ) → IsChild p k → k < length xs → p ≢ at → k ≢ at → InOrder xs p k
     pub across : (p k : ℕ) → IsChild p at → IsChild at k → k < length xs → InOrder xs p k

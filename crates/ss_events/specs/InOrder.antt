@@ -1,4 +1,4 @@
--- How the entries of a heap stand for the entries of an event list.
+-- Which event list the entries of a heap make.
 use Rattle.std.specs.Prelude.{ℕ, ◌<◌, ◌≤◌, nat_lt, nat_eq, List, [], ◌∷◌, map, if◌then◌else◌}
 use Rattle.std.specs.Ordering.{int_eq}
 use Rattle.std.specs.List.{IsDistinct, All}

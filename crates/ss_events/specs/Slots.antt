@@ -1,4 +1,4 @@
--- Entries in slots. Each stands in a place, or behind another one in a line, whose first stands in a place.
+-- Entries in slots. Each is in a place of the heap, or follows another one in a line, whose first is in a place.
 use Rattle.std.specs.Prelude.{◌≡◌, ◌≢◌, ◌⊎◌, ◌==◌, ℕ, ◌+◌, ◌*◌, ◌/◌, ◌%◌, ◌^◌, ◌<◌, ◌≤◌, ℤ, pos, Bool, true, false, List, [], ◌∷◌, map, length, take, slice_index_or, slice_set, nat_lt, nat_le, bit_and, if◌then◌else◌}
 use Rattle.std.specs.Int.{w64, cast_unsigned}
 use Rattle.std.specs.Map.{lookup}
@@ -9,7 +9,7 @@ use Rattle.ss_events.specs.declared.entry.Entry.{Entry}
 use Rattle.ss_events.specs.declared.entry.Mark.{Mark}
 use Rattle.ss_events.specs.declared.entry.directory.Directory.{Directory}
 use Rattle.ss_events.specs.declared.entry.places.Slot.{Slot}
-use Rattle.ss_events.specs.declared.entry.places.Stand.{Stand}
+use Rattle.ss_events.specs.declared.entry.places.HeapNode.{HeapNode}
 
 -- in place of an entry, where a slot isn't there
 abbrev pub no_entry : Entry
@@ -20,30 +20,29 @@ abbrev pub is_tied : List Tie → Bool
 is_tied [] = false
 is_tied (t ∷ ts) = true
 
--- an order that tells nothing
-abbrev pub untold : ℕ
-untold = 18446744073709551615
+-- in a mark, in place of the order of an entry that isn't plain
+abbrev pub not_plain : ℕ
+not_plain = 18446744073709551615
 
--- the ranks and the numbers of schedulings of which an order tells are below these
-abbrev pub told_ranks : ℕ
-told_ranks = 2 ^ 16
+-- an entry is plain where it has no ties, and its rank and its number of scheduling are below these: its mark describes it
+abbrev pub plain_ranks : ℕ
+plain_ranks = 2 ^ 16
 
-abbrev pub told_numbers : ℕ
-told_numbers = 2 ^ 47
+abbrev pub plain_numbers : ℕ
+plain_numbers = 2 ^ 47
 
--- in which order an entry comes among others of its time: by the rank, and then by the order of scheduling; nothing is told of
--- one that has ties, or whose rank or number is too large for that
+-- in which order a plain entry comes among others of its time: by the rank, and then by the order of scheduling
 abbrev pub order_of : Entry → ℕ
 order_of e =
-    if is_tied e.key.ties then untold
-    else if nat_lt e.key.rank told_ranks then (if nat_lt e.number told_numbers then e.key.rank * told_numbers + e.number else untold)
-    else untold
+    if is_tied e.key.ties then not_plain
+    else if nat_lt e.key.rank plain_ranks then (if nat_lt e.number plain_numbers then e.key.rank * plain_numbers + e.number else not_plain)
+    else not_plain
 
--- what tells of an entry in which order it comes, without a look at it
+-- the mark of an entry: its time, and its order among those of one time
 abbrev pub mark_of : Entry → Mark
 mark_of e = record { time = e.key.time; order = order_of e }
 
--- that of no entry
+-- the mark of no entry
 abbrev pub no_mark : Mark
 no_mark = record { time = pos 0; order = 0 }
 
@@ -52,54 +51,54 @@ pub record IsBut (e f : Entry) : Type 0 where
   pub key : e.key ≡ f.key
   pub number : e.number ≡ f.number
 
--- the entry that a mark tells, with this notice
-abbrev pub told_by : Mark → ℤ → Entry
-told_by m notice = record { key = record { time = m.time; rank = m.order / told_numbers; ties = [] }; number = m.order % told_numbers; notice = notice }
+-- the plain entry that a mark describes, with this notice
+abbrev pub plain_entry : Mark → ℤ → Entry
+plain_entry m notice = record { key = record { time = m.time; rank = m.order / plain_numbers; ties = [] }; number = m.order % plain_numbers; notice = notice }
 
--- the entry in a slot: where its mark tells it by that, and else by what is kept whole
+-- the entry in a slot: made from its mark where it is plain, and else stored whole
 abbrev pub entry_in : Mark → ℤ → Entry → Entry
-entry_in m notice whole = if m.order == untold then record { key = whole.key; number = whole.number; notice = notice } else told_by m notice
+entry_in m notice whole = if m.order == not_plain then record { key = whole.key; number = whole.number; notice = notice } else plain_entry m notice
 
 -- the greatest number, which no slot has
 abbrev pub no_slot : ℕ
 no_slot = 18446744073709551615
 
--- what is added to a slot to say that an entry stands behind the one there
-abbrev pub behind : ℕ
-behind = 9223372036854775808
+-- what is added to the number of a slot to say that an entry follows the one there
+abbrev pub following : ℕ
+following = 9223372036854775808
 
--- in place of what is kept in a slot, where it isn't there
-abbrev pub no_kept : Slot
-no_kept = record { notice = pos 0; mark = no_mark; next = no_slot; at = 0 }
+-- in place of a slot that isn't there
+abbrev pub blank_slot : Slot
+blank_slot = record { notice = pos 0; mark = no_mark; next = no_slot; at = 0 }
 
--- what is kept in a slot
-abbrev pub kept : List Slot → ℕ → Slot
-kept slots s = slice_index_or slots s no_kept
+-- the contents of a slot
+abbrev pub slot_at : List Slot → ℕ → Slot
+slot_at slots s = slice_index_or slots s blank_slot
 
--- in place of what stands in a place, where that isn't there
-abbrev pub no_stand : Stand
-no_stand = record { mark = no_mark; slot = 0 }
+-- in place of a node that isn't there
+abbrev pub no_node : HeapNode
+no_node = record { mark = no_mark; slot = 0 }
 
--- what stands in a place
-abbrev pub stand : List Stand → ℕ → Stand
-stand stands k = slice_index_or stands k no_stand
+-- the node of a place: the slot there, and its mark
+abbrev pub node : List HeapNode → ℕ → HeapNode
+node nodes k = slice_index_or nodes k no_node
 
--- an entry stands in one of so many places, or behind another
+-- a slot is taken where it is in one of so many places, or follows another
 abbrev pub IsTaken : ℕ → Slot → Type 0
-IsTaken count x = (x.at < count) ⊎ (behind ≤ x.at)
+IsTaken count x = (x.at < count) ⊎ (following ≤ x.at)
 
 -- the entry in a slot
 abbrev pub entry_at : List Slot → List Entry → ℕ → Entry
-entry_at slots wholes s = entry_in (kept slots s).mark (kept slots s).notice (slice_index_or wholes s no_entry)
+entry_at slots wholes s = entry_in (slot_at slots s).mark (slot_at slots s).notice (slice_index_or wholes s no_entry)
 
 -- the entries in the first few places
-abbrev pub heads : ℕ → List Slot → List Entry → List Stand → List Entry
-heads count slots wholes stands = map (λ t. entry_at slots wholes t.slot) (take count stands)
+abbrev pub heads : ℕ → List Slot → List Entry → List HeapNode → List Entry
+heads count slots wholes nodes = map (λ t. entry_at slots wholes t.slot) (take count nodes)
 
--- the entries that stand behind another, by slot
+-- the entries that follow another, by slot
 abbrev pub followers : List Slot → List Entry
 followers [] = []
-followers (x ∷ xs) = if nat_le behind x.at then told_by x.mark x.notice ∷ followers xs else followers xs
+followers (x ∷ xs) = if nat_le following x.at then plain_entry x.mark x.notice ∷ followers xs else followers xs
 
 -- the number of the cell of a notice
 abbrev pub cell_of : Directory → ℤ → ℕ
@@ -119,45 +118,45 @@ Leads d notice slot = (first_guess d notice ≡ slot) ⊎ (second_guess d notice
 
 -- no two entries have one notice
 abbrev pub AreDistinct : ℕ → List Slot → Type 0
-AreDistinct count slots = (s t : ℕ) → s < length slots → t < length slots → IsTaken count (kept slots s) → IsTaken count (kept slots t) → (kept slots s).notice ≡ (kept slots t).notice → s ≡ t
+AreDistinct count slots = (s t : ℕ) → s < length slots → t < length slots → IsTaken count (slot_at slots s) → IsTaken count (slot_at slots t) → (slot_at slots s).notice ≡ (slot_at slots t).notice → s ≡ t
 
 -- the directory leads to the notice of each
 abbrev pub AreLed : Directory → ℕ → List Slot → Type 0
-AreLed d count slots = (s : ℕ) → s < length slots → IsTaken count (kept slots s) → Leads d (kept slots s).notice s
+AreLed d count slots = (s : ℕ) → s < length slots → IsTaken count (slot_at slots s) → Leads d (slot_at slots s).notice s
 
--- the entry in the slot p is the one before that in s: both are told by their marks, come at one time, p before s
+-- the entry in the slot p is the one before that in s: both are plain and come at one time, p before s
 pub record IsBefore (count : ℕ) (slots : List Slot) (p s : ℕ) : Type 0 where
   pub within : p < length slots
-  pub taken : IsTaken count (kept slots p)
-  pub next : (kept slots p).next ≡ s
-  pub time : (kept slots p).mark.time ≡ (kept slots s).mark.time
-  pub order : (kept slots p).mark.order < (kept slots s).mark.order
-  pub told : (kept slots s).mark.order < told_ranks * told_numbers
+  pub taken : IsTaken count (slot_at slots p)
+  pub next : (slot_at slots p).next ≡ s
+  pub time : (slot_at slots p).mark.time ≡ (slot_at slots s).mark.time
+  pub order : (slot_at slots p).mark.order < (slot_at slots s).mark.order
+  pub plain : (slot_at slots s).mark.order < plain_ranks * plain_numbers
 
--- `slots` say what is kept by slot, with `wholes` the entries that their marks do not tell, as far as any was kept, and `stands`
--- what stands by place: in `count` places the first of each line, and behind them so many slots that are free. Each slot stands in
--- its place, or behind another slot. No two entries have one notice, and the directory leads to each
-pub record AreHeld (count free : ℕ) (slots : List Slot) (wholes : List Entry) (stands : List Stand) (directory : Directory) : Type 0 where
-  pub many : length stands ≡ length slots
-  pub few : count + free ≤ length stands
-  pub small : length slots < behind
-  pub there : (k : ℕ) → k < count + free → ((stand stands k).slot < length slots) × ((kept slots (stand stands k).slot).at ≡ k)
-  pub back : (s : ℕ) → s < length slots → (kept slots s).at < behind → ((kept slots s).at < count + free) × ((stand stands (kept slots s).at).slot ≡ s)
-  pub marked : (k : ℕ) → k < count → (stand stands k).mark ≡ (kept slots (stand stands k).slot).mark
-  pub fits : (s : ℕ) → s < length slots → IsTaken count (kept slots s) → (kept slots s).mark ≡ mark_of (entry_at slots wholes s)
-  pub next : (s : ℕ) → s < length slots → IsTaken count (kept slots s) → (kept slots s).next ≢ no_slot → ((kept slots s).next < length slots) × ((kept slots (kept slots s).next).at ≡ behind + s)
-  pub before : (s p : ℕ) → s < length slots → (kept slots s).at ≡ behind + p → IsBefore count slots p s
+-- `wholes` has the entries that aren't plain, by slot, as far as one was ever stored. `nodes` says which slot is in which place:
+-- the first of each line in the first `count` places, and the free slots after them. Each slot is in its place, or follows
+-- another slot. No two entries have one notice, and the directory leads to each
+pub record AreHeld (count free : ℕ) (slots : List Slot) (wholes : List Entry) (nodes : List HeapNode) (directory : Directory) : Type 0 where
+  pub many : length nodes ≡ length slots
+  pub few : count + free ≤ length nodes
+  pub small : length slots < following
+  pub there : (k : ℕ) → k < count + free → ((node nodes k).slot < length slots) × ((slot_at slots (node nodes k).slot).at ≡ k)
+  pub back : (s : ℕ) → s < length slots → (slot_at slots s).at < following → ((slot_at slots s).at < count + free) × ((node nodes (slot_at slots s).at).slot ≡ s)
+  pub marked : (k : ℕ) → k < count → (node nodes k).mark ≡ (slot_at slots (node nodes k).slot).mark
+  pub fits : (s : ℕ) → s < length slots → IsTaken count (slot_at slots s) → (slot_at slots s).mark ≡ mark_of (entry_at slots wholes s)
+  pub next : (s : ℕ) → s < length slots → IsTaken count (slot_at slots s) → (slot_at slots s).next ≢ no_slot → ((slot_at slots s).next < length slots) × ((slot_at slots (slot_at slots s).next).at ≡ following + s)
+  pub before : (s p : ℕ) → s < length slots → (slot_at slots s).at ≡ following + p → IsBefore count slots p s
   pub distinct : AreDistinct count slots
   pub led : AreLed directory count slots
 
 -- the slot s with another place
 abbrev pub at_put : List Slot → ℕ → ℕ → List Slot
-at_put slots s place = slice_set slots s (record (kept slots s) { at = place })
+at_put slots s place = slice_set slots s (record (slot_at slots s) { at = place })
 
--- the slot s with another one behind it
+-- the slot s with another one after it
 abbrev pub next_put : List Slot → ℕ → ℕ → List Slot
-next_put slots s next = slice_set slots s (record (kept slots s) { next = next })
+next_put slots s next = slice_set slots s (record (slot_at slots s) { next = next })
 
--- what is kept by slot, once what stands in the places a and b has changed places
-abbrev pub exchanged : List Stand → List Slot → ℕ → ℕ → List Slot
-exchanged stands slots a b = at_put (at_put slots (stand stands b).slot a) (stand stands a).slot b
+-- the slots, once those in the places a and b have changed places
+abbrev pub exchanged : List HeapNode → List Slot → ℕ → ℕ → List Slot
+exchanged nodes slots a b = at_put (at_put slots (node nodes b).slot a) (node nodes a).slot b

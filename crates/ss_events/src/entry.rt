@@ -4,7 +4,7 @@
 //! entry is put into a place only by `Heap`, which counts it.
 ghost use Rattle.std.specs.Prelude.{◌≡◌, ◌<◌, ◌*◌, [], pos, IfOk, IfSome, IsTrue, ◌↔◌, int_lt, map};
 ghost use Rattle.ss_world.specs.PendingList.{FitsClass};
-ghost use Rattle.ss_events.specs.Slots.{is_tied, no_entry, no_mark, order_of, mark_of, told_by, told_ranks, told_numbers};
+ghost use Rattle.ss_events.specs.Slots.{is_tied, no_entry, no_mark, order_of, mark_of, plain_entry, plain_ranks, plain_numbers};
 
 mod directory;
 mod heap;
@@ -21,15 +21,15 @@ use std::marker::Model;
 /// The most schedulings that an event list takes.
 pub const MOST_SCHEDULINGS: u64 = 4_611_686_018_427_387_903;
 
-// The ranks and the numbers of schedulings of which an order tells are below these.
-pub(crate) const TOLD_RANKS: usize = 65_536;
+// An entry is plain where it has no ties, and its rank and its number of scheduling are below these: its mark describes it.
+pub(crate) const PLAIN_RANKS: usize = 65_536;
 
-pub(crate) const TOLD_NUMBERS: u64 = 140_737_488_355_328;
+pub(crate) const PLAIN_NUMBERS: u64 = 140_737_488_355_328;
 
-// An order that tells nothing.
-const UNTOLD: u64 = u64::MAX;
+// In a mark, in place of the order of an entry that isn't plain.
+const NOT_PLAIN: u64 = u64::MAX;
 
-/// Where a notice stands among others: its time in units, the rank of its class, and its ties.
+/// What decides when a notice comes out: its time in units, the rank of its class, and its ties.
 ///
 /// The values are those at the moment when the key is made. A contract sees the record of the three.
 #[derive(Debug, Drop)]
@@ -56,7 +56,7 @@ impl Key {
         Ok(Key { time, rank, ties })
     }
 
-    /// The same with ties that the key takes over, without memory of its own.
+    /// A key that takes over these ties. It needs no memory of its own.
     pub fn with_ties(time: i64, rank: usize, ties: Vec<Tie>) -> Key
         ensures { result ≡ record { time = time; rank = rank; ties = ties.items } }
     {
@@ -137,7 +137,7 @@ fn is_tied(ties: &[Tie]) -> bool
     }
 }
 
-// What tells of an entry in which order it comes, without a look at it: its time, and an order among those of one time.
+// When an entry comes out, without a look at the entry itself: its time, and its order among those of one time.
 #[derive(Clone, Copy)]
 struct Mark {
     time: i64,
@@ -145,7 +145,7 @@ struct Mark {
 }
 
 impl Mark {
-    // That of no entry.
+    // The mark of no entry.
     #[inline(always)]
     fn none() -> Mark
         ensures { result ≡ no_mark }
@@ -154,16 +154,18 @@ impl Mark {
     }
 }
 
-// In which order an entry comes among others of its time: by the rank, and then by the order of scheduling. Nothing is told of
-// one that has ties, or whose rank or number is too large for that.
+// In which order a plain entry comes among others of its time: by the rank, and then by the order of scheduling.
 #[inline(always)]
 fn order_of(entry: &Entry) -> u64
     ensures { result ≡ order_of entry.now }
 {
-    if is_tied(entry.key.ties()) || entry.key.rank() >= TOLD_RANKS || entry.number >= TOLD_NUMBERS {
-        return UNTOLD;
+    if is_tied(entry.key.ties())
+        || entry.key.rank() >= PLAIN_RANKS
+        || entry.number >= PLAIN_NUMBERS
+    {
+        return NOT_PLAIN;
     }
-    entry.key.rank() as u64 * TOLD_NUMBERS + entry.number
+    entry.key.rank() as u64 * PLAIN_NUMBERS + entry.number
 }
 
 #[inline(always)]
@@ -176,24 +178,24 @@ fn mark_of(entry: &Entry) -> Mark
     }
 }
 
-// The entry that a mark tells, but for its notice.
-fn told_by(alloc: Global, mark: Mark) -> Entry
-    requires { mark.order < told_ranks * told_numbers }
-    ensures { result ≡ told_by mark (pos 0) }
+// The plain entry that a mark describes, but for its notice.
+fn plain_entry(alloc: Global, mark: Mark) -> Entry
+    requires { mark.order < plain_ranks * plain_numbers }
+    ensures { result ≡ plain_entry mark (pos 0) }
 {
     Entry {
         key: Key::with_ties(
             mark.time,
-            (mark.order / TOLD_NUMBERS) as usize,
+            (mark.order / PLAIN_NUMBERS) as usize,
             Vec::new(alloc),
         ),
-        number: mark.order % TOLD_NUMBERS,
+        number: mark.order % PLAIN_NUMBERS,
         notice: 0,
     }
 }
 
 impl Entry {
-    // What stands where no entry does: it has no ties.
+    // Fills a slot whose entry isn't stored whole. It has no ties.
     #[inline(always)]
     fn none(alloc: Global) -> Entry
         ensures { result ≡ no_entry }

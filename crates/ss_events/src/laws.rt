@@ -6,7 +6,7 @@ ghost use Rattle.ss_events.specs.declared.entry.Entry.{Entry};
 ghost use Rattle.ss_world.specs.Order.{entry_order, comes_before};
 ghost use Rattle.ss_world.specs.PendingList.{least};
 
-/// The order of entries is total, and it doesn't part only what came of one scheduling.
+/// The order of entries is total: of two entries, one comes before the other, unless they are of one scheduling.
 pub fn order_is_total()
     ensures total { IsTotalOrder entry_order }
     ensures parts { (a b : Entry) → entry_order a b ≡ Equal → a.number ≡ b.number }

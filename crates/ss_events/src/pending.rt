@@ -1,9 +1,9 @@
 ghost use Rattle.std.specs.Prelude.{◌≡◌, ℕ, ◌+◌, ◌*◌, ◌<◌, ◌≤◌, true, false, [], IfOk, IfErr, OnOk, OnErr, Ok, Err, Some, slice_get, length, map, IsTrue, ◌↔◌};
 ghost use Rattle.ss_world.specs.Shape.{shape_of};
 
-use crate::entry::{Heap, Key, MOST_SCHEDULINGS, TOLD_NUMBERS, TOLD_RANKS};
+use crate::entry::{Heap, Key, MOST_SCHEDULINGS, PLAIN_NUMBERS, PLAIN_RANKS};
 use crate::key;
-use crate::sift::{insert, insert_told, take_out};
+use crate::sift::{insert, insert_plain, take_out};
 use ss_base::{FaultKind, Refused};
 use ss_world::{Tie, TieShape};
 use std::alloc::{AllocError, Global};
@@ -83,15 +83,15 @@ impl Pending {
         if self.schedulings == MOST_SCHEDULINGS {
             return Err(Refused::Fault(FaultKind::Overflow));
         }
-        self.heap.are_behind();
+        self.heap.are_after_heads();
         let number = self.schedulings;
         insert(&mut self.heap, key, number, notice)?;
         self.schedulings += 1;
         Ok(())
     }
 
-    /// The same of a notice without ties, where there is room for it, it is found at once to be not pending, and its rank and the
-    /// number of schedulings are not very great; and says whether it did. If not, the list is as it was.
+    /// Schedules a notice without ties, and says whether it did. It may say no where there is no room yet, where a search is needed to
+    /// see that the notice isn't pending, or where the rank or the number of schedulings is great. The list is then as it was.
     #[inline(always)]
     pub fn schedule_at_once(&mut self, time: i64, rank: usize, notice: i64) -> bool
         ensures done { result ≡ true → scheduled (record { time = time; rank = rank; ties = [] }) notice self.old.list ≡ Ok self.new.list }
@@ -103,11 +103,11 @@ impl Pending {
         ensures compared { result ≡ true → 0 < length self.old.list.entries → 0 < self.new.comparisons }
     {
         self.heap.reset_counts();
-        if rank >= TOLD_RANKS || self.schedulings >= TOLD_NUMBERS {
+        if rank >= PLAIN_RANKS || self.schedulings >= PLAIN_NUMBERS {
             return false;
         }
-        self.heap.are_behind();
-        if !insert_told(&mut self.heap, time, rank, self.schedulings, notice) {
+        self.heap.are_after_heads();
+        if !insert_plain(&mut self.heap, time, rank, self.schedulings, notice) {
             return false;
         }
         self.schedulings += 1;
@@ -128,7 +128,7 @@ impl Pending {
             let _event = take_out(&mut self.heap, at);
             return Ok(());
         }
-        if self.heap.remove_behind(notice) {
+        if self.heap.remove_follower(notice) {
             return Ok(());
         }
         Err(FaultKind::NotScheduled)
@@ -143,10 +143,10 @@ impl Pending {
     {
         self.heap.reset_counts();
         if self.heap.len() == 0 {
-            self.heap.are_behind();
+            self.heap.are_after_heads();
             return None;
         }
-        self.heap.are_behind();
+        self.heap.are_after_heads();
         let event = self.heap.first();
         self.heap.look_ahead();
         Some(event)
@@ -162,10 +162,10 @@ impl Pending {
     {
         self.heap.reset_counts();
         if self.heap.len() == 0 {
-            self.heap.are_behind();
+            self.heap.are_after_heads();
             return None;
         }
-        self.heap.are_behind();
+        self.heap.are_after_heads();
         Some(take_out(&mut self.heap, 0))
     }
 
@@ -175,7 +175,7 @@ impl Pending {
         ensures { result ≡ is_pending notice self.now.list.entries }
     {
         if self.heap.len() == 0 {
-            self.heap.are_behind();
+            self.heap.are_after_heads();
             return false;
         }
         self.heap.holds(notice)

@@ -1,17 +1,17 @@
 // How entries go into a heap in order and come out of it.
 ghost use Rattle.std.specs.Prelude.{true, false, [], ◌∷◌, OnOk, OnErr, ℕ, ◌≡◌, ◌<◌, ◌≤◌, ◌-◌, ◌/◌, ◌^◌, length, slice_index_or};
 ghost use Rattle.ss_events.specs.declared.entry.Entry.{Entry};
-ghost use Rattle.ss_events.specs.HeapEntries.{all_of, notices_of, but_one, AreBehind, TakesOut};
+ghost use Rattle.ss_events.specs.HeapEntries.{all_of, notices_of, but_one, AreAfterHeads, TakesOut};
 ghost use Rattle.std.specs.Ordering.{int_eq};
 ghost use Rattle.std.specs.List.{list_any};
 ghost use Rattle.std.specs.List.Sorted.{IsPermutation};
 ghost use Rattle.ss_events.specs.HeapOrder.{IsHeap};
 ghost use Rattle.ss_world.specs.Order.{comes_before};
-ghost use Rattle.ss_events.specs.Slots.{told_ranks, told_numbers};
+ghost use Rattle.ss_events.specs.Slots.{plain_ranks, plain_numbers};
 ghost use Rattle.ss_events.specs.Sifting.{Raises, CostsToRaise, Lowers, CostsToLower, Mends, CostsToMend, IsLogarithmic};
 
 use crate::children::first_child;
-use crate::entry::{Heap, Key, MANY, TOLD_NUMBERS, TOLD_RANKS};
+use crate::entry::{Heap, Key, MANY, PLAIN_NUMBERS, PLAIN_RANKS};
 use std::alloc::AllocError;
 
 /// Puts an entry of a notice into a heap in order. Counts anew.
@@ -30,10 +30,10 @@ pub fn insert(heap: &mut Heap, key: Key, number: u64, notice: i64) -> Result<(),
     heap.reset_counts();
     heap.make_room()?;
     if let Some((time, rank)) = key.untied()
-        && rank < TOLD_RANKS
-        && number < TOLD_NUMBERS
+        && rank < PLAIN_RANKS
+        && number < PLAIN_NUMBERS
     {
-        if insert_told(heap, time, rank, number, notice) {
+        if insert_plain(heap, time, rank, number, notice) {
             return Ok(());
         }
         heap.reset_counts();
@@ -44,13 +44,13 @@ pub fn insert(heap: &mut Heap, key: Key, number: u64, notice: i64) -> Result<(),
     Ok(())
 }
 
-/// Puts an entry of a notice without ties into a heap in order, of a rank and a number that an order tells, where there is room for
-/// it and the notice is found to be new at once; and says whether it did. If not, the entries are what they were. Counts anew.
+/// Puts a plain entry into a heap in order, if there is room for it and its notice is found to be new at once; and says whether it
+/// did. If not, the entries are what they were. Counts anew.
 #[inline(always)]
-pub fn insert_told(heap: &mut Heap, time: i64, rank: usize, number: u64, notice: i64) -> bool
+pub fn insert_plain(heap: &mut Heap, time: i64, rank: usize, number: u64, notice: i64) -> bool
     requires order { IsHeap comes_before heap.old.entries }
-    requires rank { rank < told_ranks }
-    requires number { number < told_numbers }
+    requires rank { rank < plain_ranks }
+    requires number { number < plain_numbers }
     ensures order { IsHeap comes_before heap.new.entries }
     ensures done { result ≡ true → IsPermutation (record { key = record { time = time; rank = rank; ties = [] }; number = number; notice = notice } ∷ all_of heap.old) (all_of heap.new) }
     ensures apart { result ≡ true → list_any (int_eq notice) (notices_of heap.old.entries) ≡ false }
@@ -63,10 +63,10 @@ pub fn insert_told(heap: &mut Heap, time: i64, rank: usize, number: u64, notice:
 {
     heap.reset_counts();
     let place = heap.len();
-    if place >= MANY && heap.append_told(time, rank, number, notice) {
+    if place >= MANY && heap.append_plain(time, rank, number, notice) {
         return true;
     }
-    if !heap.push_told(time, rank, number, notice) {
+    if !heap.push_plain(time, rank, number, notice) {
         return false;
     }
     raise(heap, place);
@@ -122,7 +122,7 @@ fn raise(heap: &mut Heap, at: usize) -> usize
     raise_past(heap, at, parent)
 }
 
-// The same of one that comes before its parent, once the two were compared.
+// Lets an entry rise that comes before its parent, once the two were compared. Answers its place.
 #[inline(never)]
 fn raise_past(heap: &mut Heap, mut at: usize, mut parent: usize) -> usize
     requires within { at < length heap.old.entries }

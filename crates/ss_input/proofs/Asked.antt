@@ -1,11 +1,11 @@
 -- When the reader is asked.
 use Rattle.std.proofs.Common.{◌≡◌, ◌≢◌, inl, inr, ℕ, Bool, true, false, not, List, [], ◌∷◌, drop, Some, refl, sym, ap, ◌∙◌}
 use Rattle.ss_input.specs.Blocks.{BlockSeen, first_of}
-use Rattle.ss_input.specs.Sources.{behind, Suffices, Unasked, StandsBefore, HasWord}
+use Rattle.ss_input.specs.Sources.{after, Suffices, Unasked, NextIs, HasWord}
 use Rattle.ss_input.specs.Words.{is_separator, is_word_byte}
 use Rattle.ss_input.proofs.Passages.{some_first}
 
-skips : (passes : ℕ → Bool) (x : ℕ) (l : List ℕ) → passes x ≡ true → behind passes (x ∷ l) ≡ behind passes l
+skips : (passes : ℕ → Bool) (x : ℕ) (l : List ℕ) → passes x ≡ true → after passes (x ∷ l) ≡ after passes l
 skips passes x l e = rw e refl
 
 module _ {R : Type 0} (passes : ℕ → Bool) where
@@ -14,30 +14,30 @@ module _ {R : Type 0} (passes : ℕ → Bool) where
   unasked_begins a enough = record { reader = refl; ended = refl; same = refl }
 
   stays : (a b : BlockSeen R) → (a.left ≢ [] → b ≡ a) → (a.ended ≡ true → b ≡ a) → Suffices passes a → b ≡ a
-  stays a b at_hand after_end (inl end) = after_end end
-  stays a b at_hand after_end (inr some) = at_hand (λ none. some (ap (behind passes) none))
+  stays a b buffered after_end (inl end) = after_end end
+  stays a b buffered after_end (inr some) = buffered (λ none. some (ap (after passes) none))
 
   -- a look
   pub unasked_look : (a b : BlockSeen R) → (a.left ≢ [] → b ≡ a) → (a.ended ≡ true → b ≡ a) → Suffices passes a → Unasked passes a b
-  unasked_look a b at_hand after_end enough =
-      let same : b ≡ a = stays a b at_hand after_end enough in
+  unasked_look a b buffered after_end enough =
+      let same : b ≡ a = stays a b buffered after_end enough in
       record {
         reader = ap (λ (k : BlockSeen R). k.reader) same;
         ended = ap (λ (k : BlockSeen R). k.ended) same;
-        same = ap (λ (k : BlockSeen R). behind passes k.left) same;
+        same = ap (λ (k : BlockSeen R). after passes k.left) same;
       }
 
   -- a look at a byte that is passed then
   pub unasked_one : (a b c : BlockSeen R) (x : ℕ) → (a.left ≢ [] → b ≡ a) → (a.ended ≡ true → b ≡ a) → Some x ≡ first_of b.left → passes x ≡ true
       → c.left ≡ drop 1 b.left → c.reader ≡ b.reader → c.ended ≡ b.ended → Suffices passes a → Unasked passes a c
-  unasked_one a b c x at_hand after_end first good left reader ended enough =
-      let same : b ≡ a = stays a b at_hand after_end enough in
+  unasked_one a b c x buffered after_end first good left reader ended enough =
+      let same : b ≡ a = stays a b buffered after_end enough in
       record {
         reader = reader ∙ ap (λ (k : BlockSeen R). k.reader) same;
         ended = ended ∙ ap (λ (k : BlockSeen R). k.ended) same;
         same =
-            ap (behind passes) left ∙ sym (skips passes x (drop 1 b.left) good) ∙ ap (behind passes) (sym (some_first x b.left first))
-            ∙ ap (λ (k : BlockSeen R). behind passes k.left) same;
+            ap (after passes) left ∙ sym (skips passes x (drop 1 b.left) good) ∙ ap (after passes) (sym (some_first x b.left first))
+            ∙ ap (λ (k : BlockSeen R). after passes k.left) same;
       }
 
   still : (a b : BlockSeen R) → Unasked passes a b → Suffices passes a → Suffices passes b
@@ -57,28 +57,28 @@ separator-no : (b : Bool) → not b ≡ true → b ≡ false
 separator-no true e = absurd cc
 separator-no false e = refl
 
--- before a word no separator stands
-no_gap : {R : Type 0} (b : BlockSeen R) → StandsBefore is_word_byte b → behind is_separator b.left ≡ b.left
+-- before a word there is no separator
+no_gap : {R : Type 0} (b : BlockSeen R) → NextIs is_word_byte b → after is_separator b.left ≡ b.left
 no_gap b h = by-left b.left refl
   where
-    by-left : (l : List ℕ) → b.left ≡ l → behind is_separator l ≡ l
+    by-left : (l : List ℕ) → b.left ≡ l → after is_separator l ≡ l
     by-left [] e = refl
     by-left (y ∷ l) e = rw (separator-no (is_separator y) (h.before y l e)) refl
 
 enough_gap : {R : Type 0} (a : BlockSeen R) → HasWord a → Suffices is_separator a
 enough_gap a (inl end) = inl end
-enough_gap a (inr some) = inr (λ none. some (ap (behind is_word_byte) none))
+enough_gap a (inr some) = inr (λ none. some (ap (after is_word_byte) none))
 
-enough_word : {R : Type 0} (a b : BlockSeen R) → Unasked is_separator a b → StandsBefore is_word_byte b → HasWord a → Suffices is_word_byte b
+enough_word : {R : Type 0} (a b : BlockSeen R) → Unasked is_separator a b → NextIs is_word_byte b → HasWord a → Suffices is_word_byte b
 enough_word a b kept before (inl end) = inl (kept.ended ∙ end)
 enough_word a b kept before (inr some) =
-    inr (λ none. some (ap (behind is_word_byte) (sym kept.same ∙ no_gap b before) ∙ none))
+    inr (λ none. some (ap (after is_word_byte) (sym kept.same ∙ no_gap b before) ∙ none))
 
 -- the separators before a word and its bytes
 pub gap_unasked : {R : Type 0} (a b : BlockSeen R) → (Suffices is_separator a → Unasked is_separator a b) → HasWord a → b.reader ≡ a.reader
 gap_unasked a b gap has = let h = gap (enough_gap a has) in h.reader
 
-pub word_unasked : {R : Type 0} (a b c : BlockSeen R) → (Suffices is_separator a → Unasked is_separator a b) → StandsBefore is_word_byte b
+pub word_unasked : {R : Type 0} (a b c : BlockSeen R) → (Suffices is_separator a → Unasked is_separator a b) → NextIs is_word_byte b
     → (Suffices is_word_byte b → Unasked is_word_byte b c) → HasWord a → c.reader ≡ a.reader
 word_unasked a b c gap before word has =
     let h = gap (enough_gap a has) in

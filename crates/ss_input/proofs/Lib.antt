@@ -5,4 +5,4 @@ pub mod Failures
 pub mod Gaps
 pub mod Passages
 pub mod Reached
-pub mod AtHand
+pub mod BufferedNumber

@@ -5,7 +5,7 @@ use Rattle.std.proofs.lemmas.List.Folds.{list_all-append}
 use Rattle.std.specs.Io.KnownBytes.{Consumes, Keeps}
 use Rattle.std.specs.List.{list_all}
 use Rattle.ss_input.specs.Blocks.{BlockSeen, Looks, Unread, first_of}
-use Rattle.ss_input.specs.Sources.{Gives, Passes, Passed, GapPassed, WordPassed, StandsBefore, Wants}
+use Rattle.ss_input.specs.Sources.{Gives, Passes, Passed, GapPassed, WordPassed, NextIs, Wants}
 use Rattle.ss_input.specs.Words.{is_separator, is_word_byte}
 
 pub some_first : (x : ℕ) (l : List ℕ) → Some x ≡ first_of l → l ≡ x ∷ drop 1 l
@@ -25,14 +25,14 @@ passes_one remaining a b c x l left reader ended = record {
 pub passes_look : {R : Type 0} (remaining : R → Option (List ℕ)) (a b : BlockSeen R) (byte : Option ℕ) → Looks remaining a b byte → Passes remaining a b []
 passes_look remaining a b byte l = record { got = l.got; consumed = l.consumed; after_end = l.after_end; same = sym l.left }
 
-pub stands_at : {R : Type 0} (remaining : R → Option (List ℕ)) (is_wanted : ℕ → Bool) (a b : BlockSeen R) (x : ℕ) → Looks remaining a b (Some x) → is_wanted x ≡ true → StandsBefore is_wanted b
-stands_at remaining is_wanted a b x l e = record {
+pub next_is : {R : Type 0} (remaining : R → Option (List ℕ)) (is_wanted : ℕ → Bool) (a b : BlockSeen R) (x : ℕ) → Looks remaining a b (Some x) → is_wanted x ≡ true → NextIs is_wanted b
+next_is remaining is_wanted a b x l e = record {
   at_end = λ none. let no : Some x ≡ None = l.byte_is ∙ ap first_of none in absurd cc;
   before = λ y bs here. let some : Some x ≡ Some y = l.byte_is ∙ ap first_of here in let same : x ≡ y = cc in subst (λ z. is_wanted z ≡ true) same e;
 }
 
-pub stands_at_end : {R : Type 0} (remaining : R → Option (List ℕ)) (is_wanted : ℕ → Bool) (a b : BlockSeen R) → Looks remaining a b None → StandsBefore is_wanted b
-stands_at_end remaining is_wanted a b l = record {
+pub next_is_end : {R : Type 0} (remaining : R → Option (List ℕ)) (is_wanted : ℕ → Bool) (a b : BlockSeen R) → Looks remaining a b None → NextIs is_wanted b
+next_is_end remaining is_wanted a b l = record {
   at_end = λ none. l.at_end refl;
   before = λ y bs here. let no : None ≡ Some y = l.byte_is ∙ ap first_of here in absurd cc;
 }
@@ -65,8 +65,8 @@ passes_nothing remaining a = record {
   consumes_nothing (Some a) = refl
 
 -- a passage, and then an error of the reader
-pub gives_behind : {R : Type 0} (remaining : R → Option (List ℕ)) (a b c : BlockSeen R) (xs : List ℕ) → Passes remaining a b xs → Unread remaining b c → Gives remaining a c
-gives_behind remaining a b c xs h u = record {
+pub gives_after : {R : Type 0} (remaining : R → Option (List ℕ)) (a b c : BlockSeen R) (xs : List ℕ) → Passes remaining a b xs → Unread remaining b c → Gives remaining a c
+gives_after remaining a b c xs h u = record {
   got = h.got;
   consumed = consumes_kept (remaining a.reader) (remaining b.reader) (remaining c.reader) h.got h.consumed u.kept;
   after_end = λ e. let v = h.after_end e in (v.0, u.ended ∙ v.1);
@@ -77,11 +77,11 @@ gives_behind remaining a b c xs h u = record {
   consumes_kept (Some a) (Some b) None got h k = absurd k
   consumes_kept (Some a) (Some b) (Some c) got h k = h ∙ ap (λ t. got ++ t) (sym k)
 
--- the same where all that was at hand passed a test
-pub wants_behind : {R : Type 0} (remaining : R → Option (List ℕ)) (passes : ℕ → Bool) (a b c : BlockSeen R) (xs : List ℕ) → Passes remaining a b xs → list_all passes xs ≡ true → Unread remaining b c → (b.left ≡ []) × (b.ended ≡ false) → Wants remaining passes a c
-unfolding gives_behind
-wants_behind remaining passes a b c xs h all u w =
-    let g = gives_behind remaining a b c xs h u in
+-- an error of the reader, where all that was buffered passed a test
+pub wants_after : {R : Type 0} (remaining : R → Option (List ℕ)) (passes : ℕ → Bool) (a b c : BlockSeen R) (xs : List ℕ) → Passes remaining a b xs → list_all passes xs ≡ true → Unread remaining b c → (b.left ≡ []) × (b.ended ≡ false) → Wants remaining passes a c
+unfolding gives_after
+wants_after remaining passes a b c xs h all u w =
+    let g = gives_after remaining a b c xs h u in
     record {
       passed = record {
         bytes = xs;

@@ -7,8 +7,8 @@ use Rattle.std.proofs.lemmas.List.Folds.{list_all-append}
 use Rattle.ss_base.specs.declared.fault.FaultKind.TheVariants.{BadData}
 use Rattle.ss_input.specs.declared.source.Source.{Source}
 use Rattle.ss_input.specs.Blocks.{BlockSeen, first_of}
-use Rattle.ss_input.specs.Sources.{Gives, Passes, Passed, GapPassed, WordPassed, StandsBefore}
-use Rattle.ss_input.specs.Inputs.{source_block, source_gap, Reaches, Stands, Reads, Finds}
+use Rattle.ss_input.specs.Sources.{Gives, Passes, Passed, GapPassed, WordPassed, NextIs}
+use Rattle.ss_input.specs.Inputs.{source_block, source_gap, Reaches, IsAhead, Reads, Finds}
 use Rattle.ss_input.specs.Words.{is_separator, is_word_byte, from_word, word_at, next_word, is_ended, no_word}
 use Rattle.ss_input.proofs.Passages.{consumes_more}
 use Rattle.ss_input.proofs.Gaps.{Stops, word_next, too_many, word_is, too_long}
@@ -17,8 +17,8 @@ no-separator : (b : Bool) → not b ≡ true → b ≡ false
 no-separator true e = absurd cc
 no-separator false e = refl
 
--- what stands before more bytes stops a run of the other kind
-stops-separators : {R : Type 0} (b : BlockSeen R) (more : List ℕ) → StandsBefore is_word_byte b → (b.ended ≡ true → more ≡ []) → Stops is_separator (b.left ++ more)
+-- where a byte of one kind is next, more bytes don't lengthen a run of the other kind
+stops-separators : {R : Type 0} (b : BlockSeen R) (more : List ℕ) → NextIs is_word_byte b → (b.ended ≡ true → more ≡ []) → Stops is_separator (b.left ++ more)
 stops-separators b more h e x xs q = by-left b.left refl q where
   by-left : (l : List ℕ) → b.left ≡ l → l ++ more ≡ x ∷ xs → is_separator x ≡ false
   by-left [] i q = let n : more ≡ [] = e (h.at_end i) in absurd (cons-nil (sym n ∙ q)) where
@@ -30,7 +30,7 @@ word-byte-not : (b : Bool) → b ≡ true → not b ≡ false
 word-byte-not true e = refl
 word-byte-not false e = absurd cc
 
-stops-word : {R : Type 0} (b : BlockSeen R) (more : List ℕ) → StandsBefore is_separator b → (b.ended ≡ true → more ≡ []) → Stops is_word_byte (b.left ++ more)
+stops-word : {R : Type 0} (b : BlockSeen R) (more : List ℕ) → NextIs is_separator b → (b.ended ≡ true → more ≡ []) → Stops is_word_byte (b.left ++ more)
 stops-word b more h e x xs q = by-left b.left refl q where
   by-left : (l : List ℕ) → b.left ≡ l → l ++ more ≡ x ∷ xs → is_word_byte x ≡ false
   by-left [] i q = let n : more ≡ [] = e (h.at_end i) in absurd (cons-nil (sym n ∙ q)) where
@@ -38,7 +38,7 @@ stops-word b more h e x xs q = by-left b.left refl q where
     cons-nil e = absurd cc
   by-left (y ∷ l) i q = let same : y ≡ x = cc in subst (λ z. is_word_byte z ≡ false) same (word-byte-not (is_separator y) (h.before y l i))
 
--- the bytes at hand before, with what was taken, are those that were passed and those at hand after
+-- the bytes buffered before, with those that the reader gave, are those that were passed and those buffered after
 shifted : (left got bytes left' more : List ℕ) → left ++ got ≡ bytes ++ left' → left ++ (got ++ more) ≡ bytes ++ (left' ++ more)
 shifted left got bytes left' more e = sym (append_assoc left got more) ∙ ap (λ l. l ++ more) e ∙ append_assoc bytes left' more
 
@@ -50,7 +50,7 @@ pub record Reached {R : Type 0} (mid : Source R) (more input : List ℕ) : Type 
   pub input_is : input ≡ gap ++ ((source_block mid).left ++ more)
 
 module _ {R : Type 0} (remaining : R → Option (List ℕ)) where
-  passed_so : (old : Source R) (block : BlockSeen R) (count : ℕ) (h : GapPassed remaining (source_block old) block (source_gap old) count) (more input : List ℕ) → Stands old (h.passes.got ++ more) input
+  passed_so : (old : Source R) (block : BlockSeen R) (count : ℕ) (h : GapPassed remaining (source_block old) block (source_gap old) count) (more input : List ℕ) → IsAhead old (h.passes.got ++ more) input
       → (s : List ℕ) × (list_all is_separator s ≡ true) × (length s ≡ count) × (input ≡ s ++ (block.left ++ more))
   passed_so old block count h more input st = (
     st.gap ++ h.bytes,
@@ -71,7 +71,7 @@ module _ {R : Type 0} (remaining : R → Option (List ℕ)) where
   }
 
   -- the input from its next word on
-  pub reached_word : (old mid : Source R) (h : Reaches remaining old mid) → source_gap mid ≤ 1048576 → (more input : List ℕ) → ((source_block mid).ended ≡ true → more ≡ []) → Stands old (h.passed.passes.got ++ more) input → Reached mid more input × (from_word input ≡ Ok ((source_block mid).left ++ more))
+  pub reached_word : (old mid : Source R) (h : Reaches remaining old mid) → source_gap mid ≤ 1048576 → (more input : List ℕ) → ((source_block mid).ended ≡ true → more ≡ []) → IsAhead old (h.passed.passes.got ++ more) input → Reached mid more input × (from_word input ≡ Ok ((source_block mid).left ++ more))
   reached_word old mid h small more input e st =
       let r = passed_so old (source_block mid) (source_gap mid) h.passed more input st in (
         record { gap = r.0; separators = r.1; long = r.2; input_is = r.3 },
@@ -101,15 +101,15 @@ module _ {R : Type 0} (remaining : R → Option (List ℕ)) where
 
   module _ (old mid new : Source R) (h : Reaches remaining old mid) (small : source_gap mid ≤ 1048576) (some : first_of (source_block mid).left ≡ None → ⊥) where
     -- the input before a word, where the reader gave some bytes while it was passed
-    before_word : (w : List ℕ) (g : Passes remaining (source_block mid) (source_block new) w) (more input : List ℕ) → ((source_block new).ended ≡ true → more ≡ []) → Stands old ((h.passed.passes.got ++ g.got) ++ more) input → (from_word input ≡ Ok (w ++ ((source_block new).left ++ more))) × (w ++ ((source_block new).left ++ more) ≡ [] → ⊥)
+    before_word : (w : List ℕ) (g : Passes remaining (source_block mid) (source_block new) w) (more input : List ℕ) → ((source_block new).ended ≡ true → more ≡ []) → IsAhead old ((h.passed.passes.got ++ g.got) ++ more) input → (from_word input ≡ Ok (w ++ ((source_block new).left ++ more))) × (w ++ ((source_block new).left ++ more) ≡ [] → ⊥)
     before_word w g more input e st =
         let mid_end : (source_block mid).ended ≡ true → g.got ++ more ≡ [] = λ m. let v = g.after_end m in ap (λ t. t ++ more) v.0 ∙ e v.1 in
-        let st' : Stands old (h.passed.passes.got ++ (g.got ++ more)) input = subst (λ l. Stands old l input) (append_assoc h.passed.passes.got g.got more) st in
+        let st' : IsAhead old (h.passed.passes.got ++ (g.got ++ more)) input = subst (λ l. IsAhead old l input) (append_assoc h.passed.passes.got g.got more) st in
         let r = reached_word old mid h small (g.got ++ more) input mid_end st' in
         let t : (source_block mid).left ++ (g.got ++ more) ≡ w ++ ((source_block new).left ++ more) = shifted (source_block mid).left g.got w (source_block new).left more g.same in
         (r.1 ∙ ap Ok t, λ q. some_left (source_block mid).left (g.got ++ more) some (t ∙ q))
 
-    pub word_found : (w : List ℕ) → WordPassed remaining (source_block mid) (source_block new) w → length w ≤ 64 → StandsBefore is_separator (source_block new) → source_gap new ≡ 0 → Reads remaining old new (λ input rest. next_word input ≡ Ok (record { value = w; rest = rest }))
+    pub word_found : (w : List ℕ) → WordPassed remaining (source_block mid) (source_block new) w → length w ≤ 64 → NextIs is_separator (source_block new) → source_gap new ≡ 0 → Reads remaining old new (λ input rest. next_word input ≡ Ok (record { value = w; rest = rest }))
     word_found w g len before none = record {
       got = h.passed.passes.got ++ g.0.got;
       consumed = consumes_more (remaining (source_block old).reader) (remaining (source_block mid).reader) (remaining (source_block new).reader) h.passed.passes.got g.0.got h.passed.passes.consumed g.0.consumed;
@@ -119,7 +119,7 @@ module _ {R : Type 0} (remaining : R → Option (List ℕ)) where
           let n : next_word input ≡ Ok (record { value = w; rest = (source_block new).left ++ more }) = ap word_at r.0 ∙ word_is w ((source_block new).left ++ more) r.1 g.1 (stops-word (source_block new) more before e) len in
           record {
             rest = (source_block new).left ++ more;
-            stands = record { gap = []; separators = refl; long = sym none; input_is = refl };
+            ahead = record { gap = []; separators = refl; long = sym none; input_is = refl };
             says = n;
           };
     }
@@ -134,7 +134,7 @@ module _ {R : Type 0} (remaining : R → Option (List ℕ)) where
           ap word_at r.0 ∙ too_long g.bytes ((source_block new).left ++ more) g.holds.0 (omega (arith, g.holds.1));
     }
 
-  -- the same with another thing said
+  -- where one statement follows from another
   pub finds_so : (old new : Source R) (Says Says' : List ℕ → Type 0) → ((input : List ℕ) → Says input → Says' input) → Finds remaining old new Says → Finds remaining old new Says'
   finds_so old new Says Says' so h = record {
     got = h.got;
@@ -148,7 +148,7 @@ module _ {R : Type 0} (remaining : R → Option (List ℕ)) where
     got = h.got;
     consumed = h.consumed;
     after_end = h.after_end;
-    says = λ more input e st. let l = h.says more input e st in record { rest = l.rest; stands = l.stands; says = so input l.rest l.says };
+    says = λ more input e st. let l = h.says more input e st in record { rest = l.rest; ahead = l.ahead; says = so input l.rest l.says };
   }
 
   pub reads_finds : (old new : Source R) (Says : List ℕ → List ℕ → Type 0) (Says' : List ℕ → Type 0) → ((input rest : List ℕ) → Says input rest → Says' input) → Reads remaining old new Says → Finds remaining old new Says'
@@ -159,7 +159,7 @@ module _ {R : Type 0} (remaining : R → Option (List ℕ)) where
     says = λ more input e st. let l = h.says more input e st in so input l.rest l.says;
   }
 
-  -- the same of a source that differs only in what it remembers
+  -- a source that differs only in what it remembers
   pub finds_moved : (old a b : Source R) (Says : List ℕ → Type 0) → source_block a ≡ source_block b → source_gap a ≡ source_gap b → Finds remaining old a Says → Finds remaining old b Says
   finds_moved old a b Says block gap h = record {
     got = h.got;
@@ -177,7 +177,7 @@ module _ {R : Type 0} (remaining : R → Option (List ℕ)) where
         let l = h.says more input (λ q. e (subst (λ k. k.ended ≡ true) block q)) st in
         record {
           rest = l.rest;
-          stands = record { gap = l.stands.gap; separators = l.stands.separators; long = l.stands.long ∙ gap; input_is = l.stands.input_is ∙ ap (λ (k : BlockSeen R). l.stands.gap ++ (k.left ++ more)) block };
+          ahead = record { gap = l.ahead.gap; separators = l.ahead.separators; long = l.ahead.long ∙ gap; input_is = l.ahead.input_is ∙ ap (λ (k : BlockSeen R). l.ahead.gap ++ (k.left ++ more)) block };
           says = l.says;
         };
   }
@@ -205,7 +205,7 @@ module _ {R : Type 0} (remaining : R → Option (List ℕ)) where
         let r = reached_word old mid h h.small more input e st in
         record {
           rest = input;
-          stands = record { gap = r.0.gap; separators = r.0.separators; long = r.0.long; input_is = r.0.input_is };
+          ahead = record { gap = r.0.gap; separators = r.0.separators; long = r.0.long; input_is = r.0.input_is };
           says = (refl, ap no_word r.1 ∙ no_word_more (source_block mid).left more ended (λ q. e (h.next.at_end q)) is);
         };
   }

@@ -46,6 +46,6 @@ pub record Looks {R : Type 0} (remaining : R → Option (List ℕ)) (old new : B
   pub at_end : byte ≡ None → new.ended ≡ true
   pub few : length got ≤ block_limit
 
--- where a block has met the end of its reader, that reader has nothing left, if it tells
+-- where a block has met the end of its reader, that reader has nothing left, if this is known of it
 abbrev pub KnowsEnd : {R : Type 0} → (R → Option (List ℕ)) → BlockSeen R → Type 0
 KnowsEnd remaining b = b.ended ≡ true → IsAtEnd (remaining b.reader)

@@ -1,4 +1,4 @@
--- A number that is told up to a cap.
+-- A number that is counted up to a cap.
 use Rattle.std.specs.Prelude.{ℕ, ◌≡◌, ◌<◌, true, List, ◌∷◌, take, drop, length, min, Option, Some, None}
 use Rattle.std.specs.List.{list_all}
 use Rattle.ss_input.specs.Words.{is_digit, is_separator, digits_from}
@@ -11,7 +11,7 @@ abbrev pub capped : Option ℕ → Option ℕ
 capped None = None
 capped (Some n) = Some (min n cap)
 
--- bytes begin with so many digits, one or more and few, which are this number, and behind them stands a separator
+-- bytes begin with so many digits, at least one and fewer than 18, which are this number, and then a separator
 pub record BeginsWith (value count : ℕ) (bytes : List ℕ) : Type 0 where
   pub some : 0 < count
   pub few : count < 18
@@ -20,6 +20,6 @@ pub record BeginsWith (value count : ℕ) (bytes : List ℕ) : Type 0 where
   pub value_is : value ≡ digits_from 0 (take count bytes)
   pub byte : ℕ
   pub rest : List ℕ
-  pub behind : drop count bytes ≡ byte ∷ rest
+  pub after : drop count bytes ≡ byte ∷ rest
   pub stops : is_separator byte ≡ true
   pub small : value < 1000000000000000000

@@ -11,7 +11,8 @@ pub record Gives {R : Type 0} (remaining : R → Option (List ℕ)) (old new : B
   pub consumed : Consumes (remaining old.reader) (remaining new.reader) got
   pub after_end : old.ended ≡ true → (got ≡ []) × (new.ended ≡ true)
 
--- bytes that were passed: the reader gave some, none after its end, and behind those that were passed the same are left
+-- bytes that were passed: the reader gave some, none after its end; what was left and what it gave is what was passed and what
+-- is left now
 pub record Passes {R : Type 0} (remaining : R → Option (List ℕ)) (old new : BlockSeen R) (bytes : List ℕ) : Type 0 where
   pub got : List ℕ
   pub consumed : Consumes (remaining old.reader) (remaining new.reader) got
@@ -24,8 +25,8 @@ pub record Passed {R : Type 0} (remaining : R → Option (List ℕ)) (old new : 
   pub passes : Passes remaining old new bytes
   pub holds : Holds bytes
 
--- whether bytes begin with one that passes a test; where none is at hand, the reader has given its end
-pub record StandsBefore {R : Type 0} (is_wanted : ℕ → Bool) (block : BlockSeen R) : Type 0 where
+-- the next byte passes a test; where none is buffered, the reader has given its end
+pub record NextIs {R : Type 0} (is_wanted : ℕ → Bool) (block : BlockSeen R) : Type 0 where
   pub at_end : block.left ≡ [] → block.ended ≡ true
   pub before : (b : ℕ) (bs : List ℕ) → block.left ≡ b ∷ bs → is_wanted b ≡ true
 
@@ -38,36 +39,36 @@ GapPassed remaining old new before count =
 abbrev pub WordPassed : {R : Type 0} → (R → Option (List ℕ)) → BlockSeen R → BlockSeen R → List ℕ → Type 0
 WordPassed remaining old new bytes = Passes remaining old new bytes × (list_all is_word_byte bytes ≡ true)
 
--- what stands behind the first bytes that pass a test
-abbrev pub behind : (ℕ → Bool) → List ℕ → List ℕ
-behind passes [] = []
-behind passes (b ∷ bs) = if passes b then behind passes bs else b ∷ bs
+-- what comes after the first bytes that pass a test
+abbrev pub after : (ℕ → Bool) → List ℕ → List ℕ
+after passes [] = []
+after passes (b ∷ bs) = if passes b then after passes bs else b ∷ bs
 
--- whether a block tells without its reader what stands behind bytes that pass a test: a byte behind them is at hand, or
--- the reader has given its end
+-- whether a block knows without its reader what comes after bytes that pass a test: a byte after them is buffered, or the
+-- reader has given its end
 abbrev pub Suffices : {R : Type 0} → (ℕ → Bool) → BlockSeen R → Type 0
-Suffices passes block = (block.ended ≡ true) ⊎ (behind passes block.left ≢ [])
+Suffices passes block = (block.ended ≡ true) ⊎ (after passes block.left ≢ [])
 
--- some such bytes at hand were passed, and the reader was not asked
+-- some such buffered bytes were passed, and the reader was not asked
 pub record Unasked {R : Type 0} (passes : ℕ → Bool) (old new : BlockSeen R) : Type 0 where
   pub reader : new.reader ≡ old.reader
   pub ended : new.ended ≡ old.ended
-  pub same : behind passes new.left ≡ behind passes old.left
+  pub same : after passes new.left ≡ after passes old.left
 
--- whether a block tells without its reader where the next word ends
+-- whether a block knows without its reader where the next word ends
 abbrev pub HasWord : {R : Type 0} → BlockSeen R → Type 0
-HasWord block = (block.ended ≡ true) ⊎ (behind is_word_byte (behind is_separator block.left) ≢ [])
+HasWord block = (block.ended ≡ true) ⊎ (after is_word_byte (after is_separator block.left) ≢ [])
 
--- all bytes at hand, and those that the reader gave, pass a test and were passed; it gave no end, and is to be asked for more
+-- all buffered bytes, and those that the reader gave, pass a test and were passed; it gave no end, and has to be asked for more
 pub record Wants {R : Type 0} (remaining : R → Option (List ℕ)) (passes : ℕ → Bool) (old new : BlockSeen R) : Type 0 where
   pub passed : Passed remaining old new (λ bytes. list_all passes bytes ≡ true)
   pub none_left : new.left ≡ []
   pub goes_on : new.ended ≡ false
 
--- where the next word ends is told neither by the bytes at hand nor by those that the reader gave, and it gave no end
+-- the next word ends neither in the buffered bytes nor in those that the reader gave, and it gave no end
 pub record Lacks {R : Type 0} (remaining : R → Option (List ℕ)) (old new : BlockSeen R) : Type 0 where
   pub got : List ℕ
   pub consumed : Consumes (remaining old.reader) (remaining new.reader) got
   pub after_end : old.ended ≡ true → (got ≡ []) × (new.ended ≡ true)
-  pub short : behind is_word_byte (behind is_separator (old.left ++ got)) ≡ []
+  pub short : after is_word_byte (after is_separator (old.left ++ got)) ≡ []
   pub goes_on : new.ended ≡ false

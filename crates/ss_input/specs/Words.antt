@@ -41,7 +41,7 @@ no_word (Err k) = Err k
 abbrev pub is_ended : List ℕ → Result Bool FaultKind
 is_ended input = no_word (from_word input)
 
--- what was read, and the input behind it
+-- what was read, and the input after it
 pub record Given (A : Type 0) : Type 0 where
   pub value : A
   pub rest : List ℕ
@@ -65,7 +65,7 @@ next_word input = word_at (from_word input)
 abbrev pub is_digit : ℕ → Bool
 is_digit b = nat_le 48 b && nat_le b 57
 
--- the number that digits are, behind a number that stands before them
+-- the number that digits make, after a number that comes before them
 abbrev pub digits_from : ℕ → List ℕ → ℕ
 digits_from n [] = n
 digits_from n (b ∷ bs) = digits_from (n * 10 + (b - 48)) bs
@@ -79,7 +79,7 @@ abbrev pub within_64_bits : (ℕ → ℤ) → Option ℕ → Option ℤ
 within_64_bits sign None = None
 within_64_bits sign (Some n) = if fits_64_bits (sign n) then Some (sign n) else None
 
--- the number that a word is: digits behind a sign or none, within 64 bits
+-- the number that a word is: digits after a sign or none, within 64 bits
 abbrev pub number_read : List ℕ → Option ℤ
 number_read [] = None
 number_read (b ∷ bs) =
@@ -108,6 +108,6 @@ abbrev pub read_word : Mode → Result (Given (List ℕ)) FaultKind → Result (
 read_word mode (Err k) = Err k
 read_word mode (Ok word) = if_read (word_value mode word.value) word.rest
 
--- the value of a mode that the next word is, and the input behind it
+-- the value of a mode that the next word is, and the input after it
 abbrev pub value_given : Mode → List ℕ → Result (Given Value) FaultKind
 value_given mode input = read_word mode (next_word input)

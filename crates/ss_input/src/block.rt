@@ -56,14 +56,14 @@ impl<R> Block<R> {
         }
     }
 
-    /// The reader, as it stands.
+    /// The reader, after all that was read from it.
     pub fn into_inner(self) -> R
         ensures { result ≡ self.reader }
     {
         self.reader
     }
 
-    /// The first of the bytes that are at hand.
+    /// The first of the buffered bytes.
     pub fn first(&self) -> Option<u8>
         ensures { result ≡ first_of self.now.left }
     {
@@ -73,15 +73,15 @@ impl<R> Block<R> {
         }
     }
 
-    /// The bytes that are at hand.
+    /// The buffered bytes: those that the reader gave and that weren't passed yet.
     #[inline(always)]
-    pub fn at_hand(&self) -> &[u8]
+    pub fn buffered(&self) -> &[u8]
         ensures { result.now ≡ self.now.left }
     {
         &self.room[self.next..self.end]
     }
 
-    /// Passes the first so many of the bytes that are at hand.
+    /// Passes the first so many of the buffered bytes.
     #[inline(always)]
     pub fn pass(&mut self, count: usize)
         requires { count ≤ length self.old.left }
@@ -103,11 +103,11 @@ impl<R> Block<R> {
 
 impl<R: FaultyRead> Block<R> {
     /// The next byte, which stays; None at the end. The reader is asked at most once, and only where
-    /// no byte is at hand and it gave no end. The error comes where it answered one; then nothing was
+    /// no byte is buffered and it gave no end. The error comes where it answered one; then nothing was
     /// read.
     pub fn peek(&mut self) -> Result<Option<u8>, ReadFailed>
         ensures ok { IfOk result (λ byte. Looks R.remaining self.old self.new byte) }
-        ensures at_hand { self.old.left ≢ [] → self.new ≡ self.old }
+        ensures buffered { self.old.left ≢ [] → self.new ≡ self.old }
         ensures after_end { self.old.ended ≡ true → self.new ≡ self.old }
         ensures unread { OnErr result (Unread R.remaining self.old self.new) }
         ensures wanted { OnErr result ((self.old.left ≡ []) × (self.old.ended ≡ false)) }

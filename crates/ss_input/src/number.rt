@@ -7,10 +7,10 @@ ghost use Rattle.ss_input.specs.Numbers.{capped, BeginsWith};
 
 use crate::passing::is_separator;
 
-/// A number above this one is told as this one: it lies outside 64 bits with either sign.
+/// A number above this one is counted as this one: it lies outside 64 bits with either sign.
 const CAP: u128 = 9_223_372_036_854_775_809;
 
-// The number that digits are, up to `CAP`; None where another byte stands among them, or none does.
+// The number that digits make, up to `CAP`; None where there is another byte among them, or there are none.
 fn digits(bytes: &[u8]) -> Option<u128>
     ensures { result ≡ capped (digits_of bytes.now) }
 {
@@ -27,7 +27,7 @@ fn digits(bytes: &[u8]) -> Option<u128>
     Some(value)
 }
 
-// The number that digits are, where it is below 2^63.
+// The number that digits make, where it is below 2^63.
 fn positive(bytes: &[u8]) -> Option<i64>
     ensures { result ≡ within_64_bits pos (digits_of bytes.now) }
 {
@@ -37,7 +37,7 @@ fn positive(bytes: &[u8]) -> Option<i64>
     }
 }
 
-// The number that digits behind a minus are, where it is at least -2^63.
+// The number that digits after a minus make, where it is at least -2^63.
 fn negative(bytes: &[u8]) -> Option<i64>
     ensures { result ≡ within_64_bits (λ n. neg_ℤ (pos n)) (digits_of bytes.now) }
 {
@@ -47,7 +47,7 @@ fn negative(bytes: &[u8]) -> Option<i64>
     }
 }
 
-/// The number that a word is: digits behind a sign or none, within 64 bits.
+/// The number that a word is: digits after a sign or none, within 64 bits.
 pub(crate) fn number_read(word: &[u8]) -> Option<i64>
     ensures { result ≡ number_read word.now }
 {
@@ -59,15 +59,15 @@ pub(crate) fn number_read(word: &[u8]) -> Option<i64>
     }
 }
 
-/// The most digits of a number that is read where it stands.
+/// A number of fewer digits than this is read straight from the buffered bytes.
 const SHORT: usize = 18;
 
-/// The greatest number behind which another digit is read.
+/// The greatest number after which another digit is read.
 const MOST: u64 = 99_999_999_999_999_999;
 
-/// A number that stands at the beginning of some bytes, and how many of them it is.
+/// A number at the beginning of some bytes, and how many bytes it has.
 #[derive(Clone, Copy)]
-pub(crate) struct Standing {
+pub(crate) struct LeadingNumber {
     pub(crate) value: u64,
     pub(crate) count: usize,
 }
@@ -80,9 +80,9 @@ fn is_digit(byte: u8) -> bool
     byte.is_ascii_digit()
 }
 
-/// The number that bytes begin with, where it is of few digits, has no sign, and a separator stands behind it.
+/// The number that bytes begin with, where it has few digits and no sign, and a separator follows it.
 #[inline(always)]
-pub(crate) fn number_standing(bytes: &[u8]) -> Option<Standing>
+pub(crate) fn leading_number(bytes: &[u8]) -> Option<LeadingNumber>
     ensures { IfSome result (λ n. BeginsWith n.value n.count bytes.now) }
 {
     let mut value: u64 = 0;
@@ -93,7 +93,7 @@ pub(crate) fn number_standing(bytes: &[u8]) -> Option<Standing>
         let byte = bytes[count];
         if !is_digit(byte) {
             if count > 0 && is_separator(byte) {
-                return Some(Standing { value, count });
+                return Some(LeadingNumber { value, count });
             }
             return None;
         }

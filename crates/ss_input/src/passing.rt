@@ -4,7 +4,7 @@ ghost use Rattle.std.specs.List.{list_all};
 ghost use Rattle.std.specs.Prelude.{length, take, ◌≡◌, ◌≤◌, ◌+◌, ◌∷◌, [], true, false, ℕ, Ok, Some, None, OnErr};
 ghost use Rattle.ss_base.specs.Failures.{errors_after};
 ghost use Rattle.ss_input.specs.Blocks.{KnowsEnd, Unread};
-ghost use Rattle.ss_input.specs.Sources.{Gives, Passes, Passed, GapPassed, WordPassed, StandsBefore, Suffices, Unasked, Wants};
+ghost use Rattle.ss_input.specs.Sources.{Gives, Passes, Passed, GapPassed, WordPassed, NextIs, Suffices, Unasked, Wants};
 ghost use Rattle.ss_input.specs.Words.{is_separator, is_word_byte};
 
 use crate::block::{Block, ReadFailed};
@@ -16,7 +16,7 @@ pub const WORD_LIMIT: usize = 64;
 /// The most separators in a row.
 pub const SEPARATOR_LIMIT: usize = 1_048_576;
 
-/// Whether a byte parts words: a blank, a tab, or an end of a line.
+/// Whether a byte separates words: a blank, a tab, or an end of a line.
 #[inline(always)]
 pub(crate) fn is_separator(byte: u8) -> bool
     ensures { result ≡ is_separator byte }
@@ -27,7 +27,7 @@ pub(crate) fn is_separator(byte: u8) -> bool
 /// Passes the next byte if it is a separator, and says whether it was.
 pub(crate) fn pass_separator<R: FaultyRead>(block: &mut Block<R>) -> Result<bool, ReadFailed>
     ensures passed { result ≡ Ok true → Passed R.remaining block.old block.new (λ bytes. (b : ℕ) × (bytes ≡ b ∷ []) × (is_separator b ≡ true)) }
-    ensures none { result ≡ Ok false → Passes R.remaining block.old block.new [] × StandsBefore is_word_byte block.new }
+    ensures none { result ≡ Ok false → Passes R.remaining block.old block.new [] × NextIs is_word_byte block.new }
     ensures unread { OnErr result (Unread R.remaining block.old block.new) }
     ensures wanted { OnErr result ((block.old.left ≡ []) × (block.old.ended ≡ false)) }
     ensures counted { R.faults block.new.reader ≡ errors_after result (R.faults block.old.reader) }
@@ -46,7 +46,7 @@ pub(crate) fn pass_separator<R: FaultyRead>(block: &mut Block<R>) -> Result<bool
 /// Passes the next byte if it is one of a word, and answers it.
 pub(crate) fn pass_word_byte<R: FaultyRead>(block: &mut Block<R>) -> Result<Option<u8>, ReadFailed>
     ensures passed { (b : ℕ) → result ≡ Ok (Some b) → Passes R.remaining block.old block.new (b ∷ []) × (is_word_byte b ≡ true) }
-    ensures none { result ≡ Ok None → Passes R.remaining block.old block.new [] × StandsBefore is_separator block.new }
+    ensures none { result ≡ Ok None → Passes R.remaining block.old block.new [] × NextIs is_separator block.new }
     ensures unread { OnErr result (Unread R.remaining block.old block.new) }
     ensures wanted { OnErr result ((block.old.left ≡ []) × (block.old.ended ≡ false)) }
     ensures counted { R.faults block.new.reader ≡ errors_after result (R.faults block.old.reader) }
@@ -62,14 +62,14 @@ pub(crate) fn pass_word_byte<R: FaultyRead>(block: &mut Block<R>) -> Result<Opti
     }
 }
 
-/// Passes all separators at hand, where so many were passed before them, and answers how many there
+/// Passes all separators that come next, where so many were passed before them, and answers how many there
 /// are then; None where they are too many.
 pub(crate) fn pass_gap<R: FaultyRead>(
     block: &mut Block<R>,
     before: usize,
 ) -> Result<Option<usize>, ReadFailed>
     requires { before ≤ SEPARATOR_LIMIT }
-    ensures passed { (count : ℕ) → result ≡ Ok (Some count) → GapPassed R.remaining block.old block.new before count × (count ≤ SEPARATOR_LIMIT) × StandsBefore is_word_byte block.new }
+    ensures passed { (count : ℕ) → result ≡ Ok (Some count) → GapPassed R.remaining block.old block.new before count × (count ≤ SEPARATOR_LIMIT) × NextIs is_word_byte block.new }
     ensures too_many { result ≡ Ok None → GapPassed R.remaining block.old block.new before (SEPARATOR_LIMIT + 1) }
     ensures gives { OnErr result (Gives R.remaining block.old block.new) }
     ensures wants { OnErr result (Wants R.remaining is_separator block.old block.new) }
@@ -95,7 +95,7 @@ pub(crate) fn pass_word<R: FaultyRead>(
     block: &mut Block<R>,
     word: &mut [u8; WORD_LIMIT],
 ) -> Result<Option<usize>, ReadFailed>
-    ensures passed { (count : ℕ) → result ≡ Ok (Some count) → WordPassed R.remaining block.old block.new (take count word.new) × (count ≤ WORD_LIMIT) × StandsBefore is_separator block.new }
+    ensures passed { (count : ℕ) → result ≡ Ok (Some count) → WordPassed R.remaining block.old block.new (take count word.new) × (count ≤ WORD_LIMIT) × NextIs is_separator block.new }
     ensures too_long { result ≡ Ok None → Passed R.remaining block.old block.new (λ bytes. (list_all is_word_byte bytes ≡ true) × (length bytes ≡ WORD_LIMIT + 1)) }
     ensures gives { OnErr result (Gives R.remaining block.old block.new) }
     ensures wants { OnErr result (Wants R.remaining is_word_byte block.old block.new) }

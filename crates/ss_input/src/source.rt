@@ -7,12 +7,12 @@ ghost use Rattle.ss_base.specs.declared.layout.Mode.TheVariants.{Integer, Alpha 
 ghost use Rattle.ss_base.specs.Failures.{HasRisen, HasRisenBy};
 ghost use Rattle.ss_input.specs.declared.source.Missed.{Missed as MissedSeen};
 ghost use Rattle.ss_input.specs.Blocks.{KnowsEnd};
-ghost use Rattle.ss_input.specs.Sources.{Gives, GapPassed, StandsBefore, Suffices, Unasked, HasWord, Wants, Lacks};
-ghost use Rattle.ss_input.specs.Inputs.{source_block, source_gap, source_missed, source_reader, IsFresh, IsAtHand, IsBeforeWord, Reads, Finds, Reaches, missed_of, failures_after};
+ghost use Rattle.ss_input.specs.Sources.{Gives, GapPassed, NextIs, Suffices, Unasked, HasWord, Wants, Lacks};
+ghost use Rattle.ss_input.specs.Inputs.{source_block, source_gap, source_missed, source_reader, IsFresh, IsBuffered, IsBeforeWord, Reads, Finds, Reaches, missed_of, failures_after};
 ghost use Rattle.ss_input.specs.Words.{is_separator, is_word_byte, is_ended, next_word, value_given};
 
 use crate::block::{Block, ReadFailed};
-use crate::number::{number_read, number_standing, separators};
+use crate::number::{leading_number, number_read, separators};
 use crate::passing::{SEPARATOR_LIMIT, WORD_LIMIT, pass_gap, pass_word};
 use ss_base::{Alpha, FaultKind, FaultyRead};
 use std::marker::Model;
@@ -21,7 +21,7 @@ use std::marker::Model;
 #[derive(Clone, Copy, Debug, PartialEq, Eq)]
 pub enum Missed {
     /// END OF DATA where no word is left; BAD DATA where the word is no value of the mode, or too
-    /// long, or stands behind too many separators.
+    /// long, or comes after too many separators.
     Fault(FaultKind),
     /// The reader answered an error.
     Input,
@@ -29,7 +29,7 @@ pub enum Missed {
 
 /// The words that a reader gives.
 ///
-/// It is asked for 4,096 bytes at a time, and only where none is at hand and one is needed. Its
+/// The reader is asked for 4,096 bytes at a time, and only where none is buffered and one is needed. Its
 /// first end is remembered. After a `Missed` every call answers the same and reads nothing.
 #[derive(Debug, Drop)]
 pub struct Source<R> {
@@ -38,9 +38,9 @@ pub struct Source<R> {
     missed: Option<Missed>,
 }
 
-/// A number whose bytes are at hand: how many separators stand before it, and how many bytes it has.
+/// A number whose bytes are buffered: how many separators come before it, and how many bytes it has.
 #[derive(Clone, Copy)]
-struct AtHand {
+struct BufferedNumber {
     gap: usize,
     value: u64,
     count: usize,
@@ -81,7 +81,7 @@ impl<R> Source<R> {
         self.missed
     }
 
-    /// The reader, as it stands.
+    /// The reader, after all that was read from it.
     pub fn into_inner(self) -> R
         ensures { result ≡ source_reader self }
     {
@@ -175,31 +175,31 @@ impl<R: FaultyRead> Source<R> {
         }
     }
 
-    // The next word, where it is a number of a few digits, and all of it is at hand with a separator behind it.
+    // The next word, where it is a number of a few digits, and all of it is buffered with a separator after it.
     #[inline(always)]
-    fn number_at_hand(&self) -> Option<AtHand>
-        ensures { IfSome result (λ n. IsAtHand self.now n.gap n.value n.count) }
+    fn buffered_number(&self) -> Option<BufferedNumber>
+        ensures { IfSome result (λ n. IsBuffered self.now n.gap n.value n.count) }
     {
-        let bytes = self.block.at_hand();
+        let bytes = self.block.buffered();
         let gap = separators(bytes);
         if gap > SEPARATOR_LIMIT - self.gap.count {
             return None;
         }
-        let (_, behind) = bytes.split_at(gap);
-        let Some(standing) = number_standing(behind) else {
+        let (_, after) = bytes.split_at(gap);
+        let Some(leading) = leading_number(after) else {
             return None;
         };
-        Some(AtHand {
+        Some(BufferedNumber {
             gap,
-            value: standing.value,
-            count: standing.count,
+            value: leading.value,
+            count: leading.count,
         })
     }
 
-    // Passes a number that is at hand.
+    // Passes a number that is buffered.
     #[inline(always)]
-    fn pass_number(&mut self, number: AtHand)
-        requires { IsAtHand self.old number.gap number.value number.count }
+    fn pass_number(&mut self, number: BufferedNumber)
+        requires { IsBuffered self.old number.gap number.value number.count }
         ensures read { Reads R.remaining self.old self.new (λ input rest. value_given Integer input ≡ Ok (record { value = Whole (pos number.value); rest = rest })) }
         ensures reader { source_reader self.new ≡ source_reader self.old }
         ensures ended { (source_block self.new).ended ≡ (source_block self.old).ended }
@@ -209,12 +209,12 @@ impl<R: FaultyRead> Source<R> {
         self.gap = Gap { count: 0 };
     }
 
-    // How many separators stand before the next word, where its first byte is at hand.
+    // How many separators come before the next word, where its first byte is buffered.
     #[inline(always)]
-    fn gap_at_hand(&self) -> Option<usize>
+    fn buffered_gap(&self) -> Option<usize>
         ensures { IfSome result (λ gap. IsBeforeWord self.now gap) }
     {
-        let bytes = self.block.at_hand();
+        let bytes = self.block.buffered();
         let gap = separators(bytes);
         if gap >= bytes.len() {
             return None;
@@ -225,9 +225,9 @@ impl<R: FaultyRead> Source<R> {
         Some(gap)
     }
 
-    // Passes separators that stand before a word.
+    // Passes the separators before a word.
     #[inline(always)]
-    fn pass_gap_at_hand(&mut self, gap: usize)
+    fn pass_buffered_gap(&mut self, gap: usize)
         requires { IsBeforeWord self.old gap }
         ensures read { Reads R.remaining self.old self.new (λ input rest. (rest ≡ input) × (is_ended input ≡ Ok false)) }
         ensures reader { source_reader self.new ≡ source_reader self.old }
@@ -257,8 +257,8 @@ impl<R: FaultyRead> Source<R> {
     ///
     /// `Missed::Fault` with END OF DATA where no word is left, and with BAD DATA for any other word, one
     /// of more than 64 bytes, or more than 1,048,576 separators before it; `Missed::Input` just where the
-    /// reader answered an error, which is not asked again. The reader is not asked at all where the bytes
-    /// at hand tell where the word ends. After a `Missed` every call answers the same and reads nothing.
+    /// reader answered an error, which is not asked again. The reader is not asked at all where the word ends
+    /// within the buffered bytes. After a `Missed` every call answers the same and reads nothing.
     pub fn integer(&mut self) -> Result<i64, Missed>
         ensures again { (missed : MissedSeen) → source_missed self.old ≡ Some missed → (result ≡ Err missed) × (self.new ≡ self.old) }
         ensures read { (number : ℤ) → result ≡ Ok number → Reads R.remaining self.old self.new (λ input rest. value_given Integer input ≡ Ok (record { value = Whole number; rest = rest })) }
@@ -275,7 +275,7 @@ impl<R: FaultyRead> Source<R> {
         if let Some(missed) = self.missed {
             return Err(missed);
         }
-        if let Some(number) = self.number_at_hand() {
+        if let Some(number) = self.buffered_number() {
             self.pass_number(number);
             return Ok(number.value as i64);
         }
@@ -287,8 +287,8 @@ impl<R: FaultyRead> Source<R> {
     ///
     /// `Missed::Fault` with END OF DATA where no word is left, and with BAD DATA for any other word, one
     /// of more than 64 bytes, or more than 1,048,576 separators before it; `Missed::Input` just where the
-    /// reader answered an error, which is not asked again. The reader is not asked at all where the bytes
-    /// at hand tell where the word ends. After a `Missed` every call answers the same and reads nothing.
+    /// reader answered an error, which is not asked again. The reader is not asked at all where the word ends
+    /// within the buffered bytes. After a `Missed` every call answers the same and reads nothing.
     pub fn alpha(&mut self) -> Result<Alpha, Missed>
         ensures again { (missed : MissedSeen) → source_missed self.old ≡ Some missed → (result ≡ Err missed) × (self.new ≡ self.old) }
         ensures read { (text : List ℕ) → result ≡ Ok text → Reads R.remaining self.old self.new (λ input rest. value_given AlphaMode input ≡ Ok (record { value = Text text; rest = rest })) }
@@ -326,10 +326,10 @@ impl<R: FaultyRead> Source<R> {
 
     /// Whether no word is left; a word of any length is one.
     ///
-    /// Nothing is taken: the next call stands before the same word, behind the same separators.
+    /// Nothing is taken: the next call finds the same word, after the same separators.
     /// `Missed::Fault` with BAD DATA where more than 1,048,576 separators come before it; `Missed::Input`
     /// just where the reader answered an error, which is not asked again. The reader is not asked at all
-    /// where a byte of the word is at hand. After a `Missed` every call answers the same and reads
+    /// where a byte of the word is buffered. After a `Missed` every call answers the same and reads
     /// nothing.
     pub fn ended(&mut self) -> Result<bool, Missed>
         ensures again { (missed : MissedSeen) → source_missed self.old ≡ Some missed → (result ≡ Err missed) × (self.new ≡ self.old) }
@@ -347,8 +347,8 @@ impl<R: FaultyRead> Source<R> {
         if let Some(missed) = self.missed {
             return Err(missed);
         }
-        if let Some(gap) = self.gap_at_hand() {
-            self.pass_gap_at_hand(gap);
+        if let Some(gap) = self.buffered_gap() {
+            self.pass_buffered_gap(gap);
             return Ok(false);
         }
         let answer = self.find_end();

@@ -50,7 +50,7 @@ IsComment bs (comment body, rest) = (bs ≡ body ++ 39 ∷ 39 ∷ rest) × (is_a
 IsComment bs (open_comment body, rest) = (bs ≡ body) × (is_apart body ≡ true) × (rest ≡ [])
 IsComment bs (_, rest) = ⊥
 
--- the first byte is that of the body with an apostrophe behind it
+-- the first byte is that of the body with an apostrophe after it
 quote_same : (body bs rest : List ℕ) → bs ≡ body ++ 39 ∷ 39 ∷ rest → begins is_apostrophe (body ++ 39 ∷ []) ≡ begins is_apostrophe bs
 quote_same [] bs rest e = rw e refl
 quote_same (c ∷ body) bs rest e = rw e refl
@@ -119,7 +119,7 @@ open_comment_again (b ∷ body) k = go (opens_comment b body) refl (open_comment
 quote_not_quotable : (b : ℕ) → (b == 34) ≡ true → is_quotable b ≡ false
 quote_not_quotable b e = let same = eqb-true b 34 e in ap is_quotable same
 
--- a text is closed where a quote stands behind its quotable bytes
+-- a text is closed where a quote follows its quotable bytes
 pub closed_is : (bs : List ℕ) → is_closed bs ≡ begins (λ b. b == 34) (drop (quotable_length bs) bs)
 closed_is [] = refl
 closed_is (b ∷ bs) =
@@ -144,8 +144,8 @@ quoted_fits bs =
       | inl e ↦
           let h = run_splits is_quotable bs in
           let there = quote_there (drop (quotable_length bs) bs) (sym (closed_is bs) ∙ e) in
-          let behind : drop 1 (drop (quotable_length bs) bs) ≡ drop (quotable_length bs + 1) bs = drop-drop 1 (quotable_length bs) bs in
-          let split : bs ≡ take (quotable_length bs) bs ++ 34 ∷ drop (quotable_length bs + 1) bs = h.0 ∙ ap (λ l. take (quotable_length bs) bs ++ l) (there ∙ ap (λ l. 34 ∷ l) behind) in
+          let after : drop 1 (drop (quotable_length bs) bs) ≡ drop (quotable_length bs + 1) bs = drop-drop 1 (quotable_length bs) bs in
+          let split : bs ≡ take (quotable_length bs) bs ++ 34 ∷ drop (quotable_length bs + 1) bs = h.0 ∙ ap (λ l. take (quotable_length bs) bs ++ l) (there ∙ ap (λ l. 34 ∷ l) after) in
           rw e (ap (λ l. 34 ∷ l) (split ∙ sym (append_assoc (take (quotable_length bs) bs) (34 ∷ []) (drop (quotable_length bs + 1) bs))), h.1)
       | inr e ↦ rw e (ap (λ l. 34 ∷ l) (sym (append-nil bs)), (e, refl))
     ]
@@ -160,8 +160,8 @@ unfolding quoted_at
 quoted_again body rest all =
     let h = run_again is_quotable body (34 ∷ rest) all refl in
     let closed = closed_body body rest all in
-    let behind : drop (quotable_length (body ++ 34 ∷ rest) + 1) (body ++ 34 ∷ rest) ≡ rest = sym (drop-drop 1 (quotable_length (body ++ 34 ∷ rest)) (body ++ 34 ∷ rest)) ∙ ap (drop 1) h.1 in
-    rw closed (λ i. (quoted (h.0 i), behind i))
+    let after : drop (quotable_length (body ++ 34 ∷ rest) + 1) (body ++ 34 ∷ rest) ≡ rest = sym (drop-drop 1 (quotable_length (body ++ 34 ∷ rest)) (body ++ 34 ∷ rest)) ∙ ap (drop 1) h.1 in
+    rw closed (λ i. (quoted (h.0 i), after i))
 
 split : (b c : ℕ) (bs cs : List ℕ) → b ∷ bs ≡ c ∷ cs → (b ≡ c) × (bs ≡ cs)
 split b c bs cs e = (cc, cc)

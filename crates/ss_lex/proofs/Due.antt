@@ -4,7 +4,7 @@ use Rattle.std.specs.Prelude.{if◌then◌else◌}
 use Rattle.std.specs.List.{list_any}
 use Rattle.ss_lex.specs.declared.token.Token.{Token}
 use Rattle.ss_lex.specs.Tokens.{is_trigger, is_print, number_in, first_number, is_print_or_trigger, has_kind, number_due}
-use Rattle.ss_lex.specs.Collecting.{ends_in_print, number_behind, IsKept}
+use Rattle.ss_lex.specs.Collecting.{ends_in_print, number_after, IsSummary}
 use Rattle.ss_lex.proofs.Cutting.{which}
 
 any_push : (test : Token → Bool) (ts : List Token) (t : Token) → list_any test (ts ++ t ∷ []) ≡ (list_any test ts || test t)
@@ -29,7 +29,7 @@ no_print_last [] e = refl
 no_print_last (t ∷ []) e = (or_false (is_print t.kind) (is_trigger t.kind) (or_false (is_print_or_trigger t.kind) false e).0).0
 no_print_last (t ∷ u ∷ ts) e = no_print_last (u ∷ ts) (or_false (is_print_or_trigger t.kind) _ e).1
 
-number_due-push : (ts : List Token) (t : Token) → number_due (ts ++ t ∷ []) ≡ number_behind ts t.kind
+number_due-push : (ts : List Token) (t : Token) → number_due (ts ++ t ∷ []) ≡ number_after ts t.kind
 number_due-push [] t =
     elim (which (is_print t.kind)) [
       | inl p ↦ rw p refl
@@ -57,14 +57,14 @@ number_due-push (u ∷ ts) t =
     or_true true = refl
     or_true false = refl
 
-    zero_at : (vs : List Token) → is_print_or_trigger t.kind ≡ true → number_behind vs t.kind ≡ 0
+    zero_at : (vs : List Token) → is_print_or_trigger t.kind ≡ true → number_after vs t.kind ≡ 0
     zero_at vs p = ap (λ (b : Bool). if b then 0 else (if ends_in_print vs then number_in t.kind else number_due vs)) p
 
-    later : (vs : List Token) → is_print_or_trigger t.kind ≡ false → has_kind is_print_or_trigger vs ≡ true → number_behind vs t.kind ≡ number_behind (u ∷ vs) t.kind
+    later : (vs : List Token) → is_print_or_trigger t.kind ≡ false → has_kind is_print_or_trigger vs ≡ true → number_after vs t.kind ≡ number_after (u ∷ vs) t.kind
     later [] p q = absurd cc
     later (v ∷ vs) p q = ap (λ (n : ℕ). if is_print_or_trigger t.kind then 0 else (if ends_in_print (v ∷ vs) then number_in t.kind else n)) (ap (λ (b : Bool). if b then number_due (v ∷ vs) else (if is_print u.kind then first_number (v ∷ vs) else 0)) (sym q))
 
-    here : (vs : List Token) → is_print_or_trigger t.kind ≡ false → has_kind is_print_or_trigger vs ≡ false → (if is_print u.kind then first_number (vs ++ t ∷ []) else 0) ≡ number_behind (u ∷ vs) t.kind
+    here : (vs : List Token) → is_print_or_trigger t.kind ≡ false → has_kind is_print_or_trigger vs ≡ false → (if is_print u.kind then first_number (vs ++ t ∷ []) else 0) ≡ number_after (u ∷ vs) t.kind
     here [] p q = elim (which (is_print u.kind)) [ inl r ↦ rw (r, p) refl | inr r ↦ rw (r, p) refl ]
     here (v ∷ vs) p q =
         ap (λ (b : Bool). if b then number_due (v ∷ vs) else (if is_print u.kind then number_in v.kind else 0)) (sym q)
@@ -76,6 +76,6 @@ ends-push [] t = refl
 ends-push (u ∷ []) t = refl
 ends-push (u ∷ v ∷ ts) t = ends-push (v ∷ ts) t
 
-pub kept_push : (ts us : List Token) (t : Token) (print_last : Bool) (number : ℕ) → us ≡ ts ++ t ∷ [] → print_last ≡ is_print t.kind → number ≡ number_behind ts t.kind → IsKept us print_last number
-kept_push ts us t print_last number e p n =
+pub summary_push : (ts us : List Token) (t : Token) (print_last : Bool) (number : ℕ) → us ≡ ts ++ t ∷ [] → print_last ≡ is_print t.kind → number ≡ number_after ts t.kind → IsSummary us print_last number
+summary_push ts us t print_last number e p n =
     record { ends = p ∙ (sym (ends-push ts t) ∙ ap ends_in_print (sym e)); due = n ∙ (sym (number_due-push ts t) ∙ ap number_due (sym e)) }

@@ -7,5 +7,5 @@ pub mod Reading
 pub mod Steps
 pub mod Table
 pub mod TextLaws
-pub mod Told
+pub mod CodeLines
 pub mod Whole

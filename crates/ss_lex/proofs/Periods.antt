@@ -25,9 +25,9 @@ one_less w (suc n) some le e =
     rw (k, take-suc w n 0, e') (sym (after_period (take n w)))
 
 -- the last byte is no period
-pub all_kept : (w : List ℕ) (n : ℕ) → 0 < n → n ≤ length w → (get_or w (n - 1) 0 ≡ 46 → ⊥) → without_end_periods (take n w) ≡ take n w
-all_kept w zero some le e = absurd (omega arith)
-all_kept w (suc n) some le e =
+pub none_dropped : (w : List ℕ) (n : ℕ) → 0 < n → n ≤ length w → (get_or w (n - 1) 0 ≡ 46 → ⊥) → without_end_periods (take n w) ≡ take n w
+none_dropped w zero some le e = absurd (omega arith)
+none_dropped w (suc n) some le e =
     let k : suc n - 1 ≡ n = omega arith in
     let other : (get_or w n 0 == 46) ≡ false = grind (arith, nat_tests, rw k at e) in
     rw (take-suc w n 0) (after_other (take n w) (get_or w n 0) other)

@@ -55,29 +55,29 @@ lines_fit (b ∷ bs) =
 pub text_none : (text : List ℕ) (count : ℕ) → count ≡ length (lines_of text) → IsTextReadTo text text 0 1 0 count []
 text_none text count e = record { counted = omega arith; place = omega arith; within = omega arith; found = λ more h. h; refused = λ refusal h. h }
 
-pub text_more : (text rest bytes behind : List ℕ) (start line due due' count : ℕ) (tokens new : List Token) → IsTextReadTo text rest start line due count tokens → lines_of rest ≡ bytes ∷ lines_of behind → length bytes + length behind ≤ length rest → IsLineRead bytes start line (count - line) due tokens new due' → IsTextReadTo text behind (start + (length bytes + 1)) (line + 1) due' count new
-text_more text rest bytes behind start line due due' count tokens new r e n l =
-    let one : length (lines_of rest) ≡ suc (length (lines_of behind)) = ap length e in
-    let left : length (lines_of behind) ≡ count - line = omega (arith, one, r.counted) in
+pub text_more : (text rest bytes after : List ℕ) (start line due due' count : ℕ) (tokens new : List Token) → IsTextReadTo text rest start line due count tokens → lines_of rest ≡ bytes ∷ lines_of after → length bytes + length after ≤ length rest → IsLineRead bytes start line (count - line) due tokens new due' → IsTextReadTo text after (start + (length bytes + 1)) (line + 1) due' count new
+text_more text rest bytes after start line due due' count tokens new r e n l =
+    let one : length (lines_of rest) ≡ suc (length (lines_of after)) = ap length e in
+    let left : length (lines_of after) ≡ count - line = omega (arith, one, r.counted) in
     let next : start + (length bytes + 1) ≡ start + length bytes + 1 = omega arith in
     record {
       counted = omega (arith, one, r.counted);
       place = omega (arith, n, r.place);
       within = omega (arith, left, l.within);
       found = λ more h.
-          let s = l.found (lines_of behind) more left (subst (λ (k : ℕ). AreTokensOf (lines_of behind) due' new k (line + 1) more) next h) in
+          let s = l.found (lines_of after) more left (subst (λ (k : ℕ). AreTokensOf (lines_of after) due' new k (line + 1) more) next h) in
           let whole = r.found (s.0 ++ more) (subst (λ (ls : List (List ℕ)). AreTokensOf ls due tokens start line (s.0 ++ more)) (sym e) s.2) in
           subst (λ (ts : List Token). AreTokensOf (lines_of text) 0 [] 0 1 ts) (sym (append_assoc tokens s.0 more) ∙ ap (λ ts. ts ++ more) (sym s.1)) whole;
       refused = λ refusal h.
-          let s = l.refused (lines_of behind) refusal left (subst (λ (k : ℕ). IsRefusedIn (lines_of behind) due' new k (line + 1) refusal) next h) in
+          let s = l.refused (lines_of after) refusal left (subst (λ (k : ℕ). IsRefusedIn (lines_of after) due' new k (line + 1) refusal) next h) in
           r.refused refusal (subst (λ (ls : List (List ℕ)). IsRefusedIn ls due tokens start line refusal) (sym e) s);
     }
 
-pub text_refused : (text rest bytes behind : List ℕ) (start line due count : ℕ) (tokens : List Token) (refusal : LexError) → IsTextReadTo text rest start line due count tokens → lines_of rest ≡ bytes ∷ lines_of behind → IsLineRefused bytes start line (count - line) due tokens refusal → IsRefusedIn (lines_of text) 0 [] 0 1 refusal
-text_refused text rest bytes behind start line due count tokens refusal r e l =
-    let one : length (lines_of rest) ≡ suc (length (lines_of behind)) = ap length e in
-    let left : length (lines_of behind) ≡ count - line = omega (arith, one, r.counted) in
-    r.refused refusal (subst (λ (ls : List (List ℕ)). IsRefusedIn ls due tokens start line refusal) (sym e) (l (lines_of behind) left))
+pub text_refused : (text rest bytes after : List ℕ) (start line due count : ℕ) (tokens : List Token) (refusal : LexError) → IsTextReadTo text rest start line due count tokens → lines_of rest ≡ bytes ∷ lines_of after → IsLineRefused bytes start line (count - line) due tokens refusal → IsRefusedIn (lines_of text) 0 [] 0 1 refusal
+text_refused text rest bytes after start line due count tokens refusal r e l =
+    let one : length (lines_of rest) ≡ suc (length (lines_of after)) = ap length e in
+    let left : length (lines_of after) ≡ count - line = omega (arith, one, r.counted) in
+    r.refused refusal (subst (λ (ls : List (List ℕ)). IsRefusedIn ls due tokens start line refusal) (sym e) (l (lines_of after) left))
 
 pub text_all : (text rest : List ℕ) (start line due count : ℕ) (tokens : List Token) → IsTextReadTo text rest start line due count tokens → length rest ≡ 0 → AreTokensOf (lines_of text) 0 [] 0 1 tokens
 text_all text [] start line zero count tokens r e = subst (λ (ts : List Token). AreTokensOf (lines_of text) 0 [] 0 1 ts) (append-nil tokens) (r.found [] refl)

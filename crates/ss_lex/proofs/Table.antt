@@ -109,19 +109,19 @@ found_before (row ∷ low) high spelling none =
       | inr f ↦ rw f (found_before low high spelling none)
     ]
 
-found_behind : (low high : List (List ℕ × Word)) (spelling : List ℕ) → found_in low spelling ≡ None → found_in (low ++ high) spelling ≡ found_in high spelling
-found_behind [] high spelling none = refl
-found_behind (row ∷ low) high spelling none =
+found_after : (low high : List (List ℕ × Word)) (spelling : List ℕ) → found_in low spelling ≡ None → found_in (low ++ high) spelling ≡ found_in high spelling
+found_after [] high spelling none = refl
+found_after (row ∷ low) high spelling none =
     elim (which (bytes_eq row.0 spelling)) [
       | inl t ↦ (let some : found_in (row ∷ low) spelling ≡ Some row.1 = rw t refl in absurd cc)
-      | inr f ↦ (let step : found_in (row ∷ low) spelling ≡ found_in low spelling = rw f refl in rw f (found_behind low high spelling (sym step ∙ none)))
+      | inr f ↦ (let step : found_in (row ∷ low) spelling ≡ found_in low spelling = rw f refl in rw f (found_after low high spelling (sym step ∙ none)))
     ]
 
 below : (bound : ℕ) (low high : List (List ℕ × Word)) (b : ℕ) (bs : List ℕ) → all_begin (λ c. not (nat_lt c bound)) high ≡ true → nat_lt b bound ≡ true → found_in (low ++ high) (b ∷ bs) ≡ found_in low (b ∷ bs)
 below bound low high b bs all lt = found_before low high (b ∷ bs) (none_begins (λ c. not (nat_lt c bound)) high b bs all (ap not lt))
 
 above : (bound : ℕ) (low high : List (List ℕ × Word)) (b : ℕ) (bs : List ℕ) → all_begin (λ c. nat_lt c bound) low ≡ true → nat_lt b bound ≡ false → found_in (low ++ high) (b ∷ bs) ≡ found_in high (b ∷ bs)
-above bound low high b bs all ge = found_behind low high (b ∷ bs) (none_begins (λ c. nat_lt c bound) low b bs all ge)
+above bound low high b bs all ge = found_after low high (b ∷ bs) (none_begins (λ c. nat_lt c bound) low b bs all ge)
 
 from_a : reserved ≡ part 0 29 ++ part 29 112
 unfolding reserved
@@ -159,15 +159,15 @@ s_on : all_begin (λ c. not (nat_lt c 83)) (part 108 33) ≡ true
 unfolding reserved all_begin begins
 s_on = refl
 
-behind_d : (first : ℕ) (rest : List ℕ) → nat_lt first 69 ≡ false → found_in reserved (first ∷ rest) ≡ found_in (part 29 42 ++ part 71 70) (first ∷ rest)
-behind_d first rest ge =
+after_d : (first : ℕ) (rest : List ℕ) → nat_lt first 69 ≡ false → found_in reserved (first ∷ rest) ≡ found_in (part 29 42 ++ part 71 70) (first ∷ rest)
+after_d first rest ge =
     ap (λ table. found_in table (first ∷ rest)) from_a
     ∙ above 69 (part 0 29) (part 29 112) first rest to_d ge
     ∙ ap (λ table. found_in table (first ∷ rest)) from_e
 
-behind_l : (first : ℕ) (rest : List ℕ) → nat_lt first 69 ≡ false → nat_lt first 77 ≡ false → found_in reserved (first ∷ rest) ≡ found_in (part 71 37 ++ part 108 33) (first ∷ rest)
-behind_l first rest a b =
-    behind_d first rest a
+after_l : (first : ℕ) (rest : List ℕ) → nat_lt first 69 ≡ false → nat_lt first 77 ≡ false → found_in reserved (first ∷ rest) ≡ found_in (part 71 37 ++ part 108 33) (first ∷ rest)
+after_l first rest a b =
+    after_d first rest a
     ∙ above 77 (part 29 42) (part 71 70) first rest to_l b
     ∙ ap (λ table. found_in table (first ∷ rest)) from_m
 
@@ -176,10 +176,10 @@ found_in_part first rest =
     elim (which (nat_lt first 69)) [
       | inl t ↦ rw t (ap (λ table. found_in table (first ∷ rest)) from_a ∙ below 69 (part 0 29) (part 29 112) first rest e_on t)
       | inr a ↦ elim (which (nat_lt first 77)) [
-        | inl t ↦ rw (a, t) (behind_d first rest a ∙ below 77 (part 29 42) (part 71 70) first rest m_on t)
+        | inl t ↦ rw (a, t) (after_d first rest a ∙ below 77 (part 29 42) (part 71 70) first rest m_on t)
         | inr b ↦ elim (which (nat_lt first 83)) [
-          | inl t ↦ rw (a, b, t) (behind_l first rest a b ∙ below 83 (part 71 37) (part 108 33) first rest s_on t)
-          | inr c ↦ rw (a, b, c) (behind_l first rest a b ∙ above 83 (part 71 37) (part 108 33) first rest to_r c)
+          | inl t ↦ rw (a, b, t) (after_l first rest a b ∙ below 83 (part 71 37) (part 108 33) first rest s_on t)
+          | inr c ↦ rw (a, b, c) (after_l first rest a b ∙ above 83 (part 71 37) (part 108 33) first rest to_r c)
         ]
       ]
     ]

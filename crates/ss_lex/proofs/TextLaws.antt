@@ -66,7 +66,7 @@ one_list_of (l ∷ ls) zero before start line a b (ps, rest, c, f, e, s) (qs, re
     let ih = one_list_of ls (called_by before (tokens_of ps start line)) (before ++ tokens_of ps start line) (start + length l + 1) (line + 1) rest rest' s s'' in
     e ∙ ((λ i. tokens_of (sym same i) start line ++ ih i) ∙ sym e')
 
--- ---- no tokens beside a refusal
+-- ---- a refused text has no tokens
 
 enough_lines : (ls : List (List ℕ)) (due : ℕ) (before : List Token) (start line : ℕ) (ts : List Token) → AreTokensOf ls due before start line ts → due ≤ length ls
 enough_lines [] zero before start line ts s = omega arith

@@ -80,7 +80,7 @@ some_answer text = long (nat_lt source_limit (length text)) refl
     long true t = inr (errors.TooLong (record { 0 = 0 }), rw t refl)
     long false t = foreign (first_foreign 1 text) refl (grind (arith, nat_tests)) t
 
--- ---- what an answer of the code says of others
+-- ---- what one result of the code says of every other
 
 pub only_list : (text : List ℕ) (result : Result Listing LexError) → IfOk result (λ t. AreTokens text t.list) → IfOk result (λ t. (others : List Token) → AreTokens text others → others ≡ t.list)
 only_list text (Ok t) s = λ others o. one_list text others t.list o s

@@ -1,4 +1,4 @@
--- What is kept beside the tokens so far, to know of the next trigger word how many pictures it calls for.
+-- A summary of the tokens so far, which gives the number of pictures that the next trigger word calls for.
 use Rattle.std.specs.Prelude.{◌≡◌, ℕ, Bool, false, if◌then◌else◌, List, [], ◌∷◌}
 use Rattle.ss_lex.specs.declared.token.TokenKind.{TokenKind}
 use Rattle.ss_lex.specs.declared.token.Token.{Token}
@@ -10,12 +10,12 @@ ends_in_print [] = false
 ends_in_print (t ∷ []) = is_print t.kind
 ends_in_print (t ∷ u ∷ ts) = ends_in_print (u ∷ ts)
 
--- what is kept fits the tokens
-pub record IsKept (tokens : List Token) (print_last : Bool) (number : ℕ) : Type 0 where
+-- the summary is that of the tokens
+pub record IsSummary (tokens : List Token) (print_last : Bool) (number : ℕ) : Type 0 where
   pub ends : print_last ≡ ends_in_print tokens
   pub due : number ≡ number_due tokens
 
--- the number that a trigger word takes behind these tokens and one of this kind
-abbrev pub number_behind : List Token → TokenKind → ℕ
-number_behind ts kind =
+-- the number of pictures that a trigger word calls for after these tokens and one of this kind
+abbrev pub number_after : List Token → TokenKind → ℕ
+number_after ts kind =
     if is_print_or_trigger kind then 0 else (if ends_in_print ts then number_in kind else number_due ts)

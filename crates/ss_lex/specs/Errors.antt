@@ -4,7 +4,7 @@ use Rattle.ss_base.specs.declared.line.Line.{Line}
 use Rattle.ss_lex.specs.declared.error.LexError.{LexError}
 use Rattle.ss_lex.specs.declared.error.LexError.TheVariants.{TooLong, NotAscii, BadNumber, OpenText, AlphaTooLong, PictureCut, NameTooLong, Memory}
 
--- its number, 31 to 37, and 0 for memory
+-- its number, 31 to 37; 0 where memory ran out
 abbrev pub error_number : LexError → ℕ
 error_number (TooLong line) = 31
 error_number (NotAscii line) = 32
@@ -26,7 +26,7 @@ error_name (PictureCut line) = codes "PictureCut"
 error_name (NameTooLong line) = codes "NameTooLong"
 error_name Memory = codes "Memory"
 
--- its line, 0 for memory
+-- its line; 0 where memory ran out
 abbrev pub error_line : LexError → Line
 error_line (TooLong line) = line
 error_line (NotAscii line) = line

@@ -41,7 +41,7 @@ is_separator b = b == 32 || (b == 9 || b == 13)
 abbrev pub is_word_byte : ℕ → Bool
 is_word_byte b = is_ascii_alphanumeric b || is_period b
 
--- a byte that may stand between quotes
+-- a byte that is allowed between quotes
 abbrev pub is_quotable : ℕ → Bool
 is_quotable b = is_text_byte b && not (b == 34)
 
@@ -56,12 +56,12 @@ is_apostrophe b = b == 39
 abbrev pub opens_comment : ℕ → List ℕ → Bool
 opens_comment b rest = is_apostrophe b && begins is_apostrophe rest
 
--- no two apostrophes stand side by side
+-- no two apostrophes are side by side
 abbrev pub is_apart : List ℕ → Bool
 is_apart [] = true
 is_apart (b ∷ bs) = not (opens_comment b bs) && is_apart bs
 
--- a quote stands behind bytes that may stand between quotes
+-- a quote follows bytes that are allowed between quotes
 abbrev pub is_closed : List ℕ → Bool
 is_closed [] = false
 is_closed (b ∷ bs) = b == 34 || (is_text_byte b && is_closed bs)
@@ -76,7 +76,7 @@ Fits (quoted body) rest = list_all is_quotable body ≡ true
 Fits (open_quoted body) rest = (is_closed body ≡ false) × (rest ≡ [])
 Fits (single b) rest = (is_separator b ≡ false) × (is_word_byte b ≡ false) × ((b == 34) ≡ false) × (opens_comment b rest ≡ false)
 
--- the line is these pieces, one behind the other
+-- the line is these pieces, one after the other
 abbrev pub IsCut : List Piece → List ℕ → Type 0
 IsCut [] line = line ≡ []
 IsCut (p ∷ ps) line = (rest : List ℕ) × (line ≡ spelled p ++ rest) × Fits p rest × IsCut ps rest
@@ -93,7 +93,7 @@ symbol_of b =
     else (if b == 61 then Equals
     else Other b))))))
 
--- what stands between quotes and means this text, if it is short enough to be one
+-- the meaning of what is between quotes: this text, if it is short enough to be one
 abbrev pub text_meaning : Option (List ℕ) → ℕ → Meaning
 text_meaning None spelling = meanings.Fault AlphaTooLong
 text_meaning (Some text) spelling = meanings.Token (kinds.Text text) spelling

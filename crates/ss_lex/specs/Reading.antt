@@ -1,4 +1,4 @@
--- How a line is cut from left to right: what the functions of the code answer. The definitions of tokens and
+-- How a line is cut from left to right: what the functions of the code return. The definitions of tokens and
 -- refusals don't rest on it.
 use Rattle.std.specs.Prelude.{◌≡◌, ℕ, zero, suc, ◌+◌, ◌≤◌, Bool, true, false, not, max, ◌==◌, List, [], ◌∷◌, ◌++◌, length, take, drop, nat_lt, Option, Some, None, if◌then◌else◌}
 use Rattle.std.specs.Option.{option_or}
@@ -29,7 +29,7 @@ unfoldable pub comment_at : List ℕ → Piece × List ℕ
 comment_at [] = (open_comment [], [])
 comment_at (b ∷ bs) = if opens_comment b bs then (comment [], drop 1 bs) else longer b (comment_at bs)
 
--- how many bytes that may stand between quotes are at the front
+-- how many bytes that are allowed between quotes are at the front
 abbrev pub quotable_length : List ℕ → ℕ
 quotable_length bytes = prefix_len is_quotable bytes
 
@@ -89,20 +89,20 @@ refusal_from due before ps start line left =
 
 -- what is wrong first where a piece means this fault, and these bytes follow it
 abbrev pub fault_refusal : Fault → List ℕ → ℕ → ℕ → ℕ → LexError
-fault_refusal fault behind due left line =
-    if has_trigger (pieces behind) then refusal_of fault line
+fault_refusal fault after due left line =
+    if has_trigger (pieces after) then refusal_of fault line
     else (if nat_lt left due then errors.PictureCut (record { 0 = line }) else refusal_of fault line)
 
--- what a line of code, read, adds to the tokens, and how many pictures it calls for
+-- a line of code is read: what it adds to the tokens, and how many pictures it calls for
 pub record IsRead (bytes : List ℕ) (start line left : ℕ) (old new : List Token) (due : ℕ) : Type 0 where
   pub sound : line_refusal (pieces bytes) old start line left ≡ None
   pub tokens : new ≡ old ++ tokens_of (pieces bytes) start line
   pub called : due ≡ called_by old (tokens_of (pieces bytes) start line)
 
--- a line of code is read up to some place in it: what is left of it completes what is known of the line
+-- A line of code is read up to some place in it. The tokens, pictures and refusal of its rest complete those of the line.
 pub record IsReadTo (bytes : List ℕ) (start line left : ℕ) (old tokens : List Token) (rest : List ℕ) (at due : ℕ) : Type 0 where
   pub place : at + length rest ≡ start + length bytes
-  pub told : tokens ++ tokens_of (pieces rest) at line ≡ old ++ tokens_of (pieces bytes) start line
+  pub listed : tokens ++ tokens_of (pieces rest) at line ≡ old ++ tokens_of (pieces bytes) start line
   pub called : due_from due tokens (tokens_of (pieces rest) at line) ≡ called_by old (tokens_of (pieces bytes) start line)
   pub first : refusal_from due tokens (pieces rest) at line left ≡ line_refusal (pieces bytes) old start line left
 
@@ -124,18 +124,18 @@ foreign_refusal (Some line) = Some (errors.NotAscii (record { 0 = line }))
 
 -- ---- from line to line
 
--- A line is read: whatever the lines behind it are read as, so many as are left, completes what this one is.
+-- A line is read: any tokens of the lines that are left follow its own.
 pub record IsLineRead (bytes : List ℕ) (start line left due : ℕ) (old new : List Token) (due' : ℕ) : Type 0 where
   pub within : due' ≤ left
   pub found : (lines : List (List ℕ)) (more : List Token) → length lines ≡ left → AreTokensOf lines due' new (start + length bytes + 1) (line + 1) more → (here : List Token) × (new ≡ old ++ here) × AreTokensOf (bytes ∷ lines) due old start line (here ++ more)
   pub refused : (lines : List (List ℕ)) (refusal : LexError) → length lines ≡ left → IsRefusedIn lines due' new (start + length bytes + 1) (line + 1) refusal → IsRefusedIn (bytes ∷ lines) due old start line refusal
 
--- a line is refused, whatever the lines behind it are
+-- a line is refused, whatever the lines after it are
 abbrev pub IsLineRefused : List ℕ → ℕ → ℕ → ℕ → ℕ → List Token → LexError → Type 0
 IsLineRefused bytes start line left due old refusal =
     (lines : List (List ℕ)) → length lines ≡ left → IsRefusedIn (bytes ∷ lines) due old start line refusal
 
--- the text is read up to a line: what the lines from there on are read as completes what the text is
+-- The text is read up to a line. The tokens or the refusal of its other lines complete those of the text.
 pub record IsTextReadTo (text rest : List ℕ) (start line due count : ℕ) (tokens : List Token) : Type 0 where
   pub counted : line + length (lines_of rest) ≡ count + 1
   pub place : start + length rest ≤ length text + line

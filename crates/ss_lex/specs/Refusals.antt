@@ -42,14 +42,14 @@ abbrev pub cut_of : ℕ → ℕ → ℕ → Option LexError
 cut_of left called line = if nat_lt left called then Some (errors.PictureCut (record { 0 = line })) else None
 
 -- What is wrong first with a line: a fault up to its last trigger word, the pictures that this word is short of,
--- or a fault behind it. So many lines are left behind the line.
+-- or a fault after it. So many lines are left after the line.
 abbrev pub line_refusal : List Piece → List Token → ℕ → ℕ → ℕ → Option LexError
 line_refusal pieces before start line left =
     option_or (refusal_for (first_fault (to_trigger pieces)) line)
     (option_or (cut_of left (called_by before (tokens_of pieces start line)) line)
     (refusal_for (first_fault pieces) line))
 
--- These lines are refused so. So many are pictures first, and the tokens before stand in the lines before.
+-- These lines are refused so. So many are pictures first, and the tokens before are those of the lines before.
 abbrev pub IsRefusedIn : List (List ℕ) → ℕ → List Token → ℕ → ℕ → LexError → Type 0
 IsRefusedIn [] due before start line refusal = ⊥
 IsRefusedIn (l ∷ ls) (suc due) before start line refusal =

@@ -16,7 +16,7 @@ abbrev pub token_at : TokenKind → ℕ → ℕ → ℕ → Token
 token_at kind spelling start line =
     record { kind = kind; span = record { start = start; length = spelling }; line = record { 0 = line } }
 
--- the token that is meant, if one is
+-- the token of a meaning, if it is one
 abbrev pub token_in : Meaning → ℕ → ℕ → List Token
 token_in meanings.Nothing start line = []
 token_in (meanings.Token kind spelling) start line = token_at kind spelling start line ∷ []
@@ -79,14 +79,14 @@ is_print_or_trigger kind = is_print kind || is_trigger kind
 abbrev pub has_kind : (TokenKind → Bool) → List Token → Bool
 has_kind test tokens = list_any (λ t. test t.kind) tokens
 
--- The number of pictures for a trigger word behind these tokens: the number directly behind the last PRINT,
+-- The number of pictures for a trigger word after these tokens: the number directly after the last PRINT,
 -- and 0 where there is no number, no PRINT, or a trigger word since that PRINT.
 abbrev pub number_due : List Token → ℕ
 number_due [] = 0
 number_due (t ∷ ts) =
     if has_kind is_print_or_trigger ts then number_due ts else (if is_print t.kind then first_number ts else 0)
 
--- How many pictures stand behind a line of these tokens, behind those before: as its last trigger word says.
+-- How many pictures follow a line of these tokens, with those before it: as many as its last trigger word calls for.
 abbrev pub called_by : List Token → List Token → ℕ
 called_by before [] = 0
 called_by before (t ∷ ts) =
@@ -100,7 +100,7 @@ picture_at bytes start line = token_at (kinds.Picture (picture_of bytes)) (lengt
 -- ---- the text
 
 -- These are the tokens of these lines, the first of which begins at this place and has this number. So many of
--- the lines are pictures first, and the tokens before stand in the lines before.
+-- the lines are pictures first, and the tokens before are those of the lines before.
 abbrev pub AreTokensOf : List (List ℕ) → ℕ → List Token → ℕ → ℕ → List Token → Type 0
 AreTokensOf [] zero before start line tokens = tokens ≡ []
 AreTokensOf [] (suc due) before start line tokens = ⊥

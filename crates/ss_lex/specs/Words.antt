@@ -174,7 +174,7 @@ name_meaning w =
     if nat_lt name_limit (length w) then meanings.Fault NameTooLong
     else meanings.Token (word_or_name (found_in reserved (in_capitals w)) (in_capitals w)) (length w)
 
--- the number that digits behind a number spell
+-- the number that digits after a number spell
 abbrev pub number_from : ℕ → List ℕ → ℕ
 number_from n [] = n
 number_from n (b ∷ bs) = number_from (n * 10 + (b - 48)) bs
@@ -192,7 +192,7 @@ number_meaning w =
     if list_any is_period w || nat_lt largest_number (number_from 0 w) then meanings.Fault BadNumber
     else meanings.Token (kinds.Number (pos (number_from 0 w))) (length w)
 
--- a byte of a word in front of those behind it, which have no period at their end
+-- a byte of a word in front of those after it, which have no period at their end
 abbrev pub in_front : ℕ → List ℕ → List ℕ
 in_front b [] = if is_period b then [] else b ∷ []
 in_front b (c ∷ cs) = b ∷ c ∷ cs

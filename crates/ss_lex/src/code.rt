@@ -47,8 +47,8 @@ fn fault_in(meaning: &Meaning) -> Option<Fault>
 fn trigger_step(bytes: &[u8]) -> (bool, &[u8])
     ensures { (result.0, result.1.now) ≡ trigger_step_of bytes.now }
 {
-    let (meaning, behind) = step(bytes);
-    (means_trigger(&meaning), behind)
+    let (meaning, after) = step(bytes);
+    (means_trigger(&meaning), after)
 }
 
 /// Whether a trigger word is among the pieces.
@@ -57,21 +57,21 @@ fn has_trigger(bytes: &[u8]) -> bool
 {
     let mut rest = bytes;
     'pieces: while !rest.is_empty() {
-        let (is_trigger, behind) = trigger_step(rest);
+        let (is_trigger, after) = trigger_step(rest);
         if is_trigger {
             return true;
         }
-        rest = behind;
+        rest = after;
     }
     false
 }
 
 /// What is wrong first with a line, where a piece means this fault and these bytes follow it. The line called
-/// for `due` pictures before the fault, and `left` lines are behind it.
-fn fault_refusal(fault: Fault, behind: &[u8], due: u64, left: u64, line: Line) -> LexError
-    ensures { result ≡ fault_refusal fault behind.now due left line.0 }
+/// for `due` pictures before the fault, and `left` lines are after it.
+fn fault_refusal(fault: Fault, after: &[u8], due: u64, left: u64, line: Line) -> LexError
+    ensures { result ≡ fault_refusal fault after.now due left line.0 }
 {
-    if has_trigger(behind) {
+    if has_trigger(after) {
         refusal_of(fault, line)
     } else if due > left {
         LexError::PictureCut(line)
@@ -80,7 +80,7 @@ fn fault_refusal(fault: Fault, behind: &[u8], due: u64, left: u64, line: Line) -
     }
 }
 
-/// Adds the tokens of a line of code, and answers how many pictures it calls for. `left` lines are behind it.
+/// Adds the tokens of a line of code, and returns how many pictures it calls for. `left` lines are after it.
 pub fn code_line(
     tokens: &mut Collected,
     bytes: &[u8],
@@ -96,13 +96,13 @@ pub fn code_line(
     let mut rest = bytes;
     let mut due = 0;
     'pieces: while !rest.is_empty() {
-        let (meaning, behind) = step(rest);
+        let (meaning, after) = step(rest);
         if let Some(fault) = fault_in(&meaning) {
-            return Err(fault_refusal(fault, behind, due, left, line));
+            return Err(fault_refusal(fault, after, due, left, line));
         }
         due = tokens.add(meaning, at, line, due)?;
-        at += rest.len() - behind.len();
-        rest = behind;
+        at += rest.len() - after.len();
+        rest = after;
     }
     if due > left {
         return Err(LexError::PictureCut(line));

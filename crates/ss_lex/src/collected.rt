@@ -40,7 +40,7 @@ fn number_in(kind: &TokenKind) -> u64
     }
 }
 
-/// The tokens so far, with what tells how many pictures the next trigger word calls for.
+/// The tokens so far, with a summary that gives the number of pictures that the next trigger word calls for.
 #[derive(Drop)]
 pub struct Collected {
     tokens: Vec<Token>,
@@ -53,19 +53,19 @@ pub struct Collected {
 impl Model for Collected {
     ghost use Rattle.std.specs.Prelude.{List};
     ghost use Rattle.ss_lex.specs.declared.token.Token.{Token};
-    ghost use Rattle.ss_lex.specs.Collecting.{IsKept};
+    ghost use Rattle.ss_lex.specs.Collecting.{IsSummary};
 
     ghost Value = { List Token };
 
     ghost view = { λ c. c.tokens.items };
 
-    ghost invariant = { λ c. IsKept c.tokens.items c.print_last c.number };
+    ghost invariant = { λ c. IsSummary c.tokens.items c.print_last c.number };
 }
 
 impl Collected {
     ghost use Rattle.std.specs.Prelude.{◌≡◌, [], ◌∷◌, ◌++◌, length, OnOk, IfOk};
     ghost use Rattle.ss_lex.specs.Tokens.{number_due, token_in, picture_at};
-    ghost use Rattle.ss_lex.specs.Collecting.{number_behind};
+    ghost use Rattle.ss_lex.specs.Collecting.{number_after};
     ghost use Rattle.ss_lex.specs.Reading.{due_from};
 
     /// No tokens.
@@ -98,9 +98,9 @@ impl Collected {
         self.number
     }
 
-    /// How many pictures a trigger word calls for behind one token more, of this kind.
-    fn number_behind(&self, kind: &TokenKind) -> u64
-        ensures { result ≡ number_behind self.now kind.now }
+    /// How many pictures a trigger word calls for after one token more, of this kind.
+    fn number_after(&self, kind: &TokenKind) -> u64
+        ensures { result ≡ number_after self.now kind.now }
     {
         if is_print(kind) || is_trigger(kind) {
             0
@@ -115,7 +115,7 @@ impl Collected {
     fn push(&mut self, token: Token) -> Result<(), AllocError>
         ensures { OnOk result (self.new ≡ self.old ++ token ∷ []) }
     {
-        let number = self.number_behind(&token.kind);
+        let number = self.number_after(&token.kind);
         let print_last = is_print(&token.kind);
         self.tokens.push(token)?;
         self.number = number;
@@ -123,7 +123,7 @@ impl Collected {
         Ok(())
     }
 
-    /// Adds the token that is meant, if one is, and answers how many pictures its line calls for, where that
+    /// Adds the token of this meaning, if it is one, and returns how many pictures its line calls for, where that
     /// was `due` before.
     pub fn add(
         &mut self,
@@ -161,13 +161,13 @@ impl Collected {
     ) -> Result<(), AllocError>
         ensures { OnOk result (self.new ≡ self.old ++ picture_at bytes.now start line.0 ∷ []) }
     {
-        let kept = without_end_return(bytes);
-        let picture = PictureLine::of(alloc, kept)?;
+        let trimmed = without_end_return(bytes);
+        let picture = PictureLine::of(alloc, trimmed)?;
         self.push(Token {
             kind: TokenKind::Picture(picture),
             span: Span {
                 start,
-                length: kept.len(),
+                length: trimmed.len(),
             },
             line,
         })

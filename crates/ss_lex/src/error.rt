@@ -18,13 +18,13 @@ pub enum LexError {
     /// A number with a period in it, or above 9223372036854775807.
     #[error("line {}: a bad number", .0.0)]
     BadNumber(Line),
-    /// A quote with no quote behind it on its line, or with a tab or a carriage return before that.
+    /// A quote with no quote after it on its line, or with a tab or a carriage return before that.
     #[error("line {}: an open text", .0.0)]
     OpenText(Line),
     /// A text with more than `TEXT_LIMIT` characters without the blanks at its end.
     #[error("line {}: a text that is too long", .0.0)]
     AlphaTooLong(Line),
-    /// A trigger word that calls for more pictures than there are lines behind it.
+    /// A trigger word that calls for more pictures than there are lines after it.
     #[error("line {}: too few lines for the pictures", .0.0)]
     PictureCut(Line),
     /// A name with more than `NAME_LIMIT` characters.
@@ -35,7 +35,7 @@ pub enum LexError {
 }
 
 impl LexError {
-    /// The number that the refusal is reported by, 31 to 37; 0 for memory.
+    /// The number that the refusal is reported by, 31 to 37; 0 where memory ran out.
     pub fn number(&self) -> u32
         ensures { result ≡ error_number self.now }
     {
@@ -67,7 +67,7 @@ impl LexError {
         }
     }
 
-    /// The line that the refusal is reported with; 0 for `TooLong` and memory.
+    /// The line that the refusal is reported with; 0 for `TooLong` and where memory ran out.
     pub fn line(&self) -> Line
         ensures { result ≡ error_line self.now }
     {

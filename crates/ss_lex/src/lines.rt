@@ -51,7 +51,7 @@ pub fn line_count(text: &[u8]) -> u32
     if is_open { ended + 1 } else { ended }
 }
 
-/// How many bytes stand before the first line feed.
+/// How many bytes are before the first line feed.
 fn line_length(text: &[u8]) -> usize
     ensures value { result ≡ prefix_len is_in_line text.now }
     ensures bound { result ≤ length text.now }
@@ -66,6 +66,6 @@ pub fn first_line(text: &[u8]) -> (&[u8], &[u8])
     ensures less { length result.1.now < length text.now }
     ensures place { length result.0.now + length result.1.now ≤ length text.now }
 {
-    let (line, behind) = text.split_at(line_length(text));
-    (line, tail(behind))
+    let (line, after) = text.split_at(line_length(text));
+    (line, tail(after))
 }

@@ -36,7 +36,7 @@ fn run_length(bytes: &[u8]) -> usize
     bytes.iter().take_while(|b| is_word_byte(**b)).count()
 }
 
-/// How many bytes that may stand between quotes are at the front.
+/// How many bytes that are allowed between quotes are at the front.
 fn quotable_length(bytes: &[u8]) -> usize
     ensures value { result ≡ quotable_length bytes.now }
     ensures bound { result ≤ length bytes.now }
@@ -54,7 +54,7 @@ fn split_first(bytes: &[u8]) -> Option<(u8, &[u8])>
     }
 }
 
-/// The bytes behind the first.
+/// The bytes after the first.
 pub fn tail(bytes: &[u8]) -> &[u8]
     ensures { result.now ≡ drop 1 bytes.now }
 {
@@ -73,7 +73,7 @@ fn begins_with(wanted: u8, bytes: &[u8]) -> bool
     }
 }
 
-/// Whether two apostrophes stand here.
+/// Whether two apostrophes are here.
 fn opens_comment(b: u8, rest: &[u8]) -> bool
     ensures { result ≡ opens_comment b rest.now }
 {
@@ -85,16 +85,16 @@ fn after_comment(bytes: &[u8]) -> &[u8]
     ensures { result.now ≡ (comment_at bytes.now).1 }
 {
     let mut rest = bytes;
-    'body: while let Some((b, behind)) = split_first(rest) {
-        if opens_comment(b, behind) {
-            return tail(behind);
+    'body: while let Some((b, after)) = split_first(rest) {
+        if opens_comment(b, after) {
+            return tail(after);
         }
-        rest = behind;
+        rest = after;
     }
     rest
 }
 
-/// What stands between two quotes means.
+/// What the bytes between two quotes mean.
 fn text_meaning(body: &[u8]) -> Meaning
     ensures { result ≡ text_meaning (text_of body.now) (length body.now + 2) }
 {
@@ -108,9 +108,9 @@ fn text_meaning(body: &[u8]) -> Meaning
 fn after_quote(bytes: &[u8]) -> (Meaning, &[u8])
     ensures { (result.0, result.1.now) ≡ quote_step_of bytes.now }
 {
-    let (body, behind) = bytes.split_at(quotable_length(bytes));
-    if begins_with(b'"', behind) {
-        (text_meaning(body), tail(behind))
+    let (body, after) = bytes.split_at(quotable_length(bytes));
+    if begins_with(b'"', after) {
+        (text_meaning(body), tail(after))
     } else {
         (Meaning::Fault(Fault::OpenText), &[])
     }
@@ -142,8 +142,8 @@ pub fn step(bytes: &[u8]) -> (Meaning, &[u8])
             if is_separator(b) {
                 (Meaning::Nothing, rest)
             } else if is_word_byte(b) {
-                let (word, behind) = bytes.split_at(run_length(rest) + 1);
-                (word_meaning(word), behind)
+                let (word, after) = bytes.split_at(run_length(rest) + 1);
+                (word_meaning(word), after)
             } else if opens_comment(b, rest) {
                 (Meaning::Nothing, after_comment(tail(rest)))
             } else if b == b'"' {

@@ -4,7 +4,7 @@ ghost use Rattle.ss_lex.specs.Words.{found_in, reserved};
 
 use crate::word::Word;
 
-/// A reserved word behind its spelling.
+/// A row of a table: the spelling of a reserved word, and this word.
 type Row = (&'static [u8], Word);
 
 // The reserved words, by their spelling, in the order of their bytes, in four parts.
@@ -189,7 +189,7 @@ fn s_to_y() -> &'static [Row]
     &S_TO_Y
 }
 
-// The rows in which a word with this first byte stands, if it is reserved.
+// The rows that have a word with this first byte, if it is reserved.
 fn rows_for(first: u8) -> &'static [Row]
     ensures { map (λ row. (row.0.now, row.1)) result.now ≡ part_for first }
 {

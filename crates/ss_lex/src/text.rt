@@ -18,8 +18,8 @@ use std::alloc::Global;
 /// The most bytes of a text.
 pub const SOURCE_LIMIT: usize = 1_048_576;
 
-/// Adds the tokens of a line, where `due` lines from this one on are pictures, and answers how many of those
-/// behind it are. `left` lines are behind it.
+/// Adds the tokens of a line, where `due` lines from this one on are pictures, and returns how many of those
+/// after it are. `left` lines are after it.
 fn read_line(
     alloc: Global,
     tokens: &mut Collected,
@@ -54,12 +54,12 @@ fn read_lines(alloc: Global, text: &[u8], count: u32) -> Result<Collected, LexEr
     let mut line = 1;
     let mut due = 0;
     'lines: while !rest.is_empty() {
-        let (bytes, behind) = first_line(rest);
+        let (bytes, after) = first_line(rest);
         let left = u64::from(count - line);
         due = read_line(alloc, &mut tokens, bytes, start, Line(line), left, due)?;
         start += bytes.len() + 1;
         line += 1;
-        rest = behind;
+        rest = after;
     }
     Ok(tokens)
 }
@@ -83,8 +83,8 @@ fn read_text(alloc: Global, text: &[u8]) -> Result<Tokens, LexError>
 ///
 /// # Errors
 /// `TooLong` for more than `SOURCE_LIMIT` bytes, with line 0; else `NotAscii` for the first byte that a text
-/// may not hold; else what stands first in the text of `BadNumber`, `OpenText`, `AlphaTooLong`, `PictureCut`
-/// (which stands at the last trigger word of its line) and `NameTooLong`. `Memory` where memory is refused.
+/// may not hold; else what comes first in the text of `BadNumber`, `OpenText`, `AlphaTooLong`, `PictureCut`
+/// (which is placed at the last trigger word of its line) and `NameTooLong`. `Memory` where memory runs out.
 pub fn tokens(alloc: Global, text: &[u8]) -> Result<Tokens, LexError>
     ensures found { IfOk result (λ t. AreTokens text.now t.list) }
     ensures only { IfOk result (λ t. (others : List Token) → AreTokens text.now others → others ≡ t.list) }

@@ -1,4 +1,4 @@
-//! Tokens, and where they stand in the text.
+//! Tokens, and their places in the text.
 
 use crate::word::Word;
 use ss_base::{Alpha, Line, Name, PictureLine};
@@ -24,7 +24,7 @@ pub enum TokenKind {
     Name(Name),
     /// A whole number, 0 to 9223372036854775807.
     Number(i64),
-    /// What stands between two quotes, without the blanks at its end.
+    /// The text between two quotes, without the blanks at its end.
     Text(Alpha),
     Symbol(Symbol),
     Picture(PictureLine),

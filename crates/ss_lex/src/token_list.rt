@@ -27,7 +27,7 @@ impl Model for Tokens {
 impl Tokens {
     ghost use Rattle.std.specs.Prelude.{◌≡◌};
 
-    /// These tokens, of a text with so many lines, for the lexer to hand on.
+    /// The tokens of a text with so many lines, for the lexer to make.
     pub fn new(tokens: Vec<Token>, line_count: u32) -> Tokens
         ensures { result ≡ record { list = tokens.items; lines = line_count } }
     {

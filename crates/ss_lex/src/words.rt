@@ -79,12 +79,12 @@ fn without_end_periods(word: &[u8]) -> &[u8]
 pub fn word_meaning(word: &[u8]) -> Meaning
     ensures { result ≡ word_meaning (without_end_periods word.now) }
 {
-    let kept = without_end_periods(word);
-    if kept.is_empty() {
+    let trimmed = without_end_periods(word);
+    if trimmed.is_empty() {
         Meaning::Nothing
-    } else if has_letter(kept) {
-        name_meaning(kept)
+    } else if has_letter(trimmed) {
+        name_meaning(trimmed)
     } else {
-        number_meaning(kept)
+        number_meaning(trimmed)
     }
 }

@@ -15,6 +15,6 @@ module _ {A : Type 0} (xs : List A) (i : ℕ) (o : Option (Bor A)) (there : is_s
       let t = sym (ap is_some e) ∙ there in
       slice_get_past xs i (ltb-false i (length xs) (sym t))
 
--- what is found has room behind its place
-pub room_behind : {A : Type 0} (xs : List A) (i : ℕ) (x : A) → slice_get xs i ≡ Some x → length xs < 2 ^ 63 → i + 1 < 2 ^ 64
-room_behind xs i x here few = omega (arith, slice_get_within xs i x here, few)
+-- what is found has room after its place
+pub room_after : {A : Type 0} (xs : List A) (i : ℕ) (x : A) → slice_get xs i ≡ Some x → length xs < 2 ^ 63 → i + 1 < 2 ^ 64
+room_after xs i x here few = omega (arith, slice_get_within xs i x here, few)

@@ -27,7 +27,7 @@ use std::marker::Model;
 /// A machine that runs the code of a program.
 ///
 /// A contract sees a machine as its code, what it works on, the ticks used and the steps made since its start, and why its
-/// last run stands still.
+/// last run stopped.
 #[derive(Drop)]
 pub struct Machine {
     code: Code,
@@ -48,7 +48,7 @@ impl Model for Machine {
     ghost invariant = { λ m. IsReady (record { code = m.code; working = m.working; used = m.counts.used; steps = m.counts.steps; stopped = m.stopped }) m.fused };
 }
 
-// The answer of a run after one that stood still.
+// The answer of a run after one that stopped.
 fn again(stop: Stop) -> Stop
     ensures { result ≡ answer_again stop }
 {
@@ -58,7 +58,7 @@ fn again(stop: Stop) -> Stop
     }
 }
 
-// Why a machine stands still after a run that answered so; None where the next run goes on.
+// Why a machine is stopped after a run that answered so; None where the next run goes on.
 fn kept(stop: Stop) -> Option<Stop>
     ensures { result ≡ kept_after stop }
 {
@@ -93,7 +93,7 @@ impl Machine {
     ///
     /// The source must have missed nothing, where the machine has not stopped. READ takes the next word of it, and a test
     /// whether data is ended looks for one and takes none; how far the source reads ahead is its own affair. Each line goes
-    /// out as it is filled. In the first run any source will do, and behind a pause the one of the run before: then nothing
+    /// out as it is filled. In the first run any source will do, and after a pause the one of the run before: then nothing
     /// is ever missing. With another source each step is still right, but where nothing leads on the answer is `Failed`.
     ///
     /// After `Paused` all ticks were used, up to 2^64 - 1 since the start, and a further run goes on; the
@@ -101,8 +101,8 @@ impl Machine {
     /// `Memory`, `Output` and `Input` it answers `Failed`; it reads nothing, writes nothing and changes
     /// nothing.
     ///
-    /// `Memory` comes only where memory was refused, `Output` only where the instruction at hand writes and
-    /// the writer's count of failures rose in this run, and `Input` only where the instruction at hand reads
+    /// `Memory` comes only where memory was refused, `Output` only where the current instruction writes and
+    /// the writer's count of failures rose in this run, and `Input` only where the current instruction reads
     /// or tests its input and the reader's count did. What was written by then is the beginning of the
     /// report: at least what is written before the last tick used, and no more than what is written before
     /// the next.
@@ -181,8 +181,8 @@ impl Machine {
     }
 
     /// The steps made since the start: each instruction that was carried out, the one that ended the
-    /// program and the one that came to a fault among them. A pause is no step, nor is an instruction
-    /// that failed for want of memory or at its reader or writer.
+    /// program and the one that had a fault among them. A pause is no step, nor is an instruction
+    /// that ran out of memory or failed at its reader or writer.
     ///
     /// After u ticks there are at least u, and at most 3u + 4 times as many as there are instructions.
     pub fn steps(&self) -> u128

@@ -130,7 +130,7 @@ counted st t s o r =
     let e : owner t s o ≡ Ok r.owned.0 = ap (λ (y : State). owner y s o) r.kept ∙ by_kept st t.lists (owner_kind st.layout s) o ∙ r.owned.1 in
     (pos (length (members_of t.lists s r.owned.0)), ap (λ q. and_then q (λ n. Ok (pos (length (members_of t.lists s n))))) e)
 
--- ## Calls that may come to a fault, and what they leave
+-- ## Calls that may have a fault, and what they leave
 
 module _ (h g : State) (r : OkOr (Unit {0}) FaultKind) (s : ℕ) (o x : ℤ) where
   refiled_counts : (f : OkOr State FaultKind) → ((t : State) → f ≡ Ok t → IsRefiled h s o t) → MatchResult r (λ _. f ≡ Ok g) (λ k. (f ≡ Err k) × (g ≡ h)) → counts_of g.permanents ≡ counts_of h.permanents

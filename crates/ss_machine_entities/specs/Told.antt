@@ -1,11 +1,11 @@
--- What an operation comes to, as the meaning tells it.
+-- Answers of operations, in the terms of the meaning.
 use Rattle.std.specs.Prelude.{ℤ, Result, Ok, Err}
 use Rattle.ss_meaning.specs.Values.{Trouble as Meant, Fails, Misfit as IsMisfit}
 use Rattle.ss_machine_entities.specs.declared.known.Known.{Known}
 use Rattle.ss_machine_entities.specs.declared.trouble.Trouble.{Trouble}
 use Rattle.ss_machine_entities.specs.declared.trouble.Trouble.TheVariants.{Fault, Misfit}
 
--- a trouble, as the meaning tells it, and an answer
+-- a trouble, in the terms of the meaning, and an answer
 abbrev pub meant : Trouble → Meant
 meant (Fault kind) = Fails kind
 meant Misfit = IsMisfit

@@ -244,7 +244,7 @@ impl Population {
         self.heap.count(set, o)
     }
 
-    /// The member behind another one, 0 for none. Faults: 1 to 5.
+    /// The member after another one, 0 for none. Faults: 1 to 5.
     #[inline(always)]
     pub fn next(&mut self, set: usize, n: i64) -> Result<i64, FaultKind>
         requires set { set < length self.old.layout.sets }

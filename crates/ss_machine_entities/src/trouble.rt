@@ -11,7 +11,7 @@ use ss_base::{FaultKind, Refused, Value};
 pub enum Trouble {
     /// A fault of the run.
     Fault(FaultKind),
-    /// A number, a kind or a mode does not fit. No operation of a well-typed program comes to it.
+    /// A number, a kind or a mode does not fit. No operation of a well-typed program fails so.
     Misfit,
 }
 
@@ -20,7 +20,7 @@ pub enum Trouble {
 pub enum Unmade {
     /// A fault of the run.
     Fault(FaultKind),
-    /// A number, a kind or a mode does not fit. No operation of a well-typed program comes to it.
+    /// A number, a kind or a mode does not fit. No operation of a well-typed program fails so.
     Misfit,
     /// Memory was refused.
     Memory,
@@ -37,7 +37,7 @@ pub fn number_of(value: Value) -> Result<i64, Trouble>
     }
 }
 
-/// What a call that may come to a fault comes to.
+/// The answer of a call that may have a fault.
 #[inline(always)]
 pub fn or_trouble(answer: Result<(), FaultKind>) -> Result<(), Trouble>
     ensures { told result ≡ due answer }

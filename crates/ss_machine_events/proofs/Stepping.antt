@@ -77,17 +77,17 @@ not_frozen class x s ts keys {key} {rest} t e h =
     ∙ ap (λ r. turned {B = List Tie} (λ us. ts ++ us) (if_ok r (λ v. turned (λ us. record { value = v; high = key.high } ∷ us) (ties_of class x s rest)))) h
 
 module _ (class : ℕ) (x : Value) (s : Store) (ts : List Tie) (keys : List RankKey) {key : RankKey} {rest : List RankKey} (next : keys ≡ key ∷ rest) where
-  tie_behind : (t : Tie) (r : OkOr (List Tie) Meant) → turned {B = List Tie} (λ us. ts ++ us) (turned {B = List Tie} (λ us. t ∷ us) r) ≡ turned (λ us. (ts ++ t ∷ []) ++ us) r
-  tie_behind t (Ok us) = ap (λ (us : List Tie). Ok us) (sym (append_assoc ts (t ∷ []) us))
-  tie_behind t (Err u) = refl
+  tie_added : (t : Tie) (r : OkOr (List Tie) Meant) → turned {B = List Tie} (λ us. ts ++ us) (turned {B = List Tie} (λ us. t ∷ us) r) ≡ turned (λ us. (ts ++ t ∷ []) ++ us) r
+  tie_added t (Ok us) = ap (λ (us : List Tie). Ok us) (sym (append_assoc ts (t ∷ []) us))
+  tie_added t (Err u) = refl
 
   pub frozen_on : (v : Value) → attribute class key.field x s ≡ Ok v → turned {B = List Tie} (λ us. ts ++ us) (ties_of class x s keys) ≡ turned (λ us. (ts ++ record { value = v; high = key.high } ∷ []) ++ us) (ties_of class x s rest)
   frozen_on v h =
       ap (λ ks. turned {B = List Tie} (λ us. ts ++ us) (ties_of class x s ks)) next
       ∙ ap (λ r. turned {B = List Tie} (λ us. ts ++ us) (if_ok r (λ v. turned (λ us. record { value = v; high = key.high } ∷ us) (ties_of class x s rest)))) h
-      ∙ tie_behind (record { value = v; high = key.high }) (ties_of class x s rest)
+      ∙ tie_added (record { value = v; high = key.high }) (ties_of class x s rest)
 
--- no value is found for the next tie, or memory for it is wanting
+-- no value is found for the next tie, or memory for it was refused
 module _ (class : ℕ) (x : Value) (e : Seen) (ts : List Tie) (all keys : List RankKey) {key : RankKey} {rest : List RankKey} (next : keys ≡ key ∷ rest) (before : (s : Store) → ties_of class x (with_seen s e) all ≡ turned (λ us. ts ++ us) (ties_of class x (with_seen s e) keys)) where
   pub unfrozen : (u : Unmade) → Finds {A = Value} (attribute class key.field x) e (Err u) → Finds {A = List Tie} (λ s. ties_of class x s all) e (Err u)
   unfrozen (unmade.Fault kind) h = λ s. before s ∙ not_frozen class x (with_seen s e) ts keys (meant (Fault kind)) next (h s)
@@ -137,7 +137,7 @@ module _ (class : ℕ) (x : Value) (t : ℤ) where
     filed new key (Err unmade.Misfit) k h = (λ s. key_filed key k s ∙ h.0 s, h.1)
     filed new key (Err unmade.Memory) k h = h
 
-    -- the same where it is told whether it was
+    -- a notice is filed as one whose key is known, where the answer says whether it was
     pub filed_at_once : (new : Seen) (key : SortKey) (b : Bool) → Finds (key_meant class x t) e (Ok key) → Does (scheduled_known key n) b e new → Does (filed_notice class x t) b e new
     filed_at_once new key true k h = λ s. key_filed key k s ∙ h s
     filed_at_once new key false k h = h

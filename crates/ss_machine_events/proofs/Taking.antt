@@ -82,7 +82,7 @@ never_both false = refl
 
 -- ## Whether a number is a notice of a class
 
--- the same by what is said of the class and of the number
+-- whether a number is a notice of a class, by what is known of the class and of the number
 abbrev pub of_said : Option PlainClass → OkOr Record FaultKind → (class : ℕ) → Bool
 of_said o q class = is_notice_kind (option_map (λ c. c.kind) o) && is_there (no_value (and_then q (of_class class)))
 
@@ -147,7 +147,7 @@ pub told_first : (e : Seen) (n : ℤ) (r : Option Event) → First e.heap e.noti
 told_first e n None f = λ s. first_is e.heap n (with_seen s e) ∙ f
 told_first e n (Some c) f = (λ s. first_is e.heap n (with_seen s e) ∙ f.0, f.1)
 
--- the same where the class of the number is known
+-- the event of a number whose class is known
 module _ (e : Seen) (n : ℤ) (class rank : ℕ) (said : Notices) (c : Event) (has : HasClass e.heap n class) (kind : is_notice_kind (kind_at e.heap.layout class) ≡ true) where
   noticed_there : notice e.heap n ≡ Ok has.seen
   noticed_there =
@@ -155,9 +155,9 @@ module _ (e : Seen) (n : ℤ) (class rank : ℕ) (said : Notices) (c : Event) (h
       ap (λ (q : OkOr Record FaultKind). and_then q (of_notice h.layout)) has.found
       ∙ ap (λ b. if b then Ok has.seen else Err WrongClass) (ap (λ k. is_notice (kind_of h.layout k)) has.class ∙ sym (noticed (slice_get h.layout.classes class)) ∙ kind)
 
-  pub told_near : ranked_from 0 e.notices class ≡ ranked_at e.notices (Some rank) → slice_get e.notices rank ≡ Some said
+  pub near_event : ranked_from 0 e.notices class ≡ ranked_at e.notices (Some rank) → slice_get e.notices rank ≡ Some said
       → c ≡ record { rank = rank; class = said.class; line = said.line; given = said.given; saved = said.saved; notice = n } → Told e n (Some c)
-  told_near at here is =
+  near_event at here is =
       let es = e.notices in
       let d : Event = record { rank = rank; class = said.class; line = said.line; given = said.given; saved = said.saved; notice = n } in (
         λ s. ap (λ (q : OkOr Record FaultKind). ranked_as q (with_seen s e)) noticed_there
@@ -175,17 +175,17 @@ module _ (class field : ℕ) (x : Value) (s : Store) (vs : List Value) where
       ap (λ k. turned {B = List Value} (λ us. vs ++ us) (attributes class field k x s)) e
       ∙ ap (λ r. turned {B = List Value} (λ us. vs ++ us) (if_ok r (λ v. turned (λ us. v ∷ us) (attributes class (field + 1) j x s)))) h
 
-  put_behind : (v : Value) (r : OkOr (List Value) Meant) → turned {B = List Value} (λ us. vs ++ us) (turned {B = List Value} (λ us. v ∷ us) r) ≡ turned (λ us. (vs ++ v ∷ []) ++ us) r
-  put_behind v (Ok us) = ap (λ (us : List Value). Ok us) (sym (append_assoc vs (v ∷ []) us))
-  put_behind v (Err t) = refl
+  put_at_end : (v : Value) (r : OkOr (List Value) Meant) → turned {B = List Value} (λ us. vs ++ us) (turned {B = List Value} (λ us. v ∷ us) r) ≡ turned (λ us. (vs ++ v ∷ []) ++ us) r
+  put_at_end v (Ok us) = ap (λ (us : List Value). Ok us) (sym (append_assoc vs (v ∷ []) us))
+  put_at_end v (Err t) = refl
 
   pub read_on : (k j : ℕ) (v : Value) → k ≡ suc j → attribute class field x s ≡ Ok v → turned {B = List Value} (λ us. vs ++ us) (attributes class field k x s) ≡ turned (λ us. (vs ++ v ∷ []) ++ us) (attributes class (field + 1) j x s)
   read_on k j v e h =
       ap (λ k. turned {B = List Value} (λ us. vs ++ us) (attributes class field k x s)) e
       ∙ ap (λ r. turned {B = List Value} (λ us. vs ++ us) (if_ok r (λ v. turned (λ us. v ∷ us) (attributes class (field + 1) j x s)))) h
-      ∙ put_behind v (attributes class (field + 1) j x s)
+      ∙ put_at_end v (attributes class (field + 1) j x s)
 
--- no value is found, or memory for it is wanting
+-- no value is found, or memory for it was refused
 module _ (class field count : ℕ) (x : Value) (e : Seen) (vs : List Value) (k j : ℕ) (more : k ≡ suc j) (before : (s : Store) → attributes class 0 count x (with_seen s e) ≡ turned (λ us. vs ++ us) (attributes class field k x (with_seen s e))) where
   pub unread : (u : Unmade) → Finds {A = Value} (attribute class field x) e (Err u) → Finds {A = List Value} (attributes class 0 count x) e (Err u)
   unread (unmade.Fault kind) h = λ s. before s ∙ not_read class field x (with_seen s e) vs k j (meant (Fault kind)) more (h s)

@@ -33,7 +33,7 @@ ranked_meant c ties = record {
   said = record { class = c.class; ties = ties; line = c.line; given = c.given; saved = c.saved };
 }
 
--- an event, as the meaning tells it
+-- an event, in the terms of the meaning
 abbrev pub coming_meant : Event → List RankKey → Store → Coming
 coming_meant c ties s = record { ranked = ranked_meant c ties; notice = Whole c.notice; store = s }
 
@@ -94,7 +94,7 @@ abbrev pub First : State → List Notices → (number : ℤ) → Option Event �
 First h es n None = first_of h n 0 es ≡ None
 First h es n (Some c) = (first_of h n 0 es ≡ Some (ranked_meant c (ties_at es c.rank))) × (c.notice ≡ n)
 
--- the same of a number of which the meaning knows the class
+-- the event of a number of which the meaning knows the class
 abbrev pub Told : Seen → (number : ℤ) → Option Event → Type 0
 Told e n None = (s : Store) → ranked_as (notice e.heap n) (with_seen s e) ≡ None
 Told e n (Some c) = ((s : Store) → ranked_as (notice e.heap n) (with_seen s e) ≡ Some (ranked_meant c (ties_at e.notices c.rank))) × (c.notice ≡ n)
@@ -104,12 +104,12 @@ Told e n (Some c) = ((s : Store) → ranked_as (notice e.heap n) (with_seen s e)
 abbrev pub beginning : (rank : ℕ) → List Value → Store → Beginning
 beginning rank vs s = record { rank = rank; given = vs; store = s }
 
--- a value stands behind others, or memory for it is wanting
+-- a value is added after others, or memory for it was refused
 abbrev pub IsPut : Value → (old new : List Value) → Result (Unit {0}) Unmade → Type 0
 IsPut v old new (Ok u) = new ≡ old ++ v ∷ []
 IsPut v old new (Err t) = t ≡ unmade.Memory
 
--- an operation looks, and the value that it finds stands behind others
+-- an operation looks, and the value that it finds is added after others
 abbrev pub Adds : (Store → Result Value Meant) → Seen → (old new : List Value) → Result (Unit {0}) Unmade → Type 0
 Adds f e old new (Ok u) = (v : Value) × (new ≡ old ++ v ∷ []) × ((s : Store) → f (with_seen s e) ≡ Ok v)
 Adds f e old new (Err t) = Finds {A = Value} f e (Err t)

@@ -1,4 +1,4 @@
--- What scheduling does once the number of the notice is known, and what is said of operations in several steps.
+-- What scheduling does once the number of the notice is known, and what operations in several steps do.
 use Rattle.std.specs.Prelude.{◌≡◌, ℕ, Bool, true, false, List, [], ◌∷◌, ◌++◌, ℤ, int_lt, Option, Some, slice_get, Result, Ok, Err}
 use Rattle.std.specs.Option.{option_map}
 use Rattle.ss_base.specs.declared.fault.FaultKind.TheVariants.{PastTime}
@@ -26,19 +26,19 @@ use Rattle.ss_machine_world.specs.Seen.{Seen, with_seen}
 
 -- ## Operations in several steps
 
--- an operation leads to what is seen afterwards, or it comes to a trouble, after some of its steps
+-- an operation leads to what is seen afterwards, or it fails after some of its steps
 abbrev pub Leads : (Store → Result Store Meant) → (old new : Seen) → Result (Unit {0}) Trouble → Type 0
 Leads f old new (Ok u) = (s : Store) → f (with_seen s old) ≡ Ok (with_seen s new)
 Leads f old new (Err t) = (s : Store) → f (with_seen s old) ≡ told {A = Store} (Err t)
 
--- the same of one that gives a value as well and needs memory, want of which changes nothing
+-- an operation that gives a value as well and needs memory: it fails after some steps, and out of memory it changes nothing
 abbrev pub Forms : {A : Type 0} → (Store → Result (A × Store) Meant) → (old new : Seen) → Result A Unmade → Type 0
 Forms f old new (Ok a) = (s : Store) → f (with_seen s old) ≡ Ok (a, with_seen s new)
 Forms {A} f old new (Err (unmade.Fault kind)) = (s : Store) → f (with_seen s old) ≡ told {A = A × Store} (Err (Fault kind))
 Forms {A} f old new (Err unmade.Misfit) = (s : Store) → f (with_seen s old) ≡ told {A = A × Store} (Err Misfit)
 Forms f old new (Err unmade.Memory) = new ≡ old
 
--- the same of one that gives no value; where memory is wanting, what it does first is done
+-- an operation that gives no value and needs memory: out of memory it has done what it does first
 abbrev pub Goes : (f first : Store → Result Store Meant) → (old new : Seen) → Result (Unit {0}) Unmade → Type 0
 Goes f first old new (Ok u) = (s : Store) → f (with_seen s old) ≡ Ok (with_seen s new)
 Goes f first old new (Err (unmade.Fault kind)) = (s : Store) → f (with_seen s old) ≡ told {A = Store} (Err (Fault kind))
@@ -52,17 +52,17 @@ Finds {A} f e (Err (unmade.Fault kind)) = (s : Store) → f (with_seen s e) ≡ 
 Finds {A} f e (Err unmade.Misfit) = (s : Store) → f (with_seen s e) ≡ told {A = A} (Err Misfit)
 Finds f e (Err unmade.Memory) = Unit {0}
 
--- the same where what it finds is put somewhere
+-- the answer of an operation whose value is put somewhere, which needs memory
 abbrev pub put_there : {A : Type 0} → A → Result (Unit {0}) Unmade → Result A Unmade
 put_there a (Ok u) = Ok a
 put_there a (Err t) = Err t
 
--- a tie stands behind others, or memory for it is wanting
+-- a tie is added after others, or memory for it was refused
 abbrev pub IsTied : Value → (high : Bool) → (old new : List Tie) → Result (Unit {0}) Unmade → Type 0
 IsTied v high old new (Ok u) = new ≡ old ++ record { value = v; high = high } ∷ []
 IsTied v high old new (Err t) = t ≡ unmade.Memory
 
--- an operation looks, and the value that it finds stands behind other ties
+-- an operation looks, and the value that it finds is added after other ties
 abbrev pub AddsTie : (Store → Result Value Meant) → (high : Bool) → Seen → (old new : List Tie) → Result (Unit {0}) Unmade → Type 0
 AddsTie f high e old new (Ok u) = (v : Value) × (new ≡ old ++ record { value = v; high = high } ∷ []) × ((s : Store) → f (with_seen s e) ≡ Ok v)
 AddsTie f high e old new (Err t) = Finds {A = Value} f e (Err t)
@@ -72,19 +72,19 @@ abbrev pub as_whole : Result ℤ Unmade → Result Value Unmade
 as_whole (Ok n) = Ok (Whole n)
 as_whole (Err t) = Err t
 
--- what filing a notice came to
+-- the answer of filing a notice
 abbrev pub filing_of : Filed → Result (Unit {0}) Unmade
 filing_of Done = Ok tt
 filing_of (filings.Fault kind) = Err (unmade.Fault kind)
 filing_of filings.Misfit = Err unmade.Misfit
 filing_of Wanting = Err unmade.Memory
 
--- a trouble where memory might have been wanting
+-- a trouble as an answer that may also be out of memory
 abbrev pub lacking : Trouble → Unmade
 lacking (Fault kind) = unmade.Fault kind
 lacking Misfit = unmade.Misfit
 
--- what a call that needs memory comes to
+-- the answer of a call that needs memory
 abbrev pub settled : Result (Unit {0}) Refused → Result (Unit {0}) Unmade
 settled (Ok u) = Ok u
 settled (Err (refusals.Fault kind)) = Err (unmade.Fault kind)

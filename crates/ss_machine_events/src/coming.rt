@@ -41,7 +41,7 @@ pub enum Fate {
     Gone,
 }
 
-// The event of a notice of the class of which this is said, which has this rank.
+// The event of a notice of this class, which has this rank.
 #[inline(always)]
 fn event_of(said: &NoticeClass, rank: usize, notice: i64) -> Event
     ensures { result ≡ record { rank = rank; class = said.now.class; line = said.now.line; given = said.now.given; saved = said.now.saved; notice = notice } }
@@ -89,7 +89,7 @@ fn event_told(scene: &Scene, known: Known) -> Option<Event>
     event_among(scene, &scene.notices, known)
 }
 
-// The same by a call.
+// The event of a notice, by its number, out of line.
 #[inline(never)]
 fn event_apart(scene: &Scene, known: Known) -> Option<Event>
     ensures { Told scene.now known.number result }
@@ -186,7 +186,7 @@ pub fn next_event(scene: &mut Scene) -> Option<Event>
     }
 }
 
-// The value of an attribute of a notice, by its number, comes behind others.
+// The value of an attribute of a notice, by its number, is added after others.
 #[inline(always)]
 fn read_one(
     scene: &Scene,
@@ -203,7 +203,7 @@ fn read_one(
     }
 }
 
-// The same where it is no whole number, or there is a fault.
+// Adds the value of an attribute that is no whole number, or finds its fault.
 #[inline(never)]
 fn read_any(
     scene: &Scene,
@@ -257,7 +257,7 @@ fn let_go(scene: &mut Scene, event: Event) -> Result<Fate, Unmade>
 
 /// An event that was taken out begins: its routine takes the values, which are those of the first attributes of the
 /// notice, in place of what was there. The notice is destroyed unless it is to be saved. Faults: 9 and 10. Nothing
-/// changes after a fault, or where memory for the values is wanting.
+/// changes after a fault, or where memory for the values was refused.
 pub fn begin_event(scene: &mut Scene, event: Event, values: &mut Vec<Value>) -> Result<Fate, Unmade>
     ensures { (ties : List KeySeen) → Begins event ties values.new.items scene.old scene.new result }
 {
@@ -270,7 +270,7 @@ pub fn begin_event(scene: &mut Scene, event: Event, values: &mut Vec<Value>) -> 
     }
 }
 
-// A value comes behind others.
+// A value is added after others.
 #[inline(always)]
 fn put(values: &mut Vec<Value>, value: Value) -> Result<(), Unmade>
     ensures { IsPut value values.old.items values.new.items result }

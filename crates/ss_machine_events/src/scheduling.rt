@@ -23,7 +23,7 @@ use ss_machine_world::scene::Scene;
 use ss_world::Tie;
 use std::alloc::Global;
 
-// What filing a notice came to.
+// The answer of filing a notice.
 #[derive(Clone, Copy)]
 pub(crate) enum Filed {
     Done,
@@ -33,7 +33,7 @@ pub(crate) enum Filed {
     Wanting,
 }
 
-// What filing a notice came to, in one piece.
+// The answer of filing a notice, as one value.
 #[inline(always)]
 fn in_one(answer: Result<(), Unmade>) -> Filed
     ensures { filing_of result ≡ answer }
@@ -57,9 +57,9 @@ fn is_done(filed: Filed) -> bool
     }
 }
 
-// What filing a notice came to, the other way round.
+// The answer of filing a notice, as a result.
 #[inline(never)]
-fn told_apart(filed: Filed) -> Result<(), Unmade>
+fn filed_answer(filed: Filed) -> Result<(), Unmade>
     ensures { result ≡ filing_of filed }
 {
     match filed {
@@ -70,15 +70,15 @@ fn told_apart(filed: Filed) -> Result<(), Unmade>
     }
 }
 
-// The same, told at once where it was done.
+// The answer of filing a notice, as a result; only the usual case is in line.
 #[inline(always)]
-fn as_told(filed: Filed) -> Result<(), Unmade>
+fn as_filed(filed: Filed) -> Result<(), Unmade>
     ensures { result ≡ filing_of filed }
 {
     if is_done(filed) {
         return Ok(());
     }
-    told_apart(filed)
+    filed_answer(filed)
 }
 
 // Whether a class of notices has no ties.
@@ -148,7 +148,7 @@ fn time_near(scene: &Scene, later: bool, number: Number) -> Option<i64>
     }
 }
 
-// The same with every care.
+// The time for which a notice is scheduled by a number, with its faults.
 #[inline(never)]
 fn time_apart(scene: &Scene, later: bool, number: Number) -> Result<i64, Trouble>
     ensures { Looks (time_at (moment_of later (Whole number.value))) scene.now result }
@@ -160,7 +160,7 @@ fn time_apart(scene: &Scene, later: bool, number: Number) -> Result<i64, Trouble
     }
 }
 
-// The same, where no care is taken that need not be.
+// The time for which a notice is scheduled by a number; only the usual case is in line.
 #[inline(always)]
 fn time_by(scene: &Scene, later: bool, number: Number) -> Result<i64, Trouble>
     ensures { Looks (time_at (moment_of later (Whole number.value))) scene.now result }
@@ -214,7 +214,7 @@ fn give(
     give_any(scene, class, field, x, value)
 }
 
-// The same with every care.
+// Assigns a value to any attribute of a notice, with its faults.
 #[inline(never)]
 fn give_any(
     scene: &mut Scene,
@@ -280,7 +280,7 @@ fn made_apart(made: Made) -> Result<i64, Unmade>
     }
 }
 
-// The same, told at once where something was made.
+// The answer of making a notice, as a result; only the usual case is in line.
 #[inline(always)]
 fn as_made(made: Made) -> Result<i64, Unmade>
     ensures { as_whole result ≡ as_value made }
@@ -300,7 +300,7 @@ fn created(scene: &mut Scene, class: usize) -> Result<i64, Unmade>
 }
 
 /// The number of a new notice of a class, with values for its first attributes and its TIME.A. Faults: 14 after the last
-/// number, or where a history of an attribute is full. Want of memory changes nothing; where the values do not fit, the
+/// number, or where a history of an attribute is full. Out of memory nothing changes; where the values do not fit, the
 /// notice is made.
 #[inline(always)]
 pub fn notice_number(
@@ -322,7 +322,7 @@ pub fn notice_number(
     }
 }
 
-/// The same as a value.
+/// A new notice as a value (`notice_number`).
 #[inline(always)]
 pub fn make_notice(
     scene: &mut Scene,
@@ -369,7 +369,7 @@ fn freeze_one(
     }
 }
 
-// The same where it is no whole number, or there is a fault.
+// The value of an attribute that is no whole number, as one more tie, or its fault.
 #[inline(never)]
 fn freeze_any(
     scene: &Scene,
@@ -565,7 +565,7 @@ fn file_pending(
     }
 }
 
-// The same by a call, which tells in one piece what it came to.
+// Files a notice out of line, with the answer as one value.
 #[inline(never)]
 fn file_apart(scene: &mut Scene, alloc: Global, class: usize, notice: Known, time: i64) -> Filed
     ensures { Grows (filed_notice class (Whole notice.number) time) scene.old scene.new (filing_of result) }
@@ -602,7 +602,7 @@ fn file_at_once(scene: &mut Scene, class: usize, notice: Known, time: i64) -> bo
 
 /// A notice is filed among those that are pending, by its number: for this time, by the rank of its class and the values
 /// that the attributes which break ties have now. Faults: 1 to 4, then 13 where the time is before TIME.V, then 11, then
-/// 14 after the last scheduling. Want of memory changes nothing.
+/// 14 after the last scheduling. Out of memory nothing changes.
 #[inline(always)]
 pub fn file_known(
     scene: &mut Scene,
@@ -616,10 +616,10 @@ pub fn file_known(
     if file_at_once(scene, class, notice, time) {
         return Ok(());
     }
-    as_told(file_apart(scene, alloc, class, notice, time))
+    as_filed(file_apart(scene, alloc, class, notice, time))
 }
 
-// The same of a value that refers to a notice.
+// Files a notice to which any value refers.
 #[inline(always)]
 fn file_any(
     scene: &mut Scene,
@@ -639,7 +639,7 @@ fn file_any(
     }
 }
 
-/// The same of a value that refers to a notice.
+/// A notice to which a value refers is filed among those that are pending (`file_known`).
 #[inline(never)]
 pub fn file_notice(
     scene: &mut Scene,
@@ -670,7 +670,7 @@ fn schedule_anew(
     }
 }
 
-// The same of a notice unless it is pending.
+// A notice gets values and its TIME.A, and is filed, unless it is pending.
 fn schedule_again(
     scene: &mut Scene,
     alloc: Global,
@@ -694,7 +694,7 @@ fn schedule_again(
 
 /// A notice that there is gets values for its first attributes and its TIME.A, and is filed, as SCHEDULE THE says.
 /// Faults: 1 to 4, then 11, then 14 where a history of an attribute is full, then 13 where the time is before TIME.V,
-/// then 14 after the last scheduling. Where memory is wanting, it has its values and its TIME.A, and is not filed.
+/// then 14 after the last scheduling. Where memory is refused, it has its values and its TIME.A, and is not filed.
 pub fn reschedule(
     scene: &mut Scene,
     alloc: Global,
@@ -708,7 +708,7 @@ pub fn reschedule(
     schedule_again(scene, alloc, class, &x, given, time)
 }
 
-// A trouble where memory might have been wanting.
+// A trouble, as an answer that may also be out of memory.
 #[inline(always)]
 pub(crate) fn lacking(trouble: Trouble) -> Unmade
     ensures { result ≡ lacking trouble }
@@ -719,7 +719,7 @@ pub(crate) fn lacking(trouble: Trouble) -> Unmade
     }
 }
 
-// A tie comes behind others.
+// A tie is added after others.
 #[inline(always)]
 fn put_tie(ties: &mut Vec<Tie>, value: Value, high: bool) -> Result<(), Unmade>
     ensures { IsTied value high ties.old.items ties.new.items result }
@@ -730,7 +730,7 @@ fn put_tie(ties: &mut Vec<Tie>, value: Value, high: bool) -> Result<(), Unmade>
     }
 }
 
-// What a call that needs memory comes to.
+// The answer of a call that needs memory.
 fn settled(answer: Result<(), Refused>) -> Result<(), Unmade>
     ensures { result ≡ settled answer }
 {

@@ -6,7 +6,7 @@ use Rattle.std.proofs.lemmas.Option.{slice_get_past}
 use Rattle.ss_base.specs.declared.value.Value.{Value}
 use Rattle.ss_meaning.specs.Values.{Misfit, Trouble, turned}
 use Rattle.ss_meaning.specs.Store.{put_at}
-use Rattle.ss_machine_frames.specs.Told.{put_told}
+use Rattle.ss_machine_frames.specs.Assignments.{put_result}
 use Rattle.ss_machine_frames.proofs.LastValues.{set_last}
 use Rattle.ss_machine_frames.proofs.Puts.{put_none}
 
@@ -21,14 +21,14 @@ pub put_beyond : (base n : ℕ) (xs : List Value) (v : Value) → length xs ≤ 
 put_beyond base n xs v h = put_none (drop base xs) n v (sym (get_above base n (base + n) xs refl) ∙ slice_get_past xs (base + n) h)
 
 -- what an assignment among all of them says of one among those above
-pub put_from : (base n k : ℕ) (xs ys : List Value) (v : Value) (r : Bool) → k ≡ base + n → put_at xs k v ≡ put_told r ys → put_at (drop base xs) n v ≡ put_told r (drop base ys)
+pub put_from : (base n k : ℕ) (xs ys : List Value) (v : Value) (r : Bool) → k ≡ base + n → put_at xs k v ≡ put_result r ys → put_at (drop base xs) n v ≡ put_result r (drop base ys)
 put_from zero n k xs ys v r i e = ap (λ j. put_at xs j v) (omega (arith, i)) ∙ e
 put_from (suc b) n zero xs ys v r i e = absurd (omega (arith, i))
 put_from (suc b) n (suc k) [] ys v true i e = absurd cc
 put_from (suc b) n (suc k) [] ys v false i e = refl
 put_from (suc b) n (suc k) (x ∷ xs) ys v r i e = by (put_at xs k v) r refl e (λ zs q. put_from b n k xs zs v q (omega (arith, i)))
   where
-    by : (q : Result (List Value) Trouble) (r : Bool) → put_at xs k v ≡ q → turned (λ rest. x ∷ rest) q ≡ put_told r ys → ((zs : List Value) (q : Bool) → put_at xs k v ≡ put_told q zs → put_at (drop b xs) n v ≡ put_told q (drop b zs)) → put_at (drop b xs) n v ≡ put_told r (drop (suc b) ys)
+    by : (q : Result (List Value) Trouble) (r : Bool) → put_at xs k v ≡ q → turned (λ rest. x ∷ rest) q ≡ put_result r ys → ((zs : List Value) (q : Bool) → put_at xs k v ≡ put_result q zs → put_at (drop b xs) n v ≡ put_result q (drop b zs)) → put_at (drop b xs) n v ≡ put_result r (drop (suc b) ys)
     by (Ok zs) true e h go = let is : x ∷ zs ≡ ys = cc in go zs true e ∙ ap (λ l. Ok (drop (suc b) l)) is
     by (Ok zs) false e h go = absurd cc
     by (Err m) true e h go = absurd cc
@@ -45,9 +45,9 @@ put_below (suc b) n (suc k) (x ∷ xs) ys v i e = by (put_at xs k v) refl e (λ 
     by (Err m) e h go = absurd cc
 
 -- those below stay
-pub put_told_below : (base n k : ℕ) (xs ys : List Value) (v : Value) (r : Bool) → k ≡ base + n → put_at xs k v ≡ put_told r ys → (r ≡ false → ys ≡ xs) → take base ys ≡ take base xs
-put_told_below base n k xs ys v true i e h = put_below base n k xs ys v i e
-put_told_below base n k xs ys v false i e h = ap (take base) (h refl)
+pub put_result_below : (base n k : ℕ) (xs ys : List Value) (v : Value) (r : Bool) → k ≡ base + n → put_at xs k v ≡ put_result r ys → (r ≡ false → ys ≡ xs) → take base ys ≡ take base xs
+put_result_below base n k xs ys v true i e h = put_below base n k xs ys v i e
+put_result_below base n k xs ys v false i e h = ap (take base) (h refl)
 
 -- another value at the end
 pub last_above : (base : ℕ) (xs rest : List Value) (last v : Value) → base ≤ length xs → drop base xs ≡ rest ++ last ∷ [] → drop base (set xs (length xs - 1) v) ≡ rest ++ v ∷ []

@@ -47,7 +47,7 @@ get_none (m ∷ ns) [] (suc k) e = get_none ns [] k e
 get_none (m ∷ ns) (t ∷ ts) zero e = absurd cc
 get_none (m ∷ ns) (t ∷ ts) (suc k) e = get_none ns ts k e
 
--- where a variable is for whole numbers, none text stands
+-- where a variable is for whole numbers, there is no text
 pub no_text_there : (ns : List ℤ) (ts : List (Option (List ℕ))) (k : ℕ) → slice_get (map mode_of (valued ns ts)) k ≡ Some Integer → (t : List ℕ) → slice_get ts k ≡ Some (Some t) → ⊥
 no_text_there [] ts k e t f = absurd cc
 no_text_there (n ∷ ns) [] zero e t f = absurd cc
@@ -104,7 +104,7 @@ put_text_here ns ts k n t u e f h g = put_there (valued ns ts) k (Text u) (Text 
 pub put_text_number : (ns : List ℤ) (ts : List (Option (List ℕ))) (k : ℕ) (n : ℤ) (u : List ℕ) → slice_get ns k ≡ Some n → ((t : List ℕ) → slice_get ts k ≡ Some (Some t) → ⊥) → put_at (valued ns ts) k (Text u) ≡ Err Misfit
 put_text_number ns ts k n u e none = put_other (valued ns ts) k (Text u) (Whole n) (get_number ns ts k n e none) refl
 
--- where none stands, there is no text; where one is to be there, there is a number beside it
+-- past the last text there is none; where one is to be there, there is a number beside it
 pub none_not : (ts : List (Option (List ℕ))) (k : ℕ) → slice_get ts k ≡ Some None → (t : List ℕ) → slice_get ts k ≡ Some (Some t) → ⊥
 none_not ts k e t f = let both : Some None ≡ Some (Some t) = sym e ∙ f in absurd cc
 

@@ -19,7 +19,7 @@ drop_under count xs d h =
     reverse-append (take n xs) (get_or xs n d ∷ []) ∙
     ap (λ l. get_or xs n d ∷ l) (sym (drop_above n xs) ∙ ap (λ k. drop k (reverse xs)) two)
 
--- the same of a value that may be there
+-- the value below so many, if it is there
 pub under_top : (count : ℕ) (xs : List Value) (r : Option Value) → MatchOption r (length xs ≤ count) (λ x. (count < length xs) × (slice_get xs (length xs - 1 - count) ≡ Some x)) → MatchOption r (length (reverse xs) ≤ count) (λ x. drop count (reverse xs) ≡ x ∷ drop (count + 1) (reverse xs))
 under_top count xs None h = omega (arith, h, length-reverse xs)
 under_top count xs (Some x) h =

@@ -19,9 +19,9 @@ taken_short (m ∷ ms) (v ∷ vs) h = by (same_mode (mode_of v) m) (taken_short 
     by true e = ap (behind v) e
     by false e = refl
 
-behind_taken : (v : Value) (b : Bool) (vs : List Value) → behind v (if_taken b vs) ≡ if_taken b (v ∷ vs)
-behind_taken v true vs = refl
-behind_taken v false vs = refl
+appended_taken : (v : Value) (b : Bool) (vs : List Value) → behind v (if_taken b vs) ≡ if_taken b (v ∷ vs)
+appended_taken v true vs = refl
+appended_taken v false vs = refl
 
 -- whether the values are of the modes, as far as both go
 abbrev pub all_of : List Mode → List Value → Bool
@@ -36,7 +36,7 @@ taken_all (m ∷ ms) [] h = absurd (omega (arith, h))
 taken_all (m ∷ ms) (v ∷ vs) h = by (same_mode (mode_of v) m) (taken_all ms vs (omega (arith, h)))
   where
     by : (b : Bool) → taken ms vs ≡ if_taken (all_of ms vs) vs → (if b then behind v (taken ms vs) else None) ≡ if_taken (b && all_of ms vs) (v ∷ vs)
-    by true e = ap (behind v) e ∙ behind_taken v (all_of ms vs) vs
+    by true e = ap (behind v) e ∙ appended_taken v (all_of ms vs) vs
     by false e = refl
 
 -- one more

@@ -1,4 +1,4 @@
--- The stack of operands, which is kept the other way round.
+-- The stack of operands, whose vector has the topmost last.
 use Rattle.std.proofs.Common.{◌≡◌, ℕ, zero, suc, ◌-◌, ◌<◌, List, [], ◌∷◌, ◌++◌, length, reverse, take, drop, Some, None, refl, sym, ap, ◌∙◌, arith, append_assoc, length-drop}
 use Rattle.std.proofs.lemmas.List.{reverse-append, reverse-reverse, take-append-drop, length-reverse, append-nil}
 use Rattle.std.proofs.Math.Seq.{drop-append_seam}

@@ -1,4 +1,4 @@
--- Values of which the numbers stand in one list and the texts in another, at their places; where that has none, a number is meant.
+-- Values of which the numbers lie in one list and the texts in another, at their places; where that has none, the value is the number.
 use Rattle.std.specs.Prelude.{ℕ, ℤ, List, [], ◌∷◌, Option, Some, None}
 use Rattle.ss_base.specs.declared.value.Value.{Value}
 use Rattle.ss_base.specs.declared.value.Value.TheVariants.{Whole, Text}

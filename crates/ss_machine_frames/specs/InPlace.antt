@@ -15,7 +15,7 @@ pub record Combined (operator : Operator) (old new : List Value) : Type 0 where
   pub is : calculated operator left right ≡ Ok made
   pub are : new ≡ made ∷ rest
 
--- the topmost two stand in a relation or not, and go
+-- the topmost two are in a relation or not, and go
 pub record Compared (relation : Relation) (holds : Bool) (old new : List Value) : Type 0 where
   pub left : Value
   pub right : Value

@@ -1,4 +1,4 @@
-pub mod Told
+pub mod Assignments
 pub mod Banks
 pub mod Frames
 pub mod Spots

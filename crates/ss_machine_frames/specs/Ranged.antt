@@ -1,4 +1,4 @@
--- The bounds of a FOR, as the meaning tells them.
+-- The bounds of a FOR, in the terms of the meaning.
 use Rattle.std.specs.Prelude.{Result}
 use Rattle.ss_meaning.specs.Values.{Trouble as Meant, turned}
 use Rattle.ss_meaning.specs.Loops.{Range}

@@ -1,4 +1,4 @@
--- What can be assigned a value, as the meaning tells it.
+-- What can be assigned a value, in the terms of the meaning.
 use Rattle.ss_meaning.specs.Places.{Spot as Place, InVariable, InAttribute, InCount}
 use Rattle.ss_machine_frames.specs.declared.spot.Spot.{Spot}
 use Rattle.ss_machine_frames.specs.declared.spot.Spot.TheVariants as spots

@@ -4,7 +4,7 @@ ghost use Rattle.ss_base.specs.Layout.{mode_of};
 ghost use Rattle.ss_base.specs.declared.layout.Mode.TheVariants.{Integer};
 ghost use Rattle.ss_base.specs.declared.value.Value.TheVariants.{Whole, Text};
 ghost use Rattle.ss_meaning.specs.Store.{put_at};
-ghost use Rattle.ss_machine_frames.specs.Told.{put_told};
+ghost use Rattle.ss_machine_frames.specs.Assignments.{put_result};
 ghost use Rattle.ss_machine_frames.specs.Banks.{value_of, valued};
 
 use ss_base::{Alpha, Value};
@@ -27,7 +27,7 @@ fn put_word(numbers: &mut [i64], number: usize, value: i64)
     numbers[number] = value;
 }
 
-// The text with a number, if one stands there.
+// The text with a number, if there is one.
 #[inline(always)]
 fn text_at(texts: &[Option<Alpha>], number: usize) -> Option<Alpha>
     requires { number < length texts.now }
@@ -78,7 +78,7 @@ pub(crate) fn put_number_in(
     value: i64,
 ) -> bool
     requires { length texts.now ≡ length numbers.old }
-    ensures set { put_at (valued numbers.old texts.now) number (Whole value) ≡ put_told result (valued numbers.new texts.now) }
+    ensures set { put_at (valued numbers.old texts.now) number (Whole value) ≡ put_result result (valued numbers.new texts.now) }
     ensures kept { result ≡ false → numbers.new ≡ numbers.old }
 {
     if number >= numbers.len() {
@@ -101,7 +101,7 @@ pub(crate) fn put_text_in(
     value: Alpha,
 ) -> bool
     requires { length texts.old ≡ length numbers.now }
-    ensures set { put_at (valued numbers.now texts.old) number (Text value) ≡ put_told result (valued numbers.now texts.new) }
+    ensures set { put_at (valued numbers.now texts.old) number (Text value) ≡ put_result result (valued numbers.now texts.new) }
     ensures kept { result ≡ false → texts.new ≡ texts.old }
 {
     if number >= texts.len() {

@@ -32,7 +32,7 @@ impl Operands {
         true
     }
 
-    /// Takes the topmost two off, and says whether they stand in a relation, the topmost on its right. None, and nothing changes,
+    /// Takes the topmost two off, and says whether they are in a relation, the topmost on its right. None, and nothing changes,
     /// where fewer than two are there, or they are of two modes.
     #[inline(always)]
     pub fn compared(&mut self, relation: Relation) -> Option<bool>

@@ -5,7 +5,7 @@ ghost use Rattle.ss_base.specs.Layout.{mode_of};
 ghost use Rattle.ss_base.specs.declared.layout.Mode.TheVariants.{Integer};
 ghost use Rattle.ss_base.specs.declared.value.Value.TheVariants.{Whole};
 ghost use Rattle.ss_meaning.specs.Store.{put_at, firsts, yielded};
-ghost use Rattle.ss_machine_frames.specs.Told.{put_told};
+ghost use Rattle.ss_machine_frames.specs.Assignments.{put_result};
 ghost use Rattle.ss_machine_frames.specs.Frames.{if_taken};
 
 use crate::variables::Variables;
@@ -13,7 +13,7 @@ use ss_base::{Mode, Value};
 use std::alloc::{AllocError, Global};
 use std::marker::Model;
 
-/// The variables of all open calls in one row: those at hand, and below them those of the calls that wait. A contract sees the
+/// The variables of all open calls in one row: those of the current call, and below them those of the calls that wait. A contract sees the
 /// two lists of their values, each in the order of their numbers.
 #[derive(Drop)]
 pub struct Locals {
@@ -43,7 +43,7 @@ impl Locals {
         }
     }
 
-    /// What the variable at hand with a number holds, if it is there.
+    /// What the variable of the current call with a number holds, if it is there.
     #[inline(always)]
     pub fn get(&self, number: usize) -> Option<Value>
         ensures { result ≡ slice_get self.now.here number }
@@ -51,7 +51,7 @@ impl Locals {
         self.values.get_above(self.base, number)
     }
 
-    /// The number that a variable at hand holds which is for whole numbers.
+    /// The number that a variable of the current call holds which is for whole numbers.
     #[inline(always)]
     pub fn number(&self, number: usize) -> i64
         requires { slice_get (map mode_of self.now.here) number ≡ Some Integer }
@@ -60,7 +60,7 @@ impl Locals {
         self.values.number_above(self.base, number)
     }
 
-    /// Assigns a number to a variable at hand which is for whole numbers.
+    /// Assigns a number to a variable of the current call which is for whole numbers.
     #[inline(always)]
     pub fn set_number(&mut self, number: usize, value: i64)
         requires { slice_get (map mode_of self.old.here) number ≡ Some Integer }
@@ -70,24 +70,24 @@ impl Locals {
         self.values.set_number_above(self.base, number, value);
     }
 
-    /// Assigns a value to the variable at hand with a number, and says whether one of its mode is there. If not, nothing changes.
+    /// Assigns a value to the current call's variable with a number, and says whether one of its mode is there. If not, nothing changes.
     #[inline(always)]
     pub fn set(&mut self, number: usize, value: Value) -> bool
         ensures below { self.new.below ≡ self.old.below }
-        ensures here { put_at self.old.here number value ≡ put_told result self.new.here }
+        ensures here { put_at self.old.here number value ≡ put_result result self.new.here }
         ensures kept { result ≡ false → self.new ≡ self.old }
     {
         self.values.set_above(self.base, number, value)
     }
 
-    // One more variable at hand.
+    // One more variable of the current call.
     fn push(&mut self, value: Value) -> Result<(), AllocError>
         ensures { OnOk result (self.new ≡ record { below = self.old.below; here = self.old.here ++ value ∷ [] }) }
     {
         self.values.push(value)
     }
 
-    /// Keeps the variables at hand below, for a call in which none is at hand. Answers how many lay below before.
+    /// A call begins that has no variable yet: those there lie below now. Answers how many lay below before.
     pub fn enter(&mut self) -> usize
         ensures base { result ≡ length self.old.below }
         ensures after { self.new ≡ record { below = self.old.below ++ self.old.here; here = [] } }
@@ -97,7 +97,7 @@ impl Locals {
         base
     }
 
-    /// Takes the variables at hand off; of those below all but the first so many are then at hand.
+    /// The current call ends and its variables go; of those below all but the first so many are then the current call's.
     pub fn leave(&mut self, base: usize)
         ensures { self.new ≡ record { below = take base self.old.below; here = drop base self.old.below } }
     {
@@ -105,7 +105,7 @@ impl Locals {
         self.base = self.base.min(base);
     }
 
-    /// Puts variables behind those at hand that hold these values, and then those of these modes as they are at first. The error
+    /// Adds to the current call variables that hold these values, and then those of these modes as they are at first. The error
     /// comes where memory was refused.
     pub fn fill(&mut self, given: &[Value], others: &[Mode]) -> Result<(), AllocError>
         ensures { OnOk result (self.new ≡ record { below = self.old.below; here = self.old.here ++ (given.now ++ firsts others.now) }) }
@@ -119,7 +119,7 @@ impl Locals {
         Ok(())
     }
 
-    /// One more variable at hand, which holds a value, where there is room for it, and says whether it came. It asks for no memory.
+    /// One more variable of the current call, which holds a value, where there is room for it. It says whether it came, and asks for no memory.
     #[inline(always)]
     pub fn put(&mut self, value: Value) -> bool
         ensures below { self.new.below ≡ self.old.below }
@@ -128,7 +128,7 @@ impl Locals {
         self.values.push_within(value)
     }
 
-    /// Puts variables of these modes, as they are at first, behind those at hand where there is room for all, and says whether they
+    /// Adds variables of these modes, as they are at first, to the current call where there is room for all, and says whether they
     /// came. It asks for no memory.
     #[inline(always)]
     pub fn start(&mut self, others: &[Mode]) -> bool
@@ -143,7 +143,7 @@ impl Locals {
         true
     }
 
-    /// How many are at hand.
+    /// How many the current call has.
     #[inline(always)]
     pub fn count(&self) -> usize
         ensures { result ≡ length self.now.here }
@@ -151,7 +151,7 @@ impl Locals {
         self.values.len() - self.base
     }
 
-    /// Puts what so many variables at hand hold, from a number on, behind other values, of which there is none, and says whether
+    /// Puts what so many variables of the current call hold, from a number on, into an empty vector, and says whether
     /// they are there. The error comes where memory was refused.
     pub fn yielded(
         &self,

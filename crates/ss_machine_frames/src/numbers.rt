@@ -51,7 +51,7 @@ pub fn calculated(operator: Operator, x: Value, y: Value) -> Result<Value, Troub
     }
 }
 
-/// The operator that a sign stands for.
+/// The operator of a sign.
 #[inline(always)]
 pub fn operator_of(sign: Sign) -> Operator
     ensures { result ≡ operator_of sign }
@@ -107,7 +107,7 @@ fn allows(relation: Relation, order: Ordering) -> bool
     }
 }
 
-/// Whether two values of one mode stand in a relation; nothing where they are of two.
+/// Whether two values of one mode are in a relation; nothing where they are of two.
 #[inline(always)]
 pub fn related(relation: Relation, x: Value, y: Value) -> Option<bool>
     ensures { result ≡ related relation x y }

@@ -10,7 +10,7 @@ use std::alloc::{AllocError, Global};
 use std::marker::Model;
 
 /// The stack of operands. A contract sees the values of the calls that wait, in the order in which they were put there,
-/// and those at hand, the topmost first.
+/// and those of the current call, the topmost first.
 #[derive(Drop)]
 pub struct Operands {
     stack: Stack,
@@ -147,7 +147,7 @@ impl Operands {
         Ok(())
     }
 
-    /// How many lie below those at hand.
+    /// How many lie below those of the current call.
     #[inline(always)]
     pub fn depth(&self) -> usize
         ensures { result ≡ length self.now.below }
@@ -163,7 +163,7 @@ impl Operands {
         self.stack.enter()
     }
 
-    /// Takes the values at hand off; of those below all but the first so many are then at hand.
+    /// The current call ends and its values go; of those below all but the first so many are then the current call's.
     pub fn leave(&mut self, base: usize)
         ensures { self.new ≡ record { below = take base self.old.below; here = reverse (drop base self.old.below) } }
     {

@@ -8,7 +8,7 @@ use ss_base::Value;
 use std::alloc::{AllocError, Global};
 use std::marker::Model;
 
-/// Values in one vector: those at hand, and below them those of the calls that wait. A contract sees the two lists, each
+/// Values in one vector: those of the current call, and below them those of the calls that wait. A contract sees the two lists, each
 /// in the order in which the values were put there.
 #[derive(Drop)]
 pub struct Stack {
@@ -38,7 +38,7 @@ impl Stack {
         }
     }
 
-    /// The values at hand.
+    /// The values of the current call.
     #[inline(always)]
     pub fn values(&self) -> &[Value]
         ensures { result.now ≡ self.now.here }
@@ -67,7 +67,7 @@ impl Stack {
         self.values.len() < self.values.capacity()
     }
 
-    /// Takes the topmost of the values at hand off.
+    /// Takes the topmost of the current call's values off.
     #[inline(always)]
     pub fn pop(&mut self) -> Option<Value>
         ensures below { self.new.below ≡ self.old.below }
@@ -79,7 +79,7 @@ impl Stack {
         Some(self.values.take_last())
     }
 
-    // Takes the topmost of the values at hand off, of which there is one.
+    // Takes the topmost of the current call's values off, of which there is one.
     #[inline(always)]
     pub(crate) fn take_top(&mut self) -> Value
         requires { 0 < length self.old.here }
@@ -89,7 +89,7 @@ impl Stack {
         self.values.take_last()
     }
 
-    // Puts a value in place of the topmost of the values at hand, of which there is one.
+    // Puts a value in place of the topmost of the current call's values, of which there is one.
     #[inline(always)]
     pub(crate) fn put_top(&mut self, value: Value)
         requires { 0 < length self.old.here }
@@ -99,7 +99,7 @@ impl Stack {
         put_last_above(&mut self.values, self.base, value);
     }
 
-    /// The value at hand that was put there before so many others, if it is there.
+    /// The value of the current call that was put there before so many others, if it is there.
     #[inline(always)]
     pub fn under(&self, count: usize) -> Option<Value>
         ensures { MatchOption result (length self.now.here ≤ count) (λ x. (count < length self.now.here) × (slice_get self.now.here (length self.now.here - 1 - count) ≡ Some x)) }
@@ -107,7 +107,7 @@ impl Stack {
         value_under(&self.values, self.base, count)
     }
 
-    /// Puts a value in place of the topmost of the values at hand. Where there is none, nothing changes.
+    /// Puts a value in place of the topmost of the current call's values. Where there is none, nothing changes.
     #[inline(always)]
     pub fn set_top(&mut self, value: Value)
         ensures below { self.new.below ≡ self.old.below }
@@ -116,7 +116,7 @@ impl Stack {
         set_last_above(&mut self.values, self.base, value);
     }
 
-    /// Takes so many of the values at hand off.
+    /// Takes so many of the current call's values off.
     #[inline(always)]
     pub fn forget(&mut self, count: usize)
         requires { count ≤ length self.old.here }
@@ -125,7 +125,7 @@ impl Stack {
         self.values.truncate(self.values.len() - count);
     }
 
-    /// How many lie below those at hand.
+    /// How many lie below those of the current call.
     #[inline(always)]
     pub fn depth(&self) -> usize
         ensures { result ≡ length self.now.below }
@@ -133,7 +133,7 @@ impl Stack {
         self.base
     }
 
-    /// Keeps the values at hand below, for a call in which none is at hand. Answers how many lay below before.
+    /// A call begins that has no value yet: those there lie below now. Answers how many lay below before.
     pub fn enter(&mut self) -> usize
         ensures base { result ≡ length self.old.below }
         ensures after { self.new ≡ record { below = self.old.below ++ self.old.here; here = [] } }
@@ -143,7 +143,7 @@ impl Stack {
         base
     }
 
-    /// Takes the values at hand off; of those below all but the first so many are then at hand.
+    /// The current call ends and its values go; of those below all but the first so many are then the current call's.
     pub fn leave(&mut self, base: usize)
         ensures { self.new ≡ record { below = take base self.old.below; here = drop base self.old.below } }
     {

@@ -133,14 +133,14 @@ pub(crate) struct TopTwo {
     pub(crate) below: Value,
 }
 
-/// The member that a loop has come to, and the owner of its set, if it is not the system.
+/// The member that a loop has reached, and the owner of its set, if it is not the system.
 #[derive(Clone, Copy)]
 pub struct Going {
     pub member: i64,
     pub owner: Option<Value>,
 }
 
-/// The item that a loop has come to, its step and its limit.
+/// The item that a loop has reached, its step and its limit.
 #[derive(Clone, Copy)]
 pub struct Counting {
     pub item: i64,

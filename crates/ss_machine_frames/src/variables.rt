@@ -7,7 +7,7 @@ ghost use Rattle.ss_base.specs.declared.value.Value.TheVariants.{Whole};
 ghost use Rattle.ss_meaning.specs.Values.{same_mode};
 ghost use Rattle.ss_meaning.specs.Store.{put_at, firsts};
 ghost use Rattle.ss_base.specs.Layout.{mode_of};
-ghost use Rattle.ss_machine_frames.specs.Told.{put_told};
+ghost use Rattle.ss_machine_frames.specs.Assignments.{put_result};
 
 use crate::banks::{
     number_above_in, number_in, parted, put_number_in, put_text_in, set_number_above_in,
@@ -171,7 +171,7 @@ impl Variables {
     pub fn set_above(&mut self, base: usize, number: usize, value: Value) -> bool
         requires { base ≤ length self.old }
         ensures below { take base self.new ≡ take base self.old }
-        ensures here { put_at (drop base self.old) number value ≡ put_told result (drop base self.new) }
+        ensures here { put_at (drop base self.old) number value ≡ put_result result (drop base self.new) }
         ensures kept { result ≡ false → self.new ≡ self.old }
     {
         let _short = self.len();
@@ -184,7 +184,7 @@ impl Variables {
     /// Assigns a value to a variable, and says whether one of its mode is there. If not, nothing changes.
     #[inline(always)]
     pub fn set(&mut self, number: usize, value: Value) -> bool
-        ensures set { put_at self.old number value ≡ put_told result self.new }
+        ensures set { put_at self.old number value ≡ put_result result self.new }
         ensures kept { result ≡ false → self.new ≡ self.old }
     {
         match value {

@@ -7,7 +7,7 @@ ghost use Rattle.ss_code_instructions.specs.Machine.{act};
 ghost use Rattle.ss_machine_events.specs.Events.{coming_meant};
 ghost use Rattle.ss_machine_instructions.specs.Effects.{Rests};
 ghost use Rattle.ss_machine_instructions.specs.Beginning.{BeganAs, Saves};
-ghost use Rattle.ss_machine_instructions.specs.Holding.{store_of, core_of, Told};
+ghost use Rattle.ss_machine_instructions.specs.Holding.{store_of, core_of, IsOutcome};
 
 use crate::calling::{enter_event, entry_at};
 use crate::working::{Outcome, Working};
@@ -33,7 +33,7 @@ fn save(working: &mut Working, event: Event, fate: Fate) -> Result<(), Trouble>
     }
 }
 
-// An event that was taken out begins: the values for its routine are at hand, and its notice is saved or gone.
+// An event that was taken out begins: the values for its routine are there, and its notice is saved or gone.
 fn begin_event(working: &mut Working, event: Event) -> Result<Result<(), Trouble>, AllocError>
     ensures rests { IfOk result (λ answer. Rests working.old working.new) }
     ensures store { IfOk result (λ answer. (ties : List KeySeen) (input : List ℕ) → BeganAs answer event.rank working.new.given.items (begun (coming_meant event ties (store_of working.old input))) (store_of working.new input)) }
@@ -49,7 +49,7 @@ fn begin_event(working: &mut Working, event: Event) -> Result<Result<(), Trouble
 /// Takes out the notice that comes next, and begins its event.
 pub fn take_event(working: &mut Working, code: &Code) -> Result<Outcome, AllocError>
     requires { working.old.place + 1 < 2 ^ 64 }
-    ensures { IfOk result (λ outcome. (input : List ℕ) → Told outcome (act code.now Instruction.TakeEvent (core_of working.old input)) (core_of working.new input)) }
+    ensures { IfOk result (λ outcome. (input : List ℕ) → IsOutcome outcome (act code.now Instruction.TakeEvent (core_of working.old input)) (core_of working.new input)) }
 {
     let Some(event) = next_event(&mut working.scene) else {
         return Ok(Outcome::Missing);

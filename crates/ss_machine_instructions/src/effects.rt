@@ -7,7 +7,7 @@ ghost use Rattle.ss_meaning.specs.Sets.{is_none};
 ghost use Rattle.ss_code_instructions.specs.Machine.{backwards};
 ghost use Rattle.ss_code_instructions.specs.States.{To, onward, past, core_of as core_with};
 ghost use Rattle.ss_machine_entities.specs.declared.trouble.Unmade.TheVariants.{Memory};
-ghost use Rattle.ss_machine_instructions.specs.Holding.{frames_of, store_of, core_of, Told};
+ghost use Rattle.ss_machine_instructions.specs.Holding.{frames_of, store_of, core_of, IsOutcome};
 ghost use Rattle.ss_machine_instructions.specs.Effects.{Follows, Settles, Gathers, unmade_of};
 
 use crate::working::{Outcome, Working};
@@ -37,7 +37,7 @@ impl Working {
         }
     }
 
-    /// Goes on to the next instruction where a look came to no fault.
+    /// Goes on to the next instruction where a look had no fault.
     #[inline(always)]
     pub fn pass_by<A: Copy>(&mut self, answer: Result<A, Trouble>, line: Line) -> Outcome
         requires { self.old.place + 1 < 2 ^ 64 }
@@ -119,7 +119,7 @@ impl Working {
     #[inline(always)]
     pub fn turn_back(&mut self, again: bool, back: usize) -> Outcome
         requires { self.old.place + 1 < 2 ^ 64 }
-        ensures { (input : List ℕ) → Told result (To (core_with (backwards back again self.old.place) self.old.operands.here (frames_of self.old) (store_of self.old input))) (core_of self.new input) }
+        ensures { (input : List ℕ) → IsOutcome result (To (core_with (backwards back again self.old.place) self.old.operands.here (frames_of self.old) (store_of self.old input))) (core_of self.new input) }
     {
         if again {
             self.place = self.place.saturating_sub(back);
@@ -145,7 +145,7 @@ impl Working {
         }
     }
 
-    /// The same of an operation that gives a value, which goes on top.
+    /// Goes on to the next instruction where an operation gave a value, which goes on top.
     #[inline(always)]
     pub fn gather(
         &mut self,
@@ -186,7 +186,7 @@ fn is_member(value: &Value) -> bool
     }
 }
 
-/// What an operation that needs memory came to. The error comes where memory was refused.
+/// The answer of an operation that needs memory. The error comes where memory was refused.
 #[inline(always)]
 pub fn made_value(answer: Result<Value, Unmade>) -> Result<Result<Value, Trouble>, AllocError>
     ensures { MatchResult result (λ made. answer ≡ unmade_of made) (λ _. answer ≡ Err Memory) }
@@ -199,7 +199,7 @@ pub fn made_value(answer: Result<Value, Unmade>) -> Result<Result<Value, Trouble
     }
 }
 
-/// The same of one that gives no value.
+/// The answer of an operation that needs memory and gives no value. The error comes where memory was refused.
 #[inline(always)]
 pub fn made(answer: Result<(), Unmade>) -> Result<Result<(), Trouble>, AllocError>
     ensures { MatchResult result (λ made. answer ≡ unmade_of made) (λ _. answer ≡ Err Memory) }

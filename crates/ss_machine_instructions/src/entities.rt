@@ -2,7 +2,7 @@
 
 ghost use Rattle.std.specs.Prelude.{◌≡◌, ◌+◌, ◌<◌, ◌^◌, ℕ, List, IfOk};
 ghost use Rattle.ss_code_instructions.specs.Machine.{Code as CodeSeen, act};
-ghost use Rattle.ss_machine_instructions.specs.Holding.{core_of, Told};
+ghost use Rattle.ss_machine_instructions.specs.Holding.{core_of, IsOutcome};
 
 use crate::effects::{made, made_value};
 use crate::filing::pop_filing;
@@ -16,7 +16,7 @@ use std::alloc::AllocError;
 #[inline(always)]
 pub fn create(working: &mut Working, class: usize, line: Line) -> Result<Outcome, AllocError>
     requires { working.old.place + 1 < 2 ^ 64 }
-    ensures { IfOk result (λ outcome. (code : CodeSeen) (input : List ℕ) → Told outcome (act code (Instruction.Create class line) (core_of working.old input)) (core_of working.new input)) }
+    ensures { IfOk result (λ outcome. (code : CodeSeen) (input : List ℕ) → IsOutcome outcome (act code (Instruction.Create class line) (core_of working.old input)) (core_of working.new input)) }
 {
     let created = working.scene.create(class);
     let answer = made_value(created)?;
@@ -31,7 +31,7 @@ pub fn create_all(
     line: Line,
 ) -> Result<Outcome, AllocError>
     requires { working.old.place + 1 < 2 ^ 64 }
-    ensures { IfOk result (λ outcome. (code : CodeSeen) (input : List ℕ) → Told outcome (act code (Instruction.CreateAll counted line) (core_of working.old input)) (core_of working.new input)) }
+    ensures { IfOk result (λ outcome. (code : CodeSeen) (input : List ℕ) → IsOutcome outcome (act code (Instruction.CreateAll counted line) (core_of working.old input)) (core_of working.new input)) }
 {
     let Some(Value::Whole(count)) = working.globals.get(counted.variable) else {
         return Ok(Outcome::Missing);
@@ -45,7 +45,7 @@ pub fn create_all(
 #[inline(always)]
 pub fn destroy(working: &mut Working, class: usize, line: Line) -> Outcome
     requires { working.old.place + 1 < 2 ^ 64 }
-    ensures { (code : CodeSeen) (input : List ℕ) → Told result (act code (Instruction.Destroy class line) (core_of working.old input)) (core_of working.new input) }
+    ensures { (code : CodeSeen) (input : List ℕ) → IsOutcome result (act code (Instruction.Destroy class line) (core_of working.old input)) (core_of working.new input) }
 {
     let Some(x) = working.operands.pop() else {
         return Outcome::Missing;
@@ -58,7 +58,7 @@ pub fn destroy(working: &mut Working, class: usize, line: Line) -> Outcome
 #[inline(always)]
 pub fn file(working: &mut Working, filing: Filing, set: usize, system: bool, line: Line) -> Outcome
     requires { working.old.place + 1 < 2 ^ 64 }
-    ensures { (code : CodeSeen) (input : List ℕ) → Told result (act code (Instruction.File filing set system line) (core_of working.old input)) (core_of working.new input) }
+    ensures { (code : CodeSeen) (input : List ℕ) → IsOutcome result (act code (Instruction.File filing set system line) (core_of working.old input)) (core_of working.new input) }
 {
     let Some(owner) = working.operands.pop_owner(system) else {
         return Outcome::Missing;
@@ -77,7 +77,7 @@ pub fn file(working: &mut Working, filing: Filing, set: usize, system: bool, lin
 #[inline(always)]
 pub fn remove(working: &mut Working, set: usize, system: bool, line: Line) -> Outcome
     requires { working.old.place + 1 < 2 ^ 64 }
-    ensures { (code : CodeSeen) (input : List ℕ) → Told result (act code (Instruction.Remove set system line) (core_of working.old input)) (core_of working.new input) }
+    ensures { (code : CodeSeen) (input : List ℕ) → IsOutcome result (act code (Instruction.Remove set system line) (core_of working.old input)) (core_of working.new input) }
 {
     let Some(owner) = working.operands.pop_owner(system) else {
         return Outcome::Missing;
@@ -99,7 +99,7 @@ pub fn remove_end(
     line: Line,
 ) -> Result<Outcome, AllocError>
     requires { working.old.place + 1 < 2 ^ 64 }
-    ensures { IfOk result (λ outcome. (code : CodeSeen) (input : List ℕ) → Told outcome (act code (Instruction.RemoveEnd end set system line) (core_of working.old input)) (core_of working.new input)) }
+    ensures { IfOk result (λ outcome. (code : CodeSeen) (input : List ℕ) → IsOutcome outcome (act code (Instruction.RemoveEnd end set system line) (core_of working.old input)) (core_of working.new input)) }
 {
     let Some(owner) = working.operands.pop_owner(system) else {
         return Ok(Outcome::Missing);
@@ -112,7 +112,7 @@ pub fn remove_end(
 #[inline(always)]
 pub fn cancel(working: &mut Working, class: usize, line: Line) -> Outcome
     requires { working.old.place + 1 < 2 ^ 64 }
-    ensures { (code : CodeSeen) (input : List ℕ) → Told result (act code (Instruction.Cancel class line) (core_of working.old input)) (core_of working.new input) }
+    ensures { (code : CodeSeen) (input : List ℕ) → IsOutcome result (act code (Instruction.Cancel class line) (core_of working.old input)) (core_of working.new input) }
 {
     let Some(x) = working.operands.pop() else {
         return Outcome::Missing;

@@ -7,7 +7,7 @@ ghost use Rattle.ss_meaning.specs.Store.{Store as StoreSeen};
 ghost use Rattle.ss_code_instructions.specs.Machine.{Code as CodeSeen, act, due_at};
 ghost use Rattle.ss_machine_entities.specs.Told.{told};
 ghost use Rattle.ss_machine_world.specs.Seen.{with_seen};
-ghost use Rattle.ss_machine_instructions.specs.Holding.{core_of, Told};
+ghost use Rattle.ss_machine_instructions.specs.Holding.{core_of, IsOutcome};
 
 use crate::effects::{made, made_value};
 use crate::working::{Outcome, Working};
@@ -22,7 +22,7 @@ use std::alloc::AllocError;
 #[inline(always)]
 pub fn when(working: &mut Working, later: bool, line: Line) -> Result<Outcome, AllocError>
     requires { working.old.place + 1 < 2 ^ 64 }
-    ensures { IfOk result (λ outcome. (code : CodeSeen) (input : List ℕ) → Told outcome (act code (Instruction.When later line) (core_of working.old input)) (core_of working.new input)) }
+    ensures { IfOk result (λ outcome. (code : CodeSeen) (input : List ℕ) → IsOutcome outcome (act code (Instruction.When later line) (core_of working.old input)) (core_of working.new input)) }
 {
     let Some(value) = working.operands.pop() else {
         return Ok(Outcome::Missing);
@@ -39,7 +39,7 @@ pub fn make_notice(
     line: Line,
 ) -> Result<Outcome, AllocError>
     requires { working.old.place + 1 < 2 ^ 64 }
-    ensures { IfOk result (λ outcome. (code : CodeSeen) (input : List ℕ) → Told outcome (act code (Instruction.MakeNotice class given line) (core_of working.old input)) (core_of working.new input)) }
+    ensures { IfOk result (λ outcome. (code : CodeSeen) (input : List ℕ) → IsOutcome outcome (act code (Instruction.MakeNotice class given line) (core_of working.old input)) (core_of working.new input)) }
 {
     let Some(time) = working.operands.pop_number() else {
         return Ok(Outcome::Missing);
@@ -57,7 +57,7 @@ pub fn make_notice(
 /// Files the notice on top among those that are pending, for the time below it.
 pub fn file_notice(working: &mut Working, class: usize, line: Line) -> Result<Outcome, AllocError>
     requires { working.old.place + 1 < 2 ^ 64 }
-    ensures { IfOk result (λ outcome. (code : CodeSeen) (input : List ℕ) → Told outcome (act code (Instruction.FileNotice class line) (core_of working.old input)) (core_of working.new input)) }
+    ensures { IfOk result (λ outcome. (code : CodeSeen) (input : List ℕ) → IsOutcome outcome (act code (Instruction.FileNotice class line) (core_of working.old input)) (core_of working.new input)) }
 {
     let Some(x) = working.operands.pop() else {
         return Ok(Outcome::Missing);
@@ -78,7 +78,7 @@ pub fn reschedule(
     line: Line,
 ) -> Result<Outcome, AllocError>
     requires { working.old.place + 1 < 2 ^ 64 }
-    ensures { IfOk result (λ outcome. (code : CodeSeen) (input : List ℕ) → Told outcome (act code (Instruction.Reschedule class given line) (core_of working.old input)) (core_of working.new input)) }
+    ensures { IfOk result (λ outcome. (code : CodeSeen) (input : List ℕ) → IsOutcome outcome (act code (Instruction.Reschedule class given line) (core_of working.old input)) (core_of working.new input)) }
 {
     let Some(time) = working.operands.pop_number() else {
         return Ok(Outcome::Missing);
@@ -107,7 +107,7 @@ pub fn reschedule(
 #[inline(always)]
 pub fn await_event(working: &mut Working, skip: usize) -> Outcome
     requires { working.old.place + 1 < 2 ^ 64 }
-    ensures { (code : CodeSeen) (input : List ℕ) → Told result (act code (Instruction.Await skip) (core_of working.old input)) (core_of working.new input) }
+    ensures { (code : CodeSeen) (input : List ℕ) → IsOutcome result (act code (Instruction.Await skip) (core_of working.old input)) (core_of working.new input) }
 {
     let holds = working.scene.is_awaited();
     working.choose(holds, skip)
@@ -117,7 +117,7 @@ pub fn await_event(working: &mut Working, skip: usize) -> Outcome
 #[inline(always)]
 pub fn next_event(working: &mut Working, back: usize) -> Outcome
     requires { working.old.place + 1 < 2 ^ 64 }
-    ensures { (code : CodeSeen) (input : List ℕ) → Told result (act code (Instruction.NextEvent back) (core_of working.old input)) (core_of working.new input) }
+    ensures { (code : CodeSeen) (input : List ℕ) → IsOutcome result (act code (Instruction.NextEvent back) (core_of working.old input)) (core_of working.new input) }
 {
     let again = working.scene.is_awaited();
     working.turn_back(again, back)

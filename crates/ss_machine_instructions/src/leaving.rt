@@ -2,7 +2,7 @@
 
 ghost use Rattle.std.specs.Prelude.{◌≡◌, IfOk, ℕ, List};
 ghost use Rattle.ss_code_instructions.specs.Machine.{Code as CodeSeen, act};
-ghost use Rattle.ss_machine_instructions.specs.Holding.{core_of, Told};
+ghost use Rattle.ss_machine_instructions.specs.Holding.{core_of, IsOutcome};
 
 use crate::working::{Outcome, Working};
 use ss_code_instructions::instruction::Instruction;
@@ -10,7 +10,7 @@ use std::alloc::AllocError;
 
 /// Leaves a routine, or MAIN.
 pub fn leave(working: &mut Working) -> Result<Outcome, AllocError>
-    ensures { IfOk result (λ outcome. (code : CodeSeen) (input : List ℕ) → Told outcome (act code Instruction.Leave (core_of working.old input)) (core_of working.new input)) }
+    ensures { IfOk result (λ outcome. (code : CodeSeen) (input : List ℕ) → IsOutcome outcome (act code Instruction.Leave (core_of working.old input)) (core_of working.new input)) }
 {
     let Some(frame) = working.frames.pop() else {
         return Ok(Outcome::Ends);

@@ -2,7 +2,7 @@
 
 ghost use Rattle.std.specs.Prelude.{◌≡◌, ◌+◌, ◌<◌, ◌^◌, ℕ, List, IfOk, IsTrue};
 ghost use Rattle.ss_code_instructions.specs.Machine.{act};
-ghost use Rattle.ss_machine_instructions.specs.Holding.{core_of, is_own, Told};
+ghost use Rattle.ss_machine_instructions.specs.Holding.{core_of, is_own, IsOutcome};
 
 use crate::beginning::take_event;
 use crate::calling::call;
@@ -26,7 +26,7 @@ pub fn perform(
     instruction: &Instruction,
 ) -> Result<Outcome, AllocError>
     requires { working.old.place + 1 < 2 ^ 64 }
-    ensures { IfOk result (λ outcome. IsTrue (is_own instruction.now) → (input : List ℕ) → Told outcome (act code.now instruction.now (core_of working.old input)) (core_of working.new input)) }
+    ensures { IfOk result (λ outcome. IsTrue (is_own instruction.now) → (input : List ℕ) → IsOutcome outcome (act code.now instruction.now (core_of working.old input)) (core_of working.new input)) }
 {
     match *instruction {
         Instruction::Push { value } => working.push(value),

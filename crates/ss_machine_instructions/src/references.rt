@@ -2,7 +2,7 @@
 
 ghost use Rattle.std.specs.Prelude.{◌≡◌, ◌+◌, ◌<◌, ◌^◌, ℕ, List, IfOk};
 ghost use Rattle.ss_code_instructions.specs.Machine.{Code as CodeSeen, act};
-ghost use Rattle.ss_machine_instructions.specs.Holding.{core_of, Told};
+ghost use Rattle.ss_machine_instructions.specs.Holding.{core_of, IsOutcome};
 
 use crate::working::{Outcome, Working};
 use ss_base::Line;
@@ -20,7 +20,7 @@ impl Working {
         line: Line,
     ) -> Result<Outcome, AllocError>
         requires { self.old.place + 1 < 2 ^ 64 }
-        ensures { IfOk result (λ outcome. (code : CodeSeen) (input : List ℕ) → Told outcome (act code (Instruction.Attribute class field line) (core_of self.old input)) (core_of self.new input)) }
+        ensures { IfOk result (λ outcome. (code : CodeSeen) (input : List ℕ) → IsOutcome outcome (act code (Instruction.Attribute class field line) (core_of self.old input)) (core_of self.new input)) }
     {
         let Some(x) = self.operands.pop() else {
             return Ok(Outcome::Missing);
@@ -39,7 +39,7 @@ impl Working {
         line: Line,
     ) -> Result<Outcome, AllocError>
         requires { self.old.place + 1 < 2 ^ 64 }
-        ensures { IfOk result (λ outcome. (code : CodeSeen) (input : List ℕ) → Told outcome (act code (Instruction.OfSet query set system line) (core_of self.old input)) (core_of self.new input)) }
+        ensures { IfOk result (λ outcome. (code : CodeSeen) (input : List ℕ) → IsOutcome outcome (act code (Instruction.OfSet query set system line) (core_of self.old input)) (core_of self.new input)) }
     {
         let Some(owner) = self.operands.pop_owner(system) else {
             return Ok(Outcome::Missing);
@@ -57,7 +57,7 @@ impl Working {
         line: Line,
     ) -> Result<Outcome, AllocError>
         requires { self.old.place + 1 < 2 ^ 64 }
-        ensures { IfOk result (λ outcome. (code : CodeSeen) (input : List ℕ) → Told outcome (act code (Instruction.OfMember query set line) (core_of self.old input)) (core_of self.new input)) }
+        ensures { IfOk result (λ outcome. (code : CodeSeen) (input : List ℕ) → IsOutcome outcome (act code (Instruction.OfMember query set line) (core_of self.old input)) (core_of self.new input)) }
     {
         let Some(x) = self.operands.pop() else {
             return Ok(Outcome::Missing);
@@ -70,7 +70,7 @@ impl Working {
     #[inline(always)]
     pub fn clock(&mut self) -> Result<Outcome, AllocError>
         requires { self.old.place + 1 < 2 ^ 64 }
-        ensures { IfOk result (λ outcome. (code : CodeSeen) (input : List ℕ) → Told outcome (act code Instruction.Clock (core_of self.old input)) (core_of self.new input)) }
+        ensures { IfOk result (λ outcome. (code : CodeSeen) (input : List ℕ) → IsOutcome outcome (act code Instruction.Clock (core_of self.old input)) (core_of self.new input)) }
     {
         let time = self.scene.clock();
         self.push(time)
@@ -80,7 +80,7 @@ impl Working {
     #[inline(always)]
     pub fn time_of(&mut self, line: Line) -> Result<Outcome, AllocError>
         requires { self.old.place + 1 < 2 ^ 64 }
-        ensures { IfOk result (λ outcome. (code : CodeSeen) (input : List ℕ) → Told outcome (act code (Instruction.TimeOf line) (core_of self.old input)) (core_of self.new input)) }
+        ensures { IfOk result (λ outcome. (code : CodeSeen) (input : List ℕ) → IsOutcome outcome (act code (Instruction.TimeOf line) (core_of self.old input)) (core_of self.new input)) }
     {
         let Some(x) = self.operands.pop() else {
             return Ok(Outcome::Missing);
@@ -100,7 +100,7 @@ impl Working {
         line: Line,
     ) -> Outcome
         requires { self.old.place + 1 < 2 ^ 64 }
-        ensures { (code : CodeSeen) (input : List ℕ) → Told result (act code (Instruction.TestEmpty negated set system skip line) (core_of self.old input)) (core_of self.new input) }
+        ensures { (code : CodeSeen) (input : List ℕ) → IsOutcome result (act code (Instruction.TestEmpty negated set system skip line) (core_of self.old input)) (core_of self.new input) }
     {
         let Some(owner) = self.operands.pop_owner(system) else {
             return Outcome::Missing;
@@ -120,7 +120,7 @@ impl Working {
         line: Line,
     ) -> Outcome
         requires { self.old.place + 1 < 2 ^ 64 }
-        ensures { (code : CodeSeen) (input : List ℕ) → Told result (act code (Instruction.TestMember negated set system skip line) (core_of self.old input)) (core_of self.new input) }
+        ensures { (code : CodeSeen) (input : List ℕ) → IsOutcome result (act code (Instruction.TestMember negated set system skip line) (core_of self.old input)) (core_of self.new input) }
     {
         let Some(owner) = self.operands.pop_owner(system) else {
             return Outcome::Missing;
@@ -136,7 +136,7 @@ impl Working {
     #[inline(always)]
     pub fn look_entity(&mut self, class: usize, line: Line) -> Outcome
         requires { self.old.place + 1 < 2 ^ 64 }
-        ensures { (code : CodeSeen) (input : List ℕ) → Told result (act code (Instruction.LookEntity class line) (core_of self.old input)) (core_of self.new input) }
+        ensures { (code : CodeSeen) (input : List ℕ) → IsOutcome result (act code (Instruction.LookEntity class line) (core_of self.old input)) (core_of self.new input) }
     {
         let Some(x) = self.operands.top() else {
             return Outcome::Missing;
@@ -149,7 +149,7 @@ impl Working {
     #[inline(always)]
     pub fn look_member(&mut self, set: usize, line: Line) -> Outcome
         requires { self.old.place + 1 < 2 ^ 64 }
-        ensures { (code : CodeSeen) (input : List ℕ) → Told result (act code (Instruction.LookMember set line) (core_of self.old input)) (core_of self.new input) }
+        ensures { (code : CodeSeen) (input : List ℕ) → IsOutcome result (act code (Instruction.LookMember set line) (core_of self.old input)) (core_of self.new input) }
     {
         let Some(x) = self.operands.top() else {
             return Outcome::Missing;
@@ -162,7 +162,7 @@ impl Working {
     #[inline(always)]
     pub fn look_owner(&mut self, set: usize, system: bool, line: Line) -> Outcome
         requires { self.old.place + 1 < 2 ^ 64 }
-        ensures { (code : CodeSeen) (input : List ℕ) → Told result (act code (Instruction.LookOwner set system line) (core_of self.old input)) (core_of self.new input) }
+        ensures { (code : CodeSeen) (input : List ℕ) → IsOutcome result (act code (Instruction.LookOwner set system line) (core_of self.old input)) (core_of self.new input) }
     {
         let Some(owner) = self.operands.owner(system) else {
             return Outcome::Missing;

@@ -11,7 +11,7 @@ ghost use Rattle.ss_code_instructions.specs.Machine.{Code as CodeSeen, act, chan
 ghost use Rattle.ss_machine_entities.specs.Told.{told};
 ghost use Rattle.ss_machine_instructions.specs.Effects.{Came, Rests};
 ghost use Rattle.ss_machine_frames.specs.Spots.{spot_seen};
-ghost use Rattle.ss_machine_instructions.specs.Holding.{store_of, core_of, Told};
+ghost use Rattle.ss_machine_instructions.specs.Holding.{store_of, core_of, IsOutcome};
 
 use crate::working::{Outcome, Working};
 use ss_base::{Line, Value};
@@ -36,7 +36,7 @@ impl Working {
         Ok(())
     }
 
-    // The same of a global variable, which no history notes yet.
+    // Assigns a value to a global variable, which no history notes yet, where one of its mode is there.
     #[inline(always)]
     fn write_global(&mut self, number: usize, value: &Value) -> Result<(), Trouble>
         ensures rests { Rests self.old self.new }
@@ -122,7 +122,7 @@ impl Working {
     #[inline(always)]
     pub fn assign(&mut self, to: Destination, line: Line) -> Outcome
         requires { self.old.place + 1 < 2 ^ 64 }
-        ensures { (code : CodeSeen) (input : List ℕ) → Told result (act code (Instruction.Assign to line) (core_of self.old input)) (core_of self.new input) }
+        ensures { (code : CodeSeen) (input : List ℕ) → IsOutcome result (act code (Instruction.Assign to line) (core_of self.old input)) (core_of self.new input) }
     {
         let Some(value) = self.operands.pop() else {
             return Outcome::Missing;
@@ -138,7 +138,7 @@ impl Working {
     #[inline(always)]
     pub fn give(&mut self, to: Destination, line: Line) -> Outcome
         requires { self.old.place + 1 < 2 ^ 64 }
-        ensures { (code : CodeSeen) (input : List ℕ) → Told result (act code (Instruction.Give to line) (core_of self.old input)) (core_of self.new input) }
+        ensures { (code : CodeSeen) (input : List ℕ) → IsOutcome result (act code (Instruction.Give to line) (core_of self.old input)) (core_of self.new input) }
     {
         let Some(spot) = self.operands.pop_spot(to) else {
             return Outcome::Missing;
@@ -177,7 +177,7 @@ impl Working {
     #[inline(always)]
     pub fn change(&mut self, sign: Sign, to: Destination, line: Line) -> Outcome
         requires { self.old.place + 1 < 2 ^ 64 }
-        ensures { (code : CodeSeen) (input : List ℕ) → Told result (act code (Instruction.Change sign to line) (core_of self.old input)) (core_of self.new input) }
+        ensures { (code : CodeSeen) (input : List ℕ) → IsOutcome result (act code (Instruction.Change sign to line) (core_of self.old input)) (core_of self.new input) }
     {
         let Some(spot) = self.operands.pop_spot(to) else {
             return Outcome::Missing;
@@ -193,7 +193,7 @@ impl Working {
     #[inline(always)]
     pub fn take(&mut self, variable: Variable, line: Line) -> Outcome
         requires { self.old.place + 1 < 2 ^ 64 }
-        ensures { (code : CodeSeen) (input : List ℕ) → Told result (act code (Instruction.Take variable line) (core_of self.old input)) (core_of self.new input) }
+        ensures { (code : CodeSeen) (input : List ℕ) → IsOutcome result (act code (Instruction.Take variable line) (core_of self.old input)) (core_of self.new input) }
     {
         let Some(value) = self.operands.top() else {
             return Outcome::Missing;
@@ -206,7 +206,7 @@ impl Working {
     #[inline(always)]
     pub fn name(&mut self, to: Destination, line: Line) -> Result<Outcome, AllocError>
         requires { self.old.place + 1 < 2 ^ 64 }
-        ensures { IfOk result (λ outcome. (code : CodeSeen) (input : List ℕ) → Told outcome (act code (Instruction.Name to line) (core_of self.old input)) (core_of self.new input)) }
+        ensures { IfOk result (λ outcome. (code : CodeSeen) (input : List ℕ) → IsOutcome outcome (act code (Instruction.Name to line) (core_of self.old input)) (core_of self.new input)) }
     {
         let Some(notice) = self.operands.pop() else {
             return Ok(Outcome::Missing);

@@ -5,7 +5,7 @@ ghost use Rattle.ss_meaning.specs.Statistics.{reset};
 ghost use Rattle.ss_code_instructions.specs.Machine.{Code as CodeSeen, act};
 ghost use Rattle.ss_machine_world.specs.Figures.{held_by};
 ghost use Rattle.ss_machine_instructions.specs.Effects.{Came, Rests};
-ghost use Rattle.ss_machine_instructions.specs.Holding.{store_of, core_of, Told};
+ghost use Rattle.ss_machine_instructions.specs.Holding.{store_of, core_of, IsOutcome};
 
 use crate::working::{Outcome, Working};
 use ss_base::{Line, Value};
@@ -24,7 +24,7 @@ pub fn figure(
     line: Line,
 ) -> Result<Outcome, AllocError>
     requires { working.old.place + 1 < 2 ^ 64 }
-    ensures { IfOk result (λ outcome. (code : CodeSeen) (input : List ℕ) → Told outcome (act code (Instruction.Figure fold statistic system line) (core_of working.old input)) (core_of working.new input)) }
+    ensures { IfOk result (λ outcome. (code : CodeSeen) (input : List ℕ) → IsOutcome outcome (act code (Instruction.Figure fold statistic system line) (core_of working.old input)) (core_of working.new input)) }
 {
     let Some(whose) = working.operands.pop_owner(system) else {
         return Ok(Outcome::Missing);
@@ -37,7 +37,7 @@ pub fn figure(
 /// the system has it.
 pub fn look_mean(working: &mut Working, statistic: usize, system: bool, line: Line) -> Outcome
     requires { working.old.place + 1 < 2 ^ 64 }
-    ensures { (code : CodeSeen) (input : List ℕ) → Told result (act code (Instruction.LookMean statistic system line) (core_of working.old input)) (core_of working.new input) }
+    ensures { (code : CodeSeen) (input : List ℕ) → IsOutcome result (act code (Instruction.LookMean statistic system line) (core_of working.old input)) (core_of working.new input) }
 {
     let Some(whose) = working.operands.owner(system) else {
         return Outcome::Missing;
@@ -50,7 +50,7 @@ pub fn look_mean(working: &mut Working, statistic: usize, system: bool, line: Li
 /// to, unless the system has its subject.
 pub fn reset(working: &mut Working, statistic: usize, system: bool, line: Line) -> Outcome
     requires { working.old.place + 1 < 2 ^ 64 }
-    ensures { (code : CodeSeen) (input : List ℕ) → Told result (act code (Instruction.Reset statistic system line) (core_of working.old input)) (core_of working.new input) }
+    ensures { (code : CodeSeen) (input : List ℕ) → IsOutcome result (act code (Instruction.Reset statistic system line) (core_of working.old input)) (core_of working.new input) }
 {
     let Some(whose) = working.operands.pop_owner(system) else {
         return Outcome::Missing;

@@ -4,7 +4,7 @@ ghost use Rattle.std.specs.Prelude.{◌≡◌, ◌+◌, ◌<◌, ◌^◌, IfOk, 
 ghost use Rattle.ss_meaning.specs.Store.{fetched};
 ghost use Rattle.ss_code_instructions.specs.States.{To, past, core_of as core_with};
 ghost use Rattle.ss_code_instructions.specs.Machine.{Code as CodeSeen, act};
-ghost use Rattle.ss_machine_instructions.specs.Holding.{store_of, frames_of, core_of, Told};
+ghost use Rattle.ss_machine_instructions.specs.Holding.{store_of, frames_of, core_of, IsOutcome};
 
 use ss_base::{FaultKind, Line, Value};
 use ss_code_instructions::instruction::Instruction;
@@ -33,7 +33,7 @@ pub struct Working {
     pub given: Vec<Value>,
 }
 
-/// What an instruction came to.
+/// The result of an instruction.
 #[derive(Clone, Copy)]
 pub enum Outcome {
     Went,
@@ -47,7 +47,7 @@ impl Working {
     #[inline(always)]
     pub fn push(&mut self, value: Value) -> Result<Outcome, AllocError>
         requires { self.old.place + 1 < 2 ^ 64 }
-        ensures { IfOk result (λ outcome. (code : CodeSeen) (input : List ℕ) → Told outcome (act code (Instruction.Push value) (core_of self.old input)) (core_of self.new input)) }
+        ensures { IfOk result (λ outcome. (code : CodeSeen) (input : List ℕ) → IsOutcome outcome (act code (Instruction.Push value) (core_of self.old input)) (core_of self.new input)) }
     {
         self.operands.push(value)?;
         self.place += 1;
@@ -69,7 +69,7 @@ impl Working {
     #[inline(always)]
     pub fn fetch(&mut self, variable: Variable) -> Result<Outcome, AllocError>
         requires { self.old.place + 1 < 2 ^ 64 }
-        ensures { IfOk result (λ outcome. (code : CodeSeen) (input : List ℕ) → Told outcome (act code (Instruction.Fetch variable) (core_of self.old input)) (core_of self.new input)) }
+        ensures { IfOk result (λ outcome. (code : CodeSeen) (input : List ℕ) → IsOutcome outcome (act code (Instruction.Fetch variable) (core_of self.old input)) (core_of self.new input)) }
     {
         let Some(value) = self.value_of(variable) else {
             return Ok(Outcome::Missing);
@@ -81,7 +81,7 @@ impl Working {
     #[inline(always)]
     pub fn calculate(&mut self, operator: Operator, line: Line) -> Result<Outcome, AllocError>
         requires { self.old.place + 1 < 2 ^ 64 }
-        ensures { IfOk result (λ outcome. (code : CodeSeen) (input : List ℕ) → Told outcome (act code (Instruction.Calculate operator line) (core_of self.old input)) (core_of self.new input)) }
+        ensures { IfOk result (λ outcome. (code : CodeSeen) (input : List ℕ) → IsOutcome outcome (act code (Instruction.Calculate operator line) (core_of self.old input)) (core_of self.new input)) }
     {
         let Some(y) = self.operands.pop() else {
             return Ok(Outcome::Missing);
@@ -97,7 +97,7 @@ impl Working {
     #[inline(always)]
     pub fn sign(&mut self, sign: Sign, line: Line) -> Result<Outcome, AllocError>
         requires { self.old.place + 1 < 2 ^ 64 }
-        ensures { IfOk result (λ outcome. (code : CodeSeen) (input : List ℕ) → Told outcome (act code (Instruction.Signed sign line) (core_of self.old input)) (core_of self.new input)) }
+        ensures { IfOk result (λ outcome. (code : CodeSeen) (input : List ℕ) → IsOutcome outcome (act code (Instruction.Signed sign line) (core_of self.old input)) (core_of self.new input)) }
     {
         let Some(x) = self.operands.pop() else {
             return Ok(Outcome::Missing);
@@ -110,7 +110,7 @@ impl Working {
     #[inline(always)]
     pub fn absolute(&mut self, line: Line) -> Result<Outcome, AllocError>
         requires { self.old.place + 1 < 2 ^ 64 }
-        ensures { IfOk result (λ outcome. (code : CodeSeen) (input : List ℕ) → Told outcome (act code (Instruction.Absolute line) (core_of self.old input)) (core_of self.new input)) }
+        ensures { IfOk result (λ outcome. (code : CodeSeen) (input : List ℕ) → IsOutcome outcome (act code (Instruction.Absolute line) (core_of self.old input)) (core_of self.new input)) }
     {
         let Some(x) = self.operands.pop() else {
             return Ok(Outcome::Missing);
@@ -119,11 +119,11 @@ impl Working {
         self.answer(made, line)
     }
 
-    // Goes on past so many instructions behind this.
+    // Goes on past so many instructions after this.
     #[inline(always)]
     fn pass(&mut self, skip: usize) -> Outcome
         requires { self.old.place + 1 < 2 ^ 64 }
-        ensures { (input : List ℕ) → Told result (To (core_with (self.old.place + 1 + skip) self.old.operands.here (frames_of self.old) (store_of self.old input))) (core_of self.new input) }
+        ensures { (input : List ℕ) → IsOutcome result (To (core_with (self.old.place + 1 + skip) self.old.operands.here (frames_of self.old) (store_of self.old input))) (core_of self.new input) }
     {
         match (self.place + 1).checked_add(skip) {
             None => Outcome::Missing,
@@ -138,7 +138,7 @@ impl Working {
     #[inline(always)]
     pub fn choose(&mut self, holds: bool, skip: usize) -> Outcome
         requires { self.old.place + 1 < 2 ^ 64 }
-        ensures { (input : List ℕ) → Told result (To (core_with (past skip holds (self.old.place + 1)) self.old.operands.here (frames_of self.old) (store_of self.old input))) (core_of self.new input) }
+        ensures { (input : List ℕ) → IsOutcome result (To (core_with (past skip holds (self.old.place + 1)) self.old.operands.here (frames_of self.old) (store_of self.old input))) (core_of self.new input) }
     {
         if holds {
             self.place += 1;
@@ -147,11 +147,11 @@ impl Working {
         self.pass(skip)
     }
 
-    /// Goes on where two values stand in a relation, and jumps where they don't.
+    /// Goes on where two values are in a relation, and jumps where they aren't.
     #[inline(always)]
     pub fn compare(&mut self, relation: Relation, skip: usize) -> Outcome
         requires { self.old.place + 1 < 2 ^ 64 }
-        ensures { (code : CodeSeen) (input : List ℕ) → Told result (act code (Instruction.Compare relation skip) (core_of self.old input)) (core_of self.new input) }
+        ensures { (code : CodeSeen) (input : List ℕ) → IsOutcome result (act code (Instruction.Compare relation skip) (core_of self.old input)) (core_of self.new input) }
     {
         let Some(y) = self.operands.pop() else {
             return Outcome::Missing;
@@ -169,7 +169,7 @@ impl Working {
     #[inline(always)]
     pub fn jump(&mut self, skip: usize) -> Outcome
         requires { self.old.place + 1 < 2 ^ 64 }
-        ensures { (code : CodeSeen) (input : List ℕ) → Told result (act code (Instruction.Jump skip) (core_of self.old input)) (core_of self.new input) }
+        ensures { (code : CodeSeen) (input : List ℕ) → IsOutcome result (act code (Instruction.Jump skip) (core_of self.old input)) (core_of self.new input) }
     {
         self.pass(skip)
     }
@@ -177,7 +177,7 @@ impl Working {
     /// Jumps back.
     #[inline(always)]
     pub fn repeat(&mut self, back: usize) -> Outcome
-        ensures { (code : CodeSeen) (input : List ℕ) → Told result (act code (Instruction.Repeat back) (core_of self.old input)) (core_of self.new input) }
+        ensures { (code : CodeSeen) (input : List ℕ) → IsOutcome result (act code (Instruction.Repeat back) (core_of self.old input)) (core_of self.new input) }
     {
         self.place = self.place.saturating_sub(back);
         Outcome::Went
@@ -187,7 +187,7 @@ impl Working {
     #[inline(always)]
     pub fn turn(&mut self) -> Outcome
         requires { self.old.place + 1 < 2 ^ 64 }
-        ensures { (code : CodeSeen) (input : List ℕ) → Told result (act code Instruction.Turn (core_of self.old input)) (core_of self.new input) }
+        ensures { (code : CodeSeen) (input : List ℕ) → IsOutcome result (act code Instruction.Turn (core_of self.old input)) (core_of self.new input) }
     {
         self.place += 1;
         Outcome::Went
@@ -196,7 +196,7 @@ impl Working {
     /// The run ends.
     #[inline(always)]
     pub fn halt(&self) -> Outcome
-        ensures { (code : CodeSeen) (input : List ℕ) → Told result (act code Instruction.Halt (core_of self.now input)) (core_of self.now input) }
+        ensures { (code : CodeSeen) (input : List ℕ) → IsOutcome result (act code Instruction.Halt (core_of self.now input)) (core_of self.now input) }
     {
         Outcome::Ends
     }

@@ -42,7 +42,7 @@ each_suits [] (x ∷ xs) t p = tt
 each_suits (f ∷ fields) [] t p = tt
 each_suits (f ∷ fields) (x ∷ xs) t p = (suits f x (first_true (takes f x) (take_all fields xs) t) p.0, each_suits fields xs (then_true (takes f x) (take_all fields xs) t) p.1)
 
--- those of the first fields, and those behind them
+-- those of the first fields, and those after them
 suits_front : (fields more : List Field) (items : List Item) → EachSuits (fields ++ more) items → EachSuits fields (take (length fields) items)
 suits_front [] more items h = tt
 suits_front (f ∷ fields) more [] h = tt

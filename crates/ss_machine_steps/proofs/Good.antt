@@ -19,13 +19,13 @@ use Rattle.ss_machine_steps.proofs.Steps.{step_more}
 use Rattle.ss_machine_steps.proofs.Onwards.{step_falls}
 use Rattle.ss_machine_steps.proofs.Counting.{left_more, many_fall}
 
-behind_one : (A B : List Instruction) (i : Instruction) → 1 ≤ length ((A ++ i ∷ []) ++ B)
-behind_one A B i = omega (arith, length-append (A ++ i ∷ []) B, length-append A (i ∷ []))
+after_one : (A B : List Instruction) (i : Instruction) → 1 ≤ length ((A ++ i ∷ []) ++ B)
+after_one A B i = omega (arith, length-append (A ++ i ∷ []) B, length-append A (i ∷ []))
 
 -- it has an instruction
 pub not_empty : (code : Code) → IsCode code → 1 ≤ length code.instructions
 not_empty code good =
-    ∥∥₁_elim good (hlevel props) (λ g. subst (λ (k : Code). 1 ≤ length k.instructions) (sym g.2) (behind_one (block_code 0 g.0.main) (routines_code g.0 ++ events_code g.0) Leave))
+    ∥∥₁_elim good (hlevel props) (λ g. subst (λ (k : Code). 1 ≤ length k.instructions) (sym g.2) (after_one (block_code 0 g.0.main) (routines_code g.0 ++ events_code g.0) Leave))
 
 module _ (laws : JumpsLand) (code : Code) (good : IsCode code) where
   landed : (P : Type 0) → IsProp P → (Lands code → P) → P
@@ -58,6 +58,6 @@ module _ (stuck : NeverStuck) (behaves : CodeBehaves) (wrong : NeverWrong) (on :
   by_step input n m s came (Over e ticks) q lost = lost
   by_step input n m s came NoStep q lost = never_at input n m s came q
 
-  -- no run comes to a state where nothing leads on
+  -- no run reaches a state where nothing leads on
   pub lost_never : (input : List ℕ) (n m : ℕ) (s : State) → steps code m (start code input n) ≡ Underway s → IsLostAt (step code s) → ⊥
   lost_never input n m s came lost = by_step input n m s came (step code s) refl lost

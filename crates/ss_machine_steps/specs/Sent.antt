@@ -7,7 +7,7 @@ use Rattle.ss_meaning.specs.Values.{Trouble, Fails, Misfit, line_end}
 use Rattle.ss_machine_steps.specs.declared.printing.Lines.{Lines}
 use Rattle.ss_machine_steps.specs.declared.printing.Lines.TheVariants.{Good, Bad, Unfit}
 
--- a writer that had taken `old`, where it tells, and has now taken `new`, took the first of these bytes
+-- a writer that had taken `old`, where it can say so, and has now taken `new`, took the first of these bytes
 pub record TookPart (old new : Option (List ℕ)) (bytes : List ℕ) : Type 0 where
   pub part : List ℕ
   pub rest : List ℕ
@@ -15,7 +15,7 @@ pub record TookPart (old new : Option (List ℕ)) (bytes : List ℕ) : Type 0 wh
   pub took : Appends old new part
 
 -- so many empty lines, a bad count, or what is no number
-abbrev pub lines_told : Lines → Result (List ℕ) Trouble
-lines_told (Good n) = Ok (replicate n line_end)
-lines_told Bad = Err (Fails BadCount)
-lines_told Unfit = Err Misfit
+abbrev pub lines_result : Lines → Result (List ℕ) Trouble
+lines_result (Good n) = Ok (replicate n line_end)
+lines_result Bad = Err (Fails BadCount)
+lines_result Unfit = Err Misfit

@@ -1,12 +1,12 @@
 //! Laws of steps and runs.
 
-ghost use Rattle.ss_machine_steps.specs.Laws.{NeverEmpty, StepsFall, ManyFall, StepsLeave, FewTicks, PausesThere, EndsOutside, StepsAsTold, StopsWithout, ReadsNothing, WentSomehow, ComesNowhere, ComesFurther, ComesOn, ComesToRest, ComesToNothing, ComesWithSource, NeverFails};
+ghost use Rattle.ss_machine_steps.specs.Laws.{NeverEmpty, StepsFall, ManyFall, StepsLeave, FewTicks, PausesThere, EndsOutside, StepsByOutcome, StopsWithout, ReadsNothing, WentSomehow, ComesNowhere, ComesFurther, ComesOn, ComesToRest, ComesToNothing, ComesWithSource, NeverFails};
 
 use ss_base::FaultyRead;
 use ss_code_instructions::laws::laws;
 use ss_meaning::laws::laws as typed_laws;
 
-/// Each step of the code of a program leaves less to do. What a step comes to that reads nothing follows from what its
+/// Each step of the code of a program leaves less to do. The result of a step that reads nothing follows from what its
 /// instruction does.
 #[inline(always)]
 pub fn step_laws()
@@ -17,13 +17,13 @@ pub fn step_laws()
     ensures few_ticks { FewTicks }
     ensures pauses_there { PausesThere }
     ensures ends_outside { EndsOutside }
-    ensures steps_as_told { StepsAsTold }
+    ensures steps_by_outcome { StepsByOutcome }
     ensures stops_without { StopsWithout }
 {
     laws();
 }
 
-/// What a run comes to, by what it came to before its last steps and what they come to. Nothing is ever missing where it goes
+/// Where a run leads, by where it was before its last steps and where these lead. Nothing is ever missing where it goes
 /// on with its source.
 #[inline(always)]
 pub fn run_laws<R: FaultyRead>()

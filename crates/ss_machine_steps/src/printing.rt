@@ -8,7 +8,7 @@ ghost use Rattle.ss_meaning.specs.Values.{takes, take_all, lines_with, line_end,
 ghost use Rattle.ss_picture.specs.Pictures.{filled, field_count, picture_fields};
 ghost use Rattle.ss_picture.specs.Suited.{EachSuits};
 ghost use Rattle.ss_picture.specs.declared.field.Field.{Field as FieldSeen};
-ghost use Rattle.ss_machine_steps.specs.Sent.{TookPart, lines_told};
+ghost use Rattle.ss_machine_steps.specs.Sent.{TookPart, lines_result};
 
 use ss_base::{FaultyWrite, Value};
 use ss_picture::{Field, Item, Picture, Sink, SinkError};
@@ -82,7 +82,7 @@ pub enum Lines {
 
 // How many empty lines a SKIP writes, by the value that is its count.
 pub(crate) fn empty_count(count: Value) -> Lines
-    ensures { empty_lines count ≡ lines_told result }
+    ensures { empty_lines count ≡ lines_result result }
 {
     match count {
         Value::Text(_) => Lines::Unfit,
@@ -106,8 +106,8 @@ fn takes(field: Field, item: &Item) -> bool
     }
 }
 
-// The items behind those that these fields take; None where there are fewer, or one does not take its own.
-fn items_behind<'a>(fields: &[Field], items: &'a [Item]) -> Option<&'a [Item]>
+// The items after those that these fields take; None where there are fewer, or one does not take its own.
+fn items_after<'a>(fields: &[Field], items: &'a [Item]) -> Option<&'a [Item]>
     ensures { (more : List FieldSeen) → MatchOption result (take_all (fields.now ++ more) items.now ≡ false) (λ rest. take_all (fields.now ++ more) items.now ≡ take_all more rest.now) }
 {
     let mut rest = items;
@@ -131,7 +131,7 @@ pub(crate) fn take_all(pictures: &[Picture], items: &[Item]) -> bool
 {
     let mut rest = items;
     for picture in pictures {
-        let Some(later) = items_behind(picture.fields(), rest) else {
+        let Some(later) = items_after(picture.fields(), rest) else {
             return false;
         };
         rest = later;

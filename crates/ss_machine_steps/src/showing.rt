@@ -82,8 +82,8 @@ fn taken_by(kind: ItemKind) -> usize
     }
 }
 
-// The values behind those that an item of a kind takes.
-fn values_behind(kind: ItemKind, values: &[Value]) -> &[Value]
+// The values after those that an item of a kind takes.
+fn values_after(kind: ItemKind, values: &[Value]) -> &[Value]
     ensures { result.now ≡ drop (taken_by kind) values.now }
 {
     let count = taken_by(kind).min(values.len());
@@ -112,7 +112,7 @@ pub(crate) fn show(
         if items.push(item).is_err() {
             return Err(Unshown::Memory);
         }
-        rest = values_behind(*kind, rest);
+        rest = values_after(*kind, rest);
     }
     match rest {
         [] => Ok(()),

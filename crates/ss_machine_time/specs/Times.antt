@@ -33,7 +33,7 @@ IsTimely t latest es = (pos 0 ≤ℤ t) × (latest ≤ℤ t) × All (IsAhead t) 
 abbrev pub columns : Times → List Column
 columns t = columns_of t.histories.rows
 
--- the same but for histories, of the same statistics
+-- times that are equal but for their histories, which are of equal statistics
 abbrev pub IsAt : (old new : Times) → Type 0
 IsAt old new = (new.time ≡ old.time) × (new.pending ≡ old.pending) × (new.histories.statistics ≡ old.histories.statistics)
 

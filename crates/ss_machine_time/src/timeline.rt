@@ -172,7 +172,7 @@ impl Timeline {
         self.histories.note(subject, entity, self.time, value)
     }
 
-    /// The same of an attribute.
+    /// Notes a value of an attribute in each history of it that an entity has. Faults: 14 where one of them is full.
     #[inline(always)]
     pub fn note_attribute(
         &mut self,
@@ -190,7 +190,7 @@ impl Timeline {
             .note_attribute(class, field, entity, self.time, value)
     }
 
-    /// Where the only statistic of N. of a set stands, if the history of its owner in it takes a number: then noting one
+    /// The place of the only statistic of N. of a set, if the history of its owner in it takes a number: then noting one
     /// does not fail.
     #[inline(always)]
     pub fn taking(&self, set: usize, owner: i64) -> Option<usize>
@@ -236,7 +236,7 @@ impl Timeline {
         }
     }
 
-    /// Whether the entities of a class have a history, as it is told without a look at each statistic, where it is known whether
+    /// Whether the entities of a class may have a history, answered without a look at each statistic, where it is known whether
     /// the class owns a set.
     #[inline(always)]
     pub fn bears(&self, owns: bool) -> bool

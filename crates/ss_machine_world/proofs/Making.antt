@@ -17,14 +17,14 @@ use Rattle.ss_machine_world.specs.AtOnce.{Draws}
 use Rattle.ss_machine_world.specs.Seen.{Seen, with_seen}
 
 -- the layout once an entity was made
-abbrev layout_behind : (st : State) → OkOr (ℤ × State) FaultKind → Layout
-layout_behind st (Ok made) = made.1.layout
-layout_behind st (Err k) = st.layout
+abbrev layout_after : (st : State) → OkOr (ℤ × State) FaultKind → Layout
+layout_after st (Ok made) = made.1.layout
+layout_after st (Err k) = st.layout
 
-layout_stays : (st : State) (class : ℕ) → layout_behind st (created st class) ≡ st.layout
+layout_stays : (st : State) (class : ℕ) → layout_after st (created st class) ≡ st.layout
 layout_stays st class = by (nat_lt (length st.records) LAST_NUMBER)
   where
-    by : (b : Bool) → layout_behind st (if b then Ok (pos (length st.records + 1), with_created st class) else Err Overflow) ≡ st.layout
+    by : (b : Bool) → layout_after st (if b then Ok (pos (length st.records + 1), with_created st class) else Err Overflow) ≡ st.layout
     by true = refl
     by false = refl
 
@@ -33,5 +33,5 @@ spared_made class n old h single made starts s =
     let st = with_seen s old in
     ap (λ b. where_fit b (turned (with_new class st) (due (created old.heap class)))) single
     ∙ ap (λ r. turned (with_new class st) (due r)) made
-    ∙ ap (λ (l : Layout). Ok (Whole n, with_histories (with_heap st h) (starting l (Class class) (int_eq n) old.time old.statistics (columns_of old.histories)))) (ap (layout_behind old.heap) (sym made) ∙ layout_stays old.heap class)
+    ∙ ap (λ (l : Layout). Ok (Whole n, with_histories (with_heap st h) (starting l (Class class) (int_eq n) old.time old.statistics (columns_of old.histories)))) (ap (layout_after old.heap) (sym made) ∙ layout_stays old.heap class)
     ∙ ap (λ cs. Ok (Whole n, with_histories (with_heap st h) cs)) starts

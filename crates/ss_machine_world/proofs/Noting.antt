@@ -77,7 +77,7 @@ no_store e = record {
   };
 }
 
--- ## What stays where noting comes to a trouble
+-- ## What stays where noting fails
 
 pub noting_stays : (subject : Subject) (x : ℤ) (v : Value) (old mid new : Seen) (t : Trouble) → Changes (noted subject x v) mid new (Err t) → Stays t old new
 noting_stays subject x v old mid new t h kind e ne =

@@ -1,4 +1,4 @@
--- What is done with an entity looks at it itself: a look before it tells nothing new.
+-- What is done with an entity looks at it itself: a look before it finds nothing new.
 use Rattle.std.proofs.Common.{◌≡◌, ℕ, zero, suc, ℤ, Bool, true, false, Option, Some, None, Ok, Err, refl, ap, ◌∙◌, sym}
 use Rattle.std.specs.Prelude.{Result as OkOr, is_some, slice_get, slice_index_or, pos}
 use Rattle.ss_base.specs.declared.fault.FaultKind.{FaultKind}
@@ -27,7 +27,7 @@ pub whole_is : (x : Value) (n : ℤ) → number_of x ≡ Ok n → x ≡ Whole n
 whole_is (Whole z) n e = let same : z ≡ n = cc in ap Whole same
 whole_is (Text t) n e = absurd cc
 
--- what comes to the fault of a look, where the look does
+-- what fails with the fault of a look, where the look does
 pub one_look : {B C : Type 0} (n : ℤ) (rest : ℤ → OkOr B Meant) (b : Bool) (q : OkOr C FaultKind) → b ≡ true → ((k : FaultKind) → q ≡ Err k → rest n ≡ Err (Fails k)) → if_ok (where_fit b (turned (λ _. n) (due (S.no_value q)))) rest ≡ rest n
 one_look n rest true (Ok c) there h = refl
 one_look n rest true (Err k) there h = sym (h k refl)

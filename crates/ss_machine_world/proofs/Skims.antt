@@ -36,7 +36,7 @@ module _ (set : ℕ) (o : Option Value) (m : ℤ) (e : Seen) (reverse : Bool) (f
   skimmed : (x : ℤ) (k : Skimmed) → IsWalked e.heap set m reverse f x k → IsSkimmed e reverse set o f x k
   skimmed x k walked = record { steps = steps_as taken_over k.passed x k.member walked.steps; takes = taken k.member k.next k.value walked.member }
 
-  -- where the walk comes to something at all
+  -- where the walk finds something at all
   pub skim_found : (x : ℤ) (r : Option Skimmed) → IfSome r (λ k. IsWalked e.heap set m reverse f x k) → IfSome r (λ k. IsSkimmed e reverse set o f x k)
   skim_found x None h = h
   skim_found x (Some k) h = skimmed x k h

@@ -22,7 +22,7 @@ use Rattle.ss_machine_entities.specs.Told.{told}
 use Rattle.ss_machine_entities.specs.Layouts.{set_in}
 use Rattle.ss_machine_world.specs.Seen.{Seen, with_seen}
 
--- where a member is filed, as the meaning tells it
+-- where a member is filed, in the terms of the meaning
 abbrev pub filing_meant : Filing → MeantFiling
 filing_meant ByDiscipline = ByRule
 filing_meant First = Foremost
@@ -34,7 +34,7 @@ filing_meant (After y) = Behind y
 abbrev pub GoesLast : MeantFiling → (set : ℕ) → Seen → Type 0
 GoesLast filing set e = (o x : ℤ) (s : Store) → filed_by filing set o x (with_seen s e) ≡ filed_by Hindmost set o x (with_seen s e)
 
--- an operation gives other entities, which are those that are seen afterwards, or comes to a trouble and changes nothing
+-- an operation gives other entities, which are those that are seen afterwards, or it fails and changes nothing
 abbrev pub Resettles : (Store → Result State Meant) → (old new : Seen) → Result (Unit {0}) Trouble → Type 0
 Resettles f old new (Ok u) = ((s : Store) → f (with_seen s old) ≡ Ok new.heap) × (new ≡ record old { heap = new.heap })
 Resettles f old new (Err t) = ((s : Store) → f (with_seen s old) ≡ told {A = State} (Err t)) × (new ≡ old)
@@ -76,7 +76,7 @@ paired (Err t) = Err t
 
 -- ## What is done with the owner of a set and the number of an entity, which is looked at as the first thing that is done
 
--- the trouble that a look at a member comes to, or else one that came later
+-- the trouble of a look at a member, or else one that came later
 abbrev pub IsEarliest : State → (set : ℕ) → (member : ℤ) → (later first : Trouble) → Type 0
 IsEarliest h set x later first =
     if_ok {B = ℤ} (where_fit (is_some (set_in h.layout set)) (turned (λ _. x) (due (joiner h set x)))) (λ _. told (Err later)) ≡ told (Err first)
@@ -89,7 +89,7 @@ tested set x o s = due (member_test s.scene.heap set o x)
 abbrev pub out_of : (set : ℕ) → (owner member : ℤ) → Store → Result State Meant
 out_of set o x s = due (removed s.scene.heap set o x)
 
--- the same of an operation that gives a value as well
+-- an operation gives a value and other entities, or fails and changes nothing
 abbrev pub Gives : {A : Type 0} → (Store → Result (A × State) Meant) → (old new : Seen) → Result A Trouble → Type 0
 Gives f old new (Ok a) = ((s : Store) → f (with_seen s old) ≡ Ok (a, new.heap)) × (new ≡ record old { heap = new.heap })
 Gives {A} f old new (Err t) = ((s : Store) → f (with_seen s old) ≡ told {A = A × State} (Err t)) × (new ≡ old)

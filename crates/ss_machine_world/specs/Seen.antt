@@ -1,4 +1,4 @@
--- What is seen of a scene, and what is said of an operation on it.
+-- What is seen of a scene, and what an operation does to it.
 use Rattle.std.specs.Prelude.{◌≡◌, ℕ, slice_get, List, ℤ, pos, Option, Some, None, Result, Ok, Err, IsOk}
 use Rattle.ss_base.specs.declared.fault.FaultKind.{FaultKind}
 use Rattle.ss_base.specs.declared.fault.FaultKind.TheVariants.{CreatedTwice, Overflow}
@@ -57,7 +57,7 @@ with_seen s e = record s {
 abbrev pub Looks : {A : Type 0} → (Store → Result A Meant) → Seen → Result A Trouble → Type 0
 Looks f e answer = (s : Store) → f (with_seen s e) ≡ told answer
 
--- an operation changes what is seen, or comes to a trouble and changes nothing
+-- an operation changes what is seen, or fails and changes nothing
 abbrev pub Changes : (Store → Result Store Meant) → (old new : Seen) → Result (Unit {0}) Trouble → Type 0
 Changes f old new (Ok u) = (s : Store) → f (with_seen s old) ≡ Ok (with_seen s new)
 Changes f old new (Err t) = ((s : Store) → f (with_seen s old) ≡ told {A = Store} (Err t)) × (new ≡ old)
@@ -66,17 +66,17 @@ Changes f old new (Err t) = ((s : Store) → f (with_seen s old) ≡ told {A = S
 abbrev pub Stays : Trouble → (old new : Seen) → Type 0
 Stays t old new = (kind : FaultKind) → t ≡ Fault kind → (kind ≡ Overflow → ⊥) → new ≡ old
 
--- an operation changes what is seen, and histories note it; or it comes to a trouble, and changes nothing where no history does
+-- an operation changes what is seen, and histories note it; or it fails, and changes nothing where no history does
 abbrev pub Notes : (Store → Result Store Meant) → (old new : Seen) → Result (Unit {0}) Trouble → Type 0
 Notes f old new (Ok u) = (s : Store) → f (with_seen s old) ≡ Ok (with_seen s new)
 Notes f old new (Err t) = ((s : Store) → f (with_seen s old) ≡ told {A = Store} (Err t)) × Stays t old new
 
--- the same of one that gives a value as well
+-- an operation that gives a value changes what is seen, and histories note it; or it fails
 abbrev pub Gains : {A : Type 0} → (Store → Result (A × Store) Meant) → (old new : Seen) → Result A Trouble → Type 0
 Gains f old new (Ok a) = (s : Store) → f (with_seen s old) ≡ Ok (a, with_seen s new)
 Gains {A} f old new (Err t) = ((s : Store) → f (with_seen s old) ≡ told {A = A × Store} (Err t)) × Stays t old new
 
--- an operation changes what is seen or comes to a trouble and changes nothing, in each store of which something holds
+-- an operation changes what is seen or fails and changes nothing, in each store of which something holds
 abbrev pub ChangesWhere : (Store → Type 0) → (Store → Result Store Meant) → (old new : Seen) → Result (Unit {0}) Trouble → Type 0
 ChangesWhere P f old new (Ok u) = (s : Store) → P (with_seen s old) → f (with_seen s old) ≡ Ok (with_seen s new)
 ChangesWhere P f old new (Err t) = ((s : Store) → P (with_seen s old) → f (with_seen s old) ≡ told {A = Store} (Err t)) × (new ≡ old)
@@ -85,7 +85,7 @@ ChangesWhere P f old new (Err t) = ((s : Store) → P (with_seen s old) → f (w
 abbrev pub GoesWell : {A : Type 0} → (Store → Result A Meant) → Seen → Type 0
 GoesWell f e = (s : Store) → IsOk (f (with_seen s e))
 
--- an operation that needs memory changes what is seen and gives a value, or comes to a trouble and changes nothing; want of memory changes nothing
+-- an operation that needs memory changes what is seen and gives a value, or fails and changes nothing; out of memory it changes nothing
 abbrev pub Makes : {A : Type 0} → (Store → Result (A × Store) Meant) → (old new : Seen) → Result A Unmade → Type 0
 Makes f old new (Ok a) = (s : Store) → f (with_seen s old) ≡ Ok (a, with_seen s new)
 Makes {A} f old new (Err (unmade.Fault kind)) = ((s : Store) → f (with_seen s old) ≡ told {A = A × Store} (Err (Fault kind))) × (new ≡ old)
@@ -106,13 +106,13 @@ as_value Last = Err (unmade.Fault Overflow)
 as_value made.Misfit = Err unmade.Misfit
 as_value Wanting = Err unmade.Memory
 
--- what noting a value comes to
+-- the answer of noting a value
 abbrev pub or_unnoted : Result (Unit {0}) Unnoted → Result (Unit {0}) Trouble
 or_unnoted (Ok u) = Ok u
 or_unnoted (Err unnoted.Full) = Err (Fault Overflow)
 or_unnoted (Err unnoted.Misfit) = Err Misfit
 
--- the same of a value that is noted unless there is a reason
+-- the answer of noting a value, where None means that it is noted
 abbrev pub unless_unnoted : Option Unnoted → Result (Unit {0}) Trouble
 unless_unnoted None = Ok tt
 unless_unnoted (Some unnoted.Full) = Err (Fault Overflow)
@@ -122,7 +122,7 @@ unless_unnoted (Some unnoted.Misfit) = Err Misfit
 abbrev pub mode_at : PlainLayout → ℕ → ℕ → Option Mode
 mode_at l class field = slice_get (modes_of l class) field
 
--- the trouble that a look at an entity comes to, by its number, or else one that came later
+-- the trouble of a look at an entity, by its number, or else one that came later
 abbrev pub IsEarlier : (class : ℕ) → (number : ℤ) → Seen → (later first : Trouble) → Type 0
 IsEarlier class n e later first = (s : Store) → if_ok {B = ℤ} (entity class (Whole n) (with_seen s e)) (λ _. told (Err later)) ≡ told (Err first)
 

@@ -61,7 +61,7 @@ impl Scene {
         }
     }
 
-    // The same by a call.
+    // A number as that of an entity of a class, out of line.
     #[inline(never)]
     fn find_apart(&self, class: usize, known: Known) -> Result<Known, Trouble>
         ensures { Looks (entity class (Whole known.number)) self.now (numbered result) }
@@ -102,7 +102,7 @@ impl Scene {
         }
     }
 
-    // The trouble that a look at an entity comes to, by its number, or else one that came later.
+    // The trouble of a look at an entity, by its number, or else one that came later.
     #[inline(never)]
     fn earlier(&self, class: usize, known: Known, later: Trouble) -> Trouble
         ensures { IsEarlier class known.number self.now later result }
@@ -287,7 +287,7 @@ impl Scene {
         }
     }
 
-    // The same where it did not go well at once.
+    // The number of a new entity of a class, where it was not made at once.
     #[inline(never)]
     fn create_slowly(&mut self, class: usize) -> Made
         ensures { Makes (made_one class) self.old self.new (as_value result) }
@@ -298,7 +298,7 @@ impl Scene {
         self.create_number(class)
     }
 
-    /// The number of a new entity of a class, whose histories start. Faults: 14 after the last number. Want of memory is answered also
+    /// The number of a new entity of a class, whose histories start. Faults: 14 after the last number. Out of memory is answered also
     /// where it was refused to an entity that was to be made at once, and then none is asked for.
     #[inline(always)]
     pub fn create(&mut self, class: usize) -> Result<Value, Unmade>
@@ -326,7 +326,7 @@ impl Scene {
         self.remove_single(class, known)
     }
 
-    // The same of a class whose entities come and go one by one.
+    // An entity goes by its number, and its histories end, of a class whose entities come and go one by one.
     #[inline(always)]
     fn remove_single(&mut self, class: usize, known: Known) -> Result<(), Trouble>
         requires single { is_single (class_in self.old.heap.layout class) ≡ true }
@@ -380,7 +380,7 @@ impl Scene {
         self.remove_single(class, known)
     }
 
-    /// The same of a class whose entities come and go one by one.
+    /// An entity goes by its number, unless it is pending, of a class whose entities come and go one by one.
     #[inline(always)]
     pub fn destroy_single(&mut self, class: usize, known: Known) -> Result<(), Trouble>
         requires single { is_single (class_in self.old.heap.layout class) ≡ true }
@@ -449,7 +449,7 @@ impl Scene {
         }
     }
 
-    // The same of a count at which no fault is due: room for the histories is made first.
+    // All entities of a permanent class, for a count at which no fault is due: room for the histories is made first.
     fn create_counted(&mut self, class: usize, count: i64) -> Result<(), Unmade>
         requires permanent { is_permanent (class_in self.old.heap.layout class) ≡ true }
         ensures { Grows (created_all_known class count) self.old self.new result }

@@ -114,7 +114,7 @@ impl Scene {
         self.place_anywhere(filing, set, both)
     }
 
-    // The same wherever it is filed.
+    // Files a member wherever it goes, by the numbers of the member and of the owner.
     #[inline(never)]
     fn place_anywhere(
         &mut self,
@@ -140,7 +140,7 @@ impl Scene {
         }
     }
 
-    // The same by the number of the member and what refers to the owner, which is answered.
+    // Files a member, by its number and what refers to the owner, which is answered.
     #[inline(always)]
     fn file_member(
         &mut self,
@@ -164,7 +164,7 @@ impl Scene {
         }
     }
 
-    // The same where it hardly goes last.
+    // Files a member, by its number and what refers to the owner, where it hardly goes last.
     #[inline(always)]
     pub(crate) fn file_member_anywhere(
         &mut self,

@@ -133,7 +133,7 @@ impl Scene {
         }
     }
 
-    // The same, by the number of the entity and what refers to the owner.
+    // Whether an entity is in the set of an owner, by its number and what refers to the owner.
     #[inline(always)]
     fn test(&mut self, set: usize, member: Known, owner: Option<Value>) -> Result<bool, Trouble>
         ensures value { Looks (with_owner set owner (tested set member.number)) self.old result }
@@ -148,7 +148,7 @@ impl Scene {
         }
     }
 
-    // The trouble that a look at a member comes to, or else one that came later.
+    // The trouble of a look at a member, or else one that came later.
     #[inline(never)]
     pub(crate) fn earliest(&mut self, set: usize, member: Known, later: Trouble) -> Trouble
         ensures value { IsEarliest self.old.heap set member.number later result }
@@ -246,7 +246,7 @@ impl Scene {
         }
     }
 
-    // The same once it is tested that the member is in the set of an owner, by their numbers.
+    // The member with which a loop begins, once it is tested that the given one is in the set of an owner, by their numbers.
     fn begun_from(
         &mut self,
         reverse: bool,
@@ -299,7 +299,7 @@ impl Scene {
     }
 }
 
-// A member that has to be there is gone where it is in the set no longer, or where looking comes to a fault.
+// A member that has to be there is gone where it is in the set no longer, or where a look at it has a fault.
 #[inline(always)]
 fn or_gone(answer: Result<bool, Trouble>) -> Result<bool, Trouble>
     ensures { or_gone (told answer) ≡ told result }

@@ -24,7 +24,7 @@ impl Scene {
         )
     }
 
-    // The same by the number of the member and what refers to the owner, which is answered.
+    // Takes a member out of a set, by its number and what refers to the owner, which is answered.
     #[inline(always)]
     fn remove_member(
         &mut self,
@@ -75,7 +75,7 @@ impl Scene {
         }
     }
 
-    // The same where the layout has the set, as a change of the whole scene: histories note N. of the set.
+    // Takes the member at an end out of a set that the layout has, as a change of the whole scene: histories note N. of the set.
     #[inline(always)]
     fn remove_end_known(&mut self, end: End, set: usize, known: Known) -> Result<Value, Trouble>
         ensures { Gains (end_removed_known end set known.number) self.old self.new result }

@@ -116,8 +116,8 @@ impl Scene {
             return Err(Trouble::Misfit);
         }
         match query {
-            MemberQuery::Predecessor => told_number(self.population.previous(set, known.number)),
-            MemberQuery::Successor => told_number(self.population.next(set, known.number)),
+            MemberQuery::Predecessor => number_answer(self.population.previous(set, known.number)),
+            MemberQuery::Successor => number_answer(self.population.next(set, known.number)),
             MemberQuery::Membership => match self.population.owner_in(set, known.number) {
                 Ok(Some(_)) => Ok(Value::Whole(1)),
                 Ok(None) => Ok(Value::Whole(0)),
@@ -149,7 +149,7 @@ pub(crate) fn is_none(number: i64) -> bool
 
 // A number that was asked for.
 #[inline(always)]
-fn told_number(answer: Result<i64, FaultKind>) -> Result<Value, Trouble>
+fn number_answer(answer: Result<i64, FaultKind>) -> Result<Value, Trouble>
     ensures { turned Whole (due answer) ≡ told result }
 {
     match answer {

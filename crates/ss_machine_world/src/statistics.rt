@@ -42,7 +42,7 @@ impl Scene {
     }
 
     // Whether no statistic is about a subject: then noting a value of it changes nothing. A variable that no program has
-    // tells that no statistic lacks its histories.
+    // shows that no statistic lacks its histories.
     #[inline(always)]
     pub(crate) fn ignores(&self, subject: Subject) -> bool
         ensures { result ≡ true → Ignores subject self.now }
@@ -61,7 +61,7 @@ impl Scene {
         or_unnoted(self.timeline.note(subject, known.number, value))
     }
 
-    // The same, answering why it is not noted, if it is not.
+    // Notes a value of a subject, and answers why it is not noted, if it is not.
     #[inline(always)]
     fn try_noting(&mut self, subject: Subject, known: Known, value: Value) -> Option<Unnoted>
         ensures { Changes (noted subject known.number value) self.old self.new (unless_unnoted result) }
@@ -72,7 +72,7 @@ impl Scene {
         }
     }
 
-    // The same of an attribute.
+    // Notes a value of an attribute in its histories of an entity, by its number.
     #[inline(always)]
     pub(crate) fn note_attribute(
         &mut self,
@@ -112,7 +112,7 @@ impl Scene {
         }
     }
 
-    // The same where there are statistics.
+    // Notes N. of the set of an owner, where there are statistics, and answers why it is not noted, if it is not.
     #[inline(never)]
     fn recount_watched(&mut self, set: usize, owner: Known) -> Option<Unnoted>
         requires counted { IsCountable self.old.heap set owner.number }
@@ -140,7 +140,7 @@ impl Scene {
         }
     }
 
-    // Where the only statistic of N. of a set stands, if the history of the owner in it takes a number: then noting one does not fail.
+    // The place of the only statistic of N. of a set, if the history of the owner in it takes a number: then noting one does not fail.
     #[inline(always)]
     pub(crate) fn taking(&self, set: usize, owner: Known) -> Option<usize>
         ensures { IfSome result (λ place. TakesCount set place owner.number self.now) }
@@ -161,7 +161,7 @@ impl Scene {
         }
     }
 
-    // The same, at once where that goes well.
+    // N. of the set of an owner that can be counted, at once where that goes well.
     #[inline(always)]
     fn counted(&mut self, set: usize, owner: Known) -> i64
         requires counted { IsCountable self.old.heap set owner.number }
@@ -183,7 +183,7 @@ impl Scene {
         self.timeline.note_count(set, place, owner.number, number);
     }
 
-    // The same of N. as it is now.
+    // Notes N. of the set of an owner as it is now, in the only statistic of it, whose history takes a number.
     #[inline(always)]
     pub(crate) fn recount_at(&mut self, set: usize, place: usize, owner: Known)
         requires counted { IsCountable self.old.heap set owner.number }
@@ -224,7 +224,7 @@ impl Scene {
     fn figure_kept(&self, fold: Fold, statistic: usize, known: Known) -> Result<Value, Trouble>
         ensures { Looks (figure_kept fold statistic known.number) self.now result }
     {
-        told_figure(self.timeline.figure(fold, statistic, known.number))
+        figure_answer(self.timeline.figure(fold, statistic, known.number))
     }
 
     /// What a statistic says: NUMBER, SUM, MAXIMUM or MINIMUM of its subject, of an entity if one has that. Faults: 1 to
@@ -316,7 +316,7 @@ impl Scene {
         }
     }
 
-    // The same with the present value of the statistic's subject.
+    // Starts the history of an entity in a statistic afresh, with the present value of the statistic's subject.
     fn reset_known(
         &mut self,
         statistic: usize,
@@ -366,7 +366,7 @@ fn variable_in(subject: Option<Subject>) -> Option<usize>
     }
 }
 
-// What noting a value comes to.
+// The answer of noting a value.
 #[inline(always)]
 fn or_unnoted(answer: Result<(), Unnoted>) -> Result<(), Trouble>
     ensures { result ≡ or_unnoted answer }
@@ -379,7 +379,7 @@ fn or_unnoted(answer: Result<(), Unnoted>) -> Result<(), Trouble>
 }
 
 // What was asked of a history, if there is one.
-fn told_figure(answer: Option<Result<i64, FaultKind>>) -> Result<Value, Trouble>
+fn figure_answer(answer: Option<Result<i64, FaultKind>>) -> Result<Value, Trouble>
     ensures { figured answer ≡ told result }
 {
     match answer {

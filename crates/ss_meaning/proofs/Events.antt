@@ -69,8 +69,8 @@ abbrev judged : ClassKind → Record → Result Record FaultKind
 judged k r = if is_notice k then Ok r else Err faults.WrongClass
 
 -- the time and the notice of an entry
-abbrev told : PendingNotice → ℤ × ℤ
-told e = (e.key.time, e.notice)
+abbrev event_of : PendingNotice → ℤ × ℤ
+event_of e = (e.key.time, e.notice)
 
 notice_there : (h : State) (x : ℤ) → IsNotice h x → (r : Record) × (notice h x ≡ Ok r) × (kind_of h.layout r.class ≡ Notice)
 notice_there h (pos zero) n = absurd cc
@@ -310,12 +310,12 @@ module _ (p : Program) (typed : WellTyped p) (ms : List Mode) where
           let both = event_fits e.key.time s e q f in
           record { class = class; kind = k; ranked = h; number = e.notice; notice = refl; apart = both.1; fits = both.0 }
 
-      by : (o : Option PendingNotice) → least s.scene.pending.entries ≡ o → is_some (option_map told o) ≡ true → There ComingAs (next_event s)
+      by : (o : Option PendingNotice) → least s.scene.pending.entries ≡ o → is_some (option_map event_of o) ≡ true → There ComingAs (next_event s)
       by None q h = absurd cc
       by (Some e) q h =
           let n = notice_there s.scene.heap e.notice (least_is (λ (i : PendingNotice). IsNotice s.scene.heap i.notice) s.scene.pending.entries e f.sound.scene.pending q) in
           let k : kind_said p n.0.class ≡ Some Notice = said_kind n.0.class s f n.2 in
-          subst (λ o. There ComingAs (coming_with (option_map told o) s)) (sym q)
+          subst (λ o. There ComingAs (coming_with (option_map event_of o) s)) (sym q)
           (subst (λ r. There ComingAs (coming_as (ranked_as r s) e.key.time e.notice s)) (sym n.1)
           (with_class e q n.0.class k (ranked n.0.class s) (ranked_there n.0.class s k f)))
 

@@ -23,7 +23,7 @@ use Rattle.ss_meaning.specs.Values.{Trouble, if_ok, turned, due, sure, made, cal
 use Rattle.ss_meaning.specs.Store.{Store, fetched}
 use Rattle.ss_meaning.specs.Entities.{entity, attribute, time_of}
 use Rattle.ss_meaning.specs.Places.{InAttribute}
-use Rattle.ss_meaning.specs.Sets.{member, known_owner, of_set, of_member, is_empty, is_in, Ahead, Behind}
+use Rattle.ss_meaning.specs.Sets.{member, known_owner, of_set, of_member, is_empty, is_in, JustBefore, JustAfter}
 use Rattle.ss_meaning.specs.Events.{AtTime, Later, AtOnce, time_at}
 use Rattle.ss_meaning.specs.Statistics.{figure, mean}
 use Rattle.ss_meaning.specs.Expressions.{value, values, mean_shown, item, items, value_if_any, looked_at, entity_value, member_value, owner_value, owner_looked_at, spot, filing, time_value, unless, passed, both, either, all_hold, holds, passes, all_pass}
@@ -186,8 +186,8 @@ module _ (p : Program) (typed : WellTyped p) (ms : List Mode) (b : Bool) where
   filing_fine set ByDiscipline q h s f = tt
   filing_fine set AsFirst q h s f = tt
   filing_fine set AsLast q h s f = tt
-  filing_fine set (BeforeMember e) q h s f = fine_turned (FilingOk p typed ms) Ahead (member_value set e s) (member_value_fine set e q h s f) (λ x g. g)
-  filing_fine set (AfterMember e) q h s f = fine_turned (FilingOk p typed ms) Behind (member_value set e s) (member_value_fine set e q h s f) (λ x g. g)
+  filing_fine set (BeforeMember e) q h s f = fine_turned (FilingOk p typed ms) JustBefore (member_value set e s) (member_value_fine set e q h s f) (λ x g. g)
+  filing_fine set (AfterMember e) q h s f = fine_turned (FilingOk p typed ms) JustAfter (member_value set e s) (member_value_fine set e q h s f) (λ x g. g)
 
   pub time_value_fine : (when : When) → GoodWhen here when → (s : Store) → Fits p ms s → Fine Any (time_value when s)
   time_value_fine (At e) h s f = fine_then Any (value e s) (λ v. time_at (AtTime v) s) (value_fine e Integer h s f) (λ v g. time_at_fine p typed ms (AtTime v) s g)

@@ -11,7 +11,7 @@ Fine P (Ok a) = P a
 Fine P (Err (Fails k)) = Unit {0}
 Fine P (Err Misfit) = ⊥
 
--- the same where there can be nothing but a fault
+-- a result has P, or is a fault
 abbrev pub Sane : {A : Type 0} → (A → Type 0) → Result A FaultKind → Type 0
 Sane P (Ok a) = P a
 Sane P (Err k) = Unit {0}

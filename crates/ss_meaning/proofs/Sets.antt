@@ -38,7 +38,7 @@ use Rattle.ss_meaning.specs.Values.{Trouble, Misfit, Fails, if_ok, turned, due, 
 use Rattle.ss_meaning.specs.Store.{Store, with_heap, with_histories, fetched}
 use Rattle.ss_meaning.specs.Histories.{noted, history_of, folded, figure_kept, mean_kept, renewed}
 use Rattle.ss_meaning.specs.Entities.{entity}
-use Rattle.ss_meaning.specs.Sets.{set_at, member, owner_as, owner_by, owner_number, known_owner, told_of_set, of_set, is_one, of_member, is_none, is_empty, is_in, recounted, is_field, is_fit, Filing, ByRule, Foremost, Hindmost, Ahead, Behind, filed_by, filed_in, removed_from, end_removed, removed_at, outset, beside, begun, coming, from_or_after, begun_at, or_gone, goes_on}
+use Rattle.ss_meaning.specs.Sets.{set_at, member, owner_as, owner_by, owner_number, known_owner, set_answer, of_set, is_one, of_member, is_none, is_empty, is_in, recounted, is_field, is_fit, Filing, ByRule, Foremost, Hindmost, JustBefore, JustAfter, filed_by, filed_in, removed_from, end_removed, removed_at, outset, beside, begun, coming, from_or_after, begun_at, or_gone, goes_on}
 use Rattle.ss_meaning.specs.Statistics.{subject_of, bearer, present, figure, mean, reset}
 use Rattle.ss_meaning.specs.Fitting.{HeapFits, Lives, BearsBy, Bears, Fits}
 use Rattle.ss_meaning.proofs.Fine.{Fine, Sane, There, Any, fine_then, fine_turned, fine_weaker, due_fine, any_due, sure_fine, fit_fine, unless_fine, sane_then}
@@ -117,8 +117,8 @@ module _ (p : Program) (typed : WellTyped p) (ms : List Mode) where
 
   pub of_set_fine : (query : SetQuery) (set : ℕ) (o : Option Value) (s : Store) → OwnerOk set o → Fits p ms s → Fine (λ v. mode_of v ≡ Integer) (of_set query set o s)
   of_set_fine query set o s q f =
-      fine_then (λ v. mode_of v ≡ Integer) (owner_number set o s) (λ n. turned Whole (due (told_of_set query s.scene.heap set n))) (owner_number_fine set o s q f) (λ n z.
-      fine_turned (λ v. mode_of v ≡ Integer) Whole (due (told_of_set query s.scene.heap set n)) (any_due (told_of_set query s.scene.heap set n)) (λ u v. refl))
+      fine_then (λ v. mode_of v ≡ Integer) (owner_number set o s) (λ n. turned Whole (due (set_answer query s.scene.heap set n))) (owner_number_fine set o s q f) (λ n z.
+      fine_turned (λ v. mode_of v ≡ Integer) Whole (due (set_answer query s.scene.heap set n)) (any_due (set_answer query s.scene.heap set n)) (λ u v. refl))
 
   pub of_member_fine : (query : MemberQuery) (set : ℕ) (x : Value) (s : Store) → IsSet p set → mode_of x ≡ Integer → Fits p ms s → Fine (λ v. mode_of v ≡ Integer) (of_member query set x s)
   of_member_fine Predecessor set x s q g f =
@@ -176,8 +176,8 @@ module _ (p : Program) (typed : WellTyped p) (ms : List Mode) where
   FilingOk ByRule = Unit {0}
   FilingOk Foremost = Unit {0}
   FilingOk Hindmost = Unit {0}
-  FilingOk (Ahead y) = mode_of y ≡ Integer
-  FilingOk (Behind y) = mode_of y ≡ Integer
+  FilingOk (JustBefore y) = mode_of y ≡ Integer
+  FilingOk (JustAfter y) = mode_of y ≡ Integer
 
   pub filed_by_fine : (filing : Filing) (set : ℕ) (o x : ℤ) (s : Store) → FilingOk filing → IsSet p set → Fits p ms s → Fine (Changed s.scene.heap) (filed_by filing set o x s)
   filed_by_fine ByRule set o x s g q f =
@@ -187,10 +187,10 @@ module _ (p : Program) (typed : WellTyped p) (ms : List Mode) where
       (due_fine (Changed s.scene.heap) (filed s.scene.heap d set o x) (filed_sane s.scene.heap d set o x f.sound.scene.heap)))
   filed_by_fine Foremost set o x s g q f = due_fine (Changed s.scene.heap) (filed_first s.scene.heap set o x) (first_sane s.scene.heap set o x f.sound.scene.heap)
   filed_by_fine Hindmost set o x s g q f = due_fine (Changed s.scene.heap) (filed_last s.scene.heap set o x) (last_sane s.scene.heap set o x f.sound.scene.heap)
-  filed_by_fine (Ahead y) set o x s g q f =
+  filed_by_fine (JustBefore y) set o x s g q f =
       fine_then (Changed s.scene.heap) (member set y s) (λ k. due (filed_before s.scene.heap set o x k)) (member_fine set y s q g f) (λ k e.
       due_fine (Changed s.scene.heap) (filed_before s.scene.heap set o x k) (before_sane s.scene.heap set o x k f.sound.scene.heap))
-  filed_by_fine (Behind y) set o x s g q f =
+  filed_by_fine (JustAfter y) set o x s g q f =
       fine_then (Changed s.scene.heap) (member set y s) (λ k. due (filed_after s.scene.heap set o x k)) (member_fine set y s q g f) (λ k e.
       due_fine (Changed s.scene.heap) (filed_after s.scene.heap set o x k) (after_sane s.scene.heap set o x k f.sound.scene.heap))
 

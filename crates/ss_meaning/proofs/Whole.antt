@@ -19,7 +19,7 @@ use Rattle.ss_program.specs.declared.sections.Statistic.{Statistic}
 use Rattle.ss_program.specs.Program.{Routine, Event, Program, Block}
 use Rattle.ss_program.specs.WellTyped.{WellTyped, GoodRoutine, GoodEvent, GoodBlock}
 use Rattle.ss_meaning.specs.Values.{same_mode}
-use Rattle.ss_meaning.specs.Store.{Column, Store, behind, firsts, taken, appended, opened, front, yielded}
+use Rattle.ss_meaning.specs.Store.{Column, Store, prepended, firsts, taken, appended, opened, front, yielded}
 use Rattle.ss_meaning.specs.Histories.{home, no_history, no_histories, starting}
 use Rattle.ss_meaning.specs.Events.{Beginning, Coming, next_event, begun, is_awaited}
 use Rattle.ss_meaning.specs.Parts.{World, Returned, Stopped, Faulted, OutOfTicks, Wrong, Outcome, WentOn, Left, Part, and_then, needed, take_tick}
@@ -45,9 +45,9 @@ firsts_modes (m ∷ ms) = let here : mode_of (first_value m) ≡ m = first_mode 
     first_mode Integer = refl
     first_mode Alpha = refl
 
-behind_there : (v : Value) (m : Mode) (ms : List Mode) (o : Option (List Value)) → mode_of v ≡ m → There (λ vs. Hold vs ms) o → There (λ vs. Hold vs (m ∷ ms)) (behind v o)
-behind_there v m ms (Some vs) q h = let all : Hold (v ∷ vs) (m ∷ ms) = cc in all
-behind_there v m ms None q h = absurd h
+prepended_there : (v : Value) (m : Mode) (ms : List Mode) (o : Option (List Value)) → mode_of v ≡ m → There (λ vs. Hold vs ms) o → There (λ vs. Hold vs (m ∷ ms)) (prepended v o)
+prepended_there v m ms (Some vs) q h = let all : Hold (v ∷ vs) (m ∷ ms) = cc in all
+prepended_there v m ms None q h = absurd h
 
 taken_there : (ms : List Mode) (vs : List Value) → Hold vs ms → There (λ us. Hold us ms) (taken ms vs)
 taken_there [] [] h = refl
@@ -56,8 +56,8 @@ taken_there (m ∷ ms) [] h = absurd cc
 taken_there (m ∷ ms) (v ∷ vs) h =
     let here : mode_of v ≡ m = cc in
     let rest : Hold vs ms = cc in
-    subst (λ b. There (λ us. Hold us (m ∷ ms)) (if b then behind v (taken ms vs) else None)) (sym (ap (λ n. same_mode n m) here ∙ same_is m))
-    (behind_there v m ms (taken ms vs) here (taken_there ms vs rest))
+    subst (λ b. There (λ us. Hold us (m ∷ ms)) (if b then prepended v (taken ms vs) else None)) (sym (ap (λ n. same_mode n m) here ∙ same_is m))
+    (prepended_there v m ms (taken ms vs) here (taken_there ms vs rest))
 
 both_hold : (vs us : List Value) (ms ns : List Mode) → Hold vs ms → Hold us ns → Hold (vs ++ us) (ms ++ ns)
 both_hold [] us [] ns h g = g
@@ -81,7 +81,7 @@ front_there (y ∷ ys) os [] h = absurd cc
 front_there (y ∷ ys) os (l ∷ ls) h =
     let here : mode_of l ≡ y = cc in
     let rest : Hold ls (ys ++ os) = cc in
-    behind_there l y ys (front (length ys) ls) here (front_there ys os ls rest)
+    prepended_there l y ys (front (length ys) ls) here (front_there ys os ls rest)
 
 yielded_there : (gs ys os : List Mode) (ls : List Value) → Hold ls (gs ++ (ys ++ os)) → There (λ us. Hold us ys) (yielded (length gs) (length ys) ls)
 yielded_there [] ys os ls h = front_there ys os ls h

@@ -85,12 +85,12 @@ made_all c s =
 abbrev pub with_none : (class : ℕ) → (entity : ℤ) → Store → State → Store
 with_none class x s h = ended class x (with_heap s h)
 
--- the same where it may go: one that is in a set or owns members may not
+-- the store once an entity was destroyed: one that is in a set or owns members may not go
 abbrev pub gone : (class : ℕ) → Value → Store → Result Store Trouble
 gone class x s =
     if_ok (number_of x) (λ n. where_fit (is_single (class_at class s)) (turned (with_none class n s) (due (destroyed s.scene.heap class n))))
 
--- the same by DESTROY: nor may a notice that is pending
+-- the store once DESTROY was done: nor may a notice go that is pending
 abbrev pub without : (class : ℕ) → Value → Store → Result Store Trouble
 without class x s =
     if_ok (entity class x s) (λ n. unless_fault (is_pending n s.scene.pending.entries) Scheduled (gone class x s))

@@ -146,7 +146,7 @@ pub a_tally : meaning (tallied (Call (line 11) 0 [] [] ∷ let_global 12 (num (p
 unfolding filled picture_fields numeral in_64_bits
 a_tally = refl
 
--- the mean of X, before anything and behind 4, -2 and 7, with decimals and without
+-- the mean of X, before anything and after 4, -2 and 7, with decimals and without
 abbrev print_mean : (l : ℕ) → List ℕ → Statement
 print_mean l picture = Print (line l) (AMean 0 ∷ []) (picture ∷ [])
 

@@ -41,7 +41,7 @@ pub ends_after_three : meaning counting [] 3 ≡ ends (codes "1" ∷ codes "2" �
 unfolding filled picture_fields numeral
 ends_after_three = refl
 
--- X = 9223372036854775807, which is printed; ADD 1 TO X in line 6 is the fault OVERFLOW of that line, behind what was printed
+-- X = 9223372036854775807, which is printed; ADD 1 TO X in line 6 is then the fault OVERFLOW of that line
 pub a_fault_at_its_line : meaning (plain 1 (Let (line 3) (to_local 0) (num (pos 9223372036854775807)) ∷
     print_line 4 (local 0 ∷ []) (codes "*******************") ∷ Change (line 6) Plus (to_local 0) (num (pos 1)) ∷ [])) [] 9 ≡
     faults (codes "9223372036854775807" ∷ []) Overflow 6 9
@@ -113,7 +113,7 @@ pub data_are_ended : meaning (plain 2 (Read (line 3) (record { place = to_local 
     If (line 4) (only (DataEnded true)) (block (Read (line 4) (record { place = to_local 1; mode = Integer } ∷ []) ∷ [])) Done ∷ [])) (codes "5 ") 9 ≡ ends [] 9
 data_are_ended = refl
 
--- READ W, a text, and two lines with it: it stands left in its field, and what doesn't fit gives asterisks
+-- READ W, a text, and two lines with it: it is put at the left of its field, and what doesn't fit gives asterisks
 abbrev texts : Program
 texts = record (plain 0 (Read (line 3) (record { place = to_local 0; mode = Alpha } ∷ []) ∷
     Print (line 4) (AValue (local 0) ∷ AValue (local 0) ∷ []) (codes "[*****]" ∷ codes "[**]" ∷ []) ∷ [])) { locals = Alpha ∷ [] }

@@ -11,7 +11,7 @@ use Rattle.ss_meaning.specs.Values.{Trouble, if_ok, turned, due, sure, calculate
 use Rattle.ss_meaning.specs.Store.{Store, fetched}
 use Rattle.ss_meaning.specs.Entities.{entity, attribute, time_of}
 use Rattle.ss_meaning.specs.Places.{Spot, InVariable, InAttribute, InCount}
-use Rattle.ss_meaning.specs.Sets.{member, known_owner, of_set, of_member, is_empty, is_in, Filing, ByRule, Foremost, Hindmost, Ahead, Behind}
+use Rattle.ss_meaning.specs.Sets.{member, known_owner, of_set, of_member, is_empty, is_in, Filing, ByRule, Foremost, Hindmost, JustBefore, JustAfter}
 use Rattle.ss_meaning.specs.Events.{clock, time_at, AtTime, Later, AtOnce}
 use Rattle.ss_meaning.specs.Statistics.{figure, mean}
 
@@ -71,12 +71,12 @@ entity_value class e s = if_ok (value e s) (looked_at (λ x. entity class x s))
 abbrev pub member_value : (set : ℕ) → Expression → Store → Result Value Trouble
 member_value set e s = if_ok (value e s) (looked_at (λ x. member set x s))
 
--- whose set is meant: of an entity, or of the system
+-- whose set it is: an entity's, or the system's
 abbrev pub owner_value : SetOwner → Store → Result (Option Value) Trouble
 owner_value TheSystem s = Ok None
 owner_value (Entity e) s = turned Some (value e s)
 
--- the same of an owner that was looked at
+-- whose set it is, where the owner must be there: an entity that isn't is a fault
 abbrev pub owner_looked_at : (set : ℕ) → SetOwner → Store → Result (Option Value) Trouble
 owner_looked_at set owner s = if_ok (owner_value owner s) (λ o. turned (λ n. o) (known_owner set o s))
 
@@ -91,8 +91,8 @@ abbrev pub filing : (set : ℕ) → Position → Store → Result Filing Trouble
 filing set ByDiscipline s = Ok ByRule
 filing set AsFirst s = Ok Foremost
 filing set AsLast s = Ok Hindmost
-filing set (BeforeMember e) s = turned Ahead (member_value set e s)
-filing set (AfterMember e) s = turned Behind (member_value set e s)
+filing set (BeforeMember e) s = turned JustBefore (member_value set e s)
+filing set (AfterMember e) s = turned JustAfter (member_value set e s)
 
 -- the time for which a notice is scheduled
 abbrev pub time_value : When → Store → Result ℤ Trouble
@@ -138,7 +138,7 @@ abbrev pub passes : GuardKind → Bool → Bool
 passes While b = b
 passes Until b = not b
 
--- and at all of them: up to the first at which it does not
+-- whether a loop goes on at all of several conditions: up to the first at which it does not
 abbrev pub all_pass : List Guard → Store → Result Bool Trouble
 all_pass [] s = Ok true
 all_pass (g ∷ gs) s = if_ok (holds g.condition s) (λ b. both (passes g.kind b) (all_pass gs s))

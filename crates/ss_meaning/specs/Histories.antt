@@ -60,7 +60,7 @@ no_histories ss = map (λ s. no_history) ss
 abbrev pub begun_in : (here : ℤ → Bool) → History → Column → Column
 begun_in here h c x = if here x then Some h else c x
 
--- the same of each statistic whose subject is theirs
+-- the histories of all statistics, once one started for each entity that is here in each statistic whose subject is theirs
 abbrev pub starting : Layout → Owner → (here : ℤ → Bool) → (now : ℤ) → List Statistic → List Column → List Column
 starting l whose here now [] cs = cs
 starting l whose here now (s ∷ ss) [] = []
@@ -75,7 +75,7 @@ started_here whose here s =
 abbrev pub started : Owner → (entity : ℤ) → Store → Store
 started whose x s = started_here whose (int_eq x) s
 
--- the same of the entities 1 to n of a class
+-- the store once they started for the entities 1 to n of a class
 abbrev pub all_started : ℕ → (n : ℕ) → Store → Store
 all_started class n s = started_here (Class class) (λ x. int_le (pos 1) x && int_le x (pos n)) s
 
@@ -109,7 +109,7 @@ noting_in x now v (Some h) c =
 abbrev pub noting : (entity now : ℤ) → Value → Column → Result Column Trouble
 noting x now v c = noting_in x now v (c x) c
 
--- the same of each statistic of a subject
+-- the histories with one value more in those of an entity, in each statistic of a subject
 abbrev pub all_noting : Subject → (entity now : ℤ) → Value → List Statistic → List Column → Result (List Column) Trouble
 all_noting subject x now v [] cs = Ok cs
 all_noting subject x now v (s ∷ ss) [] = Err Misfit

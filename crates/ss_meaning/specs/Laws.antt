@@ -12,7 +12,7 @@ use Rattle.ss_meaning.specs.Fitting.{Sound, Fits}
 abbrev pub NeverWrong : Type 0
 NeverWrong = (p : Program) → WellTyped p → (input : List ℕ) (n : ℕ) → (meaning p input n).ending ≢ WentWrong
 
--- the store that some statements leave fits; where they stop the run, in a fault or for want of ticks, the local variables may be those of a
+-- the store that some statements leave fits; where they stop the run, in a fault or out of ticks, the local variables may be those of a
 -- routine that they called
 abbrev pub FitsAfter : Program → List Mode → Outcome (Unit {0}) → Type 0
 FitsAfter p modes (WentOn u w) = Fits p modes w.store

@@ -19,7 +19,7 @@ use Rattle.ss_meaning.specs.Parts.{Part, WentOn, and_then, choose, look, write, 
 
 -- ## Phrases
 
--- what a turn of a FOR comes to: the next candidate, the end of the loop, or the case that is looked for
+-- what follows a turn of a FOR: the next candidate, the end of the loop, or the case that is looked for
 pub data Turn : Type 0 where
   GoesOn : Turn
   EndsLoop : Turn
@@ -125,7 +125,7 @@ over_members n l set reverse go b =
 
 -- ## FOR, and loops led by WHILE or UNTIL
 
--- a FOR that makes at most n turns: whether the case was found. With n ticks no more than the first n + 1 items are come to
+-- a FOR that makes at most n turns: whether the case was found. With n ticks no more than the first n + 1 items are reached
 abbrev pub over : ℕ → Line → Head → Part Turn → Part Bool
 over n l (Numbers x a b c) turn w = and_then (look l (range a b c) w) (λ r. over_items (visit l x turn) (items (suc n) r))
 over n l (Each x class) turn w = and_then (look l (indices class) w) (λ r. over_items (visit l x turn) (items (suc n) r))

@@ -40,7 +40,8 @@ come_back first count ls (Left (Faulted kind line) w) = Left (Faulted kind line)
 come_back first count ls (Left OutOfTicks w) = Left OutOfTicks w
 come_back first count ls (Left Wrong w) = Left Wrong w
 
--- a body with variables of its own: those that take the values that are given, and others; then the values of so many variables behind the former
+-- a body with variables of its own: those that take the values that are given, and others; afterwards the values of the first so
+-- many of the others
 abbrev pub enclosed : (given others : List Mode) → (body : Part (Unit {0})) → List Value → (count : ℕ) → Part (List Value)
 enclosed given others body vs count w =
     and_then (needed (opened given others vs) w) (λ ls w. come_back (length given) count w.store.locals (body (with_locals ls w)))
@@ -67,7 +68,7 @@ event_taken es h n w =
 
 -- ## The whole
 
--- a call takes a tick, as an event does; n bounds how many of them stand in one another, and the turns of each loop
+-- a call takes a tick, as an event does; n bounds how deep they are nested, and the turns of each loop
 abbrev pub calls : Program → ℕ → Calls
 calls p zero = record { call = λ routine vs count. Left OutOfTicks; event = Left OutOfTicks }
 calls p (suc n) = record {

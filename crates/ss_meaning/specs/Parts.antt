@@ -13,7 +13,7 @@ pub record World : Type 0 where
   pub report : List ℕ
   pub ticks : ℕ
 
--- why a part is left before its end; Wrong where something does not fit, which no well-typed program comes to
+-- why a part is left before its end; Wrong where something does not fit, which happens in no well-typed program
 pub data Exit : Type 0 where
   Returned : Exit
   Stopped : Exit
@@ -35,7 +35,7 @@ abbrev pub and_then : {A B : Type 0} → Outcome A → (A → Part B) → Outcom
 and_then (WentOn a w) go = go a w
 and_then (Left e w) go = Left e w
 
--- a part whose value is not wanted
+-- a part whose value is not needed
 abbrev pub then_nothing : {A : Type 0} → Outcome A → Outcome (Unit {0})
 then_nothing o = and_then o (λ _. WentOn tt)
 

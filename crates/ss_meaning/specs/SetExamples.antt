@@ -31,7 +31,7 @@ create_job l = Create (line l) job (to_global job)
 
 -- ## Ranked sets and disciplines
 
--- four jobs read their ranks and are filed; the pool is printed: a job stands behind those of its rank
+-- four jobs read their ranks and are filed; the pool is printed: a job comes after those of its rank
 pub a_ranked_set_with_a_tie : meaning (workshop 1
     (For (line 16) (Numbers (Local 0) (num (pos 1)) (num (pos 4)) None) []
     (block (create_job 17 ∷ Read (line 18) (record { place = ToAttribute job 0 (global job); mode = Integer } ∷ []) ∷ file_job 19 ∷ [])) ∷

@@ -51,20 +51,20 @@ owner_by (Some t) o = owner_as t.owner o
 abbrev pub owner_number : (set : ℕ) → Option Value → Store → Result ℤ Trouble
 owner_number set o s = owner_by (set_at set s) o
 
--- the same of one that was looked at
+-- the number of an owner that must be there: one that isn't is a fault
 abbrev pub known_owner : (set : ℕ) → Option Value → Store → Result ℤ Trouble
 known_owner set o s = if_ok (owner_number set o s) (λ n. turned (λ _. n) (due (owner s.scene.heap set n)))
 
 -- ## Looking
 
-abbrev pub told_of_set : SetQuery → State → ℕ → ℤ → Result ℤ FaultKind
-told_of_set FirstMember h set o = first_in h set o
-told_of_set LastMember h set o = last_in h set o
-told_of_set MemberCount h set o = count_in h set o
+abbrev pub set_answer : SetQuery → State → ℕ → ℤ → Result ℤ FaultKind
+set_answer FirstMember h set o = first_in h set o
+set_answer LastMember h set o = last_in h set o
+set_answer MemberCount h set o = count_in h set o
 
 -- F., L. and N. of the set of an owner
 abbrev pub of_set : SetQuery → (set : ℕ) → Option Value → Store → Result Value Trouble
-of_set query set o s = if_ok (owner_number set o s) (λ n. turned Whole (due (told_of_set query s.scene.heap set n)))
+of_set query set o s = if_ok (owner_number set o s) (λ n. turned Whole (due (set_answer query s.scene.heap set n)))
 
 abbrev pub is_one : Option ℤ → ℤ
 is_one None = pos 0
@@ -110,8 +110,8 @@ pub data Filing : Type 0 where
   ByRule : Filing
   Foremost : Filing
   Hindmost : Filing
-  Ahead : Value → Filing
-  Behind : Value → Filing
+  JustBefore : Value → Filing
+  JustAfter : Value → Filing
 
 -- the entities once x is filed in the set of o
 abbrev pub filed_by : Filing → (set : ℕ) → (o x : ℤ) → Store → Result State Trouble
@@ -120,8 +120,8 @@ filed_by ByRule set o x s =
     where_fit (is_fit s.scene.heap.layout set d) (due (filed s.scene.heap d set o x)))
 filed_by Foremost set o x s = due (filed_first s.scene.heap set o x)
 filed_by Hindmost set o x s = due (filed_last s.scene.heap set o x)
-filed_by (Ahead y) set o x s = if_ok (member set y s) (λ k. due (filed_before s.scene.heap set o x k))
-filed_by (Behind y) set o x s = if_ok (member set y s) (λ k. due (filed_after s.scene.heap set o x k))
+filed_by (JustBefore y) set o x s = if_ok (member set y s) (λ k. due (filed_before s.scene.heap set o x k))
+filed_by (JustAfter y) set o x s = if_ok (member set y s) (λ k. due (filed_after s.scene.heap set o x k))
 
 -- the store once x is a member of the set of an owner
 abbrev pub filed_in : Filing → (set : ℕ) → Value → Option Value → Store → Result Store Trouble

@@ -76,9 +76,9 @@ abbrev pub put : Variable → Value → Store → Result Store Trouble
 put (Global k) v s = turned (λ vs. record s { globals = vs }) (put_at s.globals k v)
 put (Local k) v s = turned (λ vs. record s { locals = vs }) (put_at s.locals k v)
 
-abbrev pub behind : Value → Option (List Value) → Option (List Value)
-behind v None = None
-behind v (Some vs) = Some (v ∷ vs)
+abbrev pub prepended : Value → Option (List Value) → Option (List Value)
+prepended v None = None
+prepended v (Some vs) = Some (v ∷ vs)
 
 -- what variables of these modes hold at first
 abbrev pub firsts : List Mode → List Value
@@ -89,7 +89,7 @@ abbrev pub taken : List Mode → List Value → Option (List Value)
 taken [] [] = Some []
 taken [] (v ∷ vs) = None
 taken (m ∷ ms) [] = None
-taken (m ∷ ms) (v ∷ vs) = if same_mode (mode_of v) m then behind v (taken ms vs) else None
+taken (m ∷ ms) (v ∷ vs) = if same_mode (mode_of v) m then prepended v (taken ms vs) else None
 
 abbrev pub appended : Option (List Value) → List Value → Option (List Value)
 appended None others = None
@@ -103,7 +103,7 @@ opened given others vs = appended (taken given vs) (firsts others)
 abbrev pub front : (count : ℕ) → List Value → Option (List Value)
 front zero vs = Some []
 front (suc k) [] = None
-front (suc k) (v ∷ vs) = behind v (front k vs)
+front (suc k) (v ∷ vs) = prepended v (front k vs)
 
 -- the values of so many variables from a number on
 abbrev pub yielded : (first count : ℕ) → List Value → Option (List Value)

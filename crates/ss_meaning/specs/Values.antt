@@ -25,7 +25,7 @@ use Rattle.ss_program.specs.declared.condition.Relation.TheVariants.{Equal, NotE
 
 -- ## Answers
 
--- why an operation gives nothing: a fault of the run; or numbers, kinds or counts do not fit, which no well-typed program comes to
+-- why an operation gives nothing: a fault of the run; or numbers, kinds or counts do not fit, which happens in no well-typed program
 pub data Trouble : Type 0 where
   Fails : (kind : FaultKind) → Trouble
   Misfit : Trouble
@@ -88,7 +88,7 @@ made Remainder x y = remainder_of x y
 made Least x y = Ok (int_min x y)
 made Greatest x y = Ok (int_max x y)
 
--- the same of two values
+-- an operator applied to two values
 abbrev pub calculated : Operator → Value → Value → Result Value Trouble
 calculated op (Whole x) (Whole y) = turned Whole (due (made op x y))
 calculated op (Whole x) (Text t) = Err Misfit
@@ -134,7 +134,7 @@ allows GreaterOrEqual IsLess = false
 allows GreaterOrEqual IsEqual = true
 allows GreaterOrEqual IsGreater = true
 
--- whether two values of one mode stand in a relation: numbers by their size, texts by their bytes
+-- whether a relation holds of two values of one mode: numbers by their size, texts by their bytes
 abbrev pub related : Relation → Value → Value → Option Bool
 related relation (Whole x) (Whole y) = Some (allows relation (value_cmp (Whole x) (Whole y)))
 related relation (Whole x) (Text t) = None
@@ -164,7 +164,7 @@ lines_with [] items = []
 lines_with (picture ∷ pictures) items =
     filled picture (take (field_count picture) items) ++ line_end ∷ lines_with pictures (drop (field_count picture) items)
 
--- the same where the fields take the items
+-- the lines of pictures with their items, where the fields take the items
 abbrev pub printed : List (List ℕ) → List Item → Option (List ℕ)
 printed pictures items = if take_all (flat_map picture_fields pictures) items then Some (lines_with pictures items) else None
 

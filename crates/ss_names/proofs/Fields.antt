@@ -10,8 +10,8 @@ use Rattle.std.proofs.lemmas.List.Elements.{filter-append}
 use Rattle.std.proofs.lemmas.List.FromFn.{length-map-range_with_len, get_or-map-range_with_len}
 use Rattle.ss_tree.specs.declared.preamble.Mode.{Mode}
 use Rattle.ss_names_declarations.specs.Sayings.{NameBytes}
-use Rattle.ss_names.specs.Entities.{AreAttributes, AttributesSeen, attribute_behind, attributes_behind, fields_among, fields_of}
-use Rattle.ss_names_declarations.specs.Firsts.{entry_beside, firsts, same_name, told_of, with_first}
+use Rattle.ss_names.specs.Entities.{AreAttributes, AttributesSeen, attribute_after, attributes_after, fields_among, fields_of}
+use Rattle.ss_names_declarations.specs.Firsts.{entry_beside, firsts, same_name, value_for, with_first}
 use Rattle.ss_names_declarations.proofs.Entries.{keys_append}
 
 -- ---- rows
@@ -30,7 +30,7 @@ fields_grow owned n =
     ap (fields_of owned) on ∙ ap (map (fields_among owned)) (counting 0 n) ∙ map_push (fields_among owned) (range_with_len 0 n) (0 + n)
     ∙ ap (λ k. fields_of owned n ++ fields_among owned k ∷ []) same
 
--- an attribute of another class, and one of the class
+-- an attribute of another class, and an attribute of this class
 chosen : (name : NameBytes) (c d : ℕ) (same : Bool) → nat_eq c d ≡ same → keys_of (filter (λ (e : NameBytes × ℕ). nat_eq e.1 d) ((name, c) ∷ [])) ≡ cond same (name ∷ []) []
 chosen name c d true e = ap (λ b. keys_of (cond b ((name, c) ∷ []) [])) e
 chosen name c d false e = ap (λ b. keys_of (cond b ((name, c) ∷ []) [])) e
@@ -86,23 +86,23 @@ row_length owned n c lc = ap length (get_or-map-range_with_len (fields_among own
 
 -- ---- entries
 
--- one more attribute stands behind the others
-pub attributes_more : (usual : Option Mode) (defined : List (NameBytes × Mode)) (before es : List (NameBytes × ℕ)) (e : NameBytes × ℕ) → attributes_behind usual defined before (es ++ e ∷ []) ≡ attributes_behind usual defined before es ++ attribute_behind usual defined (before ++ es) e ∷ []
-attributes_more usual defined before [] e = ap (λ b. attribute_behind usual defined b e ∷ []) (sym (append_nil before))
+-- one more attribute comes after the others
+pub attributes_more : (usual : Option Mode) (defined : List (NameBytes × Mode)) (before es : List (NameBytes × ℕ)) (e : NameBytes × ℕ) → attributes_after usual defined before (es ++ e ∷ []) ≡ attributes_after usual defined before es ++ attribute_after usual defined (before ++ es) e ∷ []
+attributes_more usual defined before [] e = ap (λ b. attribute_after usual defined b e ∷ []) (sym (append_nil before))
 attributes_more usual defined before (f ∷ es) e =
-    ap (λ l. attribute_behind usual defined before f ∷ l)
+    ap (λ l. attribute_after usual defined before f ∷ l)
     (attributes_more usual defined (before ++ f ∷ []) es e
-    ∙ ap (λ b. attributes_behind usual defined (before ++ f ∷ []) es ++ attribute_behind usual defined b e ∷ []) (append_assoc before (f ∷ []) es))
+    ∙ ap (λ b. attributes_after usual defined (before ++ f ∷ []) es ++ attribute_after usual defined b e ∷ []) (append_assoc before (f ∷ []) es))
 
 some_if : {A B : Type 0} (b : Bool) (a : A) (c : B) (x : Option A) (y : Option B) → is_some x ≡ is_some y → is_some (cond b (Some a) x) ≡ is_some (cond b (Some c) y)
 some_if true a c x y h = refl
 some_if false a c x y h = h
 
--- a name has an attribute where it has a class
-told_alike : (usual : Option Mode) (defined : List (NameBytes × Mode)) (before es : List (NameBytes × ℕ)) (name : NameBytes) → is_some (told_of (attributes_behind usual defined before es) name) ≡ is_some (told_of es name)
-told_alike usual defined before [] name = refl
-told_alike usual defined before (e ∷ es) name =
-    some_if (same_name name e.0) _ _ _ _ (told_alike usual defined (before ++ e ∷ []) es name)
+-- a name is among the attributes exactly if it is among their classes
+same_names_known : (usual : Option Mode) (defined : List (NameBytes × Mode)) (before es : List (NameBytes × ℕ)) (name : NameBytes) → is_some (value_for (attributes_after usual defined before es) name) ≡ is_some (value_for es name)
+same_names_known usual defined before [] name = refl
+same_names_known usual defined before (e ∷ es) name =
+    some_if (same_name name e.0) _ _ _ _ (same_names_known usual defined (before ++ e ∷ []) es name)
 
 beside_none : (owned : List (NameBytes × ℕ)) (e : NameBytes × ℕ) (known : Option ℕ) → is_some known ≡ false → entry_beside owned e known ≡ owned ++ e ∷ []
 beside_none owned e None h = refl
@@ -112,62 +112,61 @@ beside_some : (owned : List (NameBytes × ℕ)) (e : NameBytes × ℕ) (known : 
 beside_some owned e None h = absurd cc
 beside_some owned e (Some k) h = refl
 
--- a name that is known
-pub attribute_known : (usual : Option Mode) (defined : List (NameBytes × Mode)) (n : ℕ) (owned : List (NameBytes × ℕ)) (a : AttributesSeen) (e : NameBytes × ℕ) → is_some (told_of a.entries e.0) ≡ true → AreAttributes usual defined n owned a → AreAttributes usual defined n (with_first owned e) a
+-- a name that has an attribute already
+pub attribute_known : (usual : Option Mode) (defined : List (NameBytes × Mode)) (n : ℕ) (owned : List (NameBytes × ℕ)) (a : AttributesSeen) (e : NameBytes × ℕ) → is_some (value_for a.entries e.0) ≡ true → AreAttributes usual defined n owned a → AreAttributes usual defined n (with_first owned e) a
 attribute_known usual defined n owned a e h are =
-    let known : is_some (told_of owned e.0) ≡ true = sym (told_alike usual defined [] owned e.0) ∙ ap (λ l. is_some (told_of l e.0)) (sym are.entries) ∙ h in
-    let same : with_first owned e ≡ owned = beside_some owned e (told_of owned e.0) known in
+    let known : is_some (value_for owned e.0) ≡ true = sym (same_names_known usual defined [] owned e.0) ∙ ap (λ l. is_some (value_for l e.0)) (sym are.entries) ∙ h in
+    let same : with_first owned e ≡ owned = beside_some owned e (value_for owned e.0) known in
     rw same are
 
--- a name that is new
-pub attribute_new : (usual : Option Mode) (defined : List (NameBytes × Mode)) (n : ℕ) (owned : List (NameBytes × ℕ)) (a b : AttributesSeen) (e : NameBytes × ℕ) → e.1 < n → is_some (told_of a.entries e.0) ≡ false → AreAttributes usual defined n owned a
-    → b.entries ≡ a.entries ++ attribute_behind usual defined owned e ∷ [] → b.fields ≡ slice_set a.fields e.1 (get_or a.fields e.1 [] ++ e.0 ∷ []) → AreAttributes usual defined n (with_first owned e) b
+-- a name that has no attribute yet
+pub attribute_new : (usual : Option Mode) (defined : List (NameBytes × Mode)) (n : ℕ) (owned : List (NameBytes × ℕ)) (a b : AttributesSeen) (e : NameBytes × ℕ) → e.1 < n → is_some (value_for a.entries e.0) ≡ false → AreAttributes usual defined n owned a
+    → b.entries ≡ a.entries ++ attribute_after usual defined owned e ∷ [] → b.fields ≡ slice_set a.fields e.1 (get_or a.fields e.1 [] ++ e.0 ∷ []) → AreAttributes usual defined n (with_first owned e) b
 attribute_new usual defined n owned a b e l h are entries rows =
-    let new : is_some (told_of owned e.0) ≡ false = sym (told_alike usual defined [] owned e.0) ∙ ap (λ l. is_some (told_of l e.0)) (sym are.entries) ∙ h in
-    let same : with_first owned e ≡ owned ++ e ∷ [] = beside_none owned e (told_of owned e.0) new in
+    let new : is_some (value_for owned e.0) ≡ false = sym (same_names_known usual defined [] owned e.0) ∙ ap (λ l. is_some (value_for l e.0)) (sym are.entries) ∙ h in
+    let same : with_first owned e ≡ owned ++ e ∷ [] = beside_none owned e (value_for owned e.0) new in
     let is : AreAttributes usual defined n (owned ++ e ∷ []) b = record {
-      entries = entries ∙ ap (λ l. l ++ attribute_behind usual defined owned e ∷ []) are.entries ∙ sym (attributes_more usual defined [] owned e);
+      entries = entries ∙ ap (λ l. l ++ attribute_after usual defined owned e ∷ []) are.entries ∙ sym (attributes_more usual defined [] owned e);
       fields = rows ∙ ap (λ r. slice_set r e.1 (get_or r e.1 [] ++ e.0 ∷ [])) are.fields ∙ rows_more owned e.0 n e.1 l;
     } in
     rw same is
 
--- nothing is told
-pub none_told : {X : Type 0} (o : Option X) → is_some o ≡ false → o ≡ None
-none_told None h = refl
-none_told (Some x) h = absurd cc
+pub none_of_not_some : {X : Type 0} (o : Option X) → is_some o ≡ false → o ≡ None
+none_of_not_some None h = refl
+none_of_not_some (Some x) h = absurd cc
 
 -- ---- loops
 
--- one more
+-- one more item
 next_one : {X : Type 0} (xs : List X) (i : ℕ) (x : X) → i < length xs → x ≡ get_or xs i x → take (i + 1) xs ≡ take i xs ++ x ∷ []
 next_one xs i x lt is = take_more xs i x lt ∙ ap (λ y. take i xs ++ y ∷ []) (sym is)
 
--- what one more stands for comes behind
+-- the image of one more item comes last
 map_more : {X A : Type 0} (f : X → A) (xs : List X) (i : ℕ) (x : X) → i < length xs → x ≡ get_or xs i x → map f (take i xs) ++ f x ∷ [] ≡ map f (take (i + 1) xs)
 map_more f xs i x lt is = sym (ap (map f) (next_one xs i x lt is) ∙ map_push f (take i xs) x)
 
--- what one more lists comes behind
+-- the list of one more item comes last
 list_more : {X A : Type 0} (f : X → List A) (xs : List X) (i : ℕ) (x : X) → i < length xs → x ≡ get_or xs i x → flat_map f (take i xs) ++ f x ≡ flat_map f (take (i + 1) xs)
 list_more f xs i x lt is =
     sym (ap (flat_map f) (next_one xs i x lt is) ∙ flat_map-append f (take i xs) (x ∷ []) ∙ ap (λ l. flat_map f (take i xs) ++ l) (append_nil (f x)))
 
--- what one more tells comes behind some entries
-told_more : {X V : Type 0} (f : X → List (NameBytes × V)) (es : List (NameBytes × V)) (xs : List X) (i : ℕ) (x : X) → i < length xs → x ≡ get_or xs i x → fold with_first (fold with_first es (flat_map f (take i xs))) (f x) ≡ fold with_first es (flat_map f (take (i + 1) xs))
-told_more f es xs i x lt is = sym (ap (fold with_first es) (sym (list_more f xs i x lt is)) ∙ fold-append with_first es (flat_map f (take i xs)) (f x))
+-- the entries of one more item come last, after some others
+firsts_folded_more : {X V : Type 0} (f : X → List (NameBytes × V)) (es : List (NameBytes × V)) (xs : List X) (i : ℕ) (x : X) → i < length xs → x ≡ get_or xs i x → fold with_first (fold with_first es (flat_map f (take i xs))) (f x) ≡ fold with_first es (flat_map f (take (i + 1) xs))
+firsts_folded_more f es xs i x lt is = sym (ap (fold with_first es) (sym (list_more f xs i x lt is)) ∙ fold-append with_first es (flat_map f (take i xs)) (f x))
 
--- the lists that a loop goes on from, and those that it goes on to
+-- a list before one step of a loop, and after it
 pub listed_after : {X A : Type 0} (f : X → List A) (xs : List X) (i : ℕ) (x : X) (before after : List A) → i < length xs → x ≡ get_or xs i x → before ≡ flat_map f (take i xs) → after ≡ before ++ f x → after ≡ flat_map f (take (i + 1) xs)
 listed_after f xs i x before after lt is b a = a ∙ ap (λ l. l ++ f x) b ∙ list_more f xs i x lt is
 
 pub mapped_after : {X A : Type 0} (f : X → A) (xs : List X) (i : ℕ) (x : X) (y : A) (before after : List A) → i < length xs → x ≡ get_or xs i x → before ≡ map f (take i xs) → y ≡ f x → after ≡ before ++ y ∷ [] → after ≡ map f (take (i + 1) xs)
 mapped_after f xs i x y before after lt is b e a = a ∙ (λ k. b k ++ e k ∷ []) ∙ map_more f xs i x lt is
 
-pub told_after : {X V : Type 0} (f : X → List (NameBytes × V)) (es : List (NameBytes × V)) (xs : List X) (i : ℕ) (x : X) (before after : List (NameBytes × V)) → i < length xs → x ≡ get_or xs i x → before ≡ fold with_first es (flat_map f (take i xs)) → after ≡ fold with_first before (f x) → after ≡ fold with_first es (flat_map f (take (i + 1) xs))
-told_after f es xs i x before after lt is b a = a ∙ ap (λ l. fold with_first l (f x)) b ∙ told_more f es xs i x lt is
+pub firsts_folded_after : {X V : Type 0} (f : X → List (NameBytes × V)) (es : List (NameBytes × V)) (xs : List X) (i : ℕ) (x : X) (before after : List (NameBytes × V)) → i < length xs → x ≡ get_or xs i x → before ≡ fold with_first es (flat_map f (take i xs)) → after ≡ fold with_first before (f x) → after ≡ fold with_first es (flat_map f (take (i + 1) xs))
+firsts_folded_after f es xs i x before after lt is b a = a ∙ ap (λ l. fold with_first l (f x)) b ∙ firsts_folded_more f es xs i x lt is
 
--- what one more tells comes behind
+-- the entries of one more item come last
 pub firsts_more : {X V : Type 0} (f : X → List (NameBytes × V)) (xs : List X) (i : ℕ) (x : X) → i < length xs → x ≡ get_or xs i x → fold with_first (firsts (flat_map f (take i xs))) (f x) ≡ firsts (flat_map f (take (i + 1) xs))
-firsts_more f xs i x lt is = told_more f [] xs i x lt is
+firsts_more f xs i x lt is = firsts_folded_more f [] xs i x lt is
 
 -- how many rows there are
 pub row_count : (usual : Option Mode) (defined : List (NameBytes × Mode)) (n : ℕ) (owned : List (NameBytes × ℕ)) (a : AttributesSeen) → AreAttributes usual defined n owned a → length a.fields ≡ n

@@ -13,7 +13,7 @@ module _ {K V H : Type 0} (f : K × V → H) where
   next (e ∷ es) zero k d lt a = λ j. f (sym a j, e.1) ∷ []
   next (e ∷ es) (suc i) k d lt a = ap (λ l. f e ∷ l) (next es i k d (omega (arith, lt)) a)
 
-  -- what is made of one entry more
+  -- the image of one more entry
   pub next_pair : (es : List (K × V)) (ks : List K) (vs : List V) (i : ℕ) (k : K) (d : V) → ks ≡ keys_of es → vs ≡ values_of es → i < length ks → k ≡ get_or ks i k → map f (take (i + 1) es) ≡ map f (take i es) ++ f (k, slice_index_or vs i d) ∷ []
   next_pair es ks vs i k d ks_are vs_are lt a =
       let many : i < length es = subst (λ n. i < n) (ap length ks_are ∙ as_many_keys es) lt in

@@ -1,4 +1,4 @@
--- That what a number says is there.
+-- That each number in a table is that of something in it.
 use Rattle.std.proofs.Common.{◌≡◌, ℕ, suc, inl, inr, ◌+◌, ◌<◌, Bool, true, false, cond, nat_eq, nat_lt, List, [], ◌∷◌, ◌++◌, length, get_or, Option, Some, None, IfSome, refl, sym, ap, subst, ◌∙◌, append_assoc, arith}
 use Rattle.std.specs.Prelude.{option_map, is_some, slice_get, if◌then◌else◌}
 use Rattle.std.specs.List.{AllByRecursion, filter, flat_map, fold, position_or_len}
@@ -23,50 +23,50 @@ use Rattle.ss_names.specs.declared.entry.Set.{Set}
 use Rattle.ss_names.specs.declared.meaning.Meaning.{Meaning}
 use Rattle.ss_names.specs.declared.meaning.Meaning.TheVariants as meanings
 use Rattle.ss_names.specs.declared.entry.Statistic.{Statistic}
-use Rattle.ss_names.specs.Entities.{attribute_by, attribute_classes, attribute_told, attributes_behind, classes, defined_modes, fields_among, fields_of, member_by, member_told, orderings, owner_by, owner_told, set_members, set_names, set_of, set_owners, usual_mode}
-use Rattle.ss_names_declarations.specs.Firsts.{entry_beside, entry_if, firsts, place_among, place_in, same_name, told_of, with_first}
+use Rattle.ss_names.specs.Entities.{attribute_by, attribute_classes, attribute_entries, attributes_after, classes, defined_modes, fields_among, fields_of, member_by, member_entries, orderings, owner_by, owner_entries, set_members, set_names, set_of, set_owners, usual_mode}
+use Rattle.ss_names_declarations.specs.Firsts.{entry_beside, entry_if, firsts, place_among, place_in, same_name, value_for, with_first}
 use Rattle.ss_names_declarations.proofs.Entries.{keys_append}
 use Rattle.ss_names.specs.Laws.{AttributesArePlaced, IsClassOrSystem, IsPlaced, NumbersArePlaces, RanksAreClasses, SetsArePlaced, StatisticsHaveHistories}
-use Rattle.ss_names.specs.Meanings.{class_meaning, class_meanings, count_meaning, class_name_meaning, meaning_by, meaning_told, numbered, set_meanings}
-use Rattle.ss_names.specs.Statistics.{statistic_by, statistic_of, statistic_told, weighings}
+use Rattle.ss_names.specs.Meanings.{class_meaning, class_meanings, count_meaning, class_name_meaning, meaning_by, meaning_entries, numbered, set_meanings}
+use Rattle.ss_names.specs.Statistics.{statistic_by, statistic_of, statistic_entries, weighings}
 use Rattle.ss_names.specs.Histories.{history_of}
 use Rattle.ss_names.specs.Table.{declared}
-use Rattle.ss_names.specs.Variables.{count_name, declared_by, declared_told, is_notice_class, notice, priority_by, priority_told}
+use Rattle.ss_names.specs.Variables.{count_name, declared_by, declared_entries, is_notice_class, notice, priority_by, priority_entries}
 
--- ---- what is told of all names
+-- ---- properties of all values
 
-abbrev AllTold : {V : Type 0} → (V → Type 0) → List (NameBytes × V) → Type 0
-AllTold P entries = AllByRecursion (λ e. P e.1) entries
+abbrev AllValues : {V : Type 0} → (V → Type 0) → List (NameBytes × V) → Type 0
+AllValues P entries = AllByRecursion (λ e. P e.1) entries
 
-all_append : {V : Type 0} (P : V → Type 0) (xs ys : List (NameBytes × V)) → AllTold P xs → AllTold P ys → AllTold P (xs ++ ys)
+all_append : {V : Type 0} (P : V → Type 0) (xs ys : List (NameBytes × V)) → AllValues P xs → AllValues P ys → AllValues P (xs ++ ys)
 all_append P [] ys h k = k
 all_append P (x ∷ xs) ys h k = (h.0, all_append P xs ys h.1 k)
 
-all_beside : {V : Type 0} (P : V → Type 0) (entries : List (NameBytes × V)) (e : NameBytes × V) (known : Option V) → AllTold P entries → P e.1 → AllTold P (entry_beside entries e known)
+all_beside : {V : Type 0} (P : V → Type 0) (entries : List (NameBytes × V)) (e : NameBytes × V) (known : Option V) → AllValues P entries → P e.1 → AllValues P (entry_beside entries e known)
 all_beside P entries e None h k = all_append P entries (e ∷ []) h (k, tt)
 all_beside P entries e (Some v) h k = h
 
-all_folded : {V : Type 0} (P : V → Type 0) (start all : List (NameBytes × V)) → AllTold P start → AllTold P all → AllTold P (fold with_first start all)
+all_folded : {V : Type 0} (P : V → Type 0) (start all : List (NameBytes × V)) → AllValues P start → AllValues P all → AllValues P (fold with_first start all)
 all_folded P start [] h k = h
-all_folded P start (e ∷ es) h k = all_folded P (with_first start e) es (all_beside P start e (told_of start e.0) h k.0) k.1
+all_folded P start (e ∷ es) h k = all_folded P (with_first start e) es (all_beside P start e (value_for start e.0) h k.0) k.1
 
-all_flat : {X V : Type 0} (P : V → Type 0) (f : X → List (NameBytes × V)) (xs : List X) → ((x : X) → AllTold P (f x)) → AllTold P (flat_map f xs)
+all_flat : {X V : Type 0} (P : V → Type 0) (f : X → List (NameBytes × V)) (xs : List X) → ((x : X) → AllValues P (f x)) → AllValues P (flat_map f xs)
 all_flat P f [] h = tt
 all_flat P f (x ∷ xs) h = all_append P (f x) (flat_map f xs) (h x) (all_flat P f xs h)
 
-told_if : {V : Type 0} (P : V → Type 0) (same : Bool) (v : V) (rest : Option V) → P v → IfSome rest P → IfSome (cond same (Some v) rest) P
-told_if P true v rest h k = h
-told_if P false v rest h k = k
+satisfied_if : {V : Type 0} (P : V → Type 0) (same : Bool) (v : V) (rest : Option V) → P v → IfSome rest P → IfSome (cond same (Some v) rest) P
+satisfied_if P true v rest h k = h
+satisfied_if P false v rest h k = k
 
-told_all : {V : Type 0} (P : V → Type 0) (entries : List (NameBytes × V)) (name : NameBytes) → AllTold P entries → IfSome (told_of entries name) P
-told_all P [] name h = tt
-told_all P (e ∷ es) name h = told_if P (same_name name e.0) e.1 (told_of es name) h.0 (told_all P es name h.1)
+satisfied_for : {V : Type 0} (P : V → Type 0) (entries : List (NameBytes × V)) (name : NameBytes) → AllValues P entries → IfSome (value_for entries name) P
+satisfied_for P [] name h = tt
+satisfied_for P (e ∷ es) name h = satisfied_if P (same_name name e.0) e.1 (value_for es name) h.0 (satisfied_for P es name h.1)
 
--- what the first of each tells
-firsts_told : {X V : Type 0} (P : V → Type 0) (f : X → List (NameBytes × V)) (xs : List X) (name : NameBytes) → ((x : X) → AllTold P (f x)) → IfSome (told_of (firsts (flat_map f xs)) name) P
-firsts_told P f xs name h = told_all P (firsts (flat_map f xs)) name (all_folded P [] (flat_map f xs) tt (all_flat P f xs h))
+-- a property of all values that the items give holds of the first for each name
+firsts_satisfy : {X V : Type 0} (P : V → Type 0) (f : X → List (NameBytes × V)) (xs : List X) (name : NameBytes) → ((x : X) → AllValues P (f x)) → IfSome (value_for (firsts (flat_map f xs)) name) P
+firsts_satisfy P f xs name h = satisfied_for P (firsts (flat_map f xs)) name (all_folded P [] (flat_map f xs) tt (all_flat P f xs h))
 
-all_entry : {V : Type 0} (P : V → Type 0) (name : NameBytes) (o : Option V) → IfSome o P → AllTold P (entry_if name o)
+all_entry : {V : Type 0} (P : V → Type 0) (name : NameBytes) (o : Option V) → IfSome o P → AllValues P (entry_if name o)
 all_entry P name None h = tt
 all_entry P name (Some v) h = (h, tt)
 
@@ -90,7 +90,7 @@ keys_length (e ∷ es) = ap suc (keys_length es)
 pub placed_in : {V : Type 0} (entries : List (NameBytes × V)) (name : NameBytes) → IfSome (place_in entries name) (λ i. i < length entries)
 placed_in entries name = subst (λ n. IfSome (place_in entries name) (λ i. i < n)) (keys_length entries) (placed (keys_of entries) name)
 
--- ---- what names stand for
+-- ---- meanings of names
 
 both : (says : List Saying) (m : ℕ → ℕ → Meaning) (c v : Option ℕ) → ((class variable : ℕ) → class < length (declared says).classes → variable < length (declared says).variables → IsPlaced (declared says) (m class variable)) → IfSome c (λ i. i < length (declared says).classes) → IfSome v (λ i. i < length (declared says).variables) → IfSome (class_meaning m c v) (IsPlaced (declared says))
 both says m None v h k l = tt
@@ -103,7 +103,7 @@ name_placed says name = both says meanings.Class _ _ (λ c v l k. (l, k)) (place
 count_placed : (says : List Saying) (name : NameBytes) → IfSome (count_meaning (numbered says) name) (IsPlaced (declared says))
 count_placed says name = both says meanings.Count _ _ (λ c v l k. (l, k)) (placed_in (declared says).classes name) (placed_in (declared says).variables (count_name name))
 
-class_placed : (says : List Saying) (kind : ClassKind) (name : NameBytes) → AllTold (IsPlaced (declared says)) (class_meanings (numbered says) kind name)
+class_placed : (says : List Saying) (kind : ClassKind) (name : NameBytes) → AllValues (IsPlaced (declared says)) (class_meanings (numbered says) kind name)
 class_placed says class_kinds.Permanent name =
     all_append (IsPlaced (declared says)) (entry_if name (class_name_meaning (numbered says) name)) (entry_if (count_name name) (count_meaning (numbered says) name))
     (all_entry (IsPlaced (declared says)) name (class_name_meaning (numbered says) name) (name_placed says name))
@@ -111,7 +111,7 @@ class_placed says class_kinds.Permanent name =
 class_placed says class_kinds.Temporary name = all_entry (IsPlaced (declared says)) name (class_name_meaning (numbered says) name) (name_placed says name)
 class_placed says class_kinds.EventNotice name = all_entry (IsPlaced (declared says)) name (class_name_meaning (numbered says) name) (name_placed says name)
 
-set_placed : (says : List Saying) (name : NameBytes) (set : Option ℕ) → IfSome set (λ i. i < length (declared says).set_names) → AllTold (IsPlaced (declared says)) (set_meanings name set)
+set_placed : (says : List Saying) (name : NameBytes) (set : Option ℕ) → IfSome set (λ i. i < length (declared says).set_names) → AllValues (IsPlaced (declared says)) (set_meanings name set)
 set_placed says name None h = tt
 set_placed says name (Some set) h = (h, (h, (h, (h, (h, (h, (h, tt)))))))
 
@@ -119,7 +119,7 @@ unless : {V : Type 0} (P : V → Type 0) (b : Bool) (o : Option V) → IfSome o 
 unless P true o h = tt
 unless P false o h = h
 
-said_placed : (says : List Saying) (what : Said) (name : Option NameBytes) → AllTold (IsPlaced (declared says)) (meaning_told (numbered says) what name)
+said_placed : (says : List Saying) (what : Said) (name : Option NameBytes) → AllValues (IsPlaced (declared says)) (meaning_entries (numbered says) what name)
 said_placed says (said.Class kind) (Some name) = class_placed says kind name
 said_placed says (said.Attribute class) (Some name) =
     all_entry (IsPlaced (declared says)) name _ (mapped (λ i. i < length (declared says).attributes) (IsPlaced (declared says)) meanings.Attribute _ (λ i h. h) (placed_in (declared says).attributes name))
@@ -139,15 +139,15 @@ said_placed says _ _ = tt
 pub numbers_are_places : NumbersArePlaces
 numbers_are_places p name =
     let says = sayings p in
-    firsts_told (IsPlaced (declared says)) (meaning_by (numbered says)) says name (λ (s : Saying). said_placed says s.said s.name)
+    firsts_satisfy (IsPlaced (declared says)) (meaning_by (numbered says)) says name (λ (s : Saying). said_placed says s.said s.name)
 
 -- ---- statistics and ranks
 
-statistic_placed : (count : ℕ) (kind : StatisticKind) (name : NameBytes) (history : Option ℕ) → IfSome history (λ i. i < count) → AllTold (λ (s : Statistic). s.history < count) (statistic_of kind name history)
+statistic_placed : (count : ℕ) (kind : StatisticKind) (name : NameBytes) (history : Option ℕ) → IfSome history (λ i. i < count) → AllValues (λ (s : Statistic). s.history < count) (statistic_of kind name history)
 statistic_placed count kind name None h = tt
 statistic_placed count kind name (Some history) h = (h, tt)
 
-statistic_said : (says : List Saying) (what : Said) (name : Option NameBytes) → AllTold (λ (s : Statistic). s.history < length (weighings says)) (statistic_told (weighings says) what name)
+statistic_said : (says : List Saying) (what : Said) (name : Option NameBytes) → AllValues (λ (s : Statistic). s.history < length (weighings says)) (statistic_entries (weighings says) what name)
 statistic_said says (said.Statistic weighting kind subject) (Some name) = statistic_placed (length (weighings says)) kind name _ (placed_in (weighings says) subject)
 statistic_said says _ _ = tt
 
@@ -155,21 +155,21 @@ pub statistics_have_histories : StatisticsHaveHistories
 statistics_have_histories p name =
     let says = sayings p in
     let names = (declared says).names in
-    subst (λ n. IfSome (told_of (declared says).statistics name) (λ s. s.history < n)) (sym (length-map (weighings says) (history_of names)))
-    (firsts_told (λ (s : Statistic). s.history < length (weighings says)) (statistic_by (weighings says)) says name (λ (s : Saying). statistic_said says s.said s.name))
+    subst (λ n. IfSome (value_for (declared says).statistics name) (λ s. s.history < n)) (sym (length-map (weighings says) (history_of names)))
+    (firsts_satisfy (λ (s : Statistic). s.history < length (weighings says)) (statistic_by (weighings says)) says name (λ (s : Saying). statistic_said says s.said s.name))
 
-chosen : {V : Type 0} (P : V → Type 0) (b : Bool) (xs : List (NameBytes × V)) → AllTold P xs → AllTold P (if b then xs else [])
+chosen : {V : Type 0} (P : V → Type 0) (b : Bool) (xs : List (NameBytes × V)) → AllValues P xs → AllValues P (if b then xs else [])
 chosen P true xs h = h
 chosen P false xs h = tt
 
-notice_placed : (cs : List (NameBytes × Class)) (name : NameBytes) → AllTold (λ class. class < length cs) (notice cs name)
-notice_placed cs name = chosen (λ class. class < length cs) (is_notice_class (told_of cs name)) (entry_if name (place_in cs name)) (all_entry (λ class. class < length cs) name (place_in cs name) (placed_in cs name))
+notice_placed : (cs : List (NameBytes × Class)) (name : NameBytes) → AllValues (λ class. class < length cs) (notice cs name)
+notice_placed cs name = chosen (λ class. class < length cs) (is_notice_class (value_for cs name)) (entry_if name (place_in cs name)) (all_entry (λ class. class < length cs) name (place_in cs name) (placed_in cs name))
 
-priority_placed : (cs : List (NameBytes × Class)) (what : Said) (name : Option NameBytes) → AllTold (λ class. class < length cs) (priority_told cs what name)
+priority_placed : (cs : List (NameBytes × Class)) (what : Said) (name : Option NameBytes) → AllValues (λ class. class < length cs) (priority_entries cs what name)
 priority_placed cs said.Priority (Some name) = notice_placed cs name
 priority_placed cs _ _ = tt
 
-declared_placed : (cs : List (NameBytes × Class)) (what : Said) (name : Option NameBytes) → AllTold (λ class. class < length cs) (declared_told cs what name)
+declared_placed : (cs : List (NameBytes × Class)) (what : Said) (name : Option NameBytes) → AllValues (λ class. class < length cs) (declared_entries cs what name)
 declared_placed cs (said.Class kind) (Some name) = notice_placed cs name
 declared_placed cs _ _ = tt
 
@@ -180,24 +180,24 @@ ranks_are_classes p name =
     let P : ℕ → Type 0 = λ class. class < length cs in
     let first = flat_map (priority_by cs) says in
     let rest = flat_map (declared_by cs) says in
-    told_all P (firsts (first ++ rest)) name
+    satisfied_for P (firsts (first ++ rest)) name
     (all_folded P [] (first ++ rest) tt
     (all_append P first rest (all_flat P (priority_by cs) says (λ (s : Saying). priority_placed cs s.said s.name))
     (all_flat P (declared_by cs) says (λ (s : Saying). declared_placed cs s.said s.name))))
 
 -- ---- attributes
 
-entry_class : (cs : List (NameBytes × Class)) (what : Said) (name : Option NameBytes) → AllTold (λ class. class < length cs) (attribute_told cs what name)
+entry_class : (cs : List (NameBytes × Class)) (what : Said) (name : Option NameBytes) → AllValues (λ class. class < length cs) (attribute_entries cs what name)
 entry_class cs (said.Attribute class) (Some name) = all_entry (λ class. class < length cs) name (place_in cs class) (placed_in cs class)
 entry_class cs _ _ = tt
 
-owned_classes : (says : List Saying) → AllTold (λ class. class < length (classes says)) (attribute_classes says)
+owned_classes : (says : List Saying) → AllValues (λ class. class < length (classes says)) (attribute_classes says)
 owned_classes says =
     let cs = classes says in
     all_folded (λ class. class < length cs) [] (flat_map (attribute_by cs) says) tt
     (all_flat (λ class. class < length cs) (attribute_by cs) says (λ (s : Saying). entry_class cs s.said s.name))
 
--- an attribute of so many classes that is a field among these
+-- an attribute of one of so many classes, and a field in its row
 abbrev IsField : ℕ → List (List NameBytes) → Attribute → Type 0
 IsField count rows a = (a.class < count) × (a.field < length (get_or rows a.class []))
 
@@ -211,9 +211,9 @@ first_of_class e es true h k =
 same_number : (n : ℕ) → nat_eq n n ≡ true
 same_number n = elim (eqb_tells n n) [ inl h ↦ h.0 | inr h ↦ absurd (h.1 refl) ]
 
--- one behind those of its class
-behind : (before es : List (NameBytes × ℕ)) (e : NameBytes × ℕ) → length (fields_among before e.1) < length (fields_among (before ++ e ∷ es) e.1)
-behind before es e =
+-- the attributes of its class before it are fewer than those with it
+field_is_new : (before es : List (NameBytes × ℕ)) (e : NameBytes × ℕ) → length (fields_among before e.1) < length (fields_among (before ++ e ∷ es) e.1)
+field_is_new before es e =
     let of : NameBytes × ℕ → Bool = λ f. nat_eq f.1 e.1 in
     let split : fields_among (before ++ e ∷ es) e.1 ≡ fields_among before e.1 ++ fields_among (e ∷ es) e.1 =
     ap keys_of (filter-append of before (e ∷ es)) ∙ keys_append (filter of before) (filter of (e ∷ es)) in
@@ -222,13 +222,13 @@ behind before es e =
     ap length split ∙ length-append (fields_among before e.1) (fields_among (e ∷ es) e.1) in
     omega (arith, more, long)
 
-fields_behind : (usual : Option Mode) (defined : List (NameBytes × Mode)) (count : ℕ) (all before es : List (NameBytes × ℕ)) → all ≡ before ++ es → AllTold (λ class. class < count) es → AllTold (IsField count (fields_of all count)) (attributes_behind usual defined before es)
-fields_behind usual defined count all before [] is h = tt
-fields_behind usual defined count all before (e ∷ es) is h =
+attributes_are_fields : (usual : Option Mode) (defined : List (NameBytes × Mode)) (count : ℕ) (all before es : List (NameBytes × ℕ)) → all ≡ before ++ es → AllValues (λ class. class < count) es → AllValues (IsField count (fields_of all count)) (attributes_after usual defined before es)
+attributes_are_fields usual defined count all before [] is h = tt
+attributes_are_fields usual defined count all before (e ∷ es) is h =
     let row : get_or (fields_of all count) e.1 [] ≡ fields_among all e.1 = get_or-map-range_with_len (fields_among all) 0 count e.1 e.1 [] h.0 (omega arith) in
     let long : length (get_or (fields_of all count) e.1 []) ≡ length (fields_among (before ++ e ∷ es) e.1) = ap length row ∙ ap (λ l. length (fields_among l e.1)) is in (
-      (h.0, omega (arith, long, behind before es e)),
-      fields_behind usual defined count all (before ++ e ∷ []) es (is ∙ sym (append_assoc before (e ∷ []) es)) h.1,
+      (h.0, omega (arith, long, field_is_new before es e)),
+      attributes_are_fields usual defined count all (before ++ e ∷ []) es (is ∙ sym (append_assoc before (e ∷ []) es)) h.1,
     )
 
 pub attributes_are_placed : AttributesArePlaced
@@ -236,18 +236,18 @@ attributes_are_placed p name =
     let says = sayings p in
     let count = length (classes says) in
     let owned = attribute_classes says in
-    told_all (IsField count (fields_of owned count)) (attributes_behind (usual_mode says) (defined_modes says) [] owned) name
-    (fields_behind (usual_mode says) (defined_modes says) count owned [] owned refl (owned_classes says))
+    satisfied_for (IsField count (fields_of owned count)) (attributes_after (usual_mode says) (defined_modes says) [] owned) name
+    (attributes_are_fields (usual_mode says) (defined_modes says) count owned [] owned refl (owned_classes says))
 
 -- ---- sets
 
-owner_placed : (cs : List (NameBytes × Class)) (what : Said) (name : Option NameBytes) → AllTold (IsClassOrSystem (length cs)) (owner_told cs what name)
+owner_placed : (cs : List (NameBytes × Class)) (what : Said) (name : Option NameBytes) → AllValues (IsClassOrSystem (length cs)) (owner_entries cs what name)
 owner_placed cs said.SystemSet (Some name) = (tt, tt)
 owner_placed cs (said.OwnedSet class) (Some name) =
     all_entry (IsClassOrSystem (length cs)) name _ (mapped (λ i. i < length cs) (IsClassOrSystem (length cs)) owners.Class (place_in cs class) (λ i h. h) (placed_in cs class))
 owner_placed cs _ _ = tt
 
-member_placed : (cs : List (NameBytes × Class)) (what : Said) (name : Option NameBytes) → AllTold (λ class. class < length cs) (member_told cs what name)
+member_placed : (cs : List (NameBytes × Class)) (what : Said) (name : Option NameBytes) → AllValues (λ class. class < length cs) (member_entries cs what name)
 member_placed cs (said.MemberSet class) (Some name) = all_entry (λ class. class < length cs) name (place_in cs class) (placed_in cs class)
 member_placed cs _ _ = tt
 
@@ -259,8 +259,8 @@ sets_are_placed p set =
     let P : Set → Type 0 = λ s. IfSome s.owner (IsClassOrSystem (length cs)) × IfSome s.member (λ class. class < length cs) in
     let each : (name : NameBytes) → P (made name) =
     λ name. (
-      firsts_told (IsClassOrSystem (length cs)) (owner_by cs) says name (λ (s : Saying). owner_placed cs s.said s.name),
-      firsts_told (λ class. class < length cs) (member_by cs) says name (λ (s : Saying). member_placed cs s.said s.name),
+      firsts_satisfy (IsClassOrSystem (length cs)) (owner_by cs) says name (λ (s : Saying). owner_placed cs s.said s.name),
+      firsts_satisfy (λ class. class < length cs) (member_by cs) says name (λ (s : Saying). member_placed cs s.said s.name),
     ) in
     subst (λ o. IfSome o P) (sym (slice_get-map made (set_names says) set))
     (mapped (λ name. Unit {0}) P made (slice_get (set_names says) set) (λ name h. each name) (whatever (slice_get (set_names says) set)))

@@ -7,7 +7,7 @@ use Rattle.std.specs.Cmp.Lexicographic.{bytes_decides}
 use Rattle.std.proofs.lemmas.Bool.Decides.{nat_tests}
 use Rattle.std.proofs.lemmas.List.Folds.{list_all-append}
 use Rattle.ss_names_declarations.specs.Sayings.{NameBytes}
-use Rattle.ss_names_declarations.specs.Firsts.{entry_beside, place_in, same_name, told_of, with_first}
+use Rattle.ss_names_declarations.specs.Firsts.{entry_beside, place_in, same_name, value_for, with_first}
 use Rattle.ss_names_declarations.proofs.Entries.{keys_append}
 use Rattle.ss_names_declarations.specs.Spellings.{are_short, spelling_of}
 
@@ -23,12 +23,12 @@ beside_short entries e None l h =
     ∙ (λ i. h i && (is_short e.0 l i && true))
 beside_short entries e (Some v) l h = h
 
--- whether it was kept or refused
+-- names stay short, whether one was added or memory was refused
 pub kept_short : {V E : Type 0} {U : Type 0} (r : Result U E) (before after : List (NameBytes × V)) (e : NameBytes × V) → length e.0 ≤ 34 → are_short (keys_of before) ≡ true → OnErr r (after ≡ before) → OnOk r (after ≡ with_first before e) → are_short (keys_of after) ≡ true
-kept_short (Ok u) before after e l h err ok = ap (λ es. are_short (keys_of es)) ok ∙ beside_short before e (told_of before e.0) l h
+kept_short (Ok u) before after e l h err ok = ap (λ es. are_short (keys_of es)) ok ∙ beside_short before e (value_for before e.0) l h
 kept_short (Err x) before after e l h err ok = ap (λ es. are_short (keys_of es)) err ∙ h
 
--- ---- what is longer is none of them
+-- ---- a longer name is none of them
 
 not_same : (bytes name : NameBytes) (b : Bool) → nat_lt 34 (length bytes) ≡ true → nat_le (length name) 34 ≡ true → same_name bytes name ≡ b → b ≡ false
 not_same bytes name false h s e = refl
@@ -65,6 +65,6 @@ refused : (bytes : NameBytes) (b : Bool) → (if b then None else Some bytes) �
 refused bytes true h = refl
 refused bytes false h = absurd cc
 
--- what has no spelling is longer
+-- a name without a spelling is longer
 pub no_spelling : (bytes : NameBytes) → spelling_of bytes ≡ None → nat_lt 34 (length bytes) ≡ true
 no_spelling bytes h = refused bytes (nat_lt 34 (length bytes)) h

@@ -15,25 +15,25 @@ use Rattle.ss_names.specs.declared.entry.Attribute.{Attribute}
 use Rattle.ss_names.specs.declared.entry.Class.{Class}
 use Rattle.ss_names.specs.declared.entry.Ordering.{Ordering}
 use Rattle.ss_names.specs.declared.entry.Set.{Set}
-use Rattle.ss_names_declarations.specs.Firsts.{each_once, entry_if, firsts, place_in, told_of}
+use Rattle.ss_names_declarations.specs.Firsts.{each_once, entry_if, firsts, place_in, value_for}
 
 -- ---- modes
 
-abbrev pub normal_told : Said → Option Mode
-normal_told (said.Normally mode) = Some mode
-normal_told _ = None
+abbrev pub mode_by_normally : Said → Option Mode
+mode_by_normally (said.Normally mode) = Some mode
+mode_by_normally _ = None
 
--- the mode that NORMALLY gives to every name that has none, wherever it stands
+-- the mode that NORMALLY gives to every name that has none, wherever the NORMALLY is
 abbrev pub usual_mode : List Saying → Option Mode
 usual_mode [] = None
-usual_mode (s ∷ ss) = option_or (normal_told s.said) (usual_mode ss)
+usual_mode (s ∷ ss) = option_or (mode_by_normally s.said) (usual_mode ss)
 
-abbrev pub defined_told : Said → Option NameBytes → List (NameBytes × Mode)
-defined_told (said.Variable mode) (Some name) = (name, mode) ∷ []
-defined_told _ _ = []
+abbrev pub defined_entries : Said → Option NameBytes → List (NameBytes × Mode)
+defined_entries (said.Variable mode) (Some name) = (name, mode) ∷ []
+defined_entries _ _ = []
 
 abbrev pub defined_by : Saying → List (NameBytes × Mode)
-defined_by s = defined_told s.said s.name
+defined_by s = defined_entries s.said s.name
 
 -- each name that a DEFINE gives a mode, with the first
 abbrev pub defined_modes : List Saying → List (NameBytes × Mode)
@@ -41,12 +41,12 @@ defined_modes says = firsts (flat_map defined_by says)
 
 -- ---- classes
 
-abbrev pub class_told : Line → Said → Option NameBytes → List (NameBytes × Class)
-class_told line (said.Class kind) (Some name) = (name, record { kind = kind; line = line }) ∷ []
-class_told line _ _ = []
+abbrev pub class_entries : Line → Said → Option NameBytes → List (NameBytes × Class)
+class_entries line (said.Class kind) (Some name) = (name, record { kind = kind; line = line }) ∷ []
+class_entries line _ _ = []
 
 abbrev pub class_by : Saying → List (NameBytes × Class)
-class_by s = class_told s.line s.said s.name
+class_by s = class_entries s.line s.said s.name
 
 -- the classes of all three kinds
 abbrev pub classes : List Saying → List (NameBytes × Class)
@@ -55,12 +55,12 @@ classes says = firsts (flat_map class_by says)
 -- ---- attributes
 
 -- an attribute, with the number of its class among these
-abbrev pub attribute_told : List (NameBytes × Class) → Said → Option NameBytes → List (NameBytes × ℕ)
-attribute_told cs (said.Attribute class) (Some name) = entry_if name (place_in cs class)
-attribute_told cs _ _ = []
+abbrev pub attribute_entries : List (NameBytes × Class) → Said → Option NameBytes → List (NameBytes × ℕ)
+attribute_entries cs (said.Attribute class) (Some name) = entry_if name (place_in cs class)
+attribute_entries cs _ _ = []
 
 abbrev pub attribute_by : List (NameBytes × Class) → Saying → List (NameBytes × ℕ)
-attribute_by cs s = attribute_told cs s.said s.name
+attribute_by cs s = attribute_entries cs s.said s.name
 
 -- each attribute with the number of its class
 abbrev pub attribute_classes : List Saying → List (NameBytes × ℕ)
@@ -72,21 +72,21 @@ fields_among owned class = keys_of (filter (λ e. nat_eq e.1 class) owned)
 
 -- the mode of an attribute: that of its DEFINE, or else that of NORMALLY
 abbrev pub mode_of : Option Mode → List (NameBytes × Mode) → NameBytes → Option Mode
-mode_of usual defined name = option_or (told_of defined name) usual
+mode_of usual defined name = option_or (value_for defined name) usual
 
--- an attribute is numbered in its class by how many attributes of the class stand before it
-abbrev pub attribute_behind : Option Mode → List (NameBytes × Mode) → List (NameBytes × ℕ) → NameBytes × ℕ → NameBytes × Attribute
-attribute_behind usual defined before e =
+-- an attribute is numbered in its class: by how many attributes of the class come before it
+abbrev pub attribute_after : Option Mode → List (NameBytes × Mode) → List (NameBytes × ℕ) → NameBytes × ℕ → NameBytes × Attribute
+attribute_after usual defined before e =
     (e.0, record { class = e.1; field = length (fields_among before e.1); mode = mode_of usual defined e.0 })
 
-abbrev pub attributes_behind : Option Mode → List (NameBytes × Mode) → List (NameBytes × ℕ) → List (NameBytes × ℕ) → List (NameBytes × Attribute)
-attributes_behind usual defined before [] = []
-attributes_behind usual defined before (e ∷ es) =
-    attribute_behind usual defined before e ∷ attributes_behind usual defined (before ++ e ∷ []) es
+abbrev pub attributes_after : Option Mode → List (NameBytes × Mode) → List (NameBytes × ℕ) → List (NameBytes × ℕ) → List (NameBytes × Attribute)
+attributes_after usual defined before [] = []
+attributes_after usual defined before (e ∷ es) =
+    attribute_after usual defined before e ∷ attributes_after usual defined (before ++ e ∷ []) es
 
 -- the attributes of all classes
 abbrev pub attributes : List Saying → List (NameBytes × Attribute)
-attributes says = attributes_behind (usual_mode says) (defined_modes says) [] (attribute_classes says)
+attributes says = attributes_after (usual_mode says) (defined_modes says) [] (attribute_classes says)
 
 -- the attributes of each of so many classes, in the order of their numbers
 abbrev pub fields_of : List (NameBytes × ℕ) → ℕ → List (List NameBytes)
@@ -100,64 +100,64 @@ pub record AttributesSeen : Type 0 where
   pub entries : List (NameBytes × Attribute)
   pub fields : List (List NameBytes)
 
--- the attributes of so many classes, where each has a class of this number and these modes are said
+-- the attributes of so many classes, from these modes and from the number of the class of each
 pub record AreAttributes (usual : Option Mode) (defined : List (NameBytes × Mode)) (count : ℕ) (owned : List (NameBytes × ℕ)) (a : AttributesSeen) : Type 0 where
-  pub entries : a.entries ≡ attributes_behind usual defined [] owned
+  pub entries : a.entries ≡ attributes_after usual defined [] owned
   pub fields : a.fields ≡ fields_of owned count
 
 -- ---- sets
 
-abbrev pub set_told : Said → Option NameBytes → List NameBytes
-set_told said.SystemSet (Some name) = name ∷ []
-set_told (said.OwnedSet class) (Some name) = name ∷ []
-set_told (said.MemberSet class) (Some name) = name ∷ []
-set_told _ _ = []
+abbrev pub declared_sets : Said → Option NameBytes → List NameBytes
+declared_sets said.SystemSet (Some name) = name ∷ []
+declared_sets (said.OwnedSet class) (Some name) = name ∷ []
+declared_sets (said.MemberSet class) (Some name) = name ∷ []
+declared_sets _ _ = []
 
 abbrev pub set_by : Saying → List NameBytes
-set_by s = set_told s.said s.name
+set_by s = declared_sets s.said s.name
 
--- the sets: whatever is owned or belonged to
+-- the sets: each name that is owned or belonged to
 abbrev pub set_names : List Saying → List NameBytes
 set_names says = each_once (flat_map set_by says)
 
-abbrev pub owner_told : List (NameBytes × Class) → Said → Option NameBytes → List (NameBytes × Owner)
-owner_told cs said.SystemSet (Some name) = (name, owners.System) ∷ []
-owner_told cs (said.OwnedSet class) (Some name) = entry_if name (option_map owners.Class (place_in cs class))
-owner_told cs _ _ = []
+abbrev pub owner_entries : List (NameBytes × Class) → Said → Option NameBytes → List (NameBytes × Owner)
+owner_entries cs said.SystemSet (Some name) = (name, owners.System) ∷ []
+owner_entries cs (said.OwnedSet class) (Some name) = entry_if name (option_map owners.Class (place_in cs class))
+owner_entries cs _ _ = []
 
 abbrev pub owner_by : List (NameBytes × Class) → Saying → List (NameBytes × Owner)
-owner_by cs s = owner_told cs s.said s.name
+owner_by cs s = owner_entries cs s.said s.name
 
 -- each set that has an owner, with the first
 abbrev pub set_owners : List Saying → List (NameBytes × Owner)
 set_owners says = firsts (flat_map (owner_by (classes says)) says)
 
-abbrev pub member_told : List (NameBytes × Class) → Said → Option NameBytes → List (NameBytes × ℕ)
-member_told cs (said.MemberSet class) (Some name) = entry_if name (place_in cs class)
-member_told cs _ _ = []
+abbrev pub member_entries : List (NameBytes × Class) → Said → Option NameBytes → List (NameBytes × ℕ)
+member_entries cs (said.MemberSet class) (Some name) = entry_if name (place_in cs class)
+member_entries cs _ _ = []
 
 abbrev pub member_by : List (NameBytes × Class) → Saying → List (NameBytes × ℕ)
-member_by cs s = member_told cs s.said s.name
+member_by cs s = member_entries cs s.said s.name
 
 -- each set that has members, with the number of their class
 abbrev pub set_members : List Saying → List (NameBytes × ℕ)
 set_members says = firsts (flat_map (member_by (classes says)) says)
 
-abbrev pub ordering_told : Said → Option NameBytes → List (NameBytes × Ordering)
-ordering_told (said.Discipline statement rule) (Some name) = (name, record { statement = statement; rule = rule }) ∷ []
-ordering_told _ _ = []
+abbrev pub ordering_entries : Said → Option NameBytes → List (NameBytes × Ordering)
+ordering_entries (said.Discipline statement rule) (Some name) = (name, record { statement = statement; rule = rule }) ∷ []
+ordering_entries _ _ = []
 
 abbrev pub ordering_by : Saying → List (NameBytes × Ordering)
-ordering_by s = ordering_told s.said s.name
+ordering_by s = ordering_entries s.said s.name
 
 -- each name that a DEFINE orders as a set
 abbrev pub orderings : List Saying → List (NameBytes × Ordering)
 orderings says = firsts (flat_map ordering_by says)
 
--- what is told of a set
+-- a set: its owner, its members and its order
 abbrev pub set_of : List (NameBytes × Owner) → List (NameBytes × ℕ) → List (NameBytes × Ordering) → NameBytes → Set
 set_of owned members ordered name =
-    record { owner = told_of owned name; member = told_of members name; ordering = told_of ordered name }
+    record { owner = value_for owned name; member = value_for members name; ordering = value_for ordered name }
 
 -- the sets, in the order of their names
 abbrev pub sets : List Saying → List Set

@@ -21,7 +21,7 @@ use Rattle.ss_names.specs.declared.meaning.Subject.TheVariants as subjects
 use Rattle.ss_names.specs.declared.entry.Variable.{Variable}
 use Rattle.ss_names.specs.declared.entry.VariableKind.{VariableKind}
 use Rattle.ss_names.specs.declared.entry.VariableKind.TheVariants.{Defined, OfClass, CountOf}
-use Rattle.ss_names_declarations.specs.Firsts.{place_in, told_of}
+use Rattle.ss_names_declarations.specs.Firsts.{place_in, value_for}
 use Rattle.ss_names.specs.Table.{table}
 
 abbrev line : ℕ → Line
@@ -33,20 +33,20 @@ section n kind = record { line = line n; kind = kind; definitions = []; body = [
 abbrev key : Bool → NameBytes → Key
 key high name = record { high = high; name = name }
 
--- a class in words: its kind and its line
+-- a class, by its kind and its line
 abbrev class : ClassKind → ℕ → Class
 class kind n = record { kind = kind; line = line n }
 
--- an attribute in words: the number of its class, its number there, its mode
+-- an attribute, by the number of its class, its number there and its mode
 abbrev attribute : ℕ → ℕ → Option Mode → Attribute
 attribute number field mode = record { class = number; field = field; mode = mode }
 
 abbrev variable : VariableKind → Mode → Variable
 variable kind mode = record { kind = kind; mode = mode }
 
--- what a name stands for in a program
+-- the meaning of a name in a program
 abbrev meaning : ProgramTree → NameBytes → Option Meaning
-meaning p name = told_of (table p).names name
+meaning p name = value_for (table p).names name
 
 -- ---- a machine shop
 
@@ -94,7 +94,7 @@ shop_attributes = refl
 pub shop_fields : (table shop).fields ≡ [] ∷ (codes "RANK" ∷ []) ∷ (codes "SIZE" ∷ []) ∷ (codes "TONE" ∷ []) ∷ []
 shop_fields = refl
 
--- QUEUE is told of first, then POOL, though THE SYSTEM owns it only at the end
+-- QUEUE is named first, then POOL, though THE SYSTEM owns it only at the end
 pub shop_set_names : (table shop).set_names ≡ codes "QUEUE" ∷ codes "POOL" ∷ codes "RACK" ∷ []
 shop_set_names = refl
 
@@ -178,7 +178,7 @@ pub queue_variables : (table queue).variables ≡
     (codes "SERVED", variable Defined Integer) ∷ []
 queue_variables = refl
 
--- both statistics tell of one history, that of N.LINEUP
+-- both statistics are of one history, that of N.LINEUP
 pub queue_histories : (table queue).histories ≡ record { weighting = Accumulate; subject = Some (subjects.MemberCount 0) } ∷ []
 queue_histories = refl
 
@@ -224,7 +224,7 @@ pub colours_ties : (table colours).tie_keys ≡ record { class = codes "BLUE"; a
 colours_ties = refl
 
 -- SIZE is the second attribute of BLUE; nothing gives it a mode
-pub colours_field : told_of (table colours).attributes (codes "SIZE") ≡ Some (attribute 1 1 None)
+pub colours_field : value_for (table colours).attributes (codes "SIZE") ≡ Some (attribute 1 1 None)
 colours_field = refl
 
 -- ---- modes
@@ -244,7 +244,7 @@ late = record {
   sections = [];
 }
 
--- the mode of V is that of its DEFINE, which stands before its EVERY; that of U is that of NORMALLY, which comes last
+-- the mode of V is that of its DEFINE, which comes before its EVERY; that of U is that of NORMALLY, which comes last
 pub late_modes : (table late).attributes ≡ (codes "U", attribute 0 0 (Some Integer)) ∷ (codes "V", attribute 0 1 (Some Alpha)) ∷ []
 late_modes = refl
 
@@ -252,12 +252,12 @@ late_modes = refl
 pub late_variables : (table late).variables ≡ (codes "X", variable Defined Alpha) ∷ (codes "C", variable (OfClass 0) Integer) ∷ []
 late_variables = refl
 
--- ---- what breaks rules
+-- ---- a program that breaks rules
 
 -- DEFINE X AS AN INTEGER VARIABLE
 -- TALLY X AS THE SUM OF Y
 -- ROUTINE X END
--- The first declaration of X counts; nothing is known of Y.
+-- The first declaration of X counts. Y is not declared.
 pub twice : meaning (record { preamble = define_variables (line 1) (codes "X" ∷ []) Integer ∷ statistics (line 2) Tally (record { name = codes "X"; kind = folds.Sum } ∷ []) (codes "Y") ∷ []; sections = section 3 (routine (codes "X") [] []) ∷ [] }) (codes "X") ≡ Some (meanings.Variable 0)
 twice = refl
 

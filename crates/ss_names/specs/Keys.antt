@@ -8,23 +8,23 @@ use Rattle.ss_names_declarations.specs.Sayings.{NameBytes}
 use Rattle.ss_names.specs.declared.keys.RankedBy.{RankedBy}
 use Rattle.ss_names.specs.declared.keys.TiedBy.{TiedBy}
 
-abbrev pub rank_told : Said → Option NameBytes → List RankedBy
-rank_told (said.RankKey statement high) (Some name) = record { statement = statement; attribute = name; high = high } ∷ []
-rank_told _ _ = []
+abbrev pub declared_rank_keys : Said → Option NameBytes → List RankedBy
+declared_rank_keys (said.RankKey statement high) (Some name) = record { statement = statement; attribute = name; high = high } ∷ []
+declared_rank_keys _ _ = []
 
 abbrev pub rank_by : Saying → List RankedBy
-rank_by s = rank_told s.said s.name
+rank_by s = declared_rank_keys s.said s.name
 
 -- the keys of ranked sets, in the order of the text
 abbrev pub rank_keys : List Saying → List RankedBy
 rank_keys says = flat_map rank_by says
 
-abbrev pub tie_told : Said → Option NameBytes → List TiedBy
-tie_told (said.TieKey class high) (Some name) = record { class = class; attribute = name; high = high } ∷ []
-tie_told _ _ = []
+abbrev pub declared_tie_keys : Said → Option NameBytes → List TiedBy
+declared_tie_keys (said.TieKey class high) (Some name) = record { class = class; attribute = name; high = high } ∷ []
+declared_tie_keys _ _ = []
 
 abbrev pub tie_by : Saying → List TiedBy
-tie_by s = tie_told s.said s.name
+tie_by s = declared_tie_keys s.said s.name
 
 -- the keys for the ties of notices, in the order of the text
 abbrev pub tie_keys : List Saying → List TiedBy

@@ -1,4 +1,4 @@
--- What global and derived names stand for.
+-- The meanings of global and derived names.
 use Rattle.std.specs.Prelude.{ℕ, is_some, List, [], ◌∷◌, ◌++◌, option_map, Option, Some, None, if◌then◌else◌}
 use Rattle.std.specs.List.{flat_map}
 use Rattle.ss_tree.specs.declared.preamble.ClassKind.{ClassKind}
@@ -22,7 +22,7 @@ use Rattle.ss_names_declarations.specs.Firsts.{entry_if, firsts, place_among, pl
 use Rattle.ss_names.specs.Statistics.{statistics, weighings}
 use Rattle.ss_names.specs.Variables.{count_name, routines, variables}
 
--- what is numbered: classes, attributes, sets, global variables, statistics and routines
+-- the lists in which things are numbered: classes, attributes, sets, global variables, statistics and routines
 pub record Numbered : Type 0 where
   pub classes : List (NameBytes × Class)
   pub attributes : List (NameBytes × Attribute)
@@ -32,7 +32,7 @@ pub record Numbered : Type 0 where
   pub variables : List (NameBytes × Variable)
   pub statistics : List (NameBytes × Statistic)
   pub routines : List (NameBytes × Routine)
-  -- what TALLY and ACCUMULATE name
+  -- the subjects of TALLY and ACCUMULATE
   pub weighings : List (NameBytes × Weighting)
 
 abbrev pub numbered : List Saying → Numbered
@@ -100,24 +100,24 @@ abbrev pub variable_meaning : Numbered → NameBytes → Option Meaning
 variable_meaning t name =
     if is_some (place_in t.attributes name) then None else option_map meanings.Variable (place_in t.variables name)
 
--- What is declared by what is said of a name. A DEFINE of an attribute as a variable gives its mode and declares nothing;
--- a set is declared where it is first owned or belonged to.
-abbrev pub meaning_told : Numbered → Said → Option NameBytes → List (NameBytes × Meaning)
-meaning_told t (said.Class kind) (Some name) = class_meanings t kind name
-meaning_told t (said.Attribute class) (Some name) = entry_if name (option_map meanings.Attribute (place_in t.attributes name))
-meaning_told t said.SystemSet (Some name) = set_meanings name (place_among t.set_names name)
-meaning_told t (said.OwnedSet class) (Some name) = set_meanings name (place_among t.set_names name)
-meaning_told t (said.MemberSet class) (Some name) = set_meanings name (place_among t.set_names name)
-meaning_told t (said.Variable mode) (Some name) = entry_if name (variable_meaning t name)
-meaning_told t (said.Statistic weighting kind subject) (Some name) =
+-- The entries by what is declared of a name. A DEFINE of an attribute as a variable gives its mode and declares nothing.
+-- A set is declared where it is first owned or belonged to.
+abbrev pub meaning_entries : Numbered → Said → Option NameBytes → List (NameBytes × Meaning)
+meaning_entries t (said.Class kind) (Some name) = class_meanings t kind name
+meaning_entries t (said.Attribute class) (Some name) = entry_if name (option_map meanings.Attribute (place_in t.attributes name))
+meaning_entries t said.SystemSet (Some name) = set_meanings name (place_among t.set_names name)
+meaning_entries t (said.OwnedSet class) (Some name) = set_meanings name (place_among t.set_names name)
+meaning_entries t (said.MemberSet class) (Some name) = set_meanings name (place_among t.set_names name)
+meaning_entries t (said.Variable mode) (Some name) = entry_if name (variable_meaning t name)
+meaning_entries t (said.Statistic weighting kind subject) (Some name) =
     entry_if name (option_map meanings.Statistic (place_in t.statistics name))
-meaning_told t (said.Routine section given yielding) (Some name) =
+meaning_entries t (said.Routine section given yielding) (Some name) =
     entry_if name (option_map meanings.Routine (place_in t.routines name))
-meaning_told t _ _ = []
+meaning_entries t _ _ = []
 
 abbrev pub meaning_by : Numbered → Saying → List (NameBytes × Meaning)
-meaning_by t s = meaning_told t s.said s.name
+meaning_by t s = meaning_entries t s.said s.name
 
--- each global and derived name, with what it stands for by its first declaration, where this is numbered
+-- each global and derived name, with its meaning by its first declaration and by these numbers
 abbrev pub meanings_in : Numbered → List Saying → List (NameBytes × Meaning)
 meanings_in t says = firsts (flat_map (meaning_by t) says)

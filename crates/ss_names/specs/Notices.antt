@@ -1,4 +1,4 @@
--- EVENT sections, the order of rank, and keys, together.
+-- EVENT sections, the order of rank, and keys, in one record.
 use Rattle.std.specs.Prelude.{ℕ, List}
 use Rattle.ss_names_declarations.specs.declared.saying.Saying.{Saying}
 use Rattle.ss_names_declarations.specs.Sayings.{NameBytes}

@@ -1,4 +1,4 @@
--- One table of what a program declares. What has a number has it by its place in a list.
+-- One table of what a program declares. Each thing is numbered by its place in a list.
 use Rattle.std.specs.Prelude.{ℕ, List, Option}
 use Rattle.ss_tree.specs.declared.preamble.Mode.{Mode}
 use Rattle.ss_tree.specs.declared.preamble.Weighting.{Weighting}
@@ -26,7 +26,7 @@ use Rattle.ss_names.specs.Variables.{events, ranks, routines, variables}
 -- ---- the table
 
 pub record Table : Type 0 where
-  -- each global and derived name, with what it stands for
+  -- each global and derived name, with its meaning
   pub names : List (NameBytes × Meaning)
   -- the mode that NORMALLY gives
   pub usual : Option Mode
@@ -38,7 +38,7 @@ pub record Table : Type 0 where
   pub sets : List Set
   pub variables : List (NameBytes × Variable)
   pub routines : List (NameBytes × Routine)
-  -- the EVENT sections, by the names that they have
+  -- the EVENT sections, by their names
   pub events : List (NameBytes × Event)
   -- the classes of notices with their numbers, in the order of rank
   pub ranks : List (NameBytes × ℕ)
@@ -50,7 +50,7 @@ pub record Table : Type 0 where
   pub rank_keys : List RankedBy
   pub tie_keys : List TiedBy
 
--- what is declared where this is said
+-- the table of these sayings
 abbrev pub declared : List Saying → Table
 declared says = record {
   names = meanings_in (numbered says) says;

@@ -15,7 +15,7 @@ use Rattle.ss_names.specs.declared.entry.Routine.{Routine}
 use Rattle.ss_names.specs.declared.entry.Variable.{Variable}
 use Rattle.ss_names.specs.declared.entry.VariableKind.TheVariants.{Defined, OfClass, CountOf}
 use Rattle.ss_names.specs.Entities.{attributes, classes}
-use Rattle.ss_names_declarations.specs.Firsts.{entry_if, firsts, place_in, told_of}
+use Rattle.ss_names_declarations.specs.Firsts.{entry_if, firsts, place_in, value_for}
 
 -- ---- global variables
 
@@ -33,14 +33,14 @@ class_variables class_kinds.Temporary name (Some class) = (name, record { kind =
 class_variables class_kinds.EventNotice name (Some class) = (name, record { kind = OfClass class; mode = modes.Integer }) ∷ []
 
 -- a DEFINE of an attribute as a variable declares no variable
-abbrev pub variable_told : List (NameBytes × Class) → List (NameBytes × Attribute) → Said → Option NameBytes → List (NameBytes × Variable)
-variable_told cs owned (said.Variable mode) (Some name) =
-    if is_some (told_of owned name) then [] else (name, record { kind = Defined; mode = mode }) ∷ []
-variable_told cs owned (said.Class kind) (Some name) = class_variables kind name (place_in cs name)
-variable_told cs owned _ _ = []
+abbrev pub variable_entries : List (NameBytes × Class) → List (NameBytes × Attribute) → Said → Option NameBytes → List (NameBytes × Variable)
+variable_entries cs owned (said.Variable mode) (Some name) =
+    if is_some (value_for owned name) then [] else (name, record { kind = Defined; mode = mode }) ∷ []
+variable_entries cs owned (said.Class kind) (Some name) = class_variables kind name (place_in cs name)
+variable_entries cs owned _ _ = []
 
 abbrev pub variable_by : List (NameBytes × Class) → List (NameBytes × Attribute) → Saying → List (NameBytes × Variable)
-variable_by cs owned s = variable_told cs owned s.said s.name
+variable_by cs owned s = variable_entries cs owned s.said s.name
 
 -- the global variables: those of DEFINE, the variable of each class, and N. of each permanent class
 abbrev pub variables : List Saying → List (NameBytes × Variable)
@@ -48,26 +48,26 @@ variables says = firsts (flat_map (variable_by (classes says) (attributes says))
 
 -- ---- sections
 
-abbrev pub routine_told : Said → Option NameBytes → List (NameBytes × Routine)
-routine_told (said.Routine section given yielding) (Some name) =
+abbrev pub routine_entries : Said → Option NameBytes → List (NameBytes × Routine)
+routine_entries (said.Routine section given yielding) (Some name) =
     (name, record { section = section; given = given; yielding = yielding }) ∷ []
-routine_told _ _ = []
+routine_entries _ _ = []
 
 abbrev pub routine_by : Saying → List (NameBytes × Routine)
-routine_by s = routine_told s.said s.name
+routine_by s = routine_entries s.said s.name
 
 abbrev pub routines : List Saying → List (NameBytes × Routine)
 routines says = firsts (flat_map routine_by says)
 
-abbrev pub event_told : Said → Option NameBytes → List (NameBytes × Event)
-event_told (said.Event section given saving) (Some name) =
+abbrev pub event_entries : Said → Option NameBytes → List (NameBytes × Event)
+event_entries (said.Event section given saving) (Some name) =
     (name, record { section = section; given = given; saving = saving }) ∷ []
-event_told _ _ = []
+event_entries _ _ = []
 
 abbrev pub event_by : Saying → List (NameBytes × Event)
-event_by s = event_told s.said s.name
+event_by s = event_entries s.said s.name
 
--- the EVENT sections, by the names that they have
+-- the EVENT sections, by their names
 abbrev pub events : List Saying → List (NameBytes × Event)
 events says = firsts (flat_map event_by says)
 
@@ -84,21 +84,21 @@ is_notice_class (Some class) = is_notice_kind class.kind
 
 -- a class of notices, with its number
 abbrev pub notice : List (NameBytes × Class) → NameBytes → List (NameBytes × ℕ)
-notice cs name = if is_notice_class (told_of cs name) then entry_if name (place_in cs name) else []
+notice cs name = if is_notice_class (value_for cs name) then entry_if name (place_in cs name) else []
 
-abbrev pub priority_told : List (NameBytes × Class) → Said → Option NameBytes → List (NameBytes × ℕ)
-priority_told cs said.Priority (Some name) = notice cs name
-priority_told cs _ _ = []
+abbrev pub priority_entries : List (NameBytes × Class) → Said → Option NameBytes → List (NameBytes × ℕ)
+priority_entries cs said.Priority (Some name) = notice cs name
+priority_entries cs _ _ = []
 
 abbrev pub priority_by : List (NameBytes × Class) → Saying → List (NameBytes × ℕ)
-priority_by cs s = priority_told cs s.said s.name
+priority_by cs s = priority_entries cs s.said s.name
 
-abbrev pub declared_told : List (NameBytes × Class) → Said → Option NameBytes → List (NameBytes × ℕ)
-declared_told cs (said.Class kind) (Some name) = notice cs name
-declared_told cs _ _ = []
+abbrev pub declared_entries : List (NameBytes × Class) → Said → Option NameBytes → List (NameBytes × ℕ)
+declared_entries cs (said.Class kind) (Some name) = notice cs name
+declared_entries cs _ _ = []
 
 abbrev pub declared_by : List (NameBytes × Class) → Saying → List (NameBytes × ℕ)
-declared_by cs s = declared_told cs s.said s.name
+declared_by cs s = declared_entries cs s.said s.name
 
 -- the classes of notices with their numbers: those of PRIORITY ORDER in that order, then the others as declared
 abbrev pub ranks_among : List (NameBytes × Class) → List Saying → List (NameBytes × ℕ)

@@ -9,7 +9,7 @@ ghost use Rattle.ss_names_declarations.specs.Sayings.{NameBytes};
 
 use crate::entry::{Attribute, Class};
 use ss_base::Name;
-use ss_names_declarations::{Said, Saying, Seed, Table, is_told};
+use ss_names_declarations::{Said, Saying, Seed, Table, has_entry};
 use ss_tree::preamble::Mode;
 use std::alloc::{AllocError, Global};
 use std::marker::Model;
@@ -31,7 +31,7 @@ impl Model for Attributes {
     ghost view = { λ a. record { entries = a.entries; fields = map row_of a.fields.items } };
 }
 
-// Rows for so many classes, each without attributes.
+// Rows for so many classes, all empty.
 fn no_fields(alloc: Global, count: usize) -> Result<Vec<Vec<Name>>, AllocError>
     ensures { IfOk result (λ rows. map row_of rows.items ≡ fields_of [] count) }
 {
@@ -84,21 +84,21 @@ impl Attributes {
         &self.entries
     }
 
-    /// The attributes of a class, in the order of the text; none where there is no such class.
+    /// The attributes of a class, in the order of the text. None if there is no such class.
     pub fn fields(&self, class: usize) -> &[Name]
         ensures { result.now ≡ get_or self.now.fields class [] }
     {
         row_at(&self.fields, class)
     }
 
-    /// The number of an attribute, if it is one.
+    /// The number of an attribute. None if the name is no attribute.
     pub fn place(&self, name: &Name) -> Option<usize>
         ensures { result ≡ place_in self.now.entries name.now }
     {
         self.entries.place(name)
     }
 
-    // None of so many classes.
+    // No attributes, of so many classes.
     fn none(alloc: Global, seed: Seed, count: usize) -> Result<Attributes, AllocError>
         ensures { IfOk result (λ a. a ≡ record { entries = []; fields = fields_of [] count }) }
     {
@@ -109,7 +109,7 @@ impl Attributes {
         })
     }
 
-    // Adds an attribute of the class of this number, unless its name is known.
+    // Adds an attribute to the class of this number, unless its name has one.
     fn add(
         &mut self,
         usual: Option<Mode>,
@@ -120,7 +120,7 @@ impl Attributes {
         requires { class < length self.old.fields }
         ensures { (owned : List (NameBytes × ℕ)) → AreAttributes usual defined.now (length self.old.fields) owned self.old → OnOk result (AreAttributes usual defined.now (length self.old.fields) (with_first owned (name, class)) self.new) }
     {
-        if is_told(&self.entries, &name) {
+        if has_entry(&self.entries, &name) {
             return Ok(());
         }
         let attribute = Attribute {
@@ -133,7 +133,7 @@ impl Attributes {
     }
 }
 
-// Adds an attribute, where its class is one of these.
+// Adds an attribute, if its class is one of these.
 fn add_attribute(
     attributes: &mut Attributes,
     classes: &Table<Name, Class>,
@@ -151,7 +151,7 @@ fn add_attribute(
     }
 }
 
-// Adds an attribute that a saying declares.
+// Adds the attribute that a saying declares, if it does.
 fn note_attribute(
     attributes: &mut Attributes,
     classes: &Table<Name, Class>,
@@ -171,7 +171,7 @@ fn note_attribute(
     }
 }
 
-/// The attributes of these classes, where NORMALLY gives the usual mode and DEFINE those that are defined.
+/// The attributes of these classes. Their modes are those of DEFINE, or else the usual mode of NORMALLY.
 pub fn attributes_of(
     alloc: Global,
     classes: &Table<Name, Class>,

@@ -1,20 +1,20 @@
-//! The classes, and the modes that DEFINE and NORMALLY say.
+//! The classes, and the modes that DEFINE and NORMALLY give.
 
 ghost use Rattle.std.specs.Prelude.{◌≡◌, IfOk};
 ghost use Rattle.std.specs.List.{flat_map};
-ghost use Rattle.ss_names.specs.Entities.{class_by, defined_by, normal_told, usual_mode};
+ghost use Rattle.ss_names.specs.Entities.{class_by, defined_by, mode_by_normally, usual_mode};
 ghost use Rattle.ss_names_declarations.specs.Firsts.{firsts};
 
 use crate::entry::Class;
-use crate::telling::{Telling, firsts_told};
+use crate::telling::{Telling, collect_firsts};
 use ss_base::Name;
 use ss_names_declarations::{Said, Saying, Seed, Table, insert_first};
 use ss_tree::preamble::Mode;
 use std::alloc::{AllocError, Global};
 
-// The mode that NORMALLY says.
+// The mode that NORMALLY gives, if this is a NORMALLY.
 fn normal(said: &Said) -> Option<Mode>
-    ensures { result ≡ normal_told said.now }
+    ensures { result ≡ mode_by_normally said.now }
 {
     match said {
         Said::Normally { mode } => Some(*mode),
@@ -37,13 +37,13 @@ pub fn usual_mode(sayings: &[Saying]) -> Option<Mode>
 struct DefinedModes;
 
 impl Telling for DefinedModes {
-    type Told = Mode;
+    type Entry = Mode;
 
     type Known = ();
 
-    ghost tells = { λ known. defined_by };
+    ghost entries_by = { λ known. defined_by };
 
-    // Keeps the mode that a DEFINE gives a name.
+    // Adds the mode that a DEFINE gives a name.
     fn note(
         entries: &mut Table<Name, Mode>,
         known: &(),
@@ -59,7 +59,7 @@ impl Telling for DefinedModes {
     }
 }
 
-/// Each name that a DEFINE gives a mode, with the first.
+/// Each name that a DEFINE gives a mode, with the first mode.
 pub fn defined_modes(
     alloc: Global,
     seed: Seed,
@@ -67,20 +67,20 @@ pub fn defined_modes(
 ) -> Result<Table<Name, Mode>, AllocError>
     ensures { IfOk result (λ entries. entries ≡ firsts (flat_map (defined_by) sayings.now)) }
 {
-    firsts_told::<DefinedModes>(alloc, seed, &(), sayings)
+    collect_firsts::<DefinedModes>(alloc, seed, &(), sayings)
 }
 
 // The classes that are declared.
 struct Classes;
 
 impl Telling for Classes {
-    type Told = Class;
+    type Entry = Class;
 
     type Known = ();
 
-    ghost tells = { λ known. class_by };
+    ghost entries_by = { λ known. class_by };
 
-    // Keeps a class.
+    // Adds a class.
     fn note(
         entries: &mut Table<Name, Class>,
         known: &(),
@@ -110,5 +110,5 @@ pub fn classes_of(
 ) -> Result<Table<Name, Class>, AllocError>
     ensures { IfOk result (λ entries. entries ≡ firsts (flat_map (class_by) sayings.now)) }
 {
-    firsts_told::<Classes>(alloc, seed, &(), sayings)
+    collect_firsts::<Classes>(alloc, seed, &(), sayings)
 }

@@ -31,7 +31,7 @@ fn attributes_in(
     attributes_of(alloc, classes, usual_mode(sayings), &defined, sayings)
 }
 
-/// The classes and their attributes, where this is said.
+/// The classes and their attributes, by these sayings.
 ///
 /// # Errors
 /// `AllocError` where memory is refused.

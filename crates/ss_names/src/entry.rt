@@ -1,4 +1,4 @@
-//! What is told of the things that a preamble declares.
+//! What the table has of each thing that a program declares.
 
 use ss_base::{Line, Owner};
 use ss_names_declarations::SetRule;
@@ -28,8 +28,8 @@ pub struct Ordering {
     pub rule: SetRule,
 }
 
-/// A set: who owns it, the number of the class of its members, and how a DEFINE orders it, each where it is
-/// said.
+/// A set: its owner, the number of the class of its members, and how a DEFINE orders it, each if it is
+/// declared.
 #[derive(Clone, Copy)]
 pub struct Set {
     pub owner: Option<Owner>,
@@ -37,12 +37,12 @@ pub struct Set {
     pub ordering: Option<Ordering>,
 }
 
-/// What a global variable is.
+/// The kind of a global variable.
 #[derive(Clone, Copy)]
 pub enum VariableKind {
-    /// That of a DEFINE.
+    /// A variable of a DEFINE.
     Defined,
-    /// That of the class of this number, which has its name.
+    /// The variable of the class of this number, which has the name of the class.
     OfClass(usize),
     /// N. of the class of this number.
     CountOf(usize),
@@ -71,7 +71,7 @@ pub struct Event {
     pub saving: bool,
 }
 
-/// A statistic: the number of the history that it tells of, and what it tells.
+/// A statistic: the number of its history, and its kind.
 #[derive(Clone, Copy)]
 pub struct Statistic {
     pub history: usize,

@@ -1,7 +1,7 @@
-//! The histories that statistics tell of.
+//! The histories of statistics.
 
 ghost use Rattle.std.specs.Prelude.{◌≡◌, map, IfOk};
-ghost use Rattle.ss_names_declarations.specs.Firsts.{told_of};
+ghost use Rattle.ss_names_declarations.specs.Firsts.{value_for};
 ghost use Rattle.ss_names.specs.Histories.{history_of, subject_of};
 
 use crate::meaning::{Derived, History, Meaning, Subject};
@@ -11,7 +11,7 @@ use ss_names_declarations::Table;
 use ss_tree::preamble::Weighting;
 use std::alloc::{AllocError, Global};
 
-// What a name stands for that may have a history.
+// The subject that a meaning is, if it may have a history.
 fn subject_of(meaning: Option<Meaning>) -> Option<Subject>
     ensures { result ≡ subject_of meaning }
 {
@@ -28,7 +28,7 @@ fn subject_of(meaning: Option<Meaning>) -> Option<Subject>
     }
 }
 
-// The history of what a name stands for.
+// The history of a subject, by the meaning of its name.
 fn history_of(names: &Meanings, name: &Name, weighting: Weighting) -> History
     ensures { result ≡ history_of names.now (name.now, weighting) }
 {

@@ -1,6 +1,6 @@
 //! Laws of the table.
 
-ghost use Rattle.ss_names.specs.Laws.{AttributesArePlaced, NamesStandOnce, NumbersArePlaces, RanksAreClasses, SetsArePlaced, StatisticsHaveHistories};
+ghost use Rattle.ss_names.specs.Laws.{AttributesArePlaced, NamesHaveOneEntry, NumbersArePlaces, RanksAreClasses, SetsArePlaced, StatisticsHaveHistories};
 
 /// Each number in the table of a program is that of something in it, whatever the program.
 pub fn numbers_are_places()
@@ -11,7 +11,7 @@ pub fn numbers_are_places()
     ensures ranks { RanksAreClasses }
 {}
 
-/// Each global and derived name stands once in the table: what stands at a place is found there.
-pub fn names_stand_once()
-    ensures { NamesStandOnce }
+/// Each global and derived name has one entry in the table: the name at a place is found there.
+pub fn names_have_one_entry()
+    ensures { NamesHaveOneEntry }
 {}

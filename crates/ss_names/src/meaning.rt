@@ -1,8 +1,8 @@
-//! What the names of a program stand for.
+//! The meanings of the names of a program.
 
 use ss_tree::preamble::Weighting;
 
-/// What a derived name of a set tells.
+/// What a derived name of a set gives.
 #[derive(Clone, Copy)]
 pub enum Derived {
     /// F., the first member.
@@ -19,7 +19,7 @@ pub enum Derived {
     Membership,
 }
 
-/// What a global or a derived name stands for, by its number.
+/// What a global or a derived name means, by its number.
 #[derive(Clone, Copy)]
 pub enum Meaning {
     /// A global variable of a DEFINE.
@@ -36,7 +36,7 @@ pub enum Meaning {
     Routine(usize),
 }
 
-/// What a TALLY or an ACCUMULATE is of, by its number.
+/// The subject of a TALLY or an ACCUMULATE, by its number.
 #[derive(Clone, Copy)]
 pub enum Subject {
     /// A global variable of a DEFINE.
@@ -46,8 +46,8 @@ pub enum Subject {
     MemberCount(usize),
 }
 
-/// What a TALLY or an ACCUMULATE keeps: how it weighs the values of its subject, and that subject, if its
-/// name stands for one.
+/// The history of a subject: how TALLY or ACCUMULATE weighs its values, and the subject, if its name
+/// means one.
 #[derive(Clone, Copy)]
 pub struct History {
     pub weighting: Weighting,

@@ -1,11 +1,11 @@
-//! What global and derived names stand for.
+//! The meanings of global and derived names.
 
 ghost use Rattle.std.specs.Prelude.{◌≡◌, ◌<◌, [], ◌∷◌, length, slice_get, is_some, if◌then◌else◌, option_map, None, Some, OnOk, IfOk};
 ghost use Rattle.std.specs.List.{flat_map, fold};
 ghost use Rattle.std.specs.Map.{keys_of, values_of};
 ghost use Rattle.ss_names.specs.declared.meaning.Meaning.TheVariants as meanings;
-ghost use Rattle.ss_names_declarations.specs.Firsts.{entry_if, firsts, place_among, place_in, told_of, with_first};
-ghost use Rattle.ss_names.specs.Meanings.{class_meanings, class_name_meaning, count_meaning, derived_entry, letter_of, meaning_by, meaning_told, meanings_in, set_meanings, variable_meaning};
+ghost use Rattle.ss_names_declarations.specs.Firsts.{entry_if, firsts, place_among, place_in, value_for, with_first};
+ghost use Rattle.ss_names.specs.Meanings.{class_meanings, class_name_meaning, count_meaning, derived_entry, letter_of, meaning_by, meaning_entries, meanings_in, set_meanings, variable_meaning};
 ghost use Rattle.ss_names.specs.Variables.{count_name};
 
 use crate::meaning::{Derived, Meaning};
@@ -29,7 +29,7 @@ fn letter_of(derived: Derived) -> u8
     }
 }
 
-/// The names that are declared, each with what it stands for. A contract sees the list of the pairs.
+/// The names that are declared, each with its meaning. A contract sees the list of the pairs.
 #[derive(Drop)]
 pub struct Meanings {
     map: Table<Spelling, Meaning>,
@@ -59,7 +59,7 @@ impl Meanings {
         }
     }
 
-    // Keeps what a name stands for, unless it stands for something.
+    // Adds the meaning of a name, unless it has one.
     fn insert(&mut self, name: Spelling, meaning: Meaning) -> Result<(), AllocError>
         ensures { OnOk result (self.new ≡ with_first self.old (name, meaning)) }
     {
@@ -68,7 +68,7 @@ impl Meanings {
         insert_spelled(&mut self.map, name, meaning)
     }
 
-    // The same, where there is something.
+    // Adds the meaning of a name, if there is one, unless it has one already.
     fn insert_if(&mut self, name: Spelling, meaning: Option<Meaning>) -> Result<(), AllocError>
         ensures { OnOk result (self.new ≡ fold with_first self.old (entry_if name meaning)) }
     {
@@ -78,7 +78,7 @@ impl Meanings {
         }
     }
 
-    // Keeps a class, and N. of it where it is permanent.
+    // Adds a class, and N. of it if it is permanent.
     fn insert_class(
         &mut self,
         numbers: &Numbers,
@@ -98,7 +98,7 @@ impl Meanings {
         }
     }
 
-    // Keeps a derived name of a set.
+    // Adds a derived name of a set.
     fn insert_derived(
         &mut self,
         name: &Name,
@@ -111,7 +111,7 @@ impl Meanings {
         self.insert(spelling, Meaning::Derived { derived, set })
     }
 
-    // Keeps a set and its derived names.
+    // Adds a set and its derived names.
     fn insert_set(&mut self, name: &Name, set: usize) -> Result<(), AllocError>
         ensures { OnOk result (self.new ≡ fold with_first self.old (set_meanings name.now (Some set))) }
     {
@@ -124,7 +124,7 @@ impl Meanings {
         self.insert_derived(name, set, Derived::Membership)
     }
 
-    // The same, where it has a number.
+    // Adds a set and its derived names, if it has a number.
     fn insert_set_if(&mut self, name: &Name, set: Option<usize>) -> Result<(), AllocError>
         ensures { OnOk result (self.new ≡ fold with_first self.old (set_meanings name.now set)) }
     {
@@ -134,9 +134,9 @@ impl Meanings {
         }
     }
 
-    // Keeps what is declared by what is said of a name.
+    // Adds the meanings that are declared of a name.
     fn insert_said(&mut self, numbers: &Numbers, said: &Said, name: &Name) -> Result<(), AllocError>
-        ensures { OnOk result (self.new ≡ fold with_first self.old (meaning_told numbers.now said.now (Some name.now))) }
+        ensures { OnOk result (self.new ≡ fold with_first self.old (meaning_entries numbers.now said.now (Some name.now))) }
     {
         let spelling = Spelling::of_name(name);
         match said {
@@ -152,7 +152,7 @@ impl Meanings {
         }
     }
 
-    // Keeps what a saying declares.
+    // Adds the meanings that a saying declares.
     fn note(&mut self, numbers: &Numbers, saying: &Saying) -> Result<(), AllocError>
         ensures { OnOk result (self.new ≡ fold with_first self.old (meaning_by numbers.now saying.now)) }
     {
@@ -173,9 +173,9 @@ impl Meanings {
         }
     }
 
-    /// What a name stands for.
+    /// The meaning of a name.
     pub fn meaning(&self, name: &Name) -> Option<Meaning>
-        ensures { result ≡ told_of self.now name.now }
+        ensures { result ≡ value_for self.now name.now }
     {
         self.map.get(&Spelling::of_name(name)).copied()
     }
@@ -191,7 +191,7 @@ impl Meanings {
         }
     }
 
-    /// What the name at this place stands for.
+    /// The meaning of the name at this place.
     pub fn at(&self, place: usize) -> Option<Meaning>
         ensures { result ≡ slice_get (values_of self.now) place }
     {
@@ -206,7 +206,7 @@ impl Meanings {
     }
 }
 
-/// What the names stand for that some sayings declare, where this is numbered.
+/// The meanings of the names that these sayings declare, by the numbers of what is declared.
 pub fn meanings_of(
     alloc: Global,
     numbers: &Numbers,

@@ -3,7 +3,7 @@
 ghost use Rattle.std.specs.Prelude.{◌≡◌, ◌<◌, [], length, slice_get, get_or, option_map, Some, IfOk};
 ghost use Rattle.std.specs.Map.{keys_of, values_of};
 ghost use Rattle.ss_names.specs.Entities.{classes as classes_said, sets as sets_said};
-ghost use Rattle.ss_names_declarations.specs.Firsts.{place_in, told_of};
+ghost use Rattle.ss_names_declarations.specs.Firsts.{place_in, value_for};
 ghost use Rattle.ss_names.specs.Meanings.{meanings_in, numbered};
 ghost use Rattle.ss_names.specs.Notices.{notices as notices_said};
 ghost use Rattle.ss_names.specs.Histories.{histories as histories_said};
@@ -36,7 +36,7 @@ struct Lists {
     histories: Vec<History>,
 }
 
-/// What a program declares. What has a number has it by its place in the order of the text, from 0.
+/// What a program declares. Each thing is numbered by its place in the order of the text, from 0.
 ///
 /// A contract sees a record of lists.
 #[derive(Drop)]
@@ -56,14 +56,14 @@ impl Model for Names {
 #[derive(Clone, Copy, Debug, PartialEq, Eq)]
 pub struct NameId(pub usize);
 
-// What is numbered, and what names stand for.
+// The lists in which things are numbered, and the meanings of names.
 #[derive(Drop)]
 struct Named {
     numbers: Box<Numbers>,
     names: Meanings,
 }
 
-// What is numbered, and what names stand for, where this is said.
+// The lists in which things are numbered, and the meanings of names, by these sayings.
 fn named_in(alloc: Global, seed: Seed, sayings: &[Saying]) -> Result<Named, AllocError>
     ensures numbers { IfOk result (λ n. n.numbers.value ≡ numbered sayings.now) }
     ensures names { IfOk result (λ n. n.names ≡ meanings_in (numbered sayings.now) sayings.now) }
@@ -74,15 +74,15 @@ fn named_in(alloc: Global, seed: Seed, sayings: &[Saying]) -> Result<Named, Allo
     Ok(Named { numbers, names })
 }
 
-// What is told of sets, notices and histories.
+// The lists that follow from the numbers and the meanings: sets, notices and histories.
 #[derive(Drop)]
-struct Told {
+struct Gathered {
     sets: Vec<Set>,
     notices: Box<Notices>,
     histories: Vec<History>,
 }
 
-// What is told of notices, where these are the classes.
+// The notices, by these classes.
 fn notices_in(
     alloc: Global,
     classes: &Table<Name, Class>,
@@ -94,13 +94,13 @@ fn notices_in(
     Ok(Box::new(alloc, notices_of(alloc, classes, sayings)?)?)
 }
 
-// What is told of sets, notices and histories, where this is said.
-fn told_in(
+// The sets, notices and histories, by these numbers and meanings.
+fn gathered_in(
     alloc: Global,
     numbers: &Numbers,
     names: &Meanings,
     sayings: &[Saying],
-) -> Result<Told, AllocError>
+) -> Result<Gathered, AllocError>
     requires { numbers.now ≡ numbered sayings.now }
     ensures sets { IfOk result (λ t. t.sets.items ≡ sets_said sayings.now) }
     ensures notices { IfOk result (λ t. t.notices.value ≡ notices_said sayings.now) }
@@ -116,7 +116,7 @@ fn told_in(
     let (sets, notices) = beside(sets, notices)?;
     let histories = histories_of(alloc, names, &numbers.others.tellings.weighings);
     let ((sets, notices), histories) = beside((sets, notices), histories)?;
-    Ok(Told {
+    Ok(Gathered {
         sets,
         notices,
         histories,
@@ -124,13 +124,13 @@ fn told_in(
 }
 
 impl Names {
-    /// Gives its memory back. To drop it in line does the same, and has the drops of its parts proved there once more.
+    /// Gives its memory back. Dropped in line it would do that too, but its caller would prove the drops of its parts again.
     pub fn release(self) {
         let _released = self;
     }
 
-    /// The table of a program of which this is said, also of one that breaks rules: of two declarations of
-    /// a name the first counts. The seed is made from all that is said.
+    /// The table of the program that these sayings are of, also of one that breaks rules: of two
+    /// declarations of a name the first counts. The seed is made from all names in the sayings.
     ///
     /// # Errors
     /// `AllocError` where memory is refused.
@@ -138,15 +138,15 @@ impl Names {
         ensures { IfOk result (λ n. n ≡ declared sayings.now) }
     {
         let named = named_in(alloc, seed, sayings)?;
-        let told = told_in(alloc, &named.numbers, &named.names, sayings);
-        let (named, told) = beside(named, told)?;
+        let gathered = gathered_in(alloc, &named.numbers, &named.names, sayings);
+        let (named, gathered) = beside(named, gathered)?;
         let lists = Lists {
             names: named.names,
             usual: usual_mode(sayings),
             numbers: named.numbers,
-            sets: told.sets,
-            notices: told.notices,
-            histories: told.histories,
+            sets: gathered.sets,
+            notices: gathered.notices,
+            histories: gathered.histories,
         };
         Ok(Names {
             lists: Box::new(alloc, lists)?,
@@ -163,7 +163,7 @@ impl Names {
         }
     }
 
-    /// How many global and derived names there are. They have the places below that.
+    /// How many global and derived names there are. Their places are the numbers below that.
     pub fn len(&self) -> usize
         ensures { result ≡ length self.now.names }
     {
@@ -178,16 +178,16 @@ impl Names {
         self.lists.names.spelling(id.0)
     }
 
-    /// What a name of this table stands for. None where it is none of them.
+    /// The meaning of a name of this table. None if it is none of them.
     pub fn meaning_of(&self, id: NameId) -> Option<Meaning>
         ensures { result ≡ slice_get (values_of self.now.names) id.0 }
     {
         self.lists.names.at(id.0)
     }
 
-    /// What a name stands for. None where it is no global or derived name.
+    /// The meaning of a name. None if it is no global or derived name.
     pub fn meaning(&self, name: &Name) -> Option<Meaning>
-        ensures { result ≡ told_of self.now.names name.now }
+        ensures { result ≡ value_for self.now.names name.now }
     {
         self.lists.names.meaning(name)
     }
@@ -227,14 +227,14 @@ impl Names {
         value_at(self.lists.numbers.entities.attributes.entries(), number)
     }
 
-    /// The number of an attribute, if it is one.
+    /// The number of an attribute. None if the name is no attribute.
     pub fn attribute_number(&self, name: &Name) -> Option<usize>
         ensures { result ≡ place_in self.now.attributes name.now }
     {
         self.lists.numbers.entities.attributes.place(name)
     }
 
-    /// The attributes of a class, in the order of the text; none where there is no such class.
+    /// The attributes of a class, in the order of the text. None if there is no such class.
     pub fn fields(&self, class: usize) -> &[Name]
         ensures { result.now ≡ get_or self.now.fields class [] }
     {
@@ -299,7 +299,7 @@ impl Names {
 
     /// The EVENT section of this name.
     pub fn event(&self, name: &Name) -> Option<Event>
-        ensures { result ≡ told_of self.now.events name.now }
+        ensures { result ≡ value_for self.now.events name.now }
     {
         self.lists.notices.events.get(name).copied()
     }
@@ -311,8 +311,8 @@ impl Names {
         self.lists.notices.ranks.len()
     }
 
-    /// The number of the class of notices that has this place in the order of rank: those of PRIORITY ORDER
-    /// in that order, then the others as declared.
+    /// The number of the class of notices at this place in the order of rank. The classes of PRIORITY ORDER
+    /// come first, in that order, then the others as declared.
     pub fn ranked(&self, rank: usize) -> Option<usize>
         ensures { result ≡ slice_get (values_of self.now.ranks) rank }
     {
@@ -340,7 +340,7 @@ impl Names {
         value_at(&self.lists.numbers.others.tellings.statistics, number)
     }
 
-    /// How many histories there are: one of each name that a TALLY or an ACCUMULATE is of.
+    /// How many histories there are: one for each subject of a TALLY or an ACCUMULATE.
     pub fn histories(&self) -> usize
         ensures { result ≡ length self.now.histories }
     {
@@ -354,7 +354,7 @@ impl Names {
         self.lists.histories.get(number).copied()
     }
 
-    /// The number of the history of a name, if a TALLY or an ACCUMULATE is of it.
+    /// The number of the history of a name, if it is the subject of a TALLY or an ACCUMULATE.
     pub fn history_of(&self, name: &Name) -> Option<usize>
         ensures { result ≡ place_in self.now.weighings name.now }
     {

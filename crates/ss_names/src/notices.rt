@@ -32,7 +32,7 @@ impl Model for Notices {
     ghost view = { λ n. record { events = n.events; ranks = n.ranks; rank_keys = n.rank_keys.items; tie_keys = n.tie_keys.items } };
 }
 
-/// What some sayings tell of notices and keys, where these are their classes.
+/// The EVENT sections, ranks and keys of these sayings, by these classes.
 pub fn notices_of(
     alloc: Global,
     classes: &Table<Name, Class>,

@@ -1,4 +1,4 @@
-//! What has a number.
+//! The lists in which things are numbered.
 
 ghost use Rattle.std.specs.Prelude.{◌≡◌, option_map, IfOk};
 ghost use Rattle.ss_names_declarations.specs.Firsts.{place_among, place_in};
@@ -21,7 +21,7 @@ use ss_names_declarations::{Keys, Saying, Seed, Spelling, Table};
 use std::alloc::{AllocError, Global};
 use std::marker::Model;
 
-/// What is numbered without a look at classes and attributes.
+/// The lists that need neither classes nor attributes.
 #[derive(Drop)]
 pub struct Others {
     pub set_names: Keys<Name>,
@@ -29,7 +29,7 @@ pub struct Others {
     pub tellings: Tellings,
 }
 
-/// What is numbered. A contract sees a record of lists.
+/// The lists in which things are numbered. A contract sees a record of lists.
 #[derive(Drop)]
 pub struct Numbers {
     pub entities: Box<Entities>,
@@ -46,7 +46,7 @@ impl Model for Numbers {
 }
 
 impl Numbers {
-    /// What the name of a class stands for.
+    /// The meaning of the name of a class.
     pub fn class(&self, name: &Name) -> Option<Meaning>
         ensures { result ≡ class_name_meaning self.now name.now }
     {
@@ -59,7 +59,7 @@ impl Numbers {
         }
     }
 
-    /// What N. of a class stands for.
+    /// The meaning of N. of a class.
     pub fn count(&self, name: &Name) -> Option<Meaning>
         ensures { result ≡ count_meaning self.now name.now }
     {
@@ -72,7 +72,7 @@ impl Numbers {
         }
     }
 
-    /// What the name of an attribute stands for.
+    /// The meaning of the name of an attribute.
     pub fn attribute(&self, name: &Name) -> Option<Meaning>
         ensures { result ≡ option_map meanings.Attribute (place_in self.now.attributes name.now) }
     {
@@ -86,7 +86,7 @@ impl Numbers {
         self.others.set_names.place(name)
     }
 
-    /// What the name of a global variable stands for, unless it is an attribute.
+    /// The meaning of the name of a global variable, unless it is an attribute.
     pub fn variable(&self, name: &Name) -> Option<Meaning>
         ensures { result ≡ variable_meaning self.now name.now }
     {
@@ -99,7 +99,7 @@ impl Numbers {
         }
     }
 
-    /// What the name of a statistic stands for.
+    /// The meaning of the name of a statistic.
     pub fn statistic(&self, name: &Name) -> Option<Meaning>
         ensures { result ≡ option_map meanings.Statistic (place_in self.now.statistics name.now) }
     {
@@ -110,7 +110,7 @@ impl Numbers {
             .map(Meaning::Statistic)
     }
 
-    /// What the name of a routine stands for.
+    /// The meaning of the name of a routine.
     pub fn routine(&self, name: &Name) -> Option<Meaning>
         ensures { result ≡ option_map meanings.Routine (place_in self.now.routines name.now) }
     {
@@ -118,7 +118,7 @@ impl Numbers {
     }
 }
 
-// What some sayings number without a look at classes and attributes.
+// The lists of these sayings that need neither classes nor attributes.
 fn others_of(alloc: Global, seed: Seed, sayings: &[Saying]) -> Result<Box<Others>, AllocError>
     ensures set_names { IfOk result (λ o. o.value.set_names ≡ set_names_said sayings.now) }
     ensures routines { IfOk result (λ o. o.value.routines ≡ routines sayings.now) }
@@ -137,7 +137,7 @@ fn others_of(alloc: Global, seed: Seed, sayings: &[Saying]) -> Result<Box<Others
     Ok(Box::new(alloc, others)?)
 }
 
-/// What some sayings number.
+/// The lists of these sayings in which things are numbered.
 pub fn numbers_of(alloc: Global, seed: Seed, sayings: &[Saying]) -> Result<Numbers, AllocError>
     ensures { IfOk result (λ n. n ≡ numbered sayings.now) }
 {

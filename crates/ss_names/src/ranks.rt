@@ -2,11 +2,11 @@
 
 ghost use Rattle.std.specs.Prelude.{◌≡◌, OnOk, IfOk};
 ghost use Rattle.std.specs.List.{fold};
-ghost use Rattle.ss_names_declarations.specs.Firsts.{told_of, with_first};
+ghost use Rattle.ss_names_declarations.specs.Firsts.{value_for, with_first};
 ghost use Rattle.ss_names.specs.Variables.{declared_by, is_notice_kind, is_notice_class, notice, priority_by, ranks_among};
 
 use crate::entry::Class;
-use crate::telling::{Telling, firsts_told, more_told};
+use crate::telling::{Telling, collect_firsts, extend_firsts};
 use ss_base::Name;
 use ss_names_declarations::{Said, Saying, Table, insert_if};
 use ss_tree::preamble::ClassKind;
@@ -25,7 +25,7 @@ fn is_notice_kind(kind: ClassKind) -> bool
 
 // Whether a name is that of a class of notices.
 fn is_notice(classes: &Table<Name, Class>, name: &Name) -> bool
-    ensures { result ≡ is_notice_class (told_of classes.now name.now) }
+    ensures { result ≡ is_notice_class (value_for classes.now name.now) }
 {
     match classes.get(name).copied() {
         None => false,
@@ -33,7 +33,7 @@ fn is_notice(classes: &Table<Name, Class>, name: &Name) -> bool
     }
 }
 
-// Keeps a class of notices with its number.
+// Adds a class of notices with its number.
 fn insert_notice(
     entries: &mut Table<Name, usize>,
     classes: &Table<Name, Class>,
@@ -52,13 +52,13 @@ fn insert_notice(
 struct Priorities;
 
 impl Telling for Priorities {
-    type Told = usize;
+    type Entry = usize;
 
     type Known = Table<Name, Class>;
 
-    ghost tells = { λ classes. priority_by classes };
+    ghost entries_by = { λ classes. priority_by classes };
 
-    // Keeps a class of notices that PRIORITY ORDER names.
+    // Adds a class of notices that PRIORITY ORDER names.
     fn note(
         entries: &mut Table<Name, usize>,
         classes: &Table<Name, Class>,
@@ -78,13 +78,13 @@ impl Telling for Priorities {
 struct Declared;
 
 impl Telling for Declared {
-    type Told = usize;
+    type Entry = usize;
 
     type Known = Table<Name, Class>;
 
-    ghost tells = { λ classes. declared_by classes };
+    ghost entries_by = { λ classes. declared_by classes };
 
-    // Keeps a class of notices that is declared.
+    // Adds a class of notices that is declared.
     fn note(
         entries: &mut Table<Name, usize>,
         classes: &Table<Name, Class>,
@@ -100,8 +100,8 @@ impl Telling for Declared {
     }
 }
 
-/// The classes of notices with their numbers: those of PRIORITY ORDER in that order, then the others as
-/// declared.
+/// The classes of notices with their numbers. Those of PRIORITY ORDER come first, in that order, then the
+/// others as declared.
 pub fn ranks_of(
     alloc: Global,
     classes: &Table<Name, Class>,
@@ -109,6 +109,6 @@ pub fn ranks_of(
 ) -> Result<Table<Name, usize>, AllocError>
     ensures { IfOk result (λ entries. entries ≡ ranks_among classes.now sayings.now) }
 {
-    let first = firsts_told::<Priorities>(alloc, classes.seed(), classes, sayings)?;
-    more_told::<Declared>(first, classes, sayings)
+    let first = collect_firsts::<Priorities>(alloc, classes.seed(), classes, sayings)?;
+    extend_firsts::<Declared>(first, classes, sayings)
 }

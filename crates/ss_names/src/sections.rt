@@ -6,7 +6,7 @@ ghost use Rattle.ss_names_declarations.specs.Firsts.{firsts};
 ghost use Rattle.ss_names.specs.Variables.{event_by, routine_by};
 
 use crate::entry::{Event, Routine};
-use crate::telling::{Telling, firsts_told};
+use crate::telling::{Telling, collect_firsts};
 use ss_base::Name;
 use ss_names_declarations::{Said, Saying, Seed, Table, insert_first};
 use std::alloc::{AllocError, Global};
@@ -15,13 +15,13 @@ use std::alloc::{AllocError, Global};
 struct Routines;
 
 impl Telling for Routines {
-    type Told = Routine;
+    type Entry = Routine;
 
     type Known = ();
 
-    ghost tells = { λ known. routine_by };
+    ghost entries_by = { λ known. routine_by };
 
-    // Keeps a routine.
+    // Adds a routine.
     fn note(
         entries: &mut Table<Name, Routine>,
         known: &(),
@@ -56,20 +56,20 @@ pub fn routines_of(
 ) -> Result<Table<Name, Routine>, AllocError>
     ensures { IfOk result (λ entries. entries ≡ firsts (flat_map (routine_by) sayings.now)) }
 {
-    firsts_told::<Routines>(alloc, seed, &(), sayings)
+    collect_firsts::<Routines>(alloc, seed, &(), sayings)
 }
 
 // The EVENT sections.
 struct Events;
 
 impl Telling for Events {
-    type Told = Event;
+    type Entry = Event;
 
     type Known = ();
 
-    ghost tells = { λ known. event_by };
+    ghost entries_by = { λ known. event_by };
 
-    // Keeps an EVENT section.
+    // Adds an EVENT section.
     fn note(
         entries: &mut Table<Name, Event>,
         known: &(),
@@ -96,7 +96,7 @@ impl Telling for Events {
     }
 }
 
-/// The EVENT sections, by the names that they have.
+/// The EVENT sections, by their names.
 pub fn events_of(
     alloc: Global,
     seed: Seed,
@@ -104,5 +104,5 @@ pub fn events_of(
 ) -> Result<Table<Name, Event>, AllocError>
     ensures { IfOk result (λ entries. entries ≡ firsts (flat_map (event_by) sayings.now)) }
 {
-    firsts_told::<Events>(alloc, seed, &(), sayings)
+    collect_firsts::<Events>(alloc, seed, &(), sayings)
 }

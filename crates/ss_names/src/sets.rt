@@ -6,7 +6,7 @@ ghost use Rattle.ss_names.specs.Entities.{classes as classes_said, member_by, or
 ghost use Rattle.ss_names_declarations.specs.Firsts.{each_once, firsts, with_name, with_name_if};
 
 use crate::entry::{Class, Ordering, Set};
-use crate::telling::{Telling, firsts_told};
+use crate::telling::{Telling, collect_firsts};
 use ss_base::{Name, Owner};
 use ss_names_declarations::{Keys, Said, Saying, Seed, Table, insert_first, insert_if};
 use std::alloc::{AllocError, Global};
@@ -15,13 +15,13 @@ use std::alloc::{AllocError, Global};
 struct Owners;
 
 impl Telling for Owners {
-    type Told = Owner;
+    type Entry = Owner;
 
     type Known = Table<Name, Class>;
 
-    ghost tells = { λ classes. owner_by classes };
+    ghost entries_by = { λ classes. owner_by classes };
 
-    // Keeps the owner of a set.
+    // Adds the owner of a set.
     fn note(
         entries: &mut Table<Name, Owner>,
         classes: &Table<Name, Class>,
@@ -41,7 +41,7 @@ impl Telling for Owners {
     }
 }
 
-/// Each set that has an owner, with the first.
+/// Each set that has an owner, with the first owner.
 pub fn owners_of(
     alloc: Global,
     classes: &Table<Name, Class>,
@@ -49,20 +49,20 @@ pub fn owners_of(
 ) -> Result<Table<Name, Owner>, AllocError>
     ensures { IfOk result (λ entries. entries ≡ firsts (flat_map (owner_by classes.now) sayings.now)) }
 {
-    firsts_told::<Owners>(alloc, classes.seed(), classes, sayings)
+    collect_firsts::<Owners>(alloc, classes.seed(), classes, sayings)
 }
 
 // The classes of the members of sets.
 struct Members;
 
 impl Telling for Members {
-    type Told = usize;
+    type Entry = usize;
 
     type Known = Table<Name, Class>;
 
-    ghost tells = { λ classes. member_by classes };
+    ghost entries_by = { λ classes. member_by classes };
 
-    // Keeps the class of the members of a set.
+    // Adds the class of the members of a set.
     fn note(
         entries: &mut Table<Name, usize>,
         classes: &Table<Name, Class>,
@@ -78,7 +78,7 @@ impl Telling for Members {
     }
 }
 
-/// Each set that has members, with the number of their class.
+/// Each set that has members, with the number of their first class.
 pub fn members_of(
     alloc: Global,
     classes: &Table<Name, Class>,
@@ -86,20 +86,20 @@ pub fn members_of(
 ) -> Result<Table<Name, usize>, AllocError>
     ensures { IfOk result (λ entries. entries ≡ firsts (flat_map (member_by classes.now) sayings.now)) }
 {
-    firsts_told::<Members>(alloc, classes.seed(), classes, sayings)
+    collect_firsts::<Members>(alloc, classes.seed(), classes, sayings)
 }
 
 // How DEFINE orders sets.
 struct Orderings;
 
 impl Telling for Orderings {
-    type Told = Ordering;
+    type Entry = Ordering;
 
     type Known = ();
 
-    ghost tells = { λ known. ordering_by };
+    ghost entries_by = { λ known. ordering_by };
 
-    // Keeps how a DEFINE orders a set.
+    // Adds how a DEFINE orders a set.
     fn note(
         entries: &mut Table<Name, Ordering>,
         known: &(),
@@ -121,7 +121,7 @@ impl Telling for Orderings {
     }
 }
 
-/// Each name that a DEFINE orders as a set, with the first.
+/// Each name that a DEFINE orders as a set, with the first order.
 pub fn orderings_of(
     alloc: Global,
     seed: Seed,
@@ -129,7 +129,7 @@ pub fn orderings_of(
 ) -> Result<Table<Name, Ordering>, AllocError>
     ensures { IfOk result (λ entries. entries ≡ firsts (flat_map (ordering_by) sayings.now)) }
 {
-    firsts_told::<Orderings>(alloc, seed, &(), sayings)
+    collect_firsts::<Orderings>(alloc, seed, &(), sayings)
 }
 
 // Adds a name, unless it is there.
@@ -145,7 +145,7 @@ fn add_name(names: &mut Keys<Name>, name: &Option<Name>) -> Result<(), AllocErro
     }
 }
 
-// Adds a set that is owned or belonged to.
+// Adds a set that a saying names as owned or belonged to.
 fn note_set(names: &mut Keys<Name>, saying: &Saying) -> Result<(), AllocError>
     ensures { OnOk result (names.new ≡ fold with_name names.old (set_by saying.now)) }
 {
@@ -168,7 +168,7 @@ pub fn set_names(alloc: Global, seed: Seed, sayings: &[Saying]) -> Result<Keys<N
     Ok(names)
 }
 
-// What is told of a set.
+// A set: its owner, its members and its order.
 fn set_of(
     owners: &Table<Name, Owner>,
     members: &Table<Name, usize>,
@@ -184,7 +184,7 @@ fn set_of(
     }
 }
 
-/// What is told of each of these sets.
+/// The sets of these names.
 pub fn sets_of(
     alloc: Global,
     owners: &Table<Name, Owner>,
@@ -201,7 +201,7 @@ pub fn sets_of(
     Ok(sets)
 }
 
-// The sets of these names, where this is told of their owners and members.
+// The sets of these names, by their owners and members.
 fn ordered_sets(
     alloc: Global,
     owners: &Table<Name, Owner>,
@@ -215,7 +215,7 @@ fn ordered_sets(
     sets_of(alloc, owners, members, &orderings, names.as_slice())
 }
 
-// The sets of these names, where this is told of their owners.
+// The sets of these names, by their owners.
 fn owned_sets(
     alloc: Global,
     classes: &Table<Name, Class>,
@@ -229,7 +229,7 @@ fn owned_sets(
     ordered_sets(alloc, owners, &members, names, sayings)
 }
 
-/// The sets of these names, where these are the classes.
+/// The sets of these names, by the classes.
 pub fn sets_in(
     alloc: Global,
     classes: &Table<Name, Class>,

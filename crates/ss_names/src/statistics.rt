@@ -1,4 +1,4 @@
-//! Statistics, and what they are of.
+//! Statistics and their subjects.
 
 ghost use Rattle.std.specs.Prelude.{◌≡◌, OnOk, IfOk};
 ghost use Rattle.std.specs.List.{flat_map, fold};
@@ -7,23 +7,23 @@ ghost use Rattle.ss_names.specs.Statistics.{statistic_by, statistic_of, statisti
 
 use crate::entry::Statistic;
 use crate::making::beside;
-use crate::telling::{Telling, firsts_told};
+use crate::telling::{Telling, collect_firsts};
 use ss_base::Name;
 use ss_names_declarations::{Said, Saying, Seed, Table, insert_first};
 use ss_tree::preamble::{StatisticKind, Weighting};
 use std::alloc::{AllocError, Global};
 
-// What TALLY and ACCUMULATE are of.
+// The subjects of TALLY and ACCUMULATE.
 struct Weighings;
 
 impl Telling for Weighings {
-    type Told = Weighting;
+    type Entry = Weighting;
 
     type Known = ();
 
-    ghost tells = { λ known. weighing_by };
+    ghost entries_by = { λ known. weighing_by };
 
-    // Keeps what a TALLY or an ACCUMULATE is of.
+    // Adds the subject of a TALLY or an ACCUMULATE.
     fn note(
         entries: &mut Table<Name, Weighting>,
         known: &(),
@@ -39,7 +39,7 @@ impl Telling for Weighings {
     }
 }
 
-/// What TALLY and ACCUMULATE name behind OF, each with how the first of them weighs its values.
+/// The subjects of TALLY and ACCUMULATE, each with how the first of them weighs its values.
 pub fn weighings_of(
     alloc: Global,
     seed: Seed,
@@ -47,10 +47,10 @@ pub fn weighings_of(
 ) -> Result<Table<Name, Weighting>, AllocError>
     ensures { IfOk result (λ entries. entries ≡ firsts (flat_map (weighing_by) sayings.now)) }
 {
-    firsts_told::<Weighings>(alloc, seed, &(), sayings)
+    collect_firsts::<Weighings>(alloc, seed, &(), sayings)
 }
 
-// Keeps a statistic, where its subject has a history.
+// Adds a statistic, if its subject has a history.
 fn insert_statistic(
     entries: &mut Table<Name, Statistic>,
     kind: StatisticKind,
@@ -69,13 +69,13 @@ fn insert_statistic(
 struct Statistics;
 
 impl Telling for Statistics {
-    type Told = Statistic;
+    type Entry = Statistic;
 
     type Known = Table<Name, Weighting>;
 
-    ghost tells = { λ weighings. statistic_by weighings };
+    ghost entries_by = { λ weighings. statistic_by weighings };
 
-    // Keeps a statistic.
+    // Adds a statistic.
     fn note(
         entries: &mut Table<Name, Statistic>,
         weighings: &Table<Name, Weighting>,
@@ -99,17 +99,17 @@ pub fn statistics_of(
 ) -> Result<Table<Name, Statistic>, AllocError>
     ensures { IfOk result (λ entries. entries ≡ firsts (flat_map (statistic_by weighings.now) sayings.now)) }
 {
-    firsts_told::<Statistics>(alloc, weighings.seed(), weighings, sayings)
+    collect_firsts::<Statistics>(alloc, weighings.seed(), weighings, sayings)
 }
 
-/// What TALLY and ACCUMULATE say: what they are of, and the statistics.
+/// What TALLY and ACCUMULATE declare: their subjects and the statistics.
 #[derive(Drop)]
 pub struct Tellings {
     pub weighings: Table<Name, Weighting>,
     pub statistics: Table<Name, Statistic>,
 }
 
-/// What TALLY and ACCUMULATE say, where this is said.
+/// The subjects and the statistics of these sayings.
 ///
 /// # Errors
 /// `AllocError` where memory is refused.

@@ -1,4 +1,4 @@
-//! What all sayings tell of names.
+//! Tables that are made in one pass over the sayings.
 
 ghost use Rattle.std.specs.Prelude.{◌≡◌, List, OnOk, IfOk};
 ghost use Rattle.std.specs.List.{flat_map, fold};
@@ -10,32 +10,32 @@ use ss_base::Name;
 use ss_names_declarations::{Saying, Seed, Table};
 use std::alloc::{AllocError, Global};
 
-/// A way in which sayings tell of names.
+/// A way to make a table of entries by names, saying by saying.
 pub trait Telling {
-    /// What is told of a name.
-    type Told: Copy;
+    /// What an entry has for its name.
+    type Entry: Copy;
 
     /// What is known before the sayings are read.
     type Known;
 
-    ghost tells: { Self.Known → SayingSeen → List (NameBytes × Self.Told) };
+    ghost entries_by: { Self.Known → SayingSeen → List (NameBytes × Self.Entry) };
 
-    /// Keeps what a saying tells.
+    /// Adds the entries of a saying, each unless its name has one.
     fn note(
-        entries: &mut Table<Name, Self::Told>,
+        entries: &mut Table<Name, Self::Entry>,
         known: &Self::Known,
         saying: &Saying,
     ) -> Result<(), AllocError>
-        ensures { OnOk result (entries.new ≡ fold with_first entries.old (tells known.now saying.now)) };
+        ensures { OnOk result (entries.new ≡ fold with_first entries.old (entries_by known.now saying.now)) };
 }
 
-/// These entries, and the first of what these sayings tell of each other name.
-pub fn more_told<T: Telling>(
-    entries: Table<Name, T::Told>,
+/// These entries, and the first entry of these sayings for each other name.
+pub fn extend_firsts<T: Telling>(
+    entries: Table<Name, T::Entry>,
     known: &T::Known,
     sayings: &[Saying],
-) -> Result<Table<Name, T::Told>, AllocError>
-    ensures { IfOk result (λ all. all ≡ fold with_first entries (flat_map (T.tells known.now) sayings.now)) }
+) -> Result<Table<Name, T::Entry>, AllocError>
+    ensures { IfOk result (λ all. all ≡ fold with_first entries (flat_map (T.entries_by known.now) sayings.now)) }
 {
     let mut all = entries;
     for saying in sayings {
@@ -44,14 +44,14 @@ pub fn more_told<T: Telling>(
     Ok(all)
 }
 
-/// The first of what these sayings tell of each name.
-pub fn firsts_told<T: Telling>(
+/// The first entry of these sayings for each name.
+pub fn collect_firsts<T: Telling>(
     alloc: Global,
     seed: Seed,
     known: &T::Known,
     sayings: &[Saying],
-) -> Result<Table<Name, T::Told>, AllocError>
-    ensures { IfOk result (λ entries. entries ≡ firsts (flat_map (T.tells known.now) sayings.now)) }
+) -> Result<Table<Name, T::Entry>, AllocError>
+    ensures { IfOk result (λ entries. entries ≡ firsts (flat_map (T.entries_by known.now) sayings.now)) }
 {
-    more_told::<T>(Table::new(alloc, seed), known, sayings)
+    extend_firsts::<T>(Table::new(alloc, seed), known, sayings)
 }

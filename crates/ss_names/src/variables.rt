@@ -2,18 +2,18 @@
 
 ghost use Rattle.std.specs.Prelude.{◌≡◌, is_some, [], ◌∷◌, if◌then◌else◌, OnOk, IfOk};
 ghost use Rattle.std.specs.List.{flat_map, fold};
-ghost use Rattle.ss_names_declarations.specs.Firsts.{firsts, told_of, with_first};
+ghost use Rattle.ss_names_declarations.specs.Firsts.{firsts, value_for, with_first};
 ghost use Rattle.ss_names.specs.Variables.{class_variables, count_name, variable_by};
 ghost use Rattle.ss_names.specs.declared.entry.VariableKind.TheVariants.{Defined, OfClass, CountOf};
 ghost use Rattle.ss_tree.specs.declared.preamble.Mode.TheVariants.{Integer};
 
 use crate::entry::{Attribute, Class, Variable, VariableKind};
 use ss_base::Name;
-use ss_names_declarations::{Said, Saying, Spelling, Table, insert_spelled, is_told};
+use ss_names_declarations::{Said, Saying, Spelling, Table, has_entry, insert_spelled};
 use ss_tree::preamble::{ClassKind, Mode};
 use std::alloc::{AllocError, Global};
 
-// Keeps the variable of a class.
+// Adds the variable of a class.
 fn insert_class(
     entries: &mut Table<Spelling, Variable>,
     name: &Name,
@@ -28,7 +28,7 @@ fn insert_class(
     insert_spelled(entries, Spelling::of_name(name), variable)
 }
 
-// Keeps N. of a class.
+// Adds N. of a class.
 fn insert_count(
     entries: &mut Table<Spelling, Variable>,
     name: &Name,
@@ -43,7 +43,7 @@ fn insert_count(
     insert_spelled(entries, Spelling::derived(b'N', name), variable)
 }
 
-// Keeps the variables of a class: that of its name, and N. of it where it is permanent.
+// Adds the variables of a class: that of its name, and N. of it if it is permanent.
 fn insert_class_variables(
     entries: &mut Table<Spelling, Variable>,
     kind: ClassKind,
@@ -65,27 +65,27 @@ fn insert_class_variables(
     }
 }
 
-// Keeps the variable of a DEFINE, unless it is an attribute.
+// Adds the variable of a DEFINE, unless it is an attribute.
 fn insert_defined(
     entries: &mut Table<Spelling, Variable>,
     attributes: &Table<Name, Attribute>,
     name: &Name,
     mode: Mode,
 ) -> Result<(), AllocError>
-    ensures { OnOk result (entries.new ≡ fold with_first entries.old (if is_some (told_of attributes.now name.now) then [] else (name.now, record { kind = Defined; mode = mode }) ∷ [])) }
+    ensures { OnOk result (entries.new ≡ fold with_first entries.old (if is_some (value_for attributes.now name.now) then [] else (name.now, record { kind = Defined; mode = mode }) ∷ [])) }
 {
     let variable = Variable {
         kind: VariableKind::Defined,
         mode,
     };
-    if is_told(attributes, name) {
+    if has_entry(attributes, name) {
         Ok(())
     } else {
         insert_spelled(entries, Spelling::of_name(name), variable)
     }
 }
 
-// Keeps the variables that a saying declares.
+// Adds the variables that a saying declares.
 fn note_variable(
     entries: &mut Table<Spelling, Variable>,
     classes: &Table<Name, Class>,

@@ -9,7 +9,7 @@ use Rattle.std.proofs.lemmas.Bool.Decides.{nat_tests}
 use Rattle.std.proofs.lemmas.Cmp.{nat_list_eq_equiv}
 use Rattle.std.proofs.lemmas.Map.Entries.{lookup_from_place}
 use Rattle.std.proofs.lemmas.Option.{slice_get-map}
-use Rattle.ss_names_declarations.specs.Firsts.{entry_beside, firsts, place_in, same_name, told_of, with_first}
+use Rattle.ss_names_declarations.specs.Firsts.{entry_beside, firsts, place_in, same_name, value_for, with_first}
 
 -- ---- by places
 
@@ -20,11 +20,11 @@ there (x ∷ xs) (suc i) lt = there xs i (omega (arith, lt))
 
 pub number : (b : Bool) (n m : ℕ) → cond (nat_lt (cond (not b) (1 + n) 0) (suc m)) (Some (cond (not b) (1 + n) 0)) None ≡ cond b (Some 0) (option_map suc (cond (nat_lt n m) (Some n) None))
 number true n m = grind (arith, nat_tests)
-number false n m = behind (nat_lt n m) refl
+number false n m = counted (nat_lt n m) refl
   where
-    behind : (b : Bool) → nat_lt n m ≡ b → cond (nat_lt (1 + n) (suc m)) (Some (1 + n)) None ≡ option_map suc (cond b (Some n) None)
-    behind true e = grind (arith, nat_tests, e)
-    behind false e = grind (arith, nat_tests, e)
+    counted : (b : Bool) → nat_lt n m ≡ b → cond (nat_lt (1 + n) (suc m)) (Some (1 + n)) None ≡ option_map suc (cond b (Some n) None)
+    counted true e = grind (arith, nat_tests, e)
+    counted false e = grind (arith, nat_tests, e)
 
 none_once : IsDistinct same_name []
 unfolding IsDistinct
@@ -60,61 +60,61 @@ module _ {V : Type 0} where
   place_cons : (name : List ℕ) (e : List ℕ × V) (es : List (List ℕ × V)) → place_in (e ∷ es) name ≡ cond (same_name name e.0) (Some 0) (option_map suc (place_in es name))
   place_cons name e es = number (same_name name e.0) (position_or_len (same_name name) (keys_of es)) (length (keys_of es))
 
-  -- where something is told of a name, and where nothing is
+  -- the place of a name that has an entry, and the value there
   abbrev pub IsPlacedAt : List (List ℕ × V) → List ℕ → V → ℕ → Type 0
   IsPlacedAt es name v i = (place_in es name ≡ Some i) × (slice_get es i ≡ Some (name, v))
 
-  pub place_of_told : (es : List (List ℕ × V)) (name : List ℕ) (v : V) → told_of es name ≡ Some v → (i : ℕ) × IsPlacedAt es name v i
-  place_of_told [] name v h = absurd cc
-  place_of_told (e ∷ es) name v h = by (same_name name e.0) (place_of_told es name v) refl
+  pub place_of_value : (es : List (List ℕ × V)) (name : List ℕ) (v : V) → value_for es name ≡ Some v → (i : ℕ) × IsPlacedAt es name v i
+  place_of_value [] name v h = absurd cc
+  place_of_value (e ∷ es) name v h = by (same_name name e.0) (place_of_value es name v) refl
     where
-      by : (b : Bool) → (told_of es name ≡ Some v → (i : ℕ) × IsPlacedAt es name v i) → same_name name e.0 ≡ b → (i : ℕ) × IsPlacedAt (e ∷ es) name v i
+      by : (b : Bool) → (value_for es name ≡ Some v → (i : ℕ) × IsPlacedAt es name v i) → same_name name e.0 ≡ b → (i : ℕ) × IsPlacedAt (e ∷ es) name v i
       by true next is =
           let same : name ≡ e.0 = (bytes_decides name e.0).0 is in
-          let here : cond true (Some e.1) (told_of es name) ≡ Some v = subst (λ b. cond b (Some e.1) (told_of es name) ≡ Some v) is h in
+          let here : cond true (Some e.1) (value_for es name) ≡ Some v = subst (λ b. cond b (Some e.1) (value_for es name) ≡ Some v) is h in
           let value : e.1 ≡ v = cc in
           (0, (place_cons name e es ∙ ap (λ b. cond b (Some 0) (option_map suc (place_in es name))) is, λ i. Some (sym same i, value i)))
       by false next is =
-          let rest : told_of es name ≡ Some v = subst (λ b. cond b (Some e.1) (told_of es name) ≡ Some v) is h in
+          let rest : value_for es name ≡ Some v = subst (λ b. cond b (Some e.1) (value_for es name) ≡ Some v) is h in
           let found = next rest in
           (suc found.0, (place_cons name e es ∙ ap (λ b. cond b (Some 0) (option_map suc (place_in es name))) is ∙ ap (option_map suc) found.1.0, found.1.1))
 
-  pub no_place : (es : List (List ℕ × V)) (name : List ℕ) → told_of es name ≡ None → place_in es name ≡ None
+  pub no_place : (es : List (List ℕ × V)) (name : List ℕ) → value_for es name ≡ None → place_in es name ≡ None
   no_place [] name h = refl
   no_place (e ∷ es) name h = by (same_name name e.0) (no_place es name) refl
     where
-      by : (b : Bool) → (told_of es name ≡ None → place_in es name ≡ None) → same_name name e.0 ≡ b → place_in (e ∷ es) name ≡ None
+      by : (b : Bool) → (value_for es name ≡ None → place_in es name ≡ None) → same_name name e.0 ≡ b → place_in (e ∷ es) name ≡ None
       by true next is =
-          let here : cond true (Some e.1) (told_of es name) ≡ None = subst (λ b. cond b (Some e.1) (told_of es name) ≡ None) is h in
+          let here : cond true (Some e.1) (value_for es name) ≡ None = subst (λ b. cond b (Some e.1) (value_for es name) ≡ None) is h in
           absurd cc
       by false next is =
-          let rest : told_of es name ≡ None = subst (λ b. cond b (Some e.1) (told_of es name) ≡ None) is h in
+          let rest : value_for es name ≡ None = subst (λ b. cond b (Some e.1) (value_for es name) ≡ None) is h in
           place_cons name e es ∙ ap (λ b. cond b (Some 0) (option_map suc (place_in es name))) is ∙ ap (option_map suc) (next rest)
 
-  -- what is told of a name is at its place
-  pub told_by_place : (es : List (List ℕ × V)) (name : List ℕ) (i : ℕ) → place_in es name ≡ Some i → (v : V) × (told_of es name ≡ Some v) × (slice_get es i ≡ Some (name, v))
-  told_by_place es name i h = by (told_of es name) refl
+  -- the value for a name is the one at its place
+  pub value_by_place : (es : List (List ℕ × V)) (name : List ℕ) (i : ℕ) → place_in es name ≡ Some i → (v : V) × (value_for es name ≡ Some v) × (slice_get es i ≡ Some (name, v))
+  value_by_place es name i h = by (value_for es name) refl
     where
-      by : (o : Option V) → told_of es name ≡ o → (v : V) × (told_of es name ≡ Some v) × (slice_get es i ≡ Some (name, v))
+      by : (o : Option V) → value_for es name ≡ o → (v : V) × (value_for es name ≡ Some v) × (slice_get es i ≡ Some (name, v))
       by None e =
           let none = no_place es name e in
           absurd cc
       by (Some v) e =
-          let found = place_of_told es name v e in
+          let found = place_of_value es name v e in
           let same : found.0 ≡ i = cc in
           (v, e, subst (λ k. slice_get es k ≡ Some (name, v)) same found.1.1)
 
   -- ---- each name once
 
-  apart : (es : List (List ℕ × V)) (name : List ℕ) → told_of es name ≡ None → Every (λ k. same_name name k ≡ false) (keys_of es)
+  apart : (es : List (List ℕ × V)) (name : List ℕ) → value_for es name ≡ None → Every (λ k. same_name name k ≡ false) (keys_of es)
   apart [] name h = tt
   apart (e ∷ es) name h = by (same_name name e.0) (apart es name) refl
     where
-      by : (b : Bool) → (told_of es name ≡ None → Every (λ k. same_name name k ≡ false) (keys_of es)) → same_name name e.0 ≡ b → Every (λ k. same_name name k ≡ false) (keys_of (e ∷ es))
+      by : (b : Bool) → (value_for es name ≡ None → Every (λ k. same_name name k ≡ false) (keys_of es)) → same_name name e.0 ≡ b → Every (λ k. same_name name k ≡ false) (keys_of (e ∷ es))
       by true next is =
-          let here : cond true (Some e.1) (told_of es name) ≡ None = subst (λ b. cond b (Some e.1) (told_of es name) ≡ None) is h in
+          let here : cond true (Some e.1) (value_for es name) ≡ None = subst (λ b. cond b (Some e.1) (value_for es name) ≡ None) is h in
           absurd cc
-      by false next is = (is, next (subst (λ b. cond b (Some e.1) (told_of es name) ≡ None) is h))
+      by false next is = (is, next (subst (λ b. cond b (Some e.1) (value_for es name) ≡ None) is h))
 
   pushed_once : (es : List (List ℕ × V)) (e : List ℕ × V) → Every (λ k. same_name e.0 k ≡ false) (keys_of es) → IsDistinct same_name (keys_of es) → IsDistinct same_name (keys_of (es ++ e ∷ []))
   unfolding IsDistinct
@@ -125,22 +125,22 @@ module _ {V : Type 0} where
       one_more [] k = (nat_list_eq_equiv.symm f.0 e.0 ∙ h.0, tt)
       one_more (g ∷ gs) k = (k.0, one_more gs k.1)
 
-  beside_once : (es : List (List ℕ × V)) (e : List ℕ × V) (known : Option V) → told_of es e.0 ≡ known → IsDistinct same_name (keys_of es) → IsDistinct same_name (keys_of (entry_beside es e known))
+  beside_once : (es : List (List ℕ × V)) (e : List ℕ × V) (known : Option V) → value_for es e.0 ≡ known → IsDistinct same_name (keys_of es) → IsDistinct same_name (keys_of (entry_beside es e known))
   beside_once es e None h d = pushed_once es e (apart es e.0 h) d
   beside_once es e (Some v) h d = d
 
   folded_once : (start all : List (List ℕ × V)) → IsDistinct same_name (keys_of start) → IsDistinct same_name (keys_of (fold with_first start all))
   folded_once start [] d = d
-  folded_once start (e ∷ es) d = folded_once (with_first start e) es (beside_once start e (told_of start e.0) refl d)
+  folded_once start (e ∷ es) d = folded_once (with_first start e) es (beside_once start e (value_for start e.0) refl d)
 
   pub firsts_once : (all : List (List ℕ × V)) → IsDistinct same_name (keys_of (firsts all))
   firsts_once all = folded_once [] all none_once
 
-  -- what stands at a place is what is told of its name, where each name stands once
-  pub told_from_place : (es : List (List ℕ × V)) (i : ℕ) (name : List ℕ) (v : V) → IsDistinct same_name (keys_of es) → slice_get es i ≡ Some (name, v) → told_of es name ≡ Some v
-  told_from_place es i name v d h = lookup_from_place nat_list_eq_equiv es i name v d h
+  -- the value at a place is the value for its name, where each name has one entry
+  pub value_from_place : (es : List (List ℕ × V)) (i : ℕ) (name : List ℕ) (v : V) → IsDistinct same_name (keys_of es) → slice_get es i ≡ Some (name, v) → value_for es name ≡ Some v
+  value_from_place es i name v d h = lookup_from_place nat_list_eq_equiv es i name v d h
 
-  -- where a name stands is its place
+  -- the place of a name is where its entry is, where each name has one entry
   pub place_from : (es : List (List ℕ × V)) (i : ℕ) (name : List ℕ) (v : V) → IsDistinct same_name (keys_of es) → slice_get es i ≡ Some (name, v) → place_in es name ≡ Some i
   unfolding IsDistinct
   place_from [] i name v d h = absurd cc
@@ -164,10 +164,10 @@ module _ {V : Type 0} where
   one_or_more true u o p = refl
   one_or_more false u o p = refl
 
-  pub told_append : (xs ys : List (List ℕ × V)) (name : List ℕ) → told_of (xs ++ ys) name ≡ option_or (told_of xs name) (told_of ys name)
-  told_append [] ys name = refl
-  told_append (e ∷ xs) ys name =
-      ap (cond (same_name name e.0) (Some e.1)) (told_append xs ys name) ∙ one_or_more (same_name name e.0) e.1 (told_of xs name) (told_of ys name)
+  pub value_append : (xs ys : List (List ℕ × V)) (name : List ℕ) → value_for (xs ++ ys) name ≡ option_or (value_for xs name) (value_for ys name)
+  value_append [] ys name = refl
+  value_append (e ∷ xs) ys name =
+      ap (cond (same_name name e.0) (Some e.1)) (value_append xs ys name) ∙ one_or_more (same_name name e.0) e.1 (value_for xs name) (value_for ys name)
 
   or_assoc : (a b c : Option V) → option_or (option_or a b) c ≡ option_or a (option_or b c)
   or_assoc None b c = refl
@@ -177,31 +177,31 @@ module _ {V : Type 0} where
   or_none None = refl
   or_none (Some a) = refl
 
-  once_there : (b : Bool) (name : List ℕ) (e : List ℕ × V) (start : List (List ℕ × V)) (k : V) (rest : Option V) → same_name name e.0 ≡ b → told_of start e.0 ≡ Some k →
-      option_or (told_of start name) rest ≡ option_or (told_of start name) (cond b (Some e.1) rest)
+  once_there : (b : Bool) (name : List ℕ) (e : List ℕ × V) (start : List (List ℕ × V)) (k : V) (rest : Option V) → same_name name e.0 ≡ b → value_for start e.0 ≡ Some k →
+      option_or (value_for start name) rest ≡ option_or (value_for start name) (cond b (Some e.1) rest)
   once_there true name e start k rest is h =
-      let there : told_of start name ≡ Some k = ap (told_of start) ((bytes_decides name e.0).0 is) ∙ h in
+      let there : value_for start name ≡ Some k = ap (value_for start) ((bytes_decides name e.0).0 is) ∙ h in
       ap (λ o. option_or o rest) there ∙ ap (λ o. option_or o (Some e.1)) (sym there)
   once_there false name e start k rest is h = refl
 
-  with_one : (start : List (List ℕ × V)) (e : List ℕ × V) (known rest : Option V) (name : List ℕ) → told_of start e.0 ≡ known →
-      option_or (told_of (entry_beside start e known) name) rest ≡ option_or (told_of start name) (cond (same_name name e.0) (Some e.1) rest)
+  with_one : (start : List (List ℕ × V)) (e : List ℕ × V) (known rest : Option V) (name : List ℕ) → value_for start e.0 ≡ known →
+      option_or (value_for (entry_beside start e known) name) rest ≡ option_or (value_for start name) (cond (same_name name e.0) (Some e.1) rest)
   with_one start e None rest name h =
-      ap (λ o. option_or o rest) (told_append start (e ∷ []) name) ∙ or_assoc (told_of start name) (told_of (e ∷ []) name) rest ∙
-      ap (option_or (told_of start name)) (sym (one_or_more (same_name name e.0) e.1 None rest))
+      ap (λ o. option_or o rest) (value_append start (e ∷ []) name) ∙ or_assoc (value_for start name) (value_for (e ∷ []) name) rest ∙
+      ap (option_or (value_for start name)) (sym (one_or_more (same_name name e.0) e.1 None rest))
   with_one start e (Some k) rest name h =
       once_there (same_name name e.0) name e start k rest refl h ∙ refl
 
-  told_folded : (start all : List (List ℕ × V)) (name : List ℕ) → told_of (fold with_first start all) name ≡ option_or (told_of start name) (told_of all name)
-  told_folded start [] name = sym (or_none (told_of start name))
-  told_folded start (e ∷ es) name =
-      told_folded (with_first start e) es name ∙ with_one start e (told_of start e.0) (told_of es name) name refl
+  value_folded : (start all : List (List ℕ × V)) (name : List ℕ) → value_for (fold with_first start all) name ≡ option_or (value_for start name) (value_for all name)
+  value_folded start [] name = sym (or_none (value_for start name))
+  value_folded start (e ∷ es) name =
+      value_folded (with_first start e) es name ∙ with_one start e (value_for start e.0) (value_for es name) name refl
 
-  -- of each name the first entry is told
-  pub told_first : (all : List (List ℕ × V)) (name : List ℕ) → told_of (firsts all) name ≡ told_of all name
-  told_first all name = told_folded [] all name
+  -- of each name the first entry counts
+  pub value_in_firsts : (all : List (List ℕ × V)) (name : List ℕ) → value_for (firsts all) name ≡ value_for all name
+  value_in_firsts all name = value_folded [] all name
 
--- an entry more where nothing is told of its name yet
-pub beside_if : {V : Type 0} (es : List (List ℕ × V)) (e : List ℕ × V) (told : Option V) → cond (is_some told) es (es ++ e ∷ []) ≡ entry_beside es e told
+-- one more entry, where its name has none yet
+pub beside_if : {V : Type 0} (es : List (List ℕ × V)) (e : List ℕ × V) (earlier : Option V) → cond (is_some earlier) es (es ++ e ∷ []) ≡ entry_beside es e earlier
 beside_if es e None = refl
 beside_if es e (Some v) = refl

@@ -13,22 +13,22 @@ append_nil : {A : Type 0} (xs : List A) → xs ++ [] ≡ xs
 append_nil [] = refl
 append_nil (x ∷ xs) = ap (λ l. x ∷ l) (append_nil xs)
 
--- the elements so far and the next
+-- the list so far, with the next element
 next_taken : {A B : Type 0} (f : A → B) (xs : List A) (i : ℕ) (x : A) → i < length xs → x ≡ get_or xs i x → map f (take (i + 1) xs) ≡ map f (take i xs) ++ f x ∷ []
 next_taken f xs i x lt e =
     ap (map f) (take_more xs i x lt) ∙ map-append f (take i xs) (get_or xs i x ∷ []) ∙ ap (λ y. map f (take i xs) ++ f y ∷ []) (sym e)
 
--- a loop that adds one saying of each
+-- a loop that adds one saying for each element
 pub adds_one : {A : Type 0} (says : A → Saying) (xs : List A) (i : ℕ) (x : A) (start now after : List Saying) → i < length xs → x ≡ get_or xs i x → now ≡ start ++ map says (take i xs) → after ≡ now ++ says x ∷ [] → after ≡ start ++ map says (take (i + 1) xs)
 adds_one says xs i x start now after lt is e more =
     more ∙ ap (λ l. l ++ says x ∷ []) e ∙ append_assoc start (map says (take i xs)) (says x ∷ []) ∙ ap (λ l. start ++ l) (sym (next_taken says xs i x lt is))
 
--- a loop that adds what each says, whatever its number
+-- a loop that adds the sayings of each element, whatever its number
 pub adds_all : {A B : Type 0} (view : A → B) (says : B → List Saying) (xs : List A) (i : ℕ) (x : A) (start now after : List Saying) → i < length xs → x ≡ get_or xs i x → now ≡ start ++ flat_map says (map view (take i xs)) → after ≡ now ++ says (view x) → after ≡ start ++ flat_map says (map view (take (i + 1) xs))
 adds_all view says xs i x start now after lt is e more =
     more ∙ ap (λ l. l ++ says (view x)) e ∙ flat_map_more says start (map view (take i xs)) (view x) ∙ ap (λ l. start ++ flat_map says l) (sym (next_taken view xs i x lt is))
 
--- what numbered things say, the first of which has this number
+-- the sayings of numbered elements, the first of which has this number
 abbrev say_all : {A : Type 0} → (ℕ → A → List Saying) → ℕ → List A → List Saying
 say_all says n [] = []
 say_all says n (x ∷ xs) = says n x ++ say_all says (n + 1) xs
@@ -42,7 +42,7 @@ say_more says n (y ∷ xs) x =
     ∙ sym (append_assoc (says n y) (say_all says (n + 1) xs) (says (n + 1 + length xs) x))
     ∙ ap (λ m. (says n y ++ say_all says (n + 1) xs) ++ says m x) k
 
--- a loop that adds what each says
+-- a loop that adds the sayings of each numbered element
 adds : {A B : Type 0} (view : A → B) (says : ℕ → B → List Saying) (xs : List A) (i : ℕ) (x : A) (start now after : List Saying) → i < length xs → x ≡ get_or xs i x → now ≡ start ++ say_all says 0 (map view (take i xs)) → after ≡ now ++ says i (view x) → after ≡ start ++ say_all says 0 (map view (take (i + 1) xs))
 adds view says xs i x start now after lt is e more =
     let seen = map view (take i xs) in
@@ -59,13 +59,13 @@ sections_are : (n : ℕ) (ss : List SectionTree) → say_all section_says n ss �
 sections_are n [] = refl
 sections_are n (s ∷ ss) = ap (λ l. section_says n s ++ l) (sections_are (n + 1) ss)
 
--- a loop that adds what each statement of a preamble says
+-- a loop that adds the sayings of each statement of a preamble
 pub adds_statement : (xs : List PreambleStatement) (i : ℕ) (x : PreambleStatement) (start now after : List Saying) → i < length xs → x ≡ get_or xs i x → now ≡ start ++ preambles_say 0 (map view_preamble (take i xs)) → after ≡ now ++ preamble_says i (view_preamble x) → after ≡ start ++ preambles_say 0 (map view_preamble (take (i + 1) xs))
 adds_statement xs i x start now after lt is e more =
     adds view_preamble preamble_says xs i x start now after lt is (e ∙ ap (λ l. start ++ l) (sym (statements_are 0 (map view_preamble (take i xs))))) more
     ∙ ap (λ l. start ++ l) (statements_are 0 (map view_preamble (take (i + 1) xs)))
 
--- a loop that adds what each section says
+-- a loop that adds the sayings of each section
 pub adds_section : (xs : List Section) (i : ℕ) (x : Section) (start now after : List Saying) → i < length xs → x ≡ get_or xs i x → now ≡ start ++ sections_say 0 (map view_section (take i xs)) → after ≡ now ++ section_says i (view_section x) → after ≡ start ++ sections_say 0 (map view_section (take (i + 1) xs))
 adds_section xs i x start now after lt is e more =
     adds view_section section_says xs i x start now after lt is (e ∙ ap (λ l. start ++ l) (sym (sections_are 0 (map view_section (take i xs))))) more

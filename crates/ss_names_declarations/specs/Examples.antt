@@ -1,4 +1,4 @@
--- Worked examples: what small programs say, read off by hand.
+-- Worked examples: the sayings of small programs, read off by hand.
 use Rattle.std.specs.Prelude.{◌≡◌, ℕ, Bool, true, false, [], ◌∷◌, codes, refl}
 use Rattle.ss_base.specs.declared.line.Line.{Line}
 use Rattle.ss_tree.specs.declared.preamble.ClassKind.TheVariants as class_kinds
@@ -19,11 +19,11 @@ line n = record { 0 = n }
 abbrev key : Bool → NameBytes → Key
 key high name = record { high = high; name = name }
 
--- in this line this is said of a name
+-- a saying in this line, about a name
 abbrev says : ℕ → Said → NameBytes → Saying
 says n what name = said_of (line n) what name
 
--- in this line this is said of no name
+-- a saying in this line that names nothing
 abbrev says_alone : ℕ → Said → Saying
 says_alone n what = said_alone (line n) what
 
@@ -42,7 +42,7 @@ a_class = refl
 
 -- DEFINE P AND Q AS SETS RANKED BY HIGH R THEN BY LOW T
 -- DEFINE S AS A LIFO SET
--- The keys stand behind the sets and carry the number of their DEFINE, which is the first statement.
+-- The keys come after the sets and carry the number of their DEFINE, which is the first statement.
 pub ranked_sets : sayings (record { preamble = define_sets (line 1) (codes "P" ∷ codes "Q" ∷ []) (ranked (key true (codes "R") ∷ key false (codes "T") ∷ [])) ∷ define_sets (line 2) (codes "S" ∷ []) lifo ∷ []; sections = [] }) ≡
     says 1 (said.Discipline 0 rules.Ranked) (codes "P") ∷ says 1 (said.Discipline 0 rules.Ranked) (codes "Q") ∷
     says 1 (said.RankKey 0 true) (codes "R") ∷ says 1 (said.RankKey 0 false) (codes "T") ∷
@@ -77,6 +77,6 @@ pub three_sections : sayings (record { preamble = []; sections = record { line =
     says 5 (said.Event 2 1 true) (codes "BELL") ∷ says 5 (said.Given 2) (codes "TONE") ∷ []
 three_sections = refl
 
--- the empty program says nothing
+-- the empty program has no sayings
 pub nothing : sayings (record { preamble = []; sections = [] }) ≡ []
 nothing = refl

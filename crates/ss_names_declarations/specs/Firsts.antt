@@ -1,4 +1,4 @@
--- Names, and the first of what is told of each. A name is seen as the list of its bytes.
+-- Entries by names, of which the first of each name counts. A name is seen as the list of its bytes.
 use Rattle.std.specs.Prelude.{ℕ, nat_eq, Bool, List, [], ◌∷◌, ◌++◌, Option, Some, None, if◌then◌else◌}
 use Rattle.std.specs.List.{fold, list_any, position}
 use Rattle.std.specs.Map.{keys_of, lookup}
@@ -10,9 +10,9 @@ same_name a b = pointwise nat_eq a b
 abbrev pub is_one_of : List (List ℕ) → List ℕ → Bool
 is_one_of names name = list_any (same_name name) names
 
--- what is told of a name
-abbrev pub told_of : {V : Type 0} → List (List ℕ × V) → List ℕ → Option V
-told_of entries name = lookup (same_name name) entries
+-- the value for a name: that of its first entry
+abbrev pub value_for : {V : Type 0} → List (List ℕ × V) → List ℕ → Option V
+value_for entries name = lookup (same_name name) entries
 
 -- the entries and one more, whose name may have one already
 abbrev pub entry_beside : {V : Type 0} → List (List ℕ × V) → List ℕ × V → Option V → List (List ℕ × V)
@@ -21,7 +21,7 @@ entry_beside entries e (Some known) = entries
 
 -- the entries and one more, unless its name has one
 abbrev pub with_first : {V : Type 0} → List (List ℕ × V) → List ℕ × V → List (List ℕ × V)
-with_first entries e = entry_beside entries e (told_of entries e.0)
+with_first entries e = entry_beside entries e (value_for entries e.0)
 
 -- each name once, with the first of its entries
 abbrev pub firsts : {V : Type 0} → List (List ℕ × V) → List (List ℕ × V)
@@ -47,7 +47,7 @@ place_among names name = position (same_name name) names
 abbrev pub place_in : {V : Type 0} → List (List ℕ × V) → List ℕ → Option ℕ
 place_in entries name = place_among (keys_of entries) name
 
--- an entry, where there is something to tell
+-- an entry of this name, if there is a value for it
 abbrev pub entry_if : {V : Type 0} → List ℕ → Option V → List (List ℕ × V)
 entry_if name None = []
 entry_if name (Some v) = (name, v) ∷ []

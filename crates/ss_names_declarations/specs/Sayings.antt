@@ -1,4 +1,4 @@
--- What a program says of its names: a list in the order of the text.
+-- What a program declares: the list of its sayings, in the order of the text.
 use Rattle.std.specs.Prelude.{ℕ, ◌+◌, List, [], ◌∷◌, ◌++◌, length, map, Some, None}
 use Rattle.std.specs.List.{flat_map}
 use Rattle.ss_base.specs.declared.line.Line.{Line}
@@ -17,21 +17,21 @@ use Rattle.ss_names_declarations.specs.declared.saying.Saying.{Saying}
 abbrev pub NameBytes : Type 0
 NameBytes = List ℕ
 
--- this is said of a name
+-- a saying about a name
 abbrev pub said_of : Line → Said → NameBytes → Saying
 said_of line what name = record { line = line; said = what; name = Some name }
 
--- this is said by a statement that names nothing
+-- a saying that names nothing
 abbrev pub said_alone : Line → Said → Saying
 said_alone line what = record { line = line; said = what; name = None }
 
--- the same is said of several names
+-- a saying about each of several names
 abbrev pub said_of_all : Line → Said → List NameBytes → List Saying
 said_of_all line what names = map (said_of line what) names
 
 -- ---- statements of the preamble
 
--- what an EVERY says of the attributes and the sets of its class
+-- the sayings of a clause of an EVERY, about the attributes and the sets of its class
 abbrev pub clause_says : Line → NameBytes → ClauseTree → List Saying
 clause_says line class (has names) = said_of_all line (said.Attribute class) names
 clause_says line class (owns names) = said_of_all line (said.OwnedSet class) names
@@ -60,7 +60,7 @@ tie_says line class key = said_of line (said.TieKey class key.high) key.name
 abbrev pub statistic_says : Line → Weighting → NameBytes → Statistic → Saying
 statistic_says line weighting subject s = said_of line (said.Statistic weighting s.kind subject) s.name
 
--- what the statement of this number in the preamble says
+-- the sayings of the statement of this number in the preamble
 abbrev pub preamble_says : ℕ → PreambleTree → List Saying
 preamble_says number (permanent_entities line) = []
 preamble_says number (temporary_entities line) = []
@@ -78,14 +78,14 @@ preamble_says number (break_ties line class keys) = said_of line said.Ties class
 preamble_says number (statistics line weighting found subject) =
     map (statistic_says line weighting subject) found ++ said_of line (said.Subject weighting) subject ∷ []
 
--- what statements of a preamble say, the first of which has this number
+-- the sayings of statements of a preamble, the first of which has this number
 abbrev pub preambles_say : ℕ → List PreambleTree → List Saying
 preambles_say number [] = []
 preambles_say number (s ∷ ss) = preamble_says number s ++ preambles_say (number + 1) ss
 
 -- ---- heads of sections
 
--- what the head of the section of this number says
+-- the sayings of the head of the section of this number
 abbrev pub head_says : Line → ℕ → SectionKindTree → List Saying
 head_says line number main = said_alone line (said.Main number) ∷ []
 head_says line number (routine name given yielding) =
@@ -94,20 +94,20 @@ head_says line number (routine name given yielding) =
 head_says line number (event name given saving) =
     said_of line (said.Event number (length given) saving) name ∷ said_of_all line (said.Given number) given
 
--- what a DEFINE at the head of the section of this number says
+-- the sayings of a DEFINE at the head of the section of this number
 abbrev pub definition_says : ℕ → DefinitionTree → List Saying
 definition_says number d = said_of_all d.line (said.Local number d.mode) d.names
 
 abbrev pub section_says : ℕ → SectionTree → List Saying
 section_says number s = head_says s.line number s.kind ++ flat_map (definition_says number) s.definitions
 
--- what sections say, the first of which has this number
+-- the sayings of sections, the first of which has this number
 abbrev pub sections_say : ℕ → List SectionTree → List Saying
 sections_say number [] = []
 sections_say number (s ∷ ss) = section_says number s ++ sections_say (number + 1) ss
 
 -- ---- programs
 
--- what a program says
+-- the sayings of a program
 abbrev pub sayings : ProgramTree → List Saying
 sayings p = preambles_say 0 p.preamble ++ sections_say 0 p.sections

@@ -6,7 +6,7 @@ use Rattle.std.specs.List.{list_all}
 abbrev pub spelling_limit : ℕ
 spelling_limit = 34
 
--- a spelling with zeros behind it, as many as fill its room
+-- a spelling with zeros after it, as many as fill its room
 abbrev pub padded : List ℕ → List ℕ
 padded bytes = bytes ++ replicate (spelling_limit - length bytes) 0
 

@@ -1,16 +1,15 @@
-//! The first of what is told of each name.
+//! Tables by names of texts, in which the first entry of a name counts.
 
 ghost use Rattle.std.specs.Prelude.{◌≡◌, is_some, slice_get, OnOk};
 ghost use Rattle.std.specs.List.{fold};
 ghost use Rattle.std.specs.Map.{keys_of, values_of};
-ghost use Rattle.ss_names_declarations.specs.Firsts.{entry_if, told_of, with_first};
+ghost use Rattle.ss_names_declarations.specs.Firsts.{entry_if, value_for, with_first};
 
 use crate::table::Table;
 use ss_base::Name;
 use std::alloc::AllocError;
 
-/// Keeps what is told of a name behind the others, unless something is told of it, and then all stays as it
-/// was.
+/// Adds an entry after the others. If its name has one, the table stays as it was.
 ///
 /// # Errors
 /// `AllocError` where memory is refused.
@@ -24,7 +23,7 @@ pub fn insert_first<V: Copy>(
     entries.insert_new(name, value)
 }
 
-/// The same, where there is something to tell.
+/// Adds an entry as `insert_first` does, if there is a value for it.
 ///
 /// # Errors
 /// `AllocError` where memory is refused.
@@ -41,21 +40,21 @@ pub fn insert_if<V: Copy>(
     }
 }
 
-/// Whether something is told of a name.
-pub fn is_told<V: Copy>(entries: &Table<Name, V>, name: &Name) -> bool
-    ensures { result ≡ is_some (told_of entries.now name.now) }
+/// Whether a name has an entry.
+pub fn has_entry<V: Copy>(entries: &Table<Name, V>, name: &Name) -> bool
+    ensures { result ≡ is_some (value_for entries.now name.now) }
 {
     entries.get(name).is_some()
 }
 
-/// The name of this number. None where there are not so many.
+/// The name of the entry of this number. None if there are not so many.
 pub fn key_at<V: Copy>(entries: &Table<Name, V>, number: usize) -> Option<Name>
     ensures { result ≡ slice_get (keys_of entries.now) number }
 {
     entries.keys().get(number).copied()
 }
 
-/// What is told of the name of this number. None where there are not so many.
+/// The value of the entry of this number. None if there are not so many.
 pub fn value_at<V: Copy>(entries: &Table<Name, V>, number: usize) -> Option<V>
     ensures { result ≡ slice_get (values_of entries.now) number }
 {

@@ -9,7 +9,7 @@ use std::alloc::{AllocError, Global};
 use std::hash::Hash;
 use std::marker::Model;
 
-/// Keys in the order in which they came, each once; the place of one is found without a walk. A contract sees the list.
+/// Keys in the order in which they came, each once. The place of a key is found without a walk. A contract sees the list.
 #[derive(Drop)]
 pub struct Keys<K: Copy + Eq + Hash> {
     set: IndexSet<K, Seed>,
@@ -24,7 +24,7 @@ impl<K: Copy + Eq + Hash> Model for Keys<K> {
 }
 
 impl<K: Copy + Eq + Hash> Keys<K> {
-    /// No key. The seed is made from all that will come.
+    /// No key. The seed is made from all keys that will come.
     pub fn new(alloc: Global, seed: Seed) -> Keys<K>
         ensures { result ≡ [] }
     {

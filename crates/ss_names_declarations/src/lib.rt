@@ -10,7 +10,7 @@ mod spelled;
 mod spelling;
 mod table;
 
-pub use first::{insert_first, insert_if, is_told, key_at, value_at};
+pub use first::{has_entry, insert_first, insert_if, key_at, value_at};
 pub use keys::Keys;
 pub use saying::{Said, Saying, SetRule};
 pub use sayings::sayings_of;

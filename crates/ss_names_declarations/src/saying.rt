@@ -1,18 +1,18 @@
-//! What is said of a name.
+//! Sayings: what a program declares of a name.
 
 use ss_base::{Line, Name};
 use ss_tree::preamble::{ClassKind, Mode, StatisticKind, Weighting};
 
-/// How a DEFINE orders a set. The keys of a ranked one are sayings of their own.
+/// How a DEFINE orders a set. The keys of a ranked set have sayings of their own.
 #[derive(Clone, Copy)]
 pub enum SetRule {
-    /// FIFO, or nothing said.
+    /// FIFO, which is also the rule of a DEFINE that gives none.
     Fifo,
     Lifo,
     Ranked,
 }
 
-/// What is said of a name, or by a statement that has none.
+/// What is declared of a name, or by a statement that names nothing.
 #[derive(Clone, Copy)]
 pub enum Said {
     /// NORMALLY.
@@ -68,7 +68,7 @@ pub enum Said {
         kind: StatisticKind,
         subject: Name,
     },
-    /// What a TALLY or an ACCUMULATE is of.
+    /// The subject of a TALLY or an ACCUMULATE.
     Subject {
         weighting: Weighting,
     },
@@ -104,7 +104,7 @@ pub enum Said {
     },
 }
 
-/// A name, what is said of it, and in which line.
+/// A saying: a name, what is declared of it, and the line.
 #[derive(Clone, Copy)]
 pub struct Saying {
     /// The line of the statement of the preamble, of the section or of the local DEFINE.

@@ -1,4 +1,4 @@
-//! The list of what a program says of its names.
+//! The list of the sayings of a program.
 
 ghost use Rattle.std.specs.Prelude.{◌≡◌, [], ◌∷◌, ◌++◌, map, OnOk, IfOk};
 ghost use Rattle.std.specs.List.{flat_map};
@@ -14,7 +14,7 @@ use ss_tree::preamble::{
 use ss_tree::program::{LocalDefinition, Program, Section, SectionKind};
 use std::alloc::{AllocError, Global};
 
-/// Says this of a name.
+/// Adds a saying about a name.
 fn say(out: &mut Vec<Saying>, line: Line, said: Said, name: Name) -> Result<(), AllocError>
     ensures { OnOk result (out.new.items ≡ out.old.items ++ said_of line said name ∷ []) }
 {
@@ -23,7 +23,7 @@ fn say(out: &mut Vec<Saying>, line: Line, said: Said, name: Name) -> Result<(), 
     Ok(())
 }
 
-/// Says this without a name.
+/// Adds a saying that names nothing.
 fn say_alone(out: &mut Vec<Saying>, line: Line, said: Said) -> Result<(), AllocError>
     ensures { OnOk result (out.new.items ≡ out.old.items ++ said_alone line said ∷ []) }
 {
@@ -32,7 +32,7 @@ fn say_alone(out: &mut Vec<Saying>, line: Line, said: Said) -> Result<(), AllocE
     Ok(())
 }
 
-/// Says this of each name.
+/// Adds a saying about each of these names.
 fn say_all(out: &mut Vec<Saying>, line: Line, said: &Said, names: &[Name]) -> Result<(), AllocError>
     ensures { OnOk result (out.new.items ≡ out.old.items ++ said_of_all line said.now names.now) }
 {
@@ -141,7 +141,7 @@ fn say_order(
     }
 }
 
-/// Says how sets are ordered.
+/// Adds the sayings of a DEFINE of sets.
 fn say_sets(
     out: &mut Vec<Saying>,
     line: Line,
@@ -159,7 +159,7 @@ fn say_sets(
     say_order(out, line, statement, order)
 }
 
-/// Says what the statement of this number in the preamble says.
+/// Adds the sayings of the statement of this number in the preamble.
 fn say_statement(
     out: &mut Vec<Saying>,
     number: usize,
@@ -225,7 +225,7 @@ fn say_preamble(out: &mut Vec<Saying>, preamble: &[PreambleStatement]) -> Result
     Ok(())
 }
 
-/// Says what the head of the section of this number says.
+/// Adds the sayings of the head of the section of this number.
 fn say_head(
     out: &mut Vec<Saying>,
     line: Line,
@@ -299,8 +299,8 @@ fn say_sections(out: &mut Vec<Saying>, sections: &[Section]) -> Result<(), Alloc
     Ok(())
 }
 
-/// What a program says of its names, in the order of the text: nothing that its preamble and the heads
-/// of its sections say is left out.
+/// The sayings of a program, in the order of the text. Nothing is left out that its preamble or the head
+/// of a section declares.
 ///
 /// # Errors
 /// `AllocError` where memory is refused.

@@ -2,15 +2,15 @@
 
 use std::hash::{BuildHasher, DefaultHasher, Hasher};
 
-/// What the hash of each key of a table begins with. It is made from all that the table will hold, so that whoever writes a text
-/// can't choose its names by their hashes: another name makes other hashes of all of them.
+/// The start of the hash of each key of a table. It is made from all keys that the table will hold. So nobody who writes
+/// a text can choose its names by their hashes: one other name changes the hashes of all of them.
 #[derive(Clone, Copy)]
 pub struct Seed {
     start: DefaultHasher,
 }
 
 impl Seed {
-    /// The seed that a hash of all keys makes.
+    /// The seed that follows from a hash of all keys.
     pub fn of(keys: &DefaultHasher) -> Seed {
         let mut other = *keys;
         other.write_u8(0xff);

@@ -1,4 +1,4 @@
-//! The first of what is told of each spelling.
+//! Tables by spellings, in which the first entry of a spelling counts.
 
 ghost use Rattle.std.specs.Prelude.{◌≡◌, slice_get, OnErr, OnOk};
 ghost use Rattle.std.specs.Map.{values_of};
@@ -8,11 +8,10 @@ use crate::spelling::Spelling;
 use crate::table::Table;
 use std::alloc::AllocError;
 
-/// Keeps what is told of a spelling behind the others, unless something is told of it, and then all stays as
-/// it was.
+/// Adds an entry after the others. If its spelling has one, the table stays as it was.
 ///
 /// # Errors
-/// `AllocError` where memory is refused, and then too all stays as it was.
+/// `AllocError` where memory is refused; then the table stays as it was too.
 pub fn insert_spelled<V: Copy>(
     entries: &mut Table<Spelling, V>,
     name: Spelling,
@@ -24,7 +23,7 @@ pub fn insert_spelled<V: Copy>(
     entries.insert_new(name, value)
 }
 
-/// What is told of the spelling of this number. None where there are not so many.
+/// The value of the entry of this number. None if there are not so many.
 pub fn spelled_at<V: Copy>(entries: &Table<Spelling, V>, number: usize) -> Option<V>
     ensures { result ≡ slice_get (values_of entries.now) number }
 {

@@ -11,8 +11,8 @@ use std::alloc::{AllocError, Global};
 use std::hash::Hash;
 use std::marker::Model;
 
-/// Entries in the order in which they came, each with a key of its own, by which it is found without a walk. A contract
-/// sees the list of the pairs.
+/// Entries in the order in which they came, each with a key of its own. An entry is found by its key without a walk.
+/// A contract sees the list of the pairs.
 #[derive(Drop)]
 pub struct Table<K: Copy + Eq + Hash, V: Copy> {
     map: IndexMap<K, V, Seed>,

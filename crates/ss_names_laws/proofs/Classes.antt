@@ -13,11 +13,11 @@ use Rattle.ss_names_laws.specs.Declarations.{Says, ClassesAreThere}
 use Rattle.ss_names_laws.proofs.Lists.{joined, each, all_of, images, pieces, in_left, in_right, at_item}
 use Rattle.ss_names_laws.proofs.Sayings.{saying_of}
 
--- a class is there
+-- a class is declared
 abbrev IsThere : List Saying → NameBytes → Type 0
 IsThere all class = (kind : ClassKind) × Says all (said.Class kind) class
 
--- what is said belongs to a class that is there, where it is of one
+-- a saying is of a class that is declared, if it is of one
 abbrev Belongs : List Saying → Said → Type 0
 Belongs all (said.Attribute class) = IsThere all class
 Belongs all (said.OwnedSet class) = IsThere all class
@@ -29,7 +29,7 @@ Belongs all _ = Unit
 abbrev AllBelong : List Saying → List Saying → Type 0
 AllBelong all says = Every (λ (s : Saying). Belongs all s.said) says
 
--- ---- more that is said
+-- ---- more sayings
 
 there_left : (xs ys : List Saying) (class : NameBytes) → IsThere xs class → IsThere (xs ++ ys) class
 there_left xs ys class h = (h.0, in_left (λ (s : Saying). (s.said ≡ said.Class h.0) × (s.name ≡ Some class)) xs ys h.1)
@@ -53,7 +53,7 @@ still_right xs ys (said.TieKey class high) h = in_right (λ (s : Saying). (s.sai
 still_right xs ys (said.Statistic weighting kind subject) h = in_right (λ (s : Saying). (s.said ≡ said.Subject weighting) × (s.name ≡ Some subject)) xs ys h
 still_right xs ys _ h = tt
 
--- what is said in two parts
+-- two lists of sayings together
 in_parts : (xs ys : List Saying) → AllBelong xs xs → AllBelong ys ys → AllBelong (xs ++ ys) (xs ++ ys)
 in_parts xs ys h g = joined (λ (s : Saying). Belongs (xs ++ ys) s.said) xs ys
     (each (λ (s : Saying). Belongs xs s.said) (λ (s : Saying). Belongs (xs ++ ys) s.said) (λ s. still_left xs ys s.said) xs h)
@@ -61,7 +61,7 @@ in_parts xs ys h g = joined (λ (s : Saying). Belongs (xs ++ ys) s.said) xs ys
 
 -- ---- statements
 
--- the same is said of all these names
+-- a saying about each of these names
 of_all : (all : List Saying) (line : Line) (w : Said) (names : List NameBytes) → Belongs all w → AllBelong all (said_of_all line w names)
 of_all all line w names h = images (said_of line w) (λ (s : Saying). Belongs all s.said) names (all_of (λ name. Belongs all w) (λ name. h) names)
 
@@ -94,12 +94,12 @@ preamble_belongs number (priority_order line classes) =
 preamble_belongs number (break_ties line class keys) =
     let all = said_of line said.Ties class ∷ map (tie_says line class) keys in
     (tt, images (tie_says line class) (λ (s : Saying). Belongs all s.said) keys (all_of (λ k. Says all said.Ties class) (λ k. inl (refl, refl)) keys))
-preamble_belongs number (statistics line weighting told subject) =
-    let first = map (statistic_says line weighting subject) told in
+preamble_belongs number (statistics line weighting found subject) =
+    let first = map (statistic_says line weighting subject) found in
     let last = said_of line (said.Subject weighting) subject ∷ [] in
     let there : Says (first ++ last) (said.Subject weighting) subject = in_right (λ (s : Saying). (s.said ≡ said.Subject weighting) × (s.name ≡ Some subject)) first last (inl (refl, refl)) in
     joined (λ (s : Saying). Belongs (first ++ last) s.said) first last
-    (images (statistic_says line weighting subject) (λ (s : Saying). Belongs (first ++ last) s.said) told (all_of (λ k. Says (first ++ last) (said.Subject weighting) subject) (λ k. there) told)) (tt, tt)
+    (images (statistic_says line weighting subject) (λ (s : Saying). Belongs (first ++ last) s.said) found (all_of (λ k. Says (first ++ last) (said.Subject weighting) subject) (λ k. there) found)) (tt, tt)
 
 preambles_belong : (number : ℕ) (ss : List PreambleTree) → AllBelong (preambles_say number ss) (preambles_say number ss)
 preambles_belong number [] = tt

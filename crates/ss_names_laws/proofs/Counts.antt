@@ -1,4 +1,4 @@
--- The variable of a permanent class has its N. behind it.
+-- N. of a permanent class is the variable after that of the class.
 use Rattle.std.proofs.Common.{◌≡◌, ℕ, suc, ◌+◌, Bool, true, false, List, [], ◌∷◌, ◌++◌, length, ◌⊎◌, ⊎_elim, inl, inr, Option, Some, None, refl, sym, ap, ◌∙◌, subst, append_assoc, append-nil, arith}
 use Rattle.std.specs.Prelude.{slice_get, is_some, if◌then◌else◌}
 use Rattle.std.specs.List.{AllByRecursion as Every, flat_map, fold}
@@ -18,36 +18,36 @@ use Rattle.ss_names.specs.declared.entry.Class.{Class}
 use Rattle.ss_names.specs.declared.entry.Variable.{Variable}
 use Rattle.ss_names.specs.declared.entry.VariableKind.TheVariants.{Defined, OfClass, CountOf}
 use Rattle.ss_names.specs.Entities.{attributes, classes}
-use Rattle.ss_names_declarations.specs.Firsts.{entry_beside, place_in, told_of, with_first}
-use Rattle.ss_names.specs.Variables.{class_variables, count_name, variable_by, variable_told, variables}
+use Rattle.ss_names_declarations.specs.Firsts.{entry_beside, place_in, value_for, with_first}
+use Rattle.ss_names.specs.Variables.{class_variables, count_name, variable_by, variable_entries, variables}
 use Rattle.ss_names_laws.specs.Lists.{Somewhere, Pairwise}
 use Rattle.ss_names_laws.specs.Declarations.{Says, IsOfSet, Agree}
 use Rattle.ss_names_laws.proofs.Lists.{across, at_item, each, each_item, pairs_of_pieces, pairwise, pick, pieces_of_pairs, some_equal}
-use Rattle.ss_names_declarations.proofs.Entries.{entry_of_value, place_from, told_from_place, value_at}
+use Rattle.ss_names_declarations.proofs.Entries.{entry_of_value, place_from, value_from_place, value_at}
 use Rattle.ss_names_laws.proofs.Facts.{Facts, SaysIt, class_place}
-use Rattle.ss_names_laws.proofs.NamesStandFor.{no_attribute}
-use Rattle.ss_names_laws.proofs.Told.{FromClass, FromCount, FromDefine, first_or_rest, no_some, not_derived}
+use Rattle.ss_names_laws.proofs.NameMeanings.{no_attribute}
+use Rattle.ss_names_laws.proofs.EntriesOfSaying.{FromClass, FromCount, FromDefine, first_or_rest, no_some, not_derived}
 use Rattle.ss_names_laws.proofs.Variables.{variable_from, variables_once}
 
--- ---- entries of different names are all firsts
+-- ---- entries of different names are all first entries
 
 abbrev Differ : NameBytes × Variable → NameBytes × Variable → Type 0
 Differ a b = a.0 ≡ b.0 → ⊥
 
-untold : (start : List (NameBytes × Variable)) (e : NameBytes × Variable) → Every (λ a. Differ a e) start → told_of start e.0 ≡ None
-untold [] e h = refl
-untold (a ∷ start) e h = no_some (told_of (a ∷ start) e.0) (λ v g. ⊎_elim (λ q. h.0 (sym q.0)) (λ q. let none = untold start e h.1 in let x : None ≡ Some v = sym none ∙ q in absurd cc) (first_or_rest a.0 e.0 a.1 v start g))
+no_entries_yet : (start : List (NameBytes × Variable)) (e : NameBytes × Variable) → Every (λ a. Differ a e) start → value_for start e.0 ≡ None
+no_entries_yet [] e h = refl
+no_entries_yet (a ∷ start) e h = no_some (value_for (a ∷ start) e.0) (λ v g. ⊎_elim (λ q. h.0 (sym q.0)) (λ q. let none = no_entries_yet start e h.1 in let x : None ≡ Some v = sym none ∙ q in absurd cc) (first_or_rest a.0 e.0 a.1 v start g))
 
 all_first : (start all : List (NameBytes × Variable)) → Pairwise Differ (start ++ all) → fold with_first start all ≡ start ++ all
 all_first start [] h = sym (append-nil start)
 all_first start (e ∷ all) h =
-    let none = untold start e (each (λ a. Every (Differ a) (e ∷ all)) (λ a. Differ a e) (λ a k. k.0) start (across Differ start (e ∷ all) h)) in
+    let none = no_entries_yet start e (each (λ a. Every (Differ a) (e ∷ all)) (λ a. Differ a e) (λ a k. k.0) start (across Differ start (e ∷ all) h)) in
     let next : with_first start e ≡ start ++ e ∷ [] = ap (entry_beside start e) none in
     ap (λ s. fold with_first s all) next ∙ all_first (start ++ e ∷ []) all (subst (Pairwise Differ) (sym (append_assoc start (e ∷ []) all)) h) ∙ append_assoc start (e ∷ []) all
 
--- ---- what tells a variable declares it
+-- ---- a saying that gives an entry for a variable declares its name
 
--- a name that is declared as something else than a set
+-- the name of an entry is declared as something other than a set
 abbrev IsPlain : List Declaration → NameBytes × Variable → Type 0
 IsPlain ds e = Somewhere (λ (d : Declaration). (d.name ≡ e.0) × (IsOfSet d.standing → ⊥)) ds
 
@@ -67,8 +67,8 @@ define_differ : (b : Bool) (name : NameBytes) (v : Variable) → Pairwise Differ
 define_differ true name v = tt
 define_differ false name v = (tt, tt)
 
-own_differ : (cs : List (NameBytes × Class)) (owned : List (NameBytes × Attribute)) (w : Said) (o : Option NameBytes) → Pairwise Differ (variable_told cs owned w o)
-own_differ cs owned (said.Variable mode) (Some name) = let v : Variable = record { kind = Defined; mode = mode } in define_differ (is_some (told_of owned name)) name v
+own_differ : (cs : List (NameBytes × Class)) (owned : List (NameBytes × Attribute)) (w : Said) (o : Option NameBytes) → Pairwise Differ (variable_entries cs owned w o)
+own_differ cs owned (said.Variable mode) (Some name) = let v : Variable = record { kind = Defined; mode = mode } in define_differ (is_some (value_for owned name)) name v
 own_differ cs owned (said.Class kind) (Some name) = class_differ kind name (place_in cs name)
 own_differ cs owned _ _ = tt
 
@@ -84,18 +84,18 @@ of_class class = record { kind = OfClass class; mode = modes.Integer }
 abbrev count_of : ℕ → Variable
 count_of class = record { kind = CountOf class; mode = modes.Integer }
 
--- two entries stand one behind the other
-abbrev StandsBefore : List (NameBytes × Variable) → NameBytes → ℕ → ℕ → Type 0
-StandsBefore es name class n = (slice_get es n ≡ Some (name, of_class class)) × (slice_get es (n + 1) ≡ Some (count_name name, count_of class))
+-- two entries are one after the other
+abbrev IsBefore : List (NameBytes × Variable) → NameBytes → ℕ → ℕ → Type 0
+IsBefore es name class n = (slice_get es n ≡ Some (name, of_class class)) × (slice_get es (n + 1) ≡ Some (count_name name, count_of class))
 
 module _ (says : List Saying) (f : Facts says) where
-  abbrev told : Saying → List (NameBytes × Variable)
-  told = variable_by (classes says) (attributes says)
+  abbrev entries_of : Saying → List (NameBytes × Variable)
+  entries_of = variable_by (classes says) (attributes says)
 
-  plain_entries : (s : Saying) (w : Said) (o : Option NameBytes) (line : Line) → Every (IsPlain (named_declares (is_attribute says) line w o)) (variable_told (classes says) (attributes says) w o)
-  plain_entries s (said.Variable mode) (Some name) line = by (told_of (attributes says) name) refl
+  plain_entries : (s : Saying) (w : Said) (o : Option NameBytes) (line : Line) → Every (IsPlain (named_declares (is_attribute says) line w o)) (variable_entries (classes says) (attributes says) w o)
+  plain_entries s (said.Variable mode) (Some name) line = by (value_for (attributes says) name) refl
     where
-      by : (a : Option Attribute) → told_of (attributes says) name ≡ a → Every (IsPlain (named_declares (is_attribute says) line (said.Variable mode) (Some name))) (if is_some a then [] else (name, let v : Variable = record { kind = Defined; mode = mode } in v) ∷ [])
+      by : (a : Option Attribute) → value_for (attributes says) name ≡ a → Every (IsPlain (named_declares (is_attribute says) line (said.Variable mode) (Some name))) (if is_some a then [] else (name, let v : Variable = record { kind = Defined; mode = mode } in v) ∷ [])
       by None e =
           let none : List Declaration = [] in
           (subst (λ b. Somewhere (λ (d : Declaration). (d.name ≡ name) × (IsOfSet d.standing → ⊥)) (if b then none else declaration line standings.Variable name ∷ none)) (sym (no_attribute says f name e)) (inl (refl, λ x. x)), tt)
@@ -103,44 +103,44 @@ module _ (says : List Saying) (f : Facts says) where
   plain_entries s (said.Class kind) (Some name) line = class_plain line kind name (place_in (classes says) name)
   plain_entries s _ _ line = tt
 
-  they_differ : (r s : Saying) → Every (λ a. Every (Agree a) (saying_declares (is_attribute says) s)) (saying_declares (is_attribute says) r) → Every (λ a. Every (Differ a) (told s)) (told r)
+  they_differ : (r s : Saying) → Every (λ a. Every (Agree a) (saying_declares (is_attribute says) s)) (saying_declares (is_attribute says) r) → Every (λ a. Every (Differ a) (entries_of s)) (entries_of r)
   they_differ r s h =
-      each (IsPlain (saying_declares (is_attribute says) r)) (λ a. Every (Differ a) (told s))
+      each (IsPlain (saying_declares (is_attribute says) r)) (λ a. Every (Differ a) (entries_of s))
       (λ a p. each (IsPlain (saying_declares (is_attribute says) s)) (Differ a)
       (λ b q e.
       let d = pick (λ (x : Declaration). (x.name ≡ a.0) × (IsOfSet x.standing → ⊥)) (saying_declares (is_attribute says) r) p in
       let g = pick (λ (x : Declaration). (x.name ≡ b.0) × (IsOfSet x.standing → ⊥)) (saying_declares (is_attribute says) s) q in
       let agree = at_item (Agree d.0) (saying_declares (is_attribute says) s) g.0 (at_item (λ x. Every (Agree x) (saying_declares (is_attribute says) s)) (saying_declares (is_attribute says) r) d.0 h d.2) g.2 in
       g.1.1 (agree (d.1.0 ∙ e ∙ sym g.1.0)).1)
-      (told s) (plain_entries s s.said s.name s.line))
-      (told r) (plain_entries r r.said r.name r.line)
+      (entries_of s) (plain_entries s s.said s.name s.line))
+      (entries_of r) (plain_entries r r.said r.name r.line)
 
-  -- what declares variables declares each once
-  all_once : variables says ≡ flat_map told says
-  all_once = all_first [] (flat_map told says)
-      (pieces_of_pairs told Differ says (each_item (λ s. Pairwise Differ (told s)) says (λ s a. own_differ (classes says) (attributes says) s.said s.name))
-      (pairwise (λ r s. Every (λ a. Every (Agree a) (saying_declares (is_attribute says) s)) (saying_declares (is_attribute says) r)) (λ r s. Every (λ a. Every (Differ a) (told s)) (told r)) they_differ says
+  -- the sayings that declare variables declare each once
+  all_once : variables says ≡ flat_map entries_of says
+  all_once = all_first [] (flat_map entries_of says)
+      (pieces_of_pairs entries_of Differ says (each_item (λ s. Pairwise Differ (entries_of s)) says (λ s a. own_differ (classes says) (attributes says) s.said s.name))
+      (pairwise (λ r s. Every (λ a. Every (Agree a) (saying_declares (is_attribute says) s)) (saying_declares (is_attribute says) r)) (λ r s. Every (λ a. Every (Differ a) (entries_of s)) (entries_of r)) they_differ says
       (pairs_of_pieces (saying_declares (is_attribute says)) Agree says f.agree)))
 
-  -- a permanent class tells of its variable and then of its N.
-  both_there : (name : NameBytes) (class : ℕ) → place_in (classes says) name ≡ Some class → (xs : List Saying) → Somewhere (SaysIt (said.Class class_kinds.Permanent) name) xs → (n : ℕ) × StandsBefore (flat_map told xs) name class n
+  -- a permanent class gives the entry of its variable, and then that of its N.
+  both_there : (name : NameBytes) (class : ℕ) → place_in (classes says) name ≡ Some class → (xs : List Saying) → Somewhere (SaysIt (said.Class class_kinds.Permanent) name) xs → (n : ℕ) × IsBefore (flat_map entries_of xs) name class n
   both_there name class at [] h = absurd h
   both_there name class at (s ∷ xs) (inl q) =
-      let here : told s ≡ (name, of_class class) ∷ (count_name name, count_of class) ∷ [] =
-      ap (λ (t : Said × Option NameBytes). variable_told (classes says) (attributes says) t.0 t.1) (λ i. (q.0 i, q.1 i)) ∙ ap (class_variables class_kinds.Permanent name) at ∙ pair in
-      (0, (ap (λ es. slice_get (es ++ flat_map told xs) 0) here, ap (λ es. slice_get (es ++ flat_map told xs) 1) here))
+      let here : entries_of s ≡ (name, of_class class) ∷ (count_name name, count_of class) ∷ [] =
+      ap (λ (t : Said × Option NameBytes). variable_entries (classes says) (attributes says) t.0 t.1) (λ i. (q.0 i, q.1 i)) ∙ ap (class_variables class_kinds.Permanent name) at ∙ pair in
+      (0, (ap (λ es. slice_get (es ++ flat_map entries_of xs) 0) here, ap (λ es. slice_get (es ++ flat_map entries_of xs) 1) here))
     where
       pair : class_variables class_kinds.Permanent name (Some class) ≡ (name, of_class class) ∷ (count_name name, count_of class) ∷ []
       pair = refl
   both_there name class at (s ∷ xs) (inr h) =
       let rest = both_there name class at xs h in
-      (length (told s) + rest.0, (further (told s) (flat_map told xs) rest.0 ∙ rest.1.0, ap (slice_get (told s ++ flat_map told xs)) (let e : length (told s) + rest.0 + 1 ≡ length (told s) + (rest.0 + 1) = omega arith in e) ∙ further (told s) (flat_map told xs) (rest.0 + 1) ∙ rest.1.1))
+      (length (entries_of s) + rest.0, (further (entries_of s) (flat_map entries_of xs) rest.0 ∙ rest.1.0, ap (slice_get (entries_of s ++ flat_map entries_of xs)) (let e : length (entries_of s) + rest.0 + 1 ≡ length (entries_of s) + (rest.0 + 1) = omega arith in e) ∙ further (entries_of s) (flat_map entries_of xs) (rest.0 + 1) ∙ rest.1.1))
 
-  pub count_is_behind : (n class : ℕ) (v : Variable) (c : Class) → slice_get (values_of (variables says)) n ≡ Some v → v.kind ≡ OfClass class → slice_get (values_of (classes says)) class ≡ Some c → c.kind ≡ class_kinds.Permanent →
+  pub count_is_next : (n class : ℕ) (v : Variable) (c : Class) → slice_get (values_of (variables says)) n ≡ Some v → v.kind ≡ OfClass class → slice_get (values_of (classes says)) class ≡ Some c → c.kind ≡ class_kinds.Permanent →
       (next : Variable) × (slice_get (values_of (variables says)) (n + 1) ≡ Some next) × (next.kind ≡ CountOf class)
-  count_is_behind n class v c h of at kind =
+  count_is_next n class v c h of at kind =
       let e = entry_of_value (variables says) n v h in
-      let s = variable_from says f e.0 v (told_from_place (variables says) n e.0 v (variables_once says f) e.1) in
+      let s = variable_from says f e.0 v (value_from_place (variables says) n e.0 v (variables_once says f) e.1) in
       let k = of_a_class s.1 in
       let said_so = s.2 (said.Class k.0) e.0 k.1 k.2 in
       let p = class_place says f k.0 e.0 said_so in

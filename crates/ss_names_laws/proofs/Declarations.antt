@@ -17,7 +17,7 @@ use Rattle.ss_tables_rules.specs.Topics.{Thing, thing_of, section_of, is_about, 
 use Rattle.ss_tables_rules.specs.Twice.{clashes, again, anything, sets_again, modes_again, statements_again, classes_again, locals_again, repeats, hides, hidings}
 use Rattle.ss_names_laws.specs.Lists.{Pairwise, Somewhere}
 use Rattle.ss_names_laws.specs.Uses.{KeepsUses}
-use Rattle.ss_names_laws.specs.Declarations.{KeepsDeclarations, WhereKept, Says, SaidOnce, NamesDeclaredOnce, NamesStand, LocalsHideLittle, NothingIsReal, AllDefined, FewEnough}
+use Rattle.ss_names_laws.specs.Declarations.{KeepsDeclarations, WhereKept, Says, SaidOnce, NamesDeclaredOnce, KindsAgree, LocalsHideLittle, NothingIsReal, AllDefined, FewEnough}
 use Rattle.ss_names_laws.proofs.Lists.{Among, both_empty, somewhere, any_there, pairwise}
 use Rattle.ss_names_laws.proofs.Sayings.{IsOf, by_said, of_notice, of_event}
 use Rattle.ss_names_laws.proofs.Declared.{Unbroken, unbroken, needed, none_where}
@@ -43,7 +43,7 @@ module _ (says : List Saying) (sections : List SectionTree) (u : Unbroken says s
   no_hiding : hidings says ≡ []
   no_hiding = (both_empty (clashes (declarations says) ++ repeats says) (hidings says) u.twice).1
 
-  -- what isn't said again
+  -- things that are declared once
   record NotAgain : Type 0 where
     owners : again topics.Owner anything says ≡ []
     members : again topics.Member anything says ≡ []
@@ -99,7 +99,7 @@ module _ (says : List Saying) (sections : List SectionTree) (u : Unbroken says s
         locals = l.1;
       }
 
-  -- what something is said of
+  -- what a saying is of
   by_any : (topic : Topic) (thing : Thing) → Somewhere (IsOf topic thing) says → is_said topic says thing ≡ true
   by_any topic thing h = any_there (is_said_by topic thing) says (somewhere (IsOf topic thing) (λ s. is_said_by topic thing s ≡ true) (by_said topic thing) says h)
 
@@ -141,8 +141,8 @@ module _ (says : List Saying) (sections : List SectionTree) (u : Unbroken says s
     locals = once topics.Local says not_again.locals;
   }
 
-  pub names_stand : NamesStand says
-  names_stand = standings.names_stand says no_clash
+  pub kinds_agree : KindsAgree says
+  kinds_agree = standings.kinds_agree says no_clash
 
   pub names_declared_once : NamesDeclaredOnce says
   names_declared_once = agree
@@ -152,7 +152,7 @@ module _ (says : List Saying) (sections : List SectionTree) (u : Unbroken says s
 
 -- ---- programs
 
--- what holds where no rule has a line holds of a program without a broken one
+-- a fact that holds if no rule has a line holds of every program that breaks no rule
 pub where_kept : (Fact : List Saying → Type 0) → ((says : List Saying) (sections : List SectionTree) → Unbroken says sections → Fact says) → WhereKept Fact
 where_kept Fact f p h = f (sayings p) p.sections (unbroken p h)
 

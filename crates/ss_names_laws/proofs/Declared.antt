@@ -1,4 +1,4 @@
--- A program that breaks no rule on declarations, rule by rule: what is named is there, and keys fit.
+-- A program that breaks no rule on declarations, rule by rule: what is named is declared, and keys fit.
 use Rattle.std.proofs.Common.{◌≡◌, ℕ, Bool, true, false, List, [], ◌∷◌, ⊎_elim, inl, inr, Option, Some, None, refl, sym, ap, ◌∙◌, subst}
 use Rattle.std.specs.Prelude.{not, ◌&&◌, nat_lt, if◌then◌else◌}
 use Rattle.std.specs.Option.{option_eq}
@@ -43,14 +43,14 @@ no_first : (lines : List Line) → first_line lines ≡ None → lines ≡ []
 no_first [] h = refl
 no_first (line ∷ lines) h = absurd (no_sooner line lines h)
 
-not_told : (rule : Rule) (o : Option Line) (rest : Option Broken) → first_of (told rule o) rest ≡ None → (o ≡ None) × (rest ≡ None)
-not_told rule None rest h = (refl, h)
-not_told rule (Some line) rest h = absurd cc
+rule_unbroken : (rule : Rule) (o : Option Line) (rest : Option Broken) → first_of (told rule o) rest ≡ None → (o ≡ None) × (rest ≡ None)
+rule_unbroken rule None rest h = (refl, h)
+rule_unbroken rule (Some line) rest h = absurd cc
 
 none_broken : (says : List Saying) (sections : List SectionTree) (some : List Rule) → first_broken says sections some ≡ None → Every (λ rule. broken_by says sections rule ≡ []) some
 none_broken says sections [] h = tt
 none_broken says sections (rule ∷ some) h =
-    let parts = not_told rule (first_line (broken_by says sections rule)) (first_broken says sections some) h in
+    let parts = rule_unbroken rule (first_line (broken_by says sections rule)) (first_broken says sections some) h in
     (no_first (broken_by says sections rule) parts.0, none_broken says sections some parts.1)
 
 -- the rules, none of which has a line
@@ -86,24 +86,24 @@ pub no_line : (test : Bool) (line : Line) → line_if test line ≡ [] → test 
 no_line true line h = absurd cc
 no_line false line h = refl
 
--- no item passes
+-- no item passes a test
 pub none_where : {A : Type 0} (line_at : A → Line) (test : A → Bool) (xs : List A) → lines_where line_at test xs ≡ [] → Every (λ x. test x ≡ false) xs
 none_where line_at test xs h =
     each (λ x. line_if (test x) (line_at x) ≡ []) (λ x. test x ≡ false) (λ x. no_line (test x) (line_at x)) xs (each_empty (λ x. line_if (test x) (line_at x)) xs h)
 
--- ---- what has to be said
+-- ---- declarations that need another
 
 not_both : (a b : Bool) → (a && not b) ≡ false → a ≡ true → b ≡ true
 not_both true b h e = not-false b h
 not_both false b h e = absurd cc
 
--- of a thing of which the one is said the other is said
+-- each thing with a saying of the one kind has one of the other
 pub needed : (topic other : Topic) (says : List Saying) → missing topic other says ≡ [] → (s : Saying) → Among says s → is_about topic s.said ≡ true → Somewhere (IsOf other (thing_of s)) says
 needed topic other says h s a e =
     let l : lacks topic other says s ≡ false = at_item (λ t. lacks topic other says t ≡ false) says s (none_where line_of (lacks topic other says) says h) a in
     who_says other says (thing_of s) (not_both (is_about topic s.said) (is_said other says (thing_of s)) l e)
 
--- the same of what is said of a name
+-- each name with a saying of the one kind has one of the other
 pub needed_of : (topic other : Topic) (says : List Saying) → missing topic other says ≡ [] → (what : Said) (name : NameBytes) → Says says what name → is_about topic what ≡ true → Somewhere (IsOf other (section_of what, Some name)) says
 needed_of topic other says h what name d e =
     let p = saying_of says what name d in

@@ -1,10 +1,10 @@
--- What is true of all entries that are told.
+-- What is true of all entries of a table.
 use Rattle.std.proofs.Common.{◌≡◌, List, [], ◌∷◌, Option, Some, None, IfSome, refl}
 use Rattle.std.specs.Prelude.{option_map}
 use Rattle.std.specs.List.{AllByRecursion as Every, flat_map, fold}
 use Rattle.ss_names_declarations.specs.Sayings.{NameBytes}
-use Rattle.ss_names_declarations.specs.Firsts.{entry_beside, entry_if, firsts, told_of, with_first}
-use Rattle.ss_names_declarations.proofs.Entries.{place_of_told}
+use Rattle.ss_names_declarations.specs.Firsts.{entry_beside, entry_if, firsts, value_for, with_first}
+use Rattle.ss_names_declarations.proofs.Entries.{place_of_value}
 use Rattle.ss_names_laws.proofs.Steps.{every_append, every_at}
 
 abbrev pub Entries : {V : Type 0} → (NameBytes → V → Type 0) → List (NameBytes × V) → Type 0
@@ -17,7 +17,7 @@ module _ {V : Type 0} (P : NameBytes → V → Type 0) where
 
   folded : (start all : List (NameBytes × V)) → Entries P start → Entries P all → Entries P (fold with_first start all)
   folded start [] h k = h
-  folded start (e ∷ es) h k = folded (with_first start e) es (beside start e (told_of start e.0) h k.0) k.1
+  folded start (e ∷ es) h k = folded (with_first start e) es (beside start e (value_for start e.0) h k.0) k.1
 
   pub flat : {X : Type 0} (f : X → List (NameBytes × V)) (xs : List X) → ((x : X) → Entries P (f x)) → Entries P (flat_map f xs)
   flat f [] h = tt
@@ -36,9 +36,9 @@ module _ {V : Type 0} (P : NameBytes → V → Type 0) where
   pub first_of_entries : (all : List (NameBytes × V)) → Entries P all → Entries P (firsts all)
   first_of_entries all h = folded [] all tt h
 
-  pub told_entry : (es : List (NameBytes × V)) (name : NameBytes) (v : V) → Entries P es → told_of es name ≡ Some v → P name v
-  told_entry es name v h e =
-      let found = place_of_told es name v e in
+  pub entry_holds : (es : List (NameBytes × V)) (name : NameBytes) (v : V) → Entries P es → value_for es name ≡ Some v → P name v
+  entry_holds es name v h e =
+      let found = place_of_value es name v e in
       every_at (λ f. P f.0 f.1) es found.0 (name, v) h found.1.1
 
   pub entry : (name : NameBytes) (o : Option V) → IfSome o (P name) → Entries P (entry_if name o)

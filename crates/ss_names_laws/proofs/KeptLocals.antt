@@ -20,7 +20,7 @@ use Rattle.ss_tables_rules.specs.declared.globals.Standing.TheVariants as standi
 use Rattle.ss_tables_rules.specs.Declarations.{declarations, standing_of}
 use Rattle.ss_tables_rules.specs.RealMode.{is_variable_role, says_real}
 use Rattle.ss_names.specs.Entities.{usual_mode}
-use Rattle.ss_names_declarations.specs.Firsts.{told_of, same_name}
+use Rattle.ss_names_declarations.specs.Firsts.{value_for, same_name}
 use Rattle.ss_check_scopes.specs.Locals.{defined_in, all_defined, or_usual, declares, is_variable, is_local_at}
 use Rattle.ss_check_scopes.specs.Whole.{is_global, locals_of}
 use Rattle.ss_check_scopes.specs.WholeOf.{whole_of}
@@ -31,17 +31,17 @@ use Rattle.ss_names_laws.proofs.Lists.{Among, at_item, in_left, in_right, pick}
 use Rattle.ss_names_laws.proofs.Sayings.{saying_of}
 use Rattle.ss_names_laws.specs.Tables.{IsValueMode}
 use Rattle.ss_names_laws.specs.Locals.{KeepsLocals}
-use Rattle.ss_names_laws.proofs.EntriesOfName.{told_by}
+use Rattle.ss_names_laws.proofs.EntriesOfName.{value_from_item}
 use Rattle.ss_names_laws.proofs.Facts.{SaysIt, facts}
 use Rattle.ss_names_laws.proofs.Locals.{IsLocalIn, found_in, local_from}
 use Rattle.ss_names_laws.proofs.Modes.{usual_or_defined}
 use Rattle.ss_names_laws.proofs.Sections.{Declares, DefinedIn, IsDefined, declared_here, not_before, says_local, where_said}
-use Rattle.ss_names_laws.proofs.Told.{no_some}
+use Rattle.ss_names_laws.proofs.EntriesOfSaying.{no_some}
 use Rattle.ss_names_laws.proofs.Wholes.{declared_means, set_declared}
 
 -- ---- one mention
 
--- a local variable is declared, or used without subscript where nothing global has its name
+-- a local variable is declared, or is used without subscript and no global name is spelled so
 declared_or_used : (g : NameBytes → Bool) (m : Mention) (name : NameBytes) → is_local_at g m name ≡ true → (declares m.role ≡ true) ⊎ ((is_variable m.role ≡ true) × (m.subscripts ≡ 0) × (g name ≡ false))
 declared_or_used g m name h = ⊎_elim inl
     (λ e.
@@ -62,23 +62,23 @@ local_mode section modes.Integer h = inl refl
 local_mode section modes.Alpha h = inr refl
 local_mode section modes.Real h = absurd cc
 
--- the DEFINE that gives a mode
+-- the DEFINE that gives a name a mode
 define_of : (ds : List DefinitionTree) (name : NameBytes) (mode : Option Mode) → lookup (same_name name) (all_defined ds) ≡ Some mode → (d : DefinitionTree) × Among ds d × Among d.names name × (mode ≡ Some d.mode)
 define_of ds name mode h =
-    let d = pick (λ d. told_of (defined_in d) name ≡ Some mode) ds (told_by defined_in name ds mode h) in
+    let d = pick (λ d. value_for (defined_in d) name ≡ Some mode) ds (value_from_item defined_in name ds mode h) in
     let f = found_in (λ n. Some d.0.mode) d.0.names name mode d.1 in
     (d.0, d.2, f.0, f.1)
 
 module _ (p : ProgramTree) (h : KeepsDeclarations p) where
-  -- what is said of a name by the section of a number is said by the program
+  -- the sayings of the section of this number are sayings of the program
   IsPart : ℕ → SectionTree → Type 0
   IsPart k s = (what : Said) (name : NameBytes) → Somewhere (SaysIt what name) (section_says k s) → Says (sayings p) what name
 
-  -- what is used in it has a DEFINE, where each name has one
+  -- a variable that the section uses has a DEFINE, if each name has one
   IsUsed : ℕ → SectionTree → Type 0
   IsUsed k s = AllDefined (sayings p) p.sections → Every (HasDefine (sayings p) k) (mentions s)
 
-  -- a DEFINE in the section of its number is in it
+  -- a DEFINE with the number of this section is in this section
   IsAlone : ℕ → SectionTree → Type 0
   IsAlone k s = (mode : Mode) (name : NameBytes) → Says (sayings p) (said.Local k mode) name → IsDefined s name
 

@@ -1,4 +1,4 @@
--- What is declared means something in the whole program.
+-- Each declared name means something in the whole program.
 use Rattle.std.proofs.Common.{◌≡◌, ℕ, suc, Bool, true, false, cond, List, [], ◌∷◌, ◌++◌, length, ◌⊎◌, ⊎_elim, inl, inr, Option, Some, None, refl, sym, ap, ◌∙◌, subst}
 use Rattle.std.specs.Prelude.{option_map, if◌then◌else◌}
 use Rattle.std.specs.Option.{option_or}
@@ -9,39 +9,39 @@ use Rattle.ss_tables_rules.specs.declared.globals.Standing.{Standing}
 use Rattle.ss_tables_rules.specs.declared.globals.Standing.TheVariants as standings
 use Rattle.ss_names.specs.declared.meaning.Meaning.{Meaning}
 use Rattle.ss_names.specs.declared.meaning.Meaning.TheVariants as meanings
-use Rattle.ss_names_declarations.specs.Firsts.{is_one_of, place_among, place_in, same_name, told_of, with_name}
+use Rattle.ss_names_declarations.specs.Firsts.{is_one_of, place_among, place_in, same_name, value_for, with_name}
 use Rattle.ss_names.specs.Meanings.{Numbered, class_meaning}
 use Rattle.ss_names_laws.specs.Lists.{Somewhere}
 use Rattle.ss_names_laws.proofs.Lists.{Among, same_as_itself, some_equal}
-use Rattle.ss_names_declarations.proofs.Entries.{number, place_of_told, told_append}
-use Rattle.ss_names_laws.proofs.NamesStandFor.{Fits, IsOther, mapped}
+use Rattle.ss_names_declarations.proofs.Entries.{number, place_of_value, value_append}
+use Rattle.ss_names_laws.proofs.NameMeanings.{Fits, IsOther, mapped}
 
--- ---- what a meaning is declared as
+-- ---- the kind of name that a meaning has
 
-abbrev pub stands_as : Meaning → Standing
-stands_as (meanings.Variable n) = standings.Variable
-stands_as (meanings.Class class n) = standings.Class
-stands_as (meanings.Set n) = standings.Set
-stands_as (meanings.Derived d n) = standings.OfSet
-stands_as _ = standings.Other
+abbrev pub kind_of_meaning : Meaning → Standing
+kind_of_meaning (meanings.Variable n) = standings.Variable
+kind_of_meaning (meanings.Class class n) = standings.Class
+kind_of_meaning (meanings.Set n) = standings.Set
+kind_of_meaning (meanings.Derived d n) = standings.OfSet
+kind_of_meaning _ = standings.Other
 
-class_as : (a b : Option ℕ) (m : Meaning) → class_meaning meanings.Class a b ≡ Some m → standings.Class ≡ stands_as m
-class_as (Some a) (Some b) m h = ap stands_as (some_equal (meanings.Class a b) m h)
+class_as : (a b : Option ℕ) (m : Meaning) → class_meaning meanings.Class a b ≡ Some m → standings.Class ≡ kind_of_meaning m
+class_as (Some a) (Some b) m h = ap kind_of_meaning (some_equal (meanings.Class a b) m h)
 class_as (Some a) None m h = absurd cc
 class_as None b m h = absurd cc
 
-other_as : (t : Numbered) (name : NameBytes) (m : Meaning) → IsOther t name m → standings.Other ≡ stands_as m
+other_as : (t : Numbered) (name : NameBytes) (m : Meaning) → IsOther t name m → standings.Other ≡ kind_of_meaning m
 other_as t name (meanings.Attribute n) h = refl
 other_as t name (meanings.Count class n) h = refl
 other_as t name (meanings.Statistic n) h = refl
 other_as t name (meanings.Routine n) h = refl
 other_as t name _ h = absurd h
 
-pub fits_as : (t : Numbered) (standing : Standing) (name : NameBytes) (m : Meaning) → Fits t standing name m → standing ≡ stands_as m
-fits_as t standings.Variable name m h = mapped meanings.Variable (λ x. standings.Variable ≡ stands_as x) (λ n. refl) (place_in t.variables name) m h
+pub fits_as : (t : Numbered) (standing : Standing) (name : NameBytes) (m : Meaning) → Fits t standing name m → standing ≡ kind_of_meaning m
+fits_as t standings.Variable name m h = mapped meanings.Variable (λ x. standings.Variable ≡ kind_of_meaning x) (λ n. refl) (place_in t.variables name) m h
 fits_as t standings.Class name m h = class_as (place_in t.classes name) (place_in t.variables name) m h
-fits_as t standings.Set name m h = mapped meanings.Set (λ x. standings.Set ≡ stands_as x) (λ n. refl) (place_among t.set_names name) m h
-fits_as t standings.OfSet name m h = ap stands_as (sym h.4)
+fits_as t standings.Set name m h = mapped meanings.Set (λ x. standings.Set ≡ kind_of_meaning x) (λ n. refl) (place_among t.set_names name) m h
+fits_as t standings.OfSet name m h = ap kind_of_meaning (sym h.4)
 fits_as t standings.Other name m h = other_as t name m h
 
 pub placed_class : (a b : Option ℕ) (n k : ℕ) → class_meaning meanings.Class a b ≡ Some (meanings.Class n k) → a ≡ Some n
@@ -53,27 +53,27 @@ pub placed_variable : (o : Option ℕ) (k : ℕ) → option_map meanings.Variabl
 placed_variable None k h = absurd cc
 placed_variable (Some n) k h = cc
 
--- ---- entries that are there
+-- ---- names that have an entry
 
-pub key_there : {V : Type 0} (es : List (NameBytes × V)) (name : NameBytes) → Somewhere (λ e. e.0 ≡ name) es → (v : V) × (told_of es name ≡ Some v)
+pub key_there : {V : Type 0} (es : List (NameBytes × V)) (name : NameBytes) → Somewhere (λ e. e.0 ≡ name) es → (v : V) × (value_for es name ≡ Some v)
 key_there [] name h = absurd h
 key_there {V = V} (e ∷ es) name h = by (same_name name e.0) refl h (key_there es name)
   where
-    by : (b : Bool) → same_name name e.0 ≡ b → (e.0 ≡ name) ⊎ Somewhere (λ x. x.0 ≡ name) es → (Somewhere (λ x. x.0 ≡ name) es → (v : V) × (told_of es name ≡ Some v)) → (v : V) × (told_of (e ∷ es) name ≡ Some v)
-    by true is g later = (e.1, ap (λ b. cond b (Some e.1) (told_of es name)) is)
+    by : (b : Bool) → same_name name e.0 ≡ b → (e.0 ≡ name) ⊎ Somewhere (λ x. x.0 ≡ name) es → (Somewhere (λ x. x.0 ≡ name) es → (v : V) × (value_for es name ≡ Some v)) → (v : V) × (value_for (e ∷ es) name ≡ Some v)
+    by true is g later = (e.1, ap (λ b. cond b (Some e.1) (value_for es name)) is)
     by false is (inl g) later = absurd (both_ways (same_name name e.0) is (ap (same_name name) g ∙ same_as_itself name))
-    by false is (inr g) later = let r = later g in (r.0, ap (λ b. cond b (Some e.1) (told_of es name)) is ∙ r.1)
+    by false is (inr g) later = let r = later g in (r.0, ap (λ b. cond b (Some e.1) (value_for es name)) is ∙ r.1)
 
-pub in_either : {V : Type 0} (xs ys : List (NameBytes × V)) (name : NameBytes) (v : V) → (told_of xs name ≡ Some v) ⊎ (told_of ys name ≡ Some v) → (u : V) × (told_of (xs ++ ys) name ≡ Some u)
-in_either {V = V} xs ys name v h = by (told_of xs name) refl h
+pub in_either : {V : Type 0} (xs ys : List (NameBytes × V)) (name : NameBytes) (v : V) → (value_for xs name ≡ Some v) ⊎ (value_for ys name ≡ Some v) → (u : V) × (value_for (xs ++ ys) name ≡ Some u)
+in_either {V = V} xs ys name v h = by (value_for xs name) refl h
   where
-    by : (o : Option V) → told_of xs name ≡ o → (told_of xs name ≡ Some v) ⊎ (told_of ys name ≡ Some v) → (u : V) × (told_of (xs ++ ys) name ≡ Some u)
-    by (Some u) e g = (u, told_append xs ys name ∙ ap (λ o. option_or o (told_of ys name)) e)
-    by None e (inl g) = (v, told_append xs ys name ∙ ap (λ o. option_or o (told_of ys name)) g)
-    by None e (inr g) = (v, told_append xs ys name ∙ ap (λ o. option_or o (told_of ys name)) e ∙ g)
+    by : (o : Option V) → value_for xs name ≡ o → (value_for xs name ≡ Some v) ⊎ (value_for ys name ≡ Some v) → (u : V) × (value_for (xs ++ ys) name ≡ Some u)
+    by (Some u) e g = (u, value_append xs ys name ∙ ap (λ o. option_or o (value_for ys name)) e)
+    by None e (inl g) = (v, value_append xs ys name ∙ ap (λ o. option_or o (value_for ys name)) g)
+    by None e (inr g) = (v, value_append xs ys name ∙ ap (λ o. option_or o (value_for ys name)) e ∙ g)
 
-pub placed : {V : Type 0} (es : List (NameBytes × V)) (name : NameBytes) → (v : V) × (told_of es name ≡ Some v) → (k : ℕ) × (place_in es name ≡ Some k)
-placed es name h = let q = place_of_told es name h.0 h.1 in (q.0, q.1.0)
+pub placed : {V : Type 0} (es : List (NameBytes × V)) (name : NameBytes) → (v : V) × (value_for es name ≡ Some v) → (k : ℕ) × (place_in es name ≡ Some k)
+placed es name h = let q = place_of_value es name h.0 h.1 in (q.0, q.1.0)
 
 -- ---- names of sets
 

@@ -1,4 +1,4 @@
--- What the table of a program lays out is there.
+-- The table of a program has a layout.
 use Rattle.std.proofs.Common.{◌≡◌, ℕ, inl, inr, ◌<◌, Bool, true, List, [], length, get_or, Option, Some, None, refl, ap, subst, ◌∙◌}
 use Rattle.std.specs.Prelude.{◌==◌, slice_get}
 use Rattle.std.specs.List.{AllByRecursion as Every, filter, flat_map}
@@ -22,7 +22,7 @@ use Rattle.ss_names.specs.declared.entry.Ordering.{Ordering}
 use Rattle.ss_names.specs.declared.entry.Set.{Set}
 use Rattle.ss_names.specs.declared.meaning.Subject.{Subject as SubjectNumber}
 use Rattle.ss_names.specs.declared.meaning.Subject.TheVariants as subjects
-use Rattle.ss_names_declarations.specs.Firsts.{place_in, same_name, told_of}
+use Rattle.ss_names_declarations.specs.Firsts.{place_in, same_name, value_for}
 use Rattle.ss_names.specs.Table.{Table}
 use Rattle.ss_program.specs.declared.sections.Statistic.{Statistic}
 use Rattle.ss_program.specs.declared.sections.Subject.{Subject}
@@ -35,9 +35,9 @@ use Rattle.ss_names_laws.specs.Subjects.{IsWhole}
 use Rattle.ss_names_laws.specs.Tables.{IsKeyOf, IsValueMode, KeepsTable}
 use Rattle.ss_names_laws.specs.ValidTables.{IsKept}
 use Rattle.ss_names_laws.specs.LaidOut.{LaysOut}
-use Rattle.ss_names_declarations.proofs.Entries.{place_of_told, there, value_at}
-use Rattle.ss_names_laws.proofs.NamePlaces.{told_is_placed}
-use Rattle.ss_names_laws.proofs.Sound.{laid_so, stand_together}
+use Rattle.ss_names_declarations.proofs.Entries.{place_of_value, there, value_at}
+use Rattle.ss_names_laws.proofs.NamePlaces.{value_at_place}
+use Rattle.ss_names_laws.proofs.Sound.{laid_so, make_a_layout}
 use Rattle.ss_names_laws.proofs.Steps.{each_of_every, every_map, goes, holds, numbers_there}
 use Rattle.ss_names_laws.proofs.Structure.{IsTable, same_number}
 
@@ -48,17 +48,17 @@ value_mode_there mode (inr e) = (Alpha, ap mode_given e)
 module _ (t : Table) (is : IsTable t) (said : KeepsTable t) where
   -- ---- classes and sets
 
-  mode_there : (name : NameBytes) (a : Attribute) → told_of t.attributes name ≡ Some a → (m : Mode) × (field_mode t name ≡ Some m)
+  mode_there : (name : NameBytes) (a : Attribute) → value_for t.attributes name ≡ Some a → (m : Mode) × (field_mode t name ≡ Some m)
   mode_there name a h =
-      let place = place_of_told t.attributes name a h in
+      let place = place_of_value t.attributes name a h in
       let mode = value_mode_there a.mode (said.attribute_modes place.0 a (value_at t.attributes place.0 name a place.1.1)) in
-      (mode.0, goes (attribute_named t name) (λ x. mode_given x.mode) a mode.0 (told_is_placed t.attributes name ∙ h) mode.1)
+      (mode.0, goes (attribute_named t name) (λ x. mode_given x.mode) a mode.0 (value_at_place t.attributes name ∙ h) mode.1)
 
   class_there : (n : ℕ) → n < length t.classes → (c : PlainClass) × (class_laid t n ≡ Some c)
   class_there n lt =
       let e = there t.classes n lt in
       let class : slice_get (values_of t.classes) n ≡ Some e.0.1 = value_at t.classes n e.0.0 e.0.1 e.1 in
-      let modes = each_of_every (field_mode t) (get_or t.fields n []) (every_map (λ (name : NameBytes). (a : Attribute) × (told_of t.attributes name ≡ Some a)) (λ name. (m : Mode) × (field_mode t name ≡ Some m)) (get_or t.fields n []) (λ name r. mode_there name r.0 r.1) (is.rows n lt)) in
+      let modes = each_of_every (field_mode t) (get_or t.fields n []) (every_map (λ (name : NameBytes). (a : Attribute) × (value_for t.attributes name ≡ Some a)) (λ name. (m : Mode) × (field_mode t name ≡ Some m)) (get_or t.fields n []) (λ name r. mode_there name r.0 r.1) (is.rows n lt)) in
       let laid : PlainClass = record { kind = class_kind e.0.1.kind; fields = modes.0 } in
       (laid, rw (class, modes.1) refl)
 
@@ -75,7 +75,7 @@ module _ (t : Table) (is : IsTable t) (said : KeepsTable t) where
       let cs = numbers_there (class_laid t) (length t.classes) class_there in
       let ss = numbers_there (set_laid t) (length t.sets) set_there in
       let laid : PlainLayout = record { classes = cs.0; sets = ss.0 } in
-      (laid, rw (cs.1, ss.1) (laid_so (is_layout laid) laid (stand_together t is said cs.0 ss.0 cs.1 ss.1)))
+      (laid, rw (cs.1, ss.1) (laid_so (is_layout laid) laid (make_a_layout t is said cs.0 ss.0 cs.1 ss.1)))
 
 module _ (t : Table) (is : IsTable t) (k : IsKept t) where
   -- ---- keys

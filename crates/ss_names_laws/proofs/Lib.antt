@@ -12,9 +12,9 @@ pub mod Mains
 pub mod Parameters
 pub mod Declarations
 pub mod EntriesOfName
-pub mod Told
+pub mod EntriesOfSaying
 pub mod Facts
-pub mod NamesStandFor
+pub mod NameMeanings
 pub mod Variables
 pub mod Statements
 pub mod Modes

@@ -14,7 +14,7 @@ use Rattle.ss_names_declarations.specs.Firsts.{same_name}
 use Rattle.ss_tables_rules.specs.Topics.{line_of}
 use Rattle.ss_names_laws.specs.Declarations.{FewEnough}
 use Rattle.ss_names_laws.proofs.Lists.{both_empty, names_equal}
-use Rattle.ss_names_laws.proofs.Once.{EachBehind, none_behind}
+use Rattle.ss_names_laws.proofs.Once.{EachAfter, none_after}
 
 at_most : (found : List Line) → past_most found ≡ [] → length found ≤ 64
 at_most found h =
@@ -36,7 +36,7 @@ lines_counted line_at test (x ∷ xs) =
 
 -- ---- attributes of a class
 
--- one more is one of the class where there are fewer than 64
+-- one more is an attribute of the class if there are fewer than 64
 one_fits : (class : NameBytes) (before : List Saying) (s : Saying) (o : Option NameBytes) → attribute_class s.said ≡ o → is_full before o ≡ false →
     count_by (is_of class) before ≤ 64 → count_by (is_of class) before + cond (option_eq same_name (Some class) o) 1 0 ≤ 64
 one_fits class before s None e h few = omega (arith, few)
@@ -49,12 +49,12 @@ one_fits class before s (Some other) e h few = by_name (same_name class other) r
         let less : count_by (is_of class) before < 64 = subst (λ n. count_by (is_of n) before < 64) (sym (names_equal class other g)) here in
         omega (arith, less)
 
-few_behind : (class : NameBytes) (before xs : List Saying) → EachBehind (λ b s. is_past b s ≡ false) before xs → count_by (is_of class) before ≤ 64 → count_by (is_of class) (before ++ xs) ≤ 64
-few_behind class before [] h few = subst (λ ys. count_by (is_of class) ys ≤ 64) (sym (append-nil before)) few
-few_behind class before (s ∷ xs) h few =
+few_after : (class : NameBytes) (before xs : List Saying) → EachAfter (λ b s. is_past b s ≡ false) before xs → count_by (is_of class) before ≤ 64 → count_by (is_of class) (before ++ xs) ≤ 64
+few_after class before [] h few = subst (λ ys. count_by (is_of class) ys ≤ 64) (sym (append-nil before)) few
+few_after class before (s ∷ xs) h few =
     let one : count_by (is_of class) (before ++ s ∷ []) ≤ 64 =
     subst (λ n. n ≤ 64) (sym (sum_by_push (λ t. cond (is_of class t) 1 0) before s)) (one_fits class before s (attribute_class s.said) refl h.0 few) in
-    subst (λ ys. count_by (is_of class) ys ≤ 64) (append_assoc before (s ∷ []) xs) (few_behind class (before ++ s ∷ []) xs h.1 one)
+    subst (λ ys. count_by (is_of class) ys ≤ 64) (append_assoc before (s ∷ []) xs) (few_after class (before ++ s ∷ []) xs h.1 one)
 
 -- ---- the rule
 
@@ -65,5 +65,5 @@ few_enough says h =
     record {
       classes = subst (λ n. n ≤ 64) (lines_counted line_of is_class says) (at_most (classes says) both.0);
       sets = at_most (sets says) both.1;
-      attributes = λ class. few_behind class [] says (none_behind line_of is_past [] says first.1) (omega arith);
+      attributes = λ class. few_after class [] says (none_after line_of is_past [] says first.1) (omega arith);
     }

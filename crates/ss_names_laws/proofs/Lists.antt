@@ -36,7 +36,7 @@ pub each_of_three : {A : Type 0} (P Q R S : A → Type 0) → ((x : A) → P x �
 each_of_three P Q R S f [] h g k = tt
 each_of_three P Q R S f (x ∷ xs) h g k = (f x h.0 g.0 k.0, each_of_three P Q R S f xs h.1 g.1 k.1)
 
--- each item of a list of images
+-- a property of each item of a list of images
 pub each_image : {A B : Type 0} (f : A → B) (P : B → Type 0) (xs : List A) → Every P (map f xs) → Every (λ x. P (f x)) xs
 each_image f P [] h = tt
 each_image f P (x ∷ xs) h = (h.0, each_image f P xs h.1)
@@ -45,7 +45,7 @@ pub images : {A B : Type 0} (f : A → B) (P : B → Type 0) (xs : List A) → E
 images f P [] h = tt
 images f P (x ∷ xs) h = (h.0, images f P xs h.1)
 
--- each item of lists that are joined
+-- a property of each item of lists that are joined
 pub each_piece : {A B : Type 0} (f : A → List B) (P : B → Type 0) (xs : List A) → Every P (flat_map f xs) → Every (λ x. Every P (f x)) xs
 each_piece f P [] h = tt
 each_piece f P (x ∷ xs) h = (left_of P (f x) (flat_map f xs) h, each_piece f P xs (right_of P (f x) (flat_map f xs) h))
@@ -54,7 +54,7 @@ pub pieces : {A B : Type 0} (f : A → List B) (P : B → Type 0) (xs : List A) 
 pieces f P [] h = tt
 pieces f P (x ∷ xs) h = joined P (f x) (flat_map f xs) h.0 (pieces f P xs h.1)
 
--- ---- nothing in a list
+-- ---- empty lists
 
 pub both_empty : {A : Type 0} (xs ys : List A) → xs ++ ys ≡ [] → (xs ≡ []) × (ys ≡ [])
 both_empty [] ys h = (refl, h)
@@ -69,14 +69,14 @@ each_empty f (x ∷ xs) h = let parts = both_empty (f x) (flat_map f xs) h in (p
 pub some_equal : {A : Type 0} (x y : A) → Some x ≡ Some y → x ≡ y
 some_equal x y h = cc
 
--- ---- some item
+-- ---- a property of some item
 
 pub somewhere : {A : Type 0} (P Q : A → Type 0) → ((x : A) → P x → Q x) → (xs : List A) → Somewhere P xs → Somewhere Q xs
 somewhere P Q f [] h = h
 somewhere P Q f (x ∷ xs) (inl h) = inl (f x h)
 somewhere P Q f (x ∷ xs) (inr h) = inr (somewhere P Q f xs h)
 
--- where a test finds an item
+-- a test finds an item
 pub found : {A : Type 0} (test : A → Bool) (xs : List A) → list_any test xs ≡ true → Somewhere (λ x. test x ≡ true) xs
 found test [] h = absurd cc
 found test (x ∷ xs) h = ⊎_elim inl (λ g. inr (found test xs g)) (or_cases (test x) (list_any test xs) h)
@@ -109,27 +109,27 @@ same_as_itself (x ∷ xs) = and_from (nat_eq x x) (pointwise nat_eq xs xs) (eq-e
 
 -- ---- an item of a list
 
--- it is one of the items
+-- an item is one of a list
 abbrev pub Among : {A : Type 0} → List A → A → Type 0
 Among xs x = Somewhere (λ y. y ≡ x) xs
 
--- what holds of it holds somewhere
+-- a property of an item of a list is one of some item
 pub holds_among : {A : Type 0} (P : A → Type 0) (xs : List A) (x : A) → Among xs x → P x → Somewhere P xs
 holds_among P xs x h p = somewhere (λ y. y ≡ x) P (λ y e. subst P (sym e) p) xs h
 
--- where something holds, there is an item
+-- where some item has a property, there is such an item
 pub pick : {A : Type 0} (P : A → Type 0) (xs : List A) → Somewhere P xs → (x : A) × P x × Among xs x
 pick P [] h = absurd h
 pick P (x ∷ xs) (inl h) = (x, h, inl refl)
 pick P (x ∷ xs) (inr h) = let rest = pick P xs h in (rest.0, rest.1, inr rest.2)
 
--- what holds of each item holds of one
+-- a property of each item is one of this item
 pub at_item : {A : Type 0} (P : A → Type 0) (xs : List A) (x : A) → Every P xs → Among xs x → P x
 at_item P [] x h a = absurd a
 at_item P (y ∷ xs) x h (inl e) = subst P e h.0
 at_item P (y ∷ xs) x h (inr a) = at_item P xs x h.1 a
 
--- what holds of each item that is there
+-- a property of each item of a list
 pub each_item : {A : Type 0} (P : A → Type 0) (xs : List A) → ((x : A) → Among xs x → P x) → Every P xs
 each_item P [] f = tt
 each_item P (x ∷ xs) f = (f x (inl refl), each_item P xs (λ y a. f y (inr a)))
@@ -143,7 +143,7 @@ pub in_right : {A : Type 0} (P : A → Type 0) (xs ys : List A) → Somewhere P 
 in_right P [] ys h = h
 in_right P (x ∷ xs) ys h = inr (in_right P xs ys h)
 
--- it is one of the first or one of the others
+-- an item of two lists is one of the first or one of the second
 pub in_one_of : {A : Type 0} (P : A → Type 0) (xs ys : List A) → Somewhere P (xs ++ ys) → Somewhere P xs ⊎ Somewhere P ys
 in_one_of P [] ys h = inr h
 in_one_of P (x ∷ xs) ys (inl h) = inl (inl h)
@@ -155,7 +155,7 @@ any_there test [] h = absurd h
 any_there test (x ∷ xs) (inl h) = or_left (test x) (list_any test xs) h
 any_there test (x ∷ xs) (inr h) = or_right (test x) (list_any test xs) (any_there test xs h)
 
--- no item passes
+-- no item passes a test
 pub none_found : {A : Type 0} (test : A → Bool) (xs : List A) → list_any test xs ≡ false → Every (λ x. test x ≡ false) xs
 none_found test [] h = tt
 none_found test (x ∷ xs) h = let parts = or_parts (test x) (list_any test xs) h in (parts.0, none_found test xs parts.1)
@@ -165,7 +165,7 @@ first_or_later : {A : Type 0} (test : A → Bool) (y : A) (xs : List A) (x : A) 
 first_or_later test y xs x true e later h = let same : y ≡ x = some_equal y x h in (subst (λ z. test z ≡ true) same e, inl same)
 first_or_later test y xs x false e later h = let rest = later h in (rest.0, inr rest.1)
 
--- the first item that passes is there
+-- the first item that passes is one of the list
 pub found_first : {A : Type 0} (test : A → Bool) (xs : List A) (x : A) → find test xs ≡ Some x → (test x ≡ true) × Among xs x
 found_first test [] x h = absurd cc
 found_first test (y ∷ xs) x h = first_or_later test y xs x (test y) refl (found_first test xs x) h
@@ -174,19 +174,19 @@ here_or_later : {A : Type 0} (test : A → Bool) (x : A) (xs : List A) (b : Bool
 here_or_later test x xs true e rest = (x, ap (λ b. cond b (Some x) (find test xs)) e)
 here_or_later test x xs false e rest = (rest.0, ap (λ b. cond b (Some x) (find test xs)) e ∙ rest.1)
 
--- an item that passes is found, or one before it
+-- where an item passes, the test finds it or one before it
 pub is_found : {A : Type 0} (test : A → Bool) (xs : List A) → Somewhere (λ x. test x ≡ true) xs → (x : A) × (find test xs ≡ Some x)
 is_found test [] h = absurd h
 is_found test (x ∷ xs) (inl h) = (x, ap (λ b. cond b (Some x) (find test xs)) h)
 is_found test (x ∷ xs) (inr h) = here_or_later test x xs (test x) refl (is_found test xs h)
 
--- ---- each item and each later one
+-- ---- each item with each later one
 
 pub pairwise : {A : Type 0} (R Q : A → A → Type 0) → ((x y : A) → R x y → Q x y) → (xs : List A) → Pairwise R xs → Pairwise Q xs
 pairwise R Q f [] h = tt
 pairwise R Q f (x ∷ xs) h = (each (R x) (Q x) (f x) xs h.0, pairwise R Q f xs h.1)
 
--- where something holds of each item
+-- a property of each item makes a relation of each with each later one
 pub pairwise_of : {A : Type 0} (P : A → Type 0) (R Q : A → A → Type 0) → ((x y : A) → P x → P y → R x y → Q x y) → (xs : List A) → Every P xs → Pairwise R xs → Pairwise Q xs
 pairwise_of P R Q f [] p h = tt
 pairwise_of P R Q f (x ∷ xs) p h = (each_of_two P (R x) (Q x) (λ y. f x y p.0) xs p.1 h.0, pairwise_of P R Q f xs p.1 h.1)
@@ -211,17 +211,17 @@ pub pairs_of_images : {A B : Type 0} (f : A → B) (R : B → B → Type 0) (xs 
 pairs_of_images f R [] h = tt
 pairs_of_images f R (x ∷ xs) h = (each_image f (R (f x)) xs h.0, pairs_of_images f R xs h.1)
 
--- each item of one list and each of another
+-- each item of one list with each of another
 pub across : {A : Type 0} (R : A → A → Type 0) (xs ys : List A) → Pairwise R (xs ++ ys) → Every (λ a. Every (R a) ys) xs
 across R [] ys h = tt
 across R (x ∷ xs) ys h = (right_of (R x) xs ys h.0, across R xs ys h.1)
 
--- what holds of each of some items and each of others, the other way round
+-- a relation of each of some items with each of others, the other way round
 pub turned : {A B : Type 0} (R : A → B → Type 0) (xs : List A) (ys : List B) → Every (λ a. Every (R a) ys) xs → Every (λ b. Every (λ a. R a b) xs) ys
 turned R [] ys h = all_of (λ b. Every (λ a. R a b) []) (λ b. tt) ys
 turned R (x ∷ xs) ys h = each_of_two (R x) (λ b. Every (λ a. R a b) xs) (λ b. Every (λ a. R a b) (x ∷ xs)) (λ b p q. (p, q)) ys h.0 (turned R xs ys h.1)
 
--- items of two of the lists that are joined
+-- an item of one list and an item of a later one, of the lists that are joined
 pub pairs_of_pieces : {A B : Type 0} (f : A → List B) (R : B → B → Type 0) (xs : List A) → Pairwise R (flat_map f xs) → Pairwise (λ x y. Every (λ a. Every (R a) (f y)) (f x)) xs
 pairs_of_pieces f R [] h = tt
 pairs_of_pieces f R (x ∷ xs) h =

@@ -13,11 +13,11 @@ use Rattle.ss_names_declarations.specs.Sayings.{NameBytes}
 use Rattle.ss_names_declarations.specs.Firsts.{same_name}
 use Rattle.ss_check_scopes.specs.Locals.{mode_of, moded, is_local_at, local_named, local_mentioned, locals}
 use Rattle.ss_names_laws.proofs.Lists.{Among, in_one_of, names_equal, some_equal}
-use Rattle.ss_names_declarations.proofs.Entries.{told_first}
+use Rattle.ss_names_declarations.proofs.Entries.{value_in_firsts}
 
 -- ---- the local variables of a section
 
--- each name with what is found for it
+-- each name with the value that is found for it
 pub found_in : (g : NameBytes → Option Mode) (names : List NameBytes) (name : NameBytes) (mode : Option Mode) → lookup (same_name name) (map (λ n. (n, g n)) names) ≡ Some mode → Among names name × (mode ≡ g name)
 found_in g [] name mode h = absurd cc
 found_in g (n ∷ names) name mode h = by (same_name name n) refl h (found_in g names name mode)
@@ -50,7 +50,7 @@ pub local_from : (is_global : NameBytes → Bool) (usual : Option Mode) (s : Sec
     (m : Mention) × Among (mentions s) m × IsLocalIn is_global name m × (mode ≡ mode_of usual s.definitions name)
 local_from is_global usual s name mode h =
     let all = map (moded usual s.definitions) (flat_map (local_mentioned is_global) (mentions s)) in
-    let told : lookup (same_name name) all ≡ Some mode = sym (told_first all name) ∙ h in
-    let f = found_in (mode_of usual s.definitions) (flat_map (local_mentioned is_global) (mentions s)) name mode told in
+    let looked_up : lookup (same_name name) all ≡ Some mode = sym (value_in_firsts all name) ∙ h in
+    let f = found_in (mode_of usual s.definitions) (flat_map (local_mentioned is_global) (mentions s)) name mode looked_up in
     let m = mentioned_there is_global (mentions s) name f.0 in
     (m.0, m.1, m.2, f.1)

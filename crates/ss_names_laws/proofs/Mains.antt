@@ -13,7 +13,7 @@ use Rattle.ss_names_laws.specs.Lists.{Somewhere, Pairwise}
 use Rattle.ss_names_laws.specs.Declarations.{IsOnce}
 use Rattle.ss_names_laws.proofs.Lists.{left_of, right_of, each, across, right_pairs}
 
--- what sections say after one that is MAIN
+-- the sayings of the sections after MAIN
 no_other : (number : ℕ) (ss : List SectionTree) → Every (λ (s : Saying). is_about topics.Main s.said ≡ true → (0, None) ≡ thing_of s → ⊥) (sections_say number ss) → Every (λ (s : SectionTree). is_main s.kind ≡ false) ss
 no_other number [] h = tt
 no_other number (s ∷ ss) h = (not_main s.kind refl, no_other (number + 1) ss (right_of Silent (section_says number s) (sections_say (number + 1) ss) h))
@@ -32,13 +32,13 @@ no_other number (s ∷ ss) h = (not_main s.kind refl, no_other (number + 1) ss (
 IsMain : SectionTree → Type 0
 IsMain s = s.kind ≡ main
 
--- one of some sections is MAIN, and no other
+-- one of the sections is MAIN, and no other
 HasOneMain : List SectionTree → Type 0
 HasOneMain ss =
     (front : List SectionTree) × (s : SectionTree) × (back : List SectionTree) ×
     (ss ≡ front ++ s ∷ back) × (s.kind ≡ main) × Every (λ (t : SectionTree). is_main t.kind ≡ false) (front ++ back)
 
--- two sayings of MAIN, which there aren't
+-- there are no two sayings of MAIN
 TwoMains : Saying → Saying → Type 0
 TwoMains s t = is_about topics.Main s.said ≡ true → is_about topics.Main t.said ≡ true → thing_of s ≡ thing_of t → ⊥
 

@@ -1,4 +1,4 @@
--- What may be said once is said once.
+-- What may be declared once is declared once.
 use Rattle.std.proofs.Common.{◌≡◌, Bool, true, false, List, [], ◌∷◌, ◌++◌, ⊎_elim, Some, refl, sym, ap, ◌∙◌, subst}
 use Rattle.std.specs.Prelude.{◌&&◌, if◌then◌else◌}
 use Rattle.std.specs.List.{AllByRecursion as Every}
@@ -23,32 +23,32 @@ use Rattle.ss_names_laws.proofs.Lists.{Among, left_of, right_of, each, each_item
 use Rattle.ss_names_laws.proofs.Sayings.{by_said, of_class, of_attribute, of_variable}
 use Rattle.ss_names_laws.proofs.Declared.{no_line}
 
--- ---- items that pass with those before them
+-- ---- a test of each item with those before it
 
--- something holds of each item with all items before it, of which the first stand behind some
-abbrev pub EachBehind : {A : Type 0} → (List A → A → Type 0) → List A → List A → Type 0
-EachBehind P before [] = Unit
-EachBehind P before (x ∷ xs) = P before x × EachBehind P (before ++ x ∷ []) xs
+-- a property of each item with the list of all items before it, where the first has these before it
+abbrev pub EachAfter : {A : Type 0} → (List A → A → Type 0) → List A → List A → Type 0
+EachAfter P before [] = Unit
+EachAfter P before (x ∷ xs) = P before x × EachAfter P (before ++ x ∷ []) xs
 
-pub none_behind : {A : Type 0} (line_at : A → Line) (test : List A → A → Bool) (before xs : List A) → lines_behind line_at test before xs ≡ [] → EachBehind (λ b x. test b x ≡ false) before xs
-none_behind line_at test before [] h = tt
-none_behind line_at test before (x ∷ xs) h =
+pub none_after : {A : Type 0} (line_at : A → Line) (test : List A → A → Bool) (before xs : List A) → lines_behind line_at test before xs ≡ [] → EachAfter (λ b x. test b x ≡ false) before xs
+none_after line_at test before [] h = tt
+none_after line_at test before (x ∷ xs) h =
     let parts = both_empty (line_if (test before x) (line_at x)) (lines_behind line_at test (before ++ x ∷ []) xs) h in
-    (no_line (test before x) (line_at x) parts.0, none_behind line_at test (before ++ x ∷ []) xs parts.1)
+    (no_line (test before x) (line_at x) parts.0, none_after line_at test (before ++ x ∷ []) xs parts.1)
 
--- where each item suits each before it
-pub pairs_behind : {A : Type 0} (P : List A → A → Type 0) (R : A → A → Type 0) → ((before : List A) (x : A) → P before x → Every (λ s. R s x) before) →
-    (before xs : List A) → EachBehind P before xs → Every (λ x. Every (λ s. R s x) before) xs × Pairwise R xs
-pairs_behind P R f before [] h = (tt, tt)
-pairs_behind P R f before (x ∷ xs) h =
-    let rest = pairs_behind P R f (before ++ x ∷ []) xs h.1 in (
+-- if each item fits each before it, all pairs fit
+pub pairs_after : {A : Type 0} (P : List A → A → Type 0) (R : A → A → Type 0) → ((before : List A) (x : A) → P before x → Every (λ s. R s x) before) →
+    (before xs : List A) → EachAfter P before xs → Every (λ x. Every (λ s. R s x) before) xs × Pairwise R xs
+pairs_after P R f before [] h = (tt, tt)
+pairs_after P R f before (x ∷ xs) h =
+    let rest = pairs_after P R f (before ++ x ∷ []) xs h.1 in (
       (f before x h.0, each (λ y. Every (λ s. R s y) (before ++ x ∷ [])) (λ y. Every (λ s. R s y) before) (λ y. left_of (λ s. R s y) before (x ∷ [])) xs rest.0),
       (each (λ y. Every (λ s. R s y) (before ++ x ∷ [])) (R x) (λ y k. (right_of (λ s. R s y) before (x ∷ []) k).0) xs rest.0, rest.1),
     )
 
--- ---- what is said again
+-- ---- a second saying of one thing
 
--- of two sayings about this, the later is of a thing that counts
+-- two sayings on this topic are of two things, unless the thing doesn't count
 abbrev pub Apart : Topic → (Thing → Bool) → Saying → Saying → Type 0
 Apart topic counts s t = is_about topic s.said ≡ true → is_about topic t.said ≡ true → thing_of s ≡ thing_of t → counts (thing_of t) ≡ true → ⊥
 
@@ -61,12 +61,12 @@ apart topic counts before t h = each_item (λ s. Apart topic counts s t) before 
 
 pub never_again : (topic : Topic) (counts : Thing → Bool) (says : List Saying) → again topic counts says ≡ [] → Pairwise (Apart topic counts) says
 never_again topic counts says h =
-    (pairs_behind (λ b t. is_again topic counts b t ≡ false) (Apart topic counts) (apart topic counts) [] says (none_behind line_of (is_again topic counts) [] says h)).1
+    (pairs_after (λ b t. is_again topic counts b t ≡ false) (Apart topic counts) (apart topic counts) [] says (none_after line_of (is_again topic counts) [] says h)).1
 
 pub once : (topic : Topic) (says : List Saying) → again topic anything says ≡ [] → IsOnce topic says
 once topic says h = pairwise (Apart topic anything) (λ s t. is_about topic s.said ≡ true → is_about topic t.said ≡ true → thing_of s ≡ thing_of t → ⊥) (λ s t f a b c. f a b c refl) says (never_again topic anything says h)
 
--- where all things that this is about count
+-- all things of this topic count
 pub once_of : (topic : Topic) (counts : Thing → Bool) (says : List Saying) → ((t : Saying) → Among says t → is_about topic t.said ≡ true → counts (thing_of t) ≡ true) → again topic counts says ≡ [] → IsOnce topic says
 once_of topic counts says f h =
     pairwise_of (λ t. is_about topic t.said ≡ true → counts (thing_of t) ≡ true) (Apart topic counts) (λ s t. is_about topic s.said ≡ true → is_about topic t.said ≡ true → thing_of s ≡ thing_of t → ⊥)
@@ -75,7 +75,7 @@ once_of topic counts says f h =
 -- ---- declarations of two sayings
 
 module _ (says : List Saying) (agree : NamesDeclaredOnce says) where
-  -- what two sayings declare agrees
+  -- the declarations of two sayings agree
   TheyAgree : Saying → Saying → Type 0
   TheyAgree s t = Every (λ a. Every (Agree a) (saying_declares (is_attribute says) t)) (saying_declares (is_attribute says) s)
 
@@ -83,11 +83,11 @@ module _ (says : List Saying) (agree : NamesDeclaredOnce says) where
   unfolding TheyAgree
   they_agree = pairs_of_pieces (saying_declares (is_attribute says)) Agree says agree
 
-  -- what a saying of a name declares
+  -- the declarations of a saying about a name
   declares_so : (s : Saying) (what : Said) (name : NameBytes) → s.said ≡ what → s.name ≡ Some name → saying_declares (is_attribute says) s ≡ said_declares (is_attribute says) s.line what name
   declares_so s what name e n = λ i. named_declares (is_attribute says) s.line (e i) (n i)
 
-  -- two sayings that declare a name as the same thing, which is not of a set
+  -- two sayings don't both declare a name as the same kind, unless that is a set
   clash : (d e : Declaration) (ds es fs gs : List Declaration) → fs ≡ d ∷ ds → gs ≡ e ∷ es → Every (λ a. Every (Agree a) gs) fs → Agree d e
   clash d e ds es fs gs f g h = (subst (λ ys. Every (λ a. Every (Agree a) ys) (d ∷ ds)) g (subst (λ xs. Every (λ a. Every (Agree a) gs) xs) f h)).0.0
 

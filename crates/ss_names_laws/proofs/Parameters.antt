@@ -1,4 +1,4 @@
--- No parameter stands again.
+-- No section has two parameters of one name.
 use Rattle.std.proofs.Common.{◌≡◌, true, ℕ, ◌+◌, List, [], ◌∷◌, ◌++◌, Some, refl, sym, subst, append-nil}
 use Rattle.std.specs.Prelude.{◌≢◌}
 use Rattle.std.specs.List.{AllByRecursion as Every, flat_map}

@@ -1,4 +1,4 @@
--- What is kept of a list is kept of its parts.
+-- A list that breaks no rule has no part that does.
 use Rattle.std.proofs.Common.{◌≡◌, List, [], ◌∷◌, ◌++◌, refl, sym, ap, ◌∙◌, subst}
 use Rattle.std.specs.List.{flat_map}
 use Rattle.ss_tree.specs.Tree.{StatementTree, if_statement, loop_statement, find_if_statement, StatementRow, no_statement, and_statement, statement_row, SectionTree}
@@ -12,7 +12,7 @@ use Rattle.ss_names_laws.specs.Rules.{KeptMention, KeptDemand, KeptMentions, Kep
 use Rattle.ss_names_laws.specs.Parts.{KeptInner, KeptRow, KeptParts}
 use Rattle.ss_names_laws.proofs.Lists.{left_of, right_of}
 
--- what statements give, each itself and then those in it
+-- what statements give: of each its own, and then that of the statements in it
 pub row_of_body : {B : Type 0} (of : StatementTree → List B) (inner : StatementTree → List B) (row : StatementRow → List B) →
     (row no_statement ≡ []) → ((s : StatementTree) (ss : StatementRow) → row (and_statement s ss) ≡ of s ++ inner s ++ row ss) →
     (body : List StatementTree) → row (statement_row body) ≡ flat_map (λ s. of s ++ inner s) body

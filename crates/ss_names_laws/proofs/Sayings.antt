@@ -1,4 +1,4 @@
--- What is said, and of what.
+-- Sayings, their topics and their things.
 use Rattle.std.proofs.Common.{◌≡◌, ℕ, true, List, ◌⊎◌, ⊎_elim, inl, inr, Option, Some, None, refl, sym, ap, ◌∙◌, subst, nat_eq}
 use Rattle.std.specs.Option.{option_eq}
 use Rattle.std.specs.List.{find}
@@ -40,9 +40,9 @@ things_equal a b h =
 pub thing_itself : (a : Thing) → same_thing a a ≡ true
 thing_itself a = and_from (nat_eq a.0 a.0) (option_eq (pointwise nat_eq) a.1 a.1) (eq-eqb a.0 a.0 refl) (option_itself a.1)
 
--- ---- what is said of a thing
+-- ---- the sayings about a thing
 
--- a saying about this, of that thing
+-- a saying on this topic about this thing
 abbrev pub IsOf : Topic → Thing → Saying → Type 0
 IsOf topic thing s = (is_about topic s.said ≡ true) × (thing_of s ≡ thing)
 
@@ -59,7 +59,7 @@ pub who_says : (topic : Topic) (says : List Saying) (thing : Thing) → is_said 
 who_says topic says thing h =
     somewhere (λ s. is_said_by topic thing s ≡ true) (IsOf topic thing) (said_by topic thing) says (found (is_said_by topic thing) says h)
 
--- ---- what a saying about this says
+-- ---- what a saying on a topic is
 
 pub of_notice : (w : Said) → is_about topics.Notice w ≡ true → w ≡ said.Class class_kinds.EventNotice
 of_notice (said.Class class_kinds.EventNotice) h = refl
@@ -100,14 +100,14 @@ pub of_event : (w : Said) → is_about topics.Event w ≡ true → section_of w 
 of_event (said.Event section given saving) h = refl
 of_event _ h = absurd cc
 
--- ---- what is said of a name
+-- ---- the sayings about a name
 
 module _ (says : List Saying) where
-  -- a saying that is there
+  -- a saying of the list
   pub says_so : (s : Saying) (what : Said) (name : NameBytes) → Among says s → s.said ≡ what → s.name ≡ Some name → Says says what name
   says_so s what name a e n = holds_among (λ (t : Saying). (t.said ≡ what) × (t.name ≡ Some name)) says s a (e, n)
 
-  -- what is said is said by a saying that is there
+  -- a saying about a name is in the list
   pub saying_of : (what : Said) (name : NameBytes) → Says says what name → (s : Saying) × ((s.said ≡ what) × (s.name ≡ Some name)) × Among says s
   saying_of what name h = pick (λ (t : Saying). (t.said ≡ what) × (t.name ≡ Some name)) says h
 
@@ -150,25 +150,25 @@ module _ (says : List Saying) where
 
   -- ---- the class of an attribute, or of a set's members
 
-  told : (o : Option Saying) (class : NameBytes) → class_told o ≡ Some class → (s : Saying) × (o ≡ Some s) × (class_in s.said ≡ Some class)
-  told None class h = absurd cc
-  told (Some s) class h = (s, refl, h)
+  said_with_class : (o : Option Saying) (class : NameBytes) → class_told o ≡ Some class → (s : Saying) × (o ≡ Some s) × (class_in s.said ≡ Some class)
+  said_with_class None class h = absurd cc
+  said_with_class (Some s) class h = (s, refl, h)
 
   class_there : (w : Said) (class other : NameBytes) → w ≡ said.Attribute other → class_in w ≡ Some class → w ≡ said.Attribute class
   class_there w class other e h =
       let one : Some other ≡ Some class = ap class_in (sym e) ∙ h in
       e ∙ ap said.Attribute (some_equal other class one)
 
-  -- what the class of an attribute is is said of it
+  -- the class of an attribute comes from a saying about it
   pub attribute_class_said : (key class : NameBytes) → class_of topics.Attribute says (global key) ≡ Some class → Says says (said.Attribute class) key
   attribute_class_said key class h =
-      let t = told (find (is_said_by topics.Attribute (global key)) says) class h in
+      let t = said_with_class (find (is_said_by topics.Attribute (global key)) says) class h in
       let f = found_first (is_said_by topics.Attribute (global key)) says t.0 t.1 in
       let of = said_by topics.Attribute (global key) t.0 f.0 in
       let e = of_attribute t.0.said of.0 in
       says_so t.0 (said.Attribute class) key f.1 (class_there t.0.said class e.0 e.1 t.2) (ap (λ u. u.1) of.1)
 
-  -- a set with members has a class of members, which is said of it
+  -- a set with members has a class of members, from a saying about it
   pub member_class_said : (set : NameBytes) → HasMembers says set → (class : NameBytes) × (class_of topics.Member says (global set) ≡ Some class) × Says says (said.MemberSet class) set
   member_class_said set h =
       let p = saying_of (said.MemberSet h.0) set h.1 in

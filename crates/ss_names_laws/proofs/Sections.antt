@@ -1,4 +1,4 @@
--- What a section says of its local variables, by its number.
+-- The sayings of a section about its local variables, by its number.
 use Rattle.std.proofs.Common.{◌≡◌, ℕ, ◌+◌, ◌≤◌, true, false, List, [], ◌∷◌, ◌++◌, map, ◌⊎◌, ⊎_elim, inl, inr, Option, Some, refl, sym, ap, ◌∙◌, subst, arith}
 use Rattle.std.specs.List.{flat_map}
 use Rattle.std.specs.Map.{lookup}
@@ -16,12 +16,12 @@ use Rattle.ss_names_declarations.specs.declared.saying.Said.{Said}
 use Rattle.ss_names_declarations.specs.declared.saying.Said.TheVariants as said
 use Rattle.ss_names_declarations.specs.declared.saying.Saying.{Saying}
 use Rattle.ss_names_declarations.specs.Sayings.{NameBytes, said_of_all, head_says, definition_says, section_says, preambles_say, sections_say, sayings}
-use Rattle.ss_names_declarations.specs.Firsts.{same_name, told_of}
+use Rattle.ss_names_declarations.specs.Firsts.{same_name, value_for}
 use Rattle.ss_check_scopes.specs.Locals.{defined_in, all_defined, declares}
 use Rattle.ss_names_laws.specs.Lists.{Somewhere}
 use Rattle.ss_names_laws.specs.Declarations.{Says}
 use Rattle.ss_names_laws.proofs.Lists.{Among, all_of, at_item, in_left, in_one_of, in_right, pick, some_equal, somewhere}
-use Rattle.ss_names_laws.proofs.EntriesOfName.{told_somewhere}
+use Rattle.ss_names_laws.proofs.EntriesOfName.{item_gives_value}
 use Rattle.ss_names_laws.proofs.Facts.{SaysIt}
 use Rattle.ss_names_laws.proofs.Known.{key_there}
 use Rattle.ss_names_laws.proofs.Statements.{Well, AllWell, SubjectWell, head_well, preambles_well}
@@ -42,15 +42,15 @@ says_among line w (n ∷ names) name (inr h) = inr (says_among line w names name
 same_mentioned : (a b : NameBytes) → Name a ≡ Name b → a ≡ b
 same_mentioned a b h = cc
 
--- a name that such a mention is of is among the names
+-- the name of such a mention is among the names
 named_among : (line : Line) (role : Role) (names : List NameBytes) (m : Mention) (name : NameBytes) → Among (map (plain line role) names) m → m.what ≡ Name name → Among names name
 named_among line role names m name h e =
     let i = image_from line role names m h in
     subst (Among names) (same_mentioned i.0 name (ap (λ (x : Mention). x.what) i.2 ∙ e)) i.1
 
--- ---- what declares a local variable
+-- ---- declarations of local variables
 
--- the section says that the name is a parameter, or has a DEFINE
+-- the name is a parameter of the section, or has a DEFINE
 abbrev pub Declares : ℕ → SectionTree → NameBytes → Type 0
 Declares k s name =
     Somewhere (SaysIt (said.Given k) name) (section_says k s) ⊎
@@ -100,7 +100,7 @@ declared_here k s m name h d e = ⊎_elim of_front (λ g. absurd (both_ways (dec
 abbrev pub IsDefined : SectionTree → NameBytes → Type 0
 IsDefined s name = (mode : Option Mode) × (lookup (same_name name) (all_defined s.definitions) ≡ Some mode)
 
--- a DEFINE in the section of a number among sections, the first of which has this one
+-- a DEFINE in the section of this number, of sections the first of which has that number
 abbrev pub DefinedIn : ℕ → List SectionTree → ℕ → NameBytes → Type 0
 DefinedIn number [] k name = ⊥
 DefinedIn number (s ∷ ss) k name = ((k ≡ number) × IsDefined s name) ⊎ DefinedIn (number + 1) ss k name
@@ -110,7 +110,7 @@ not_before number [] k name h = absurd h
 not_before number (s ∷ ss) k name (inl h) = omega (arith, h.0)
 not_before number (s ∷ ss) k name (inr h) = let rest = not_before (number + 1) ss k name h in omega (arith, rest)
 
--- no DEFINE is said where none stands
+-- there is no saying of a DEFINE where there is no DEFINE
 no_local : (says : List Saying) (k : ℕ) (mode : Mode) (name : NameBytes) → AllWell (λ n. Unit) (λ j. ⊥) says → Somewhere (SaysIt (said.Local k mode) name) says → ⊥
 no_local says k mode name well h =
     let s = pick (SaysIt (said.Local k mode) name) says h in
@@ -138,7 +138,7 @@ mode_there mode (n ∷ names) name (inr h) = inr (mode_there mode names name h)
 
 pub is_defined : (s : SectionTree) (name : NameBytes) → Somewhere (λ (d : DefinitionTree). Among d.names name) s.definitions → IsDefined s name
 is_defined s name h =
-    told_somewhere defined_in name s.definitions (somewhere (λ (d : DefinitionTree). Among d.names name) (λ d. (v : Option Mode) × (told_of (defined_in d) name ≡ Some v))
+    item_gives_value defined_in name s.definitions (somewhere (λ (d : DefinitionTree). Among d.names name) (λ d. (v : Option Mode) × (value_for (defined_in d) name ≡ Some v))
     (λ d a. key_there (defined_in d) name (mode_there d.mode d.names name a)) s.definitions h)
 
 pub where_defined : (number : ℕ) (ss : List SectionTree) (k : ℕ) (mode : Mode) (name : NameBytes) → Somewhere (SaysIt (said.Local k mode) name) (sections_say number ss) → DefinedIn number ss k name
@@ -151,7 +151,7 @@ where_defined number (s ∷ ss) k mode name h = ⊎_elim
     (in_one_of (SaysIt (said.Local k mode) name) (section_says number s) (sections_say (number + 1) ss) h)
 
 no_subject : (s : PreambleTree) → SubjectWell (λ n. Unit) (λ k. ⊥) s
-no_subject (trees.statistics line weighting told subject) = tt
+no_subject (trees.statistics line weighting found subject) = tt
 no_subject _ = tt
 
 pub where_said : (p : ProgramTree) (k : ℕ) (mode : Mode) (name : NameBytes) → Says (sayings p) (said.Local k mode) name → DefinedIn 0 p.sections k name

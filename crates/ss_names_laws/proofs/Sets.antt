@@ -17,18 +17,18 @@ use Rattle.ss_names.specs.declared.keys.RankedBy.{RankedBy}
 use Rattle.ss_names.specs.declared.keys.TiedBy.{TiedBy}
 use Rattle.ss_names.specs.declared.entry.Ordering.{Ordering}
 use Rattle.ss_names.specs.declared.entry.Set.{Set}
-use Rattle.ss_names.specs.Entities.{attributes, classes, member_by, member_told, ordering_by, orderings, owner_by, owner_told, set_by, set_members, set_names, set_of, set_owners, set_told, sets}
-use Rattle.ss_names_declarations.specs.Firsts.{is_one_of, place_in, same_name, told_of, with_name}
-use Rattle.ss_names.specs.Keys.{rank_by, rank_keys, rank_told, tie_by, tie_keys, tie_told}
+use Rattle.ss_names.specs.Entities.{attributes, classes, member_by, member_entries, ordering_by, orderings, owner_by, owner_entries, set_by, set_members, set_names, set_of, set_owners, declared_sets, sets}
+use Rattle.ss_names_declarations.specs.Firsts.{is_one_of, place_in, same_name, value_for, with_name}
+use Rattle.ss_names.specs.Keys.{rank_by, rank_keys, declared_rank_keys, tie_by, tie_keys, declared_tie_keys}
 use Rattle.ss_names.specs.Table.{declared}
 use Rattle.ss_names_laws.specs.Lists.{Somewhere}
 use Rattle.ss_names_laws.specs.Declarations.{Says, IsOwned, HasMembers}
 use Rattle.ss_names_laws.proofs.Lists.{Among, each_item, joined, names_equal, pick, pieces, some_equal, somewhere}
 use Rattle.ss_names_laws.proofs.Sayings.{says_so}
 use Rattle.ss_names_laws.specs.Tables.{IsKeyOf}
-use Rattle.ss_names_declarations.proofs.Entries.{place_of_told, told_first, value_at}
-use Rattle.ss_names_laws.proofs.EntriesOfName.{told_by, told_somewhere, told_where}
-use Rattle.ss_names_laws.proofs.Told.{here_told, if_here, member_is_told, no_some, ordering_is_told}
+use Rattle.ss_names_declarations.proofs.Entries.{place_of_value, value_in_firsts, value_at}
+use Rattle.ss_names_laws.proofs.EntriesOfName.{value_from_item, item_gives_value, first_item_gives_value}
+use Rattle.ss_names_laws.proofs.EntriesOfSaying.{first_entry, if_here, member_entry_from, no_some, ordering_entry_from}
 use Rattle.ss_names_laws.proofs.Facts.{Facts, SaysIt, attribute_there, class_at, class_place}
 
 -- ---- lists
@@ -58,12 +58,12 @@ folded_names P start [] h k = h
 folded_names P start (name ∷ all) h k = folded_names P (with_name start name) all (with_one P start name h k.0) k.1
 
 module _ (says : List Saying) (f : Facts says) where
-  -- ---- what is a set
+  -- ---- names of sets
 
   IsSet : NameBytes → Type 0
   IsSet name = IsOwned says name × HasMembers says name
 
-  set_from : (s : Saying) → Among says s → (w : Said) (o : Option NameBytes) → s.said ≡ w → s.name ≡ o → Every IsSet (set_told w o)
+  set_from : (s : Saying) → Among says s → (w : Said) (o : Option NameBytes) → s.said ≡ w → s.name ≡ o → Every IsSet (declared_sets w o)
   unfolding IsSet
   set_from s a said.SystemSet (Some name) e n = let own : IsOwned says name = inl (says_so says s said.SystemSet name a e n) in ((own, f.things.members name own), tt)
   set_from s a (said.OwnedSet class) (Some name) e n = let own : IsOwned says name = inr (class, says_so says s (said.OwnedSet class) name a e n) in ((own, f.things.members name own), tt)
@@ -73,7 +73,7 @@ module _ (says : List Saying) (f : Facts says) where
   all_sets : Every IsSet (set_names says)
   all_sets = folded_names IsSet [] (flat_map set_by says) tt (pieces set_by IsSet says (each_item (λ s. Every IsSet (set_by s)) says (λ s a. set_from s a s.said s.name refl refl)))
 
-  -- the set of a number
+  -- the set of this number
   pub set_at : (n : ℕ) (s : Set) → slice_get (sets says) n ≡ Some s → (name : NameBytes) × (slice_get (set_names says) n ≡ Some name) × (set_of (set_owners says) (set_members says) (orderings says) name ≡ s)
   set_at n s h = by (slice_get (set_names says) n) refl (sym (slice_get-map (set_of (set_owners says) (set_members says) (orderings says)) (set_names says) n) ∙ h)
     where
@@ -88,40 +88,40 @@ module _ (says : List Saying) (f : Facts says) where
 
   -- ---- owners
 
-  owner_told_by : (name : NameBytes) → IsOwned says name → Somewhere (λ s. (o : Owner) × (told_of (owner_by (classes says) s) name ≡ Some o)) says
-  owner_told_by name (inl h) = somewhere (SaysIt said.SystemSet name) (λ s. (o : Owner) × (told_of (owner_by (classes says) s) name ≡ Some o))
-      (λ s q. (owners.System, ap (λ (t : Said × Option NameBytes). told_of (owner_told (classes says) t.0 t.1) name) (λ i. (q.0 i, q.1 i)) ∙ here_told name owners.System [])) says h
-  owner_told_by name (inr h) =
+  owner_entry_there : (name : NameBytes) → IsOwned says name → Somewhere (λ s. (o : Owner) × (value_for (owner_by (classes says) s) name ≡ Some o)) says
+  owner_entry_there name (inl h) = somewhere (SaysIt said.SystemSet name) (λ s. (o : Owner) × (value_for (owner_by (classes says) s) name ≡ Some o))
+      (λ s q. (owners.System, ap (λ (t : Said × Option NameBytes). value_for (owner_entries (classes says) t.0 t.1) name) (λ i. (q.0 i, q.1 i)) ∙ first_entry name owners.System [])) says h
+  owner_entry_there name (inr h) =
       let kind = f.of_classes.owners h.0 name h.1 in
       let at = class_place says f kind.0 h.0 kind.1 in
-      somewhere (SaysIt (said.OwnedSet h.0) name) (λ s. (o : Owner) × (told_of (owner_by (classes says) s) name ≡ Some o))
+      somewhere (SaysIt (said.OwnedSet h.0) name) (λ s. (o : Owner) × (value_for (owner_by (classes says) s) name ≡ Some o))
       (λ s q. (
         owners.Class at.0,
-        ap (λ (t : Said × Option NameBytes). told_of (owner_told (classes says) t.0 t.1) name) (λ i. (q.0 i, q.1 i)) ∙
+        ap (λ (t : Said × Option NameBytes). value_for (owner_entries (classes says) t.0 t.1) name) (λ i. (q.0 i, q.1 i)) ∙
             if_here name (option_map owners.Class (place_in (classes says) h.0)) (owners.Class at.0) (ap (option_map owners.Class) at.1),
       )) says h.1
 
   pub has_owner : (n : ℕ) (s : Set) → slice_get (sets says) n ≡ Some s → (owner : Owner) × (s.owner ≡ Some owner)
   has_owner n s h =
       let at = set_at n s h in
-      let t = told_somewhere (owner_by (classes says)) at.0 says (owner_told_by at.0 (owned_and_belonged n at.0 at.1).0) in
-      (t.0, ap (λ (x : Set). x.owner) (sym at.2) ∙ told_first (flat_map (owner_by (classes says)) says) at.0 ∙ t.1)
+      let t = item_gives_value (owner_by (classes says)) at.0 says (owner_entry_there at.0 (owned_and_belonged n at.0 at.1).0) in
+      (t.0, ap (λ (x : Set). x.owner) (sym at.2) ∙ value_in_firsts (flat_map (owner_by (classes says)) says) at.0 ∙ t.1)
 
   -- ---- members
 
-  member_is : (class name : NameBytes) → Says says (said.MemberSet class) name → (k : ℕ) × (told_of (set_members says) name ≡ Some k) × (place_in (classes says) class ≡ Some k)
+  member_is : (class name : NameBytes) → Says says (said.MemberSet class) name → (k : ℕ) × (value_for (set_members says) name ≡ Some k) × (place_in (classes says) class ≡ Some k)
   member_is class name h =
       let kind = f.of_classes.members class name h in
       let at = class_place says f kind.0 class kind.1 in
-      let r = told_where (member_by (classes says)) name (SaysIt (said.MemberSet class) name)
+      let r = first_item_gives_value (member_by (classes says)) name (SaysIt (said.MemberSet class) name)
       (λ r s. is_about topics.Member r.said ≡ true → is_about topics.Member s.said ≡ true → thing_of r ≡ thing_of s → ⊥) (λ k. place_in (classes says) class ≡ Some k)
-      (λ x s q d. no_some (told_of (member_by (classes says) x) name) (λ k e.
-      let i = member_is_told (classes says) x.said x.name name k e in
+      (λ x s q d. no_some (value_for (member_by (classes says) x) name) (λ k e.
+      let i = member_entry_from (classes says) x.said x.name name k e in
       let same : thing_of x ≡ thing_of s = λ j. ((ap section_of i.1 ∙ sym (ap section_of q.0)) j, (i.2 ∙ sym q.1) j) in
       d (ap (is_about topics.Member) i.1) (ap (is_about topics.Member) q.0) same))
-      (λ s q. (at.0, ap (λ (t : Said × Option NameBytes). told_of (member_told (classes says) t.0 t.1) name) (λ i. (q.0 i, q.1 i)) ∙ if_here name (place_in (classes says) class) at.0 at.1, at.1))
+      (λ s q. (at.0, ap (λ (t : Said × Option NameBytes). value_for (member_entries (classes says) t.0 t.1) name) (λ i. (q.0 i, q.1 i)) ∙ if_here name (place_in (classes says) class) at.0 at.1, at.1))
       says f.once.members h in
-      (r.0, told_first (flat_map (member_by (classes says)) says) name ∙ r.1, r.2)
+      (r.0, value_in_firsts (flat_map (member_by (classes says)) says) name ∙ r.1, r.2)
 
   pub has_member : (n : ℕ) (s : Set) → slice_get (sets says) n ≡ Some s → (class : ℕ) × (s.member ≡ Some class)
   has_member n s h =
@@ -136,10 +136,10 @@ module _ (says : List Saying) (f : Facts says) where
   is_key : (class key : NameBytes) (n : ℕ) → Says says (said.Attribute class) key → place_in (classes says) class ≡ Some n → IsKeyOf (declared says) n key
   is_key class key n h at =
       let a = attribute_there says f class key h in
-      let p = place_of_told (attributes says) key a.0 a.1 in
+      let p = place_of_value (attributes says) key a.0 a.1 in
       (p.0, a.0, p.1.0, value_at (attributes says) p.0 key a.0 p.1.1, some_equal a.0.class n (sym a.2 ∙ at))
 
-  rank_from : (s : Saying) → Among says s → (w : Said) (o : Option NameBytes) → s.said ≡ w → s.name ≡ o → Every (λ (k : RankedBy). Says says (said.RankKey k.statement k.high) k.attribute) (rank_told w o)
+  rank_from : (s : Saying) → Among says s → (w : Said) (o : Option NameBytes) → s.said ≡ w → s.name ≡ o → Every (λ (k : RankedBy). Says says (said.RankKey k.statement k.high) k.attribute) (declared_rank_keys w o)
   rank_from s a (said.RankKey statement high) (Some name) e n = (says_so says s (said.RankKey statement high) name a e n, tt)
   rank_from s a _ _ e n = tt
 
@@ -147,10 +147,10 @@ module _ (says : List Saying) (f : Facts says) where
   ranks_said = pieces rank_by (λ (k : RankedBy). Says says (said.RankKey k.statement k.high) k.attribute) says
       (each_item (λ s. Every (λ (k : RankedBy). Says says (said.RankKey k.statement k.high) k.attribute) (rank_by s)) says (λ s a. rank_from s a s.said s.name refl refl))
 
-  ordering_said : (name : NameBytes) (o : Ordering) → told_of (orderings says) name ≡ Some o → Says says (said.Discipline o.statement o.rule) name
+  ordering_said : (name : NameBytes) (o : Ordering) → value_for (orderings says) name ≡ Some o → Says says (said.Discipline o.statement o.rule) name
   ordering_said name o h =
-      let s = pick (λ s. told_of (ordering_by s) name ≡ Some o) says (told_by ordering_by name says o (sym (told_first (flat_map ordering_by says) name) ∙ h)) in
-      let d = ordering_is_told s.0.said s.0.name name o s.1 in
+      let s = pick (λ s. value_for (ordering_by s) name ≡ Some o) says (value_from_item ordering_by name says o (sym (value_in_firsts (flat_map ordering_by says) name) ∙ h)) in
+      let d = ordering_entry_from s.0.said s.0.name name o s.1 in
       says_so says s.0 (said.Discipline o.statement o.rule) name s.2 d.0 d.1
 
   pub ranks_fit : (n : ℕ) (s : Set) (o : Ordering) (class : ℕ) → slice_get (sets says) n ≡ Some s → s.ordering ≡ Some o → s.member ≡ Some class →
@@ -167,7 +167,7 @@ module _ (says : List Saying) (f : Facts says) where
       is_key c.0 k.attribute class c.2 (m.2 ∙ ap Some same))
       (rank_keys says) ranks_said
 
-  tie_from : (s : Saying) → Among says s → (w : Said) (o : Option NameBytes) → s.said ≡ w → s.name ≡ o → Every (λ (k : TiedBy). Says says (said.TieKey k.class k.high) k.attribute) (tie_told w o)
+  tie_from : (s : Saying) → Among says s → (w : Said) (o : Option NameBytes) → s.said ≡ w → s.name ≡ o → Every (λ (k : TiedBy). Says says (said.TieKey k.class k.high) k.attribute) (declared_tie_keys w o)
   tie_from s a (said.TieKey class high) (Some name) e n = (says_so says s (said.TieKey class high) name a e n, tt)
   tie_from s a _ _ e n = tt
 

@@ -1,4 +1,4 @@
--- A table is no larger than the rule on limits lets a program be.
+-- A table is no larger than the rule on limits allows.
 use Rattle.std.proofs.Common.{◌≡◌, ℕ, ◌+◌, ◌≤◌, ◌<◌, inl, inr, Bool, true, false, not, cond, nat_eq, List, [], ◌∷◌, ◌++◌, length, get_or, Option, Some, None, refl, sym, ap, subst, ◌∙◌, append-nil, arith}
 use Rattle.std.specs.Prelude.{◌&&◌, if◌then◌else◌}
 use Rattle.std.specs.List.{count_by, filter, flat_map, fold}
@@ -19,17 +19,17 @@ use Rattle.ss_tables_rules.specs.Lines.{line_if, lines_behind}
 use Rattle.ss_tables_rules.specs.TooMany.{attribute_class, is_class, is_new_set, is_of, sets as new_sets}
 use Rattle.ss_tables_rules.specs.Topics.{is_about, is_said, line_of, section_of, thing_of}
 use Rattle.ss_names.specs.declared.entry.Class.{Class}
-use Rattle.ss_names.specs.Entities.{attribute_by, attribute_classes, attribute_told, class_by, class_told, classes, fields, fields_among, orderings, set_by, set_members, set_names, set_of, set_owners, set_told, sets}
-use Rattle.ss_names_declarations.specs.Firsts.{each_once, entry_beside, entry_if, firsts, is_one_of, place_in, same_name, told_of, with_first, with_name}
+use Rattle.ss_names.specs.Entities.{attribute_by, attribute_classes, attribute_entries, class_by, class_entries, classes, fields, fields_among, orderings, set_by, set_members, set_names, set_of, set_owners, declared_sets, sets}
+use Rattle.ss_names_declarations.specs.Firsts.{each_once, entry_beside, entry_if, firsts, is_one_of, place_in, same_name, value_for, with_first, with_name}
 use Rattle.ss_names_laws.specs.Declarations.{FewEnough}
 use Rattle.ss_names_laws.proofs.Lists.{Among, in_left, in_right, pick, same_as_itself, some_equal}
 use Rattle.ss_names_laws.proofs.Sayings.{IsOf, who_says}
-use Rattle.ss_names_declarations.proofs.Entries.{there, told_by_place}
+use Rattle.ss_names_declarations.proofs.Entries.{there, value_by_place}
 use Rattle.ss_names_laws.proofs.Known.{folded_one}
 
 -- ---- sums
 
--- what the items of a list come to
+-- the sum over the items of a list
 abbrev pub sum_of : {A : Type 0} → (A → ℕ) → List A → ℕ
 sum_of g [] = 0
 sum_of g (x ∷ xs) = g x + sum_of g xs
@@ -62,17 +62,17 @@ module _ {V : Type 0} (g : NameBytes × V → ℕ) where
   folded_less : (es acc : List (NameBytes × V)) → sum_of g (fold with_first acc es) ≤ sum_of g acc + sum_of g es
   folded_less [] acc = omega arith
   folded_less (e ∷ es) acc =
-      let a = beside_less acc e (told_of acc e.0) in
+      let a = beside_less acc e (value_for acc e.0) in
       let b = folded_less es (with_first acc e) in
       omega (arith, a, b)
 
-  -- the first of each name are no more than all
+  -- the first entries of each name are no more than all entries
   firsts_less : (es : List (NameBytes × V)) → sum_of g (firsts es) ≤ sum_of g es
   firsts_less es = let a = folded_less es [] in omega (arith, a)
 
 -- ---- classes
 
-class_counts : (line : Line) (w : Said) (o : Option NameBytes) → sum_of (λ (e : NameBytes × Class). 1) (class_told line w o) ≤ cond (is_about topics.Class w) 1 0
+class_counts : (line : Line) (w : Said) (o : Option NameBytes) → sum_of (λ (e : NameBytes × Class). 1) (class_entries line w o) ≤ cond (is_about topics.Class w) 1 0
 class_counts line (said.Class kind) (Some name) = omega arith
 class_counts line _ _ = omega arith
 
@@ -114,7 +114,7 @@ module _ (cs : List (NameBytes × Class)) (n : ℕ) (class : NameBytes) (same : 
           let one = counts_one (same_name class c) (subst (λ x. same_name class x ≡ true) (sym named) (same_as_itself class)) in
           omega (arith, one)
 
-  attribute_counts : (w : Said) (o : Option NameBytes) → sum_of (λ (x : NameBytes × ℕ). cond (nat_eq x.1 n) 1 0) (attribute_told cs w o) ≤ cond (option_eq same_name (Some class) (attribute_class w)) 1 0
+  attribute_counts : (w : Said) (o : Option NameBytes) → sum_of (λ (x : NameBytes × ℕ). cond (nat_eq x.1 n) 1 0) (attribute_entries cs w o) ≤ cond (option_eq same_name (Some class) (attribute_class w)) 1 0
   attribute_counts (said.Attribute c) (Some name) = entry_counts c name (place_in cs c) refl
   attribute_counts _ _ = omega arith
 
@@ -122,7 +122,7 @@ among_few : (says : List Saying) → FewEnough says → (n : ℕ) → n < length
 among_few says few n lt =
     let e = there (classes says) n lt in
     let same : (c : NameBytes) → place_in (classes says) c ≡ Some n → c ≡ e.0.0 =
-    λ c h. let t = told_by_place (classes says) c n h in ap (λ (x : NameBytes × Class). x.0) (some_equal (c, t.0) e.0 (sym t.2 ∙ e.1)) in
+    λ c h. let t = value_by_place (classes says) c n h in ap (λ (x : NameBytes × Class). x.0) (some_equal (c, t.0) e.0 (sym t.2 ∙ e.1)) in
     let all = flat_map (attribute_by (classes says)) says in
     let here : NameBytes × ℕ → ℕ = λ x. cond (nat_eq x.1 n) 1 0 in
     let a : length (fields_among (attribute_classes says) n) ≡ sum_of here (attribute_classes says) = kept_counts (λ x. nat_eq x.1 n) (attribute_classes says) in
@@ -143,19 +143,19 @@ in_sets name [] x b g = absurd b
 in_sets name (y ∷ xs) x (inl q) g = in_left (λ m. m ≡ name) (set_by y) (flat_map set_by xs) (subst (λ z. Among (set_by z) name) (sym q) g)
 in_sets name (y ∷ xs) x (inr b) g = in_right (λ m. m ≡ name) (set_by y) (flat_map set_by xs) (in_sets name xs x b g)
 
--- a set that was said before is among the names
+-- a set that has a saying before is among the names
 among_names : (before : List Saying) (name : NameBytes) → is_said topics.Set before (0, Some name) ≡ true → is_one_of (each_once (flat_map set_by before)) name ≡ true
 among_names before name h =
     let s = pick (IsOf topics.Set (0, Some name)) before (who_says topics.Set before (0, Some name) h) in
-    folded_one [] (flat_map set_by before) name (inr (in_sets name before s.0 s.2 (told s.0.said s.0.name s.1.0 (ap (λ (t : ℕ × Option NameBytes). t.1) s.1.1))))
+    folded_one [] (flat_map set_by before) name (inr (in_sets name before s.0 s.2 (in_declared s.0.said s.0.name s.1.0 (ap (λ (t : ℕ × Option NameBytes). t.1) s.1.1))))
   where
-    told : (w : Said) (o : Option NameBytes) → is_about topics.Set w ≡ true → o ≡ Some name → Among (set_told w o) name
-    told said.SystemSet (Some n) e g = inl (some_equal n name g)
-    told (said.OwnedSet class) (Some n) e g = inl (some_equal n name g)
-    told (said.MemberSet class) (Some n) e g = inl (some_equal n name g)
-    told _ _ e g = absurd cc
+    in_declared : (w : Said) (o : Option NameBytes) → is_about topics.Set w ≡ true → o ≡ Some name → Among (declared_sets w o) name
+    in_declared said.SystemSet (Some n) e g = inl (some_equal n name g)
+    in_declared (said.OwnedSet class) (Some n) e g = inl (some_equal n name g)
+    in_declared (said.MemberSet class) (Some n) e g = inl (some_equal n name g)
+    in_declared _ _ e g = absurd cc
 
--- one more name, unless it is said already
+-- one more name, unless it has a saying already
 module _ (names : List NameBytes) (line : Line) where
   more_by : (name : NameBytes) (known : Bool) → (known ≡ true → is_one_of names name ≡ true) → length (with_name names name) ≤ length names + length (line_if (not known) line)
   more_by name true h = let e : length (with_name names name) ≡ length names = ap (λ b. length (if b then names else names ++ name ∷ [])) (h refl) in omega (arith, e)
@@ -166,16 +166,16 @@ module _ (names : List NameBytes) (line : Line) where
       by false = let e = length-append names (name ∷ []) in omega (arith, e)
 
 one_more : (before : List Saying) (line : Line) (w : Said) (o : Option NameBytes) →
-    length (fold with_name (each_once (flat_map set_by before)) (set_told w o)) ≤ length (each_once (flat_map set_by before)) + length (line_if (is_about topics.Set w && not (is_said topics.Set before (section_of w, o))) line)
+    length (fold with_name (each_once (flat_map set_by before)) (declared_sets w o)) ≤ length (each_once (flat_map set_by before)) + length (line_if (is_about topics.Set w && not (is_said topics.Set before (section_of w, o))) line)
 one_more before line said.SystemSet (Some name) = more_by (each_once (flat_map set_by before)) line name (is_said topics.Set before (0, Some name)) (among_names before name)
 one_more before line (said.OwnedSet class) (Some name) = more_by (each_once (flat_map set_by before)) line name (is_said topics.Set before (0, Some name)) (among_names before name)
 one_more before line (said.MemberSet class) (Some name) = more_by (each_once (flat_map set_by before)) line name (is_said topics.Set before (0, Some name)) (among_names before name)
 one_more before line _ _ = omega arith
 
-names_behind : (before xs : List Saying) →
+names_after : (before xs : List Saying) →
     length (fold with_name (each_once (flat_map set_by before)) (flat_map set_by xs)) ≤ length (each_once (flat_map set_by before)) + length (lines_behind line_of is_new_set before xs)
-names_behind before [] = omega arith
-names_behind before (s ∷ xs) =
+names_after before [] = omega arith
+names_after before (s ∷ xs) =
     let names = each_once (flat_map set_by before) in
     let more = fold with_name names (set_by s) in
     let later = lines_behind line_of is_new_set (before ++ s ∷ []) xs in
@@ -184,7 +184,7 @@ names_behind before (s ∷ xs) =
     let next : each_once (flat_map set_by (before ++ s ∷ [])) ≡ more =
     ap each_once (flat_map-append set_by before (s ∷ []) ∙ ap (λ ys. flat_map set_by before ++ ys) single) ∙ fold-append with_name [] (flat_map set_by before) (set_by s) in
     let rest : length (fold with_name more (flat_map set_by xs)) ≤ length more + length later =
-    subst (λ ns. length (fold with_name ns (flat_map set_by xs)) ≤ length ns + length later) next (names_behind (before ++ s ∷ []) xs) in
+    subst (λ ns. length (fold with_name ns (flat_map set_by xs)) ≤ length ns + length later) next (names_after (before ++ s ∷ []) xs) in
     let one : length more ≤ length names + length here = one_more before s.line s.said s.name in
     let lines : length (here ++ later) ≡ length here + length later = length-append here later in
     let same : length (fold with_name names (set_by s ++ flat_map set_by xs)) ≡ length (fold with_name more (flat_map set_by xs)) = ap length (fold-append with_name names (set_by s) (flat_map set_by xs)) in
@@ -194,6 +194,6 @@ names_behind before (s ∷ xs) =
 pub set_limit : (says : List Saying) → FewEnough says → length (sets says) ≤ 64
 set_limit says few =
     let made : length (sets says) ≡ length (set_names says) = length-map (set_names says) (set_of (set_owners says) (set_members says) (orderings says)) in
-    let a : length (set_names says) ≤ 0 + length (new_sets says) = names_behind [] says in
+    let a : length (set_names says) ≤ 0 + length (new_sets says) = names_after [] says in
     let b : length (new_sets says) ≤ 64 = few.sets in
     omega (arith, made, a, b)

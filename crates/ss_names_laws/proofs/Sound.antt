@@ -1,4 +1,4 @@
--- The classes and sets of a table that keeps the rules on declarations may stand together in a layout.
+-- The classes and sets of a table that keeps the rules on declarations make one layout.
 use Rattle.std.proofs.Common.{◌≡◌, ℕ, ◌<◌, Bool, true, false, nat_le, nat_lt, List, [], ◌∷◌, length, get_or, Option, Some, None, refl, sym, ap, subst, ◌∙◌, arith}
 use Rattle.std.specs.Prelude.{◌&&◌, slice_get, if◌then◌else◌}
 use Rattle.std.specs.List.{AllByRecursion as Every, list_all}
@@ -30,7 +30,7 @@ pub all_of : {A : Type 0} (test : A → Bool) (xs : List A) → Every (λ x. tes
 all_of test [] h = refl
 all_of test (x ∷ xs) h = rw (h.0, all_of test xs h.1) refl
 
--- where a layout stands, it is the one that was made
+-- if there is a layout, it is the one that was made
 pub laid_is : (b : Bool) (x y : PlainLayout) → (if b then Some x else None) ≡ Some y → (b ≡ true) × (x ≡ y)
 laid_is true x y e = (refl, same_Some x y e)
 laid_is false x y e = absurd cc
@@ -38,7 +38,7 @@ laid_is false x y e = absurd cc
 pub laid_so : (b : Bool) (x : PlainLayout) → b ≡ true → (if b then Some x else None) ≡ Some x
 laid_so b x e = rw e refl
 
--- the set of the table that is laid out
+-- the set of the table from which the set of the layout is made
 pub set_is : (t : Table) (n : ℕ) (y : SetLayout) → set_laid t n ≡ Some y → (s : Set) × (slice_get t.sets n ≡ Some s) × (s.owner ≡ Some y.owner) × (s.member ≡ Some y.member)
 set_is t n y e =
     let first = got (slice_get t.sets n) (λ set. set.owner >>= λ owner. set.member >>= λ member. Some (record { owner = owner; member = member })) y e in
@@ -74,8 +74,8 @@ module _ (t : Table) (is : IsTable t) (said : KeepsTable t) (cs : List PlainClas
       let few = said.few_fields n lt in
       subst (λ (c : PlainClass). is_narrow c ≡ true) same (le-leb (length second.0) 1048576 (omega (arith, count, few)))
 
-  pub stand_together : is_layout (record { classes = cs; sets = ss }) ≡ true
-  stand_together =
+  pub make_a_layout : is_layout (record { classes = cs; sets = ss }) ≡ true
+  make_a_layout =
       let laid : PlainLayout = record { classes = cs; sets = ss } in
       let set_count : length ss ≡ length t.sets = numbers_length (set_laid t) (length t.sets) ss f in
       let classes : nat_le (length cs) 1048576 ≡ true = le-leb (length cs) 1048576 (omega (arith, class_count, said.few_classes)) in

@@ -1,4 +1,4 @@
--- What names stand for, where no name is declared as two things.
+-- The kinds of names, where no name is declared as two things.
 use Rattle.std.proofs.Common.{◌≡◌, Bool, true, false, List, [], ◌∷◌, ◌++◌, Option, Some, None, refl, sym, ap, ◌∙◌, subst, cond, append_assoc, append-nil}
 use Rattle.std.specs.Prelude.{not, ◌&&◌, ◌||◌}
 use Rattle.std.specs.Option.{option_or}
@@ -13,11 +13,11 @@ use Rattle.ss_tables_rules.specs.declared.globals.Standing.TheVariants as standi
 use Rattle.ss_tables_rules.specs.Declarations.{Declaration, declarations, declares, standing_told, standing_of}
 use Rattle.ss_tables_rules.specs.Topics.{is_about}
 use Rattle.ss_tables_rules.specs.Twice.{is_another, is_clash, declared_at, clashes, may_hide, may_be_hidden, hides}
-use Rattle.ss_names_laws.specs.Declarations.{IsOfSet, Agree, NamesDeclaredOnce, NamesStand, MayBeHidden, HidesLittle, LocalsHideLittle}
+use Rattle.ss_names_laws.specs.Declarations.{IsOfSet, Agree, NamesDeclaredOnce, KindsAgree, MayBeHidden, HidesLittle, LocalsHideLittle}
 use Rattle.ss_names_laws.proofs.Lists.{each, joined, same_as_itself}
-use Rattle.ss_names_laws.proofs.Once.{EachBehind, none_behind, pairs_behind}
+use Rattle.ss_names_laws.proofs.Once.{EachAfter, none_after, pairs_after}
 
--- ---- what a name stands for among more declarations
+-- ---- the kind of a name among more declarations
 
 first_of_more : (b : Bool) (d : Declaration) (xs ys : List Declaration) (name : NameBytes) → standing_of (xs ++ ys) name ≡ option_or (standing_of xs name) (standing_of ys name) →
     standing_told (cond b (Some d) (find (declares name) (xs ++ ys))) ≡ option_or (standing_told (cond b (Some d) (find (declares name) xs))) (standing_of ys name)
@@ -28,14 +28,14 @@ pub standing_more : (xs ys : List Declaration) (name : NameBytes) → standing_o
 standing_more [] ys name = refl
 standing_more (d ∷ xs) ys name = first_of_more (declares name d) d xs ys name (standing_more xs ys name)
 
-one_stands : (d : Declaration) → standing_of (d ∷ []) d.name ≡ Some d.standing
-one_stands d = ap (λ b. standing_told (cond b (Some d) None)) (same_as_itself d.name)
+one_agrees : (d : Declaration) → standing_of (d ∷ []) d.name ≡ Some d.standing
+one_agrees d = ap (λ b. standing_told (cond b (Some d) None)) (same_as_itself d.name)
 
 -- ---- another thing
 
--- each of some declarations is of what its name stands for among them
-abbrev AllStand : List Declaration → Type 0
-AllStand ds = Every (λ (d : Declaration). standing_of ds d.name ≡ Some d.standing) ds
+-- each of some declarations has the kind that its name has among them
+abbrev AllAgree : List Declaration → Type 0
+AllAgree ds = Every (λ (d : Declaration). standing_of ds d.name ≡ Some d.standing) ds
 
 not_another : (old new : Standing) → is_another (Some old) new ≡ false → (old ≡ new) × IsOfSet new
 not_another standings.Set standings.Set h = (refl, tt)
@@ -45,26 +45,26 @@ not_another _ _ h = absurd cc
 stays : (before : List Declaration) (d c : Declaration) → standing_of before c.name ≡ Some c.standing → standing_of (before ++ d ∷ []) c.name ≡ Some c.standing
 stays before d c h = standing_more before (d ∷ []) c.name ∙ ap (λ o. option_or o (standing_of (d ∷ []) c.name)) h
 
-stands_last : (o : Option Standing) (before : List Declaration) (d : Declaration) → standing_of before d.name ≡ o → is_another o d.standing ≡ false → standing_of (before ++ d ∷ []) d.name ≡ Some d.standing
-stands_last None before d e h = standing_more before (d ∷ []) d.name ∙ ap (λ o. option_or o (standing_of (d ∷ []) d.name)) e ∙ one_stands d
-stands_last (Some old) before d e h =
+agrees_last : (o : Option Standing) (before : List Declaration) (d : Declaration) → standing_of before d.name ≡ o → is_another o d.standing ≡ false → standing_of (before ++ d ∷ []) d.name ≡ Some d.standing
+agrees_last None before d e h = standing_more before (d ∷ []) d.name ∙ ap (λ o. option_or o (standing_of (d ∷ []) d.name)) e ∙ one_agrees d
+agrees_last (Some old) before d e h =
     standing_more before (d ∷ []) d.name ∙ ap (λ o. option_or o (standing_of (d ∷ []) d.name)) e ∙ ap Some (not_another old d.standing h).0
 
-more_stand : (before : List Declaration) (d : Declaration) → AllStand before → is_clash before d ≡ false → AllStand (before ++ d ∷ [])
-more_stand before d all h =
+more_agree : (before : List Declaration) (d : Declaration) → AllAgree before → is_clash before d ≡ false → AllAgree (before ++ d ∷ [])
+more_agree before d all h =
     joined (λ (c : Declaration). standing_of (before ++ d ∷ []) c.name ≡ Some c.standing) before (d ∷ [])
     (each (λ (c : Declaration). standing_of before c.name ≡ Some c.standing) (λ (c : Declaration). standing_of (before ++ d ∷ []) c.name ≡ Some c.standing) (stays before d) before all)
-    (stands_last (standing_of before d.name) before d refl h, tt)
+    (agrees_last (standing_of before d.name) before d refl h, tt)
 
--- a declaration that is of no other thing than those before it
+-- the next declaration has no other kind than those of its name before it
 abbrev Suits : List Declaration → Declaration → Type 0
-Suits before d = AllStand before × (is_clash before d ≡ false)
+Suits before d = AllAgree before × (is_clash before d ≡ false)
 
-each_suits : (before xs : List Declaration) → AllStand before → EachBehind (λ b d. is_clash b d ≡ false) before xs → EachBehind Suits before xs × AllStand (before ++ xs)
-each_suits before [] all h = (tt, subst AllStand (sym (append-nil before)) all)
+each_suits : (before xs : List Declaration) → AllAgree before → EachAfter (λ b d. is_clash b d ≡ false) before xs → EachAfter Suits before xs × AllAgree (before ++ xs)
+each_suits before [] all h = (tt, subst AllAgree (sym (append-nil before)) all)
 each_suits before (d ∷ xs) all h =
-    let rest = each_suits (before ++ d ∷ []) xs (more_stand before d all h.0) h.1 in
-    (((all, h.0), rest.0), subst AllStand (append_assoc before (d ∷ []) xs) rest.1)
+    let rest = each_suits (before ++ d ∷ []) xs (more_agree before d all h.0) h.1 in
+    (((all, h.0), rest.0), subst AllAgree (append_assoc before (d ∷ []) xs) rest.1)
 
 agrees : (before : List Declaration) (d : Declaration) → Suits before d → Every (λ c. Agree c d) before
 agrees before d h =
@@ -72,14 +72,14 @@ agrees before d h =
     (λ c e same. not_another c.standing d.standing (ap (λ o. is_another o d.standing) (sym e ∙ ap (standing_of before) same) ∙ h.1)) before h.0
 
 module _ (says : List Saying) (h : clashes (declarations says) ≡ []) where
-  suited : EachBehind Suits [] (declarations says) × AllStand ([] ++ declarations says)
-  suited = each_suits [] (declarations says) tt (none_behind declared_at is_clash [] (declarations says) h)
+  suited : EachAfter Suits [] (declarations says) × AllAgree ([] ++ declarations says)
+  suited = each_suits [] (declarations says) tt (none_after declared_at is_clash [] (declarations says) h)
 
   pub names_declared_once : NamesDeclaredOnce says
-  names_declared_once = (pairs_behind Suits Agree agrees [] (declarations says) suited.0).1
+  names_declared_once = (pairs_after Suits Agree agrees [] (declarations says) suited.0).1
 
-  pub names_stand : NamesStand says
-  names_stand = suited.1
+  pub kinds_agree : KindsAgree says
+  kinds_agree = suited.1
 
 -- ---- what is hidden
 

@@ -1,4 +1,4 @@
--- What each statement says of NORMALLY and of the subjects of statistics.
+-- The sayings of each statement about NORMALLY and the subjects of statistics.
 use Rattle.std.proofs.Common.{◌≡◌, ℕ, ◌+◌, List, [], ◌∷◌, map, Option, Some, None, refl}
 use Rattle.std.specs.List.{AllByRecursion as Every, flat_map}
 use Rattle.ss_base.specs.declared.line.Line.{Line}
@@ -11,7 +11,7 @@ use Rattle.ss_names_declarations.specs.Sayings.{NameBytes, said_of, said_of_all,
 use Rattle.ss_names_laws.proofs.Lists.{joined, all_of, images, pieces}
 
 module _ (T : NameBytes → Type 0) (L : ℕ → Type 0) where
-  -- NORMALLY names nothing, and something holds of what a statistic is of and of the section of a local DEFINE
+  -- NORMALLY names nothing; the subject of a statistic and the section of a local DEFINE have these properties
   abbrev pub Well : Said → Option NameBytes → Type 0
   Well (said.Normally mode) o = o ≡ None
   Well (said.Subject weighting) (Some name) = T name
@@ -21,9 +21,9 @@ module _ (T : NameBytes → Type 0) (L : ℕ → Type 0) where
   abbrev pub AllWell : List Saying → Type 0
   AllWell says = Every (λ (s : Saying). Well s.said s.name) says
 
-  -- it holds of what a statement names as the subject of statistics
+  -- the subject of statistics that a statement names has this property
   abbrev pub SubjectWell : PreambleTree → Type 0
-  SubjectWell (statistics line weighting told subject) = T subject
+  SubjectWell (statistics line weighting found subject) = T subject
   SubjectWell _ = Unit
 
   of_all : (line : Line) (w : Said) (names : List NameBytes) → ((name : NameBytes) → Well w (Some name)) → AllWell (said_of_all line w names)
@@ -53,9 +53,9 @@ module _ (T : NameBytes → Type 0) (L : ℕ → Type 0) where
       (of_all line (said.Discipline number (rule_of order)) names (λ n. tt)) (order_well line number order)
   preamble_well number (priority_order line classes) h = (tt, of_all line said.Priority classes (λ n. tt))
   preamble_well number (break_ties line class keys) h = (tt, images (tie_says line class) (λ (s : Saying). Well s.said s.name) keys (all_of (λ k. Unit) (λ k. tt) keys))
-  preamble_well number (statistics line weighting told subject) h =
-      joined (λ (s : Saying). Well s.said s.name) (map (statistic_says line weighting subject) told) (said_of line (said.Subject weighting) subject ∷ [])
-      (images (statistic_says line weighting subject) (λ (s : Saying). Well s.said s.name) told (all_of (λ k. Unit) (λ k. tt) told)) (h, tt)
+  preamble_well number (statistics line weighting found subject) h =
+      joined (λ (s : Saying). Well s.said s.name) (map (statistic_says line weighting subject) found) (said_of line (said.Subject weighting) subject ∷ [])
+      (images (statistic_says line weighting subject) (λ (s : Saying). Well s.said s.name) found (all_of (λ k. Unit) (λ k. tt) found)) (h, tt)
 
   pub preambles_well : (number : ℕ) (ss : List PreambleTree) → Every SubjectWell ss → AllWell (preambles_say number ss)
   preambles_well number [] h = tt

@@ -1,4 +1,4 @@
--- What is known of a statistic: that something has it, as a value or as a MEAN.
+-- The meaning of a statistic: a value or a MEAN, of an entity or of the program.
 use Rattle.std.proofs.Common.{Option, Some, None}
 use Rattle.ss_tree.specs.declared.preamble.StatisticKind.{StatisticKind}
 use Rattle.ss_tree.specs.declared.preamble.StatisticKind.TheVariants as kinds
@@ -18,7 +18,7 @@ module _ (P : Known → Type 0) (value : (holder : Holder) → P (knowns.Statist
   by_kind holder kinds.Maximum = value holder
   by_kind holder kinds.Minimum = value holder
 
-  -- what holds of both holds of what is known of a statistic
+  -- a property of values and of MEANs is one of each statistic
   pub of_statistic : (t : Table) (o : Option Statistic) → P (statistic_meaning t o)
   of_statistic t None = value Program
   of_statistic t (Some s) = by_kind (statistic_holder t s) s.kind

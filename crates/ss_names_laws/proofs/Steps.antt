@@ -1,4 +1,4 @@
--- Steps for each item of a list and for each number below one.
+-- Steps for each item of a list and for each number below a bound.
 use Rattle.std.proofs.Common.{◌≡◌, ℕ, zero, suc, inl, inr, ◌<◌, Bool, true, false, List, [], ◌∷◌, ◌++◌, length, get_or, map, Option, Some, None, refl, sym, ap, subst, ◌∙◌, arith}
 use Rattle.std.specs.Prelude.{option_map, slice_get, Contains}
 use Rattle.std.specs.List.{AllByRecursion as Every, AllZip, flat_map}
@@ -102,7 +102,7 @@ each_map f g (a ∷ rest) ys e h =
     let p = parts (f a) (each f rest) ys e in
     (λ i. h a p.0 p.2 i ∷ each_map f g rest p.1 p.3 h i) ∙ sym p.4
 
--- ---- numbers below one
+-- ---- numbers below a bound
 
 upto_length : (n : ℕ) → length (upto n) ≡ n
 unfolding upto
@@ -151,7 +151,7 @@ at_map : {A B : Type 0} (f : A → B) (o : Option A) (b : B) → option_map f o 
 at_map f None b e = absurd cc
 at_map f (Some a) b e = (a, refl, same_Some (f a) b e)
 
--- steps that give of each place what a function gives of what stands there
+-- steps by place whose results are a function of the items at these places
 pub numbers_map : {A B : Type 0} (step : ℕ → Option B) (f : A → B) (xs : List A) (ys : List B) → each step (upto (length xs)) ≡ Some ys → ((i : ℕ) (x : A) (y : B) → slice_get xs i ≡ Some x → step i ≡ Some y → f x ≡ y) → map f xs ≡ ys
 numbers_map step f xs ys e h =
     same_list (map f xs) ys (length-map xs f ∙ sym (numbers_length step (length xs) ys e)) (λ i b g.
@@ -159,7 +159,7 @@ numbers_map step f xs ys e h =
     let at = numbers_at step (length xs) ys i e (slice_get_within xs i x.0 x.1) in
     at.1 ∙ ap Some (sym (h i x.0 at.0 x.1 at.2) ∙ x.2))
 
--- ---- what holds of each
+-- ---- properties of each item
 
 pub every_map : {A : Type 0} (P Q : A → Type 0) (xs : List A) → ((x : A) → P x → Q x) → Every P xs → Every Q xs
 every_map P Q [] f h = tt
@@ -193,7 +193,7 @@ numbers_every step P n ys e h =
     let same : at.0 ≡ y = cc in
     h i y lt (subst (λ z. step i ≡ Some z) same at.2))
 
--- ---- what holds somewhere
+-- ---- properties of some item
 
 pub somewhere_left : {A : Type 0} (P : A → Type 0) (xs ys : List A) → Somewhere P xs → Somewhere P (xs ++ ys)
 somewhere_left P [] ys h = absurd h
@@ -207,7 +207,7 @@ somewhere_right P (x ∷ xs) ys h = inr (somewhere_right P xs ys h)
 pub contains_at : {A : Type 0} (xs : List A) (i : ℕ) (x : A) → slice_get xs i ≡ Some x → Contains xs x
 contains_at xs i x h = (i, slice_get_within xs i x h, get_or_from_slice_get xs i x x h)
 
--- a single thing in lists that are put together
+-- a list of one item, among lists that are put together
 pub contains_flat : {A : Type 0} (xss : List (List A)) (i : ℕ) (x : A) → slice_get xss i ≡ Some (x ∷ []) → Contains (flat_map (λ them. them) xss) x
 contains_flat [] i x e = absurd cc
 contains_flat (xs ∷ xss) zero x e =

@@ -30,15 +30,15 @@ use Rattle.ss_names.specs.declared.entry.Statistic.{Statistic}
 use Rattle.ss_names.specs.declared.entry.Variable.{Variable}
 use Rattle.ss_names.specs.declared.entry.VariableKind.{VariableKind}
 use Rattle.ss_names.specs.declared.entry.VariableKind.TheVariants.{Defined, OfClass, CountOf}
-use Rattle.ss_names.specs.Entities.{attribute_behind, attribute_by, attribute_classes, attribute_told, attributes, attributes_behind, classes, defined_modes, fields, fields_among, member_by, member_told, orderings, owner_by, owner_told, set_members, set_names, set_of, set_owners, sets, usual_mode}
-use Rattle.ss_names_declarations.specs.Firsts.{entry_if, place_among, place_in, same_name, told_of}
-use Rattle.ss_names.specs.Meanings.{class_meaning, class_meanings, class_name_meaning, count_meaning, meaning_by, meaning_told, numbered, set_meanings}
-use Rattle.ss_names.specs.Statistics.{statistic_by, statistic_of, statistic_told, weighings}
+use Rattle.ss_names.specs.Entities.{attribute_after, attribute_by, attribute_classes, attribute_entries, attributes, attributes_after, classes, defined_modes, fields, fields_among, member_by, member_entries, orderings, owner_by, owner_entries, set_members, set_names, set_of, set_owners, sets, usual_mode}
+use Rattle.ss_names_declarations.specs.Firsts.{entry_if, place_among, place_in, same_name, value_for}
+use Rattle.ss_names.specs.Meanings.{class_meaning, class_meanings, class_name_meaning, count_meaning, meaning_by, meaning_entries, numbered, set_meanings}
+use Rattle.ss_names.specs.Statistics.{statistic_by, statistic_of, statistic_entries, weighings}
 use Rattle.ss_names.specs.Histories.{history_of}
 use Rattle.ss_names.specs.Table.{Table, declared}
-use Rattle.ss_names.specs.Variables.{class_variables, count_name, variable_by, variable_told, variables}
-use Rattle.ss_names_laws.proofs.Entries.{Entries, entry, first_entries, if_some, mapped, told_entry}
-use Rattle.ss_names_declarations.proofs.Entries.{entry_of_key, firsts_once, key_at, there, told_by_place, told_from_place}
+use Rattle.ss_names.specs.Variables.{class_variables, count_name, variable_by, variable_entries, variables}
+use Rattle.ss_names_laws.proofs.Entries.{Entries, entry, first_entries, if_some, mapped, entry_holds}
+use Rattle.ss_names_declarations.proofs.Entries.{entry_of_key, firsts_once, key_at, there, value_by_place, value_from_place}
 use Rattle.ss_names_laws.proofs.Steps.{every_append, every_at, every_from}
 
 -- ---- places
@@ -59,9 +59,9 @@ keys_length (e ∷ es) = ap suc (keys_length es)
 placed_in : {V : Type 0} (es : List (NameBytes × V)) (name : NameBytes) (i : ℕ) → place_in es name ≡ Some i → i < length es
 placed_in es name i h = subst (λ n. i < n) (keys_length es) (placed (keys_of es) name i h)
 
--- ---- what names stand for
+-- ---- meanings of names
 
--- the numbers of what a name stands for are those of something of the name in the table
+-- the numbers in the meaning of a name are those of something of that name in the table
 abbrev pub IsNumbered : Table → NameBytes → Meaning → Type 0
 IsNumbered t name (meanings.Variable n) = (v : Variable) × (slice_get t.variables n ≡ Some (name, v))
 IsNumbered t name (meanings.Class class n) = (c : Class) × (v : Variable) × (slice_get t.classes class ≡ Some (name, c)) × (slice_get t.variables n ≡ Some (name, v))
@@ -76,28 +76,28 @@ module _ (says : List Saying) where
   abbrev Numbered : NameBytes → Meaning → Type 0
   Numbered = IsNumbered (declared says)
 
-  abbrev Stand : List (NameBytes × Meaning) → Type 0
-  Stand = Entries Numbered
+  abbrev AllNumbered : List (NameBytes × Meaning) → Type 0
+  AllNumbered = Entries Numbered
 
   class_numbered : (name : NameBytes) (class variable : Option ℕ) → class ≡ place_in (declared says).classes name → variable ≡ place_in (declared says).variables name → IfSome (class_meaning meanings.Class class variable) (Numbered name)
   class_numbered name None variable h k = tt
   class_numbered name (Some class) None h k = tt
   class_numbered name (Some class) (Some variable) h k =
-      let c = told_by_place (declared says).classes name class (sym h) in
-      let v = told_by_place (declared says).variables name variable (sym k) in
+      let c = value_by_place (declared says).classes name class (sym h) in
+      let v = value_by_place (declared says).variables name variable (sym k) in
       (c.0, v.0, c.2, v.2)
 
   count_numbered : (name : NameBytes) (class variable : Option ℕ) → variable ≡ place_in (declared says).variables (count_name name) → IfSome (class_meaning meanings.Count class variable) (Numbered (count_name name))
   count_numbered name None variable k = tt
   count_numbered name (Some class) None k = tt
   count_numbered name (Some class) (Some variable) k =
-      let v = told_by_place (declared says).variables (count_name name) variable (sym k) in
+      let v = value_by_place (declared says).variables (count_name name) variable (sym k) in
       (v.0, v.2)
 
-  one_class : (name : NameBytes) → Stand (entry_if name (class_name_meaning (numbered says) name))
+  one_class : (name : NameBytes) → AllNumbered (entry_if name (class_name_meaning (numbered says) name))
   one_class name = entry Numbered name (class_name_meaning (numbered says) name) (class_numbered name (place_in (declared says).classes name) (place_in (declared says).variables name) refl refl)
 
-  classes_numbered : (kind : ClassKind) (name : NameBytes) → Stand (class_meanings (numbered says) kind name)
+  classes_numbered : (kind : ClassKind) (name : NameBytes) → AllNumbered (class_meanings (numbered says) kind name)
   classes_numbered class_kinds.Permanent name =
       every_append (λ e. Numbered e.0 e.1) (entry_if name (class_name_meaning (numbered says) name)) (entry_if (count_name name) (count_meaning (numbered says) name))
       (one_class name)
@@ -111,7 +111,7 @@ module _ (says : List Saying) where
       let found = there (set_names says) i (placed (set_names says) name i h) in
       (made found.0, slice_get-map made (set_names says) i ∙ ap (option_map made) found.1)
 
-  set_numbered : (name : NameBytes) (set : Option ℕ) → set ≡ place_among (set_names says) name → Stand (set_meanings name set)
+  set_numbered : (name : NameBytes) (set : Option ℕ) → set ≡ place_among (set_names says) name → AllNumbered (set_meanings name set)
   set_numbered name None h = tt
   set_numbered name (Some set) h =
       let s = set_there name set (sym h) in
@@ -121,29 +121,29 @@ module _ (says : List Saying) where
   unless name true o h = tt
   unless name false o h = h
 
-  names_said : (what : Said) (name : Option NameBytes) → Stand (meaning_told (numbered says) what name)
+  names_said : (what : Said) (name : Option NameBytes) → AllNumbered (meaning_entries (numbered says) what name)
   names_said (said.Class kind) (Some name) = classes_numbered kind name
   names_said (said.Attribute class) (Some name) =
       entry Numbered name (option_map meanings.Attribute (place_in (declared says).attributes name))
-      (mapped (Numbered name) meanings.Attribute (place_in (declared says).attributes name) (λ i h. let f = told_by_place (declared says).attributes name i h in (f.0, f.2)))
+      (mapped (Numbered name) meanings.Attribute (place_in (declared says).attributes name) (λ i h. let f = value_by_place (declared says).attributes name i h in (f.0, f.2)))
   names_said said.SystemSet (Some name) = set_numbered name (place_among (set_names says) name) refl
   names_said (said.OwnedSet class) (Some name) = set_numbered name (place_among (set_names says) name) refl
   names_said (said.MemberSet class) (Some name) = set_numbered name (place_among (set_names says) name) refl
   names_said (said.Variable mode) (Some name) =
       entry Numbered name _
       (unless name (is_some (place_in (declared says).attributes name)) (option_map meanings.Variable (place_in (declared says).variables name))
-      (mapped (Numbered name) meanings.Variable (place_in (declared says).variables name) (λ i h. let f = told_by_place (declared says).variables name i h in (f.0, f.2))))
+      (mapped (Numbered name) meanings.Variable (place_in (declared says).variables name) (λ i h. let f = value_by_place (declared says).variables name i h in (f.0, f.2))))
   names_said (said.Statistic weighting kind subject) (Some name) =
       entry Numbered name (option_map meanings.Statistic (place_in (declared says).statistics name))
-      (mapped (Numbered name) meanings.Statistic (place_in (declared says).statistics name) (λ i h. let f = told_by_place (declared says).statistics name i h in (f.0, f.2)))
+      (mapped (Numbered name) meanings.Statistic (place_in (declared says).statistics name) (λ i h. let f = value_by_place (declared says).statistics name i h in (f.0, f.2)))
   names_said (said.Routine section given yielding) (Some name) =
       entry Numbered name (option_map meanings.Routine (place_in (declared says).routines name))
-      (mapped (Numbered name) meanings.Routine (place_in (declared says).routines name) (λ i h. let f = told_by_place (declared says).routines name i h in (f.0, f.2)))
+      (mapped (Numbered name) meanings.Routine (place_in (declared says).routines name) (λ i h. let f = value_by_place (declared says).routines name i h in (f.0, f.2)))
   names_said _ _ = tt
 
-  names_numbered : (name : NameBytes) (m : Meaning) → told_of (declared says).names name ≡ Some m → Numbered name m
+  names_numbered : (name : NameBytes) (m : Meaning) → value_for (declared says).names name ≡ Some m → Numbered name m
   names_numbered name m h =
-      told_entry Numbered (declared says).names name m (first_entries Numbered (meaning_by (numbered says)) says (λ (s : Saying). names_said s.said s.name)) h
+      entry_holds Numbered (declared says).names name m (first_entries Numbered (meaning_by (numbered says)) says (λ (s : Saying). names_said s.said s.name)) h
 
 -- ---- statistics
 
@@ -151,7 +151,7 @@ histories_below : (count : ℕ) (kind : StatisticKind) (name : NameBytes) (histo
 histories_below count kind name None h = tt
 histories_below count kind name (Some history) h = (h, tt)
 
-statistic_said : (says : List Saying) (what : Said) (name : Option NameBytes) → Entries (λ n (s : Statistic). s.history < length (weighings says)) (statistic_told (weighings says) what name)
+statistic_said : (says : List Saying) (what : Said) (name : Option NameBytes) → Entries (λ n (s : Statistic). s.history < length (weighings says)) (statistic_entries (weighings says) what name)
 statistic_said says (said.Statistic weighting kind subject) (Some name) =
     histories_below (length (weighings says)) kind name (place_in (weighings says) subject) (if_some (place_in (weighings says) subject) (λ i. i < length (weighings says)) (placed_in (weighings says) subject))
 statistic_said says _ _ = tt
@@ -175,7 +175,7 @@ seam (x ∷ xs) ys y = seam xs ys y
 pub same_number : (n : ℕ) → nat_eq n n ≡ true
 same_number n = elim (eqb_tells n n) [ inl h ↦ h.0 | inr h ↦ absurd (h.1 refl) ]
 
--- an attribute stands behind those of its class before it
+-- an attribute comes after those of its class before it
 field_here : (before es : List (NameBytes × ℕ)) (e : NameBytes × ℕ) → slice_get (fields_among (before ++ e ∷ es) e.1) (length (fields_among before e.1)) ≡ Some e.0
 field_here before es e =
     let test : NameBytes × ℕ → Bool = λ f. nat_eq f.1 e.1 in
@@ -189,18 +189,18 @@ field_here before es e =
 abbrev FieldFits : (all es : List (NameBytes × ℕ)) → ℕ → NameBytes × Attribute → Type 0
 FieldFits all es n f = (slice_get (fields_among all f.1.class) f.1.field ≡ Some f.0) × (slice_get es n ≡ Some (f.0, f.1.class))
 
-field_behind : (usual : Option Mode) (defined : List (NameBytes × Mode)) (before es : List (NameBytes × ℕ)) (n : ℕ) (f : NameBytes × Attribute) →
-    slice_get (attributes_behind usual defined before es) n ≡ Some f → FieldFits (before ++ es) es n f
-field_behind usual defined before [] n f h = absurd cc
-field_behind usual defined before (e ∷ es) zero f h =
-    subst (FieldFits (before ++ e ∷ es) (e ∷ es) 0) (same_Some (attribute_behind usual defined before e) f h) (field_here before es e, refl)
-field_behind usual defined before (e ∷ es) (suc n) f h =
-    let further = field_behind usual defined (before ++ e ∷ []) es n f h in
+field_after : (usual : Option Mode) (defined : List (NameBytes × Mode)) (before es : List (NameBytes × ℕ)) (n : ℕ) (f : NameBytes × Attribute) →
+    slice_get (attributes_after usual defined before es) n ≡ Some f → FieldFits (before ++ es) es n f
+field_after usual defined before [] n f h = absurd cc
+field_after usual defined before (e ∷ es) zero f h =
+    subst (FieldFits (before ++ e ∷ es) (e ∷ es) 0) (same_Some (attribute_after usual defined before e) f h) (field_here before es e, refl)
+field_after usual defined before (e ∷ es) (suc n) f h =
+    let further = field_after usual defined (before ++ e ∷ []) es n f h in
     (subst (λ all. slice_get (fields_among all f.1.class) f.1.field ≡ Some f.0) (append_assoc before (e ∷ []) es) further.0, further.1)
 
-keys_behind : (usual : Option Mode) (defined : List (NameBytes × Mode)) (before es : List (NameBytes × ℕ)) → keys_of (attributes_behind usual defined before es) ≡ keys_of es
-keys_behind usual defined before [] = refl
-keys_behind usual defined before (e ∷ es) = ap (λ l. e.0 ∷ l) (keys_behind usual defined (before ++ e ∷ []) es)
+keys_after : (usual : Option Mode) (defined : List (NameBytes × Mode)) (before es : List (NameBytes × ℕ)) → keys_of (attributes_after usual defined before es) ≡ keys_of es
+keys_after usual defined before [] = refl
+keys_after usual defined before (e ∷ es) = ap (λ l. e.0 ∷ l) (keys_after usual defined (before ++ e ∷ []) es)
 
 keys_filtered : (P : NameBytes → Type 0) (test : NameBytes × ℕ → Bool) (es : List (NameBytes × ℕ)) → Every (λ e. P e.0) es → Every P (keys_of (filter test es))
 keys_filtered P test [] h = tt
@@ -210,18 +210,18 @@ keys_filtered P test (e ∷ es) h = by (test e) (keys_filtered P test es h.1)
     by true rest = (h.0, rest)
     by false rest = rest
 
-class_said : (cs : List (NameBytes × Class)) (what : Said) (name : Option NameBytes) → Entries (λ n class. class < length cs) (attribute_told cs what name)
+class_said : (cs : List (NameBytes × Class)) (what : Said) (name : Option NameBytes) → Entries (λ n class. class < length cs) (attribute_entries cs what name)
 class_said cs (said.Attribute class) (Some name) = entry (λ n c. c < length cs) name (place_in cs class) (if_some (place_in cs class) (λ i. i < length cs) (placed_in cs class))
 class_said cs _ _ = tt
 
-owner_said : (cs : List (NameBytes × Class)) (what : Said) (name : Option NameBytes) → Entries (λ n (o : Owner). (class : ℕ) → o ≡ owners.Class class → class < length cs) (owner_told cs what name)
+owner_said : (cs : List (NameBytes × Class)) (what : Said) (name : Option NameBytes) → Entries (λ n (o : Owner). (class : ℕ) → o ≡ owners.Class class → class < length cs) (owner_entries cs what name)
 owner_said cs said.SystemSet (Some name) = ((λ class e. absurd cc), tt)
 owner_said cs (said.OwnedSet class) (Some name) =
     entry (λ n (o : Owner). (c : ℕ) → o ≡ owners.Class c → c < length cs) name (option_map owners.Class (place_in cs class))
     (mapped (λ (o : Owner). (c : ℕ) → o ≡ owners.Class c → c < length cs) owners.Class (place_in cs class) (λ i h c e. let same : i ≡ c = cc in subst (λ k. k < length cs) same (placed_in cs class i h)))
 owner_said cs _ _ = tt
 
-member_said : (cs : List (NameBytes × Class)) (what : Said) (name : Option NameBytes) → Entries (λ n class. class < length cs) (member_told cs what name)
+member_said : (cs : List (NameBytes × Class)) (what : Said) (name : Option NameBytes) → Entries (λ n class. class < length cs) (member_entries cs what name)
 member_said cs (said.MemberSet class) (Some name) = entry (λ n c. c < length cs) name (place_in cs class) (if_some (place_in cs class) (λ i. i < length cs) (placed_in cs class))
 member_said cs _ _ = tt
 
@@ -241,8 +241,8 @@ defined_unless : (b : Bool) (name : NameBytes) (mode : Mode) → Entries (λ n (
 defined_unless true name mode = tt
 defined_unless false name mode = (tt, tt)
 
-variable_said : (cs : List (NameBytes × Class)) (own : List (NameBytes × Attribute)) (what : Said) (name : Option NameBytes) → Entries (λ n (v : Variable). IsClassMode v.kind v.mode) (variable_told cs own what name)
-variable_said cs own (said.Variable mode) (Some name) = defined_unless (is_some (told_of own name)) name mode
+variable_said : (cs : List (NameBytes × Class)) (own : List (NameBytes × Attribute)) (what : Said) (name : Option NameBytes) → Entries (λ n (v : Variable). IsClassMode v.kind v.mode) (variable_entries cs own what name)
+variable_said cs own (said.Variable mode) (Some name) = defined_unless (is_some (value_for own name)) name mode
 variable_said cs own (said.Class kind) (Some name) = variables_of_class kind name (place_in cs name)
 variable_said cs own _ _ = tt
 
@@ -250,10 +250,10 @@ variable_said cs own _ _ = tt
 
 -- what is true of the table of every program
 pub record IsTable (t : Table) : Type 0 where
-  pub names : (name : NameBytes) (m : Meaning) → told_of t.names name ≡ Some m → IsNumbered t name m
-  pub attributes : (n : ℕ) (name : NameBytes) (a : Attribute) → slice_get t.attributes n ≡ Some (name, a) → told_of t.attributes name ≡ Some a
+  pub names : (name : NameBytes) (m : Meaning) → value_for t.names name ≡ Some m → IsNumbered t name m
+  pub attributes : (n : ℕ) (name : NameBytes) (a : Attribute) → slice_get t.attributes n ≡ Some (name, a) → value_for t.attributes name ≡ Some a
   pub fields : (n : ℕ) (name : NameBytes) (a : Attribute) → slice_get t.attributes n ≡ Some (name, a) → (a.class < length t.classes) × (slice_get (get_or t.fields a.class []) a.field ≡ Some name)
-  pub rows : (class : ℕ) → class < length t.classes → Every (λ name. (a : Attribute) × (told_of t.attributes name ≡ Some a)) (get_or t.fields class [])
+  pub rows : (class : ℕ) → class < length t.classes → Every (λ name. (a : Attribute) × (value_for t.attributes name ≡ Some a)) (get_or t.fields class [])
   pub owners : (n : ℕ) (s : Set) (class : ℕ) → slice_get t.sets n ≡ Some s → s.owner ≡ Some (owners.Class class) → class < length t.classes
   pub members : (n : ℕ) (s : Set) (class : ℕ) → slice_get t.sets n ≡ Some s → s.member ≡ Some class → class < length t.classes
   pub class_modes : (n : ℕ) (name : NameBytes) (v : Variable) → slice_get t.variables n ≡ Some (name, v) → IsClassMode v.kind v.mode
@@ -265,32 +265,32 @@ module _ (says : List Saying) where
   owned = attribute_classes says
 
   attributes_once : IsDistinct same_name (keys_of (attributes says))
-  attributes_once = subst (IsDistinct same_name) (sym (keys_behind (usual_mode says) (defined_modes says) [] owned)) (firsts_once (flat_map (attribute_by (classes says)) says))
+  attributes_once = subst (IsDistinct same_name) (sym (keys_after (usual_mode says) (defined_modes says) [] owned)) (firsts_once (flat_map (attribute_by (classes says)) says))
 
-  attribute_told_there : (n : ℕ) (name : NameBytes) (a : Attribute) → slice_get (attributes says) n ≡ Some (name, a) → told_of (attributes says) name ≡ Some a
-  attribute_told_there n name a h = told_from_place (attributes says) n name a attributes_once h
+  attribute_value_there : (n : ℕ) (name : NameBytes) (a : Attribute) → slice_get (attributes says) n ≡ Some (name, a) → value_for (attributes says) name ≡ Some a
+  attribute_value_there n name a h = value_from_place (attributes says) n name a attributes_once h
 
   row_of : (class : ℕ) → class < length (classes says) → get_or (fields says) class [] ≡ fields_among owned class
   row_of class lt = get_or-map-range_with_len (fields_among owned) 0 (length (classes says)) class class [] lt (omega arith)
 
   field_there : (n : ℕ) (name : NameBytes) (a : Attribute) → slice_get (attributes says) n ≡ Some (name, a) → (a.class < length (classes says)) × (slice_get (get_or (fields says) a.class []) a.field ≡ Some name)
   field_there n name a h =
-      let behind = field_behind (usual_mode says) (defined_modes says) [] owned n (name, a) h in
+      let placed_after = field_after (usual_mode says) (defined_modes says) [] owned n (name, a) h in
       let all = first_entries (λ k class. class < length (classes says)) (attribute_by (classes says)) says (λ (s : Saying). class_said (classes says) s.said s.name) in
-      let lt : a.class < length (classes says) = every_at (λ (e : NameBytes × ℕ). e.1 < length (classes says)) owned n (name, a.class) all behind.1 in
-      (lt, subst (λ l. slice_get l a.field ≡ Some name) (sym (row_of a.class lt)) behind.0)
+      let lt : a.class < length (classes says) = every_at (λ (e : NameBytes × ℕ). e.1 < length (classes says)) owned n (name, a.class) all placed_after.1 in
+      (lt, subst (λ l. slice_get l a.field ≡ Some name) (sym (row_of a.class lt)) placed_after.0)
 
-  row_there : (class : ℕ) → class < length (classes says) → Every (λ name. (a : Attribute) × (told_of (attributes says) name ≡ Some a)) (get_or (fields says) class [])
+  row_there : (class : ℕ) → class < length (classes says) → Every (λ name. (a : Attribute) × (value_for (attributes says) name ≡ Some a)) (get_or (fields says) class [])
   row_there class lt =
-      subst (Every (λ name. (a : Attribute) × (told_of (attributes says) name ≡ Some a))) (sym (row_of class lt))
-      (keys_filtered (λ name. (a : Attribute) × (told_of (attributes says) name ≡ Some a)) (λ e. nat_eq e.1 class) owned
-      (every_from (λ (e : NameBytes × ℕ). (a : Attribute) × (told_of (attributes says) e.0 ≡ Some a)) owned (λ i e h. one i e h)))
+      subst (Every (λ name. (a : Attribute) × (value_for (attributes says) name ≡ Some a))) (sym (row_of class lt))
+      (keys_filtered (λ name. (a : Attribute) × (value_for (attributes says) name ≡ Some a)) (λ e. nat_eq e.1 class) owned
+      (every_from (λ (e : NameBytes × ℕ). (a : Attribute) × (value_for (attributes says) e.0 ≡ Some a)) owned (λ i e h. one i e h)))
     where
-      one : (i : ℕ) (e : NameBytes × ℕ) → slice_get owned i ≡ Some e → (a : Attribute) × (told_of (attributes says) e.0 ≡ Some a)
+      one : (i : ℕ) (e : NameBytes × ℕ) → slice_get owned i ≡ Some e → (a : Attribute) × (value_for (attributes says) e.0 ≡ Some a)
       one i e h =
-          let key : slice_get (keys_of (attributes says)) i ≡ Some e.0 = ap (λ l. slice_get l i) (keys_behind (usual_mode says) (defined_modes says) [] owned) ∙ key_at owned i e.0 e.1 h in
+          let key : slice_get (keys_of (attributes says)) i ≡ Some e.0 = ap (λ l. slice_get l i) (keys_after (usual_mode says) (defined_modes says) [] owned) ∙ key_at owned i e.0 e.1 h in
           let there = entry_of_key (attributes says) i e.0 key in
-          (there.0, attribute_told_there i e.0 there.0 there.1)
+          (there.0, attribute_value_there i e.0 there.0 there.1)
 
   abbrev made : NameBytes → Set
   made = set_of (set_owners says) (set_members says) (orderings says)
@@ -305,16 +305,16 @@ module _ (says : List Saying) where
   owners_there : (n : ℕ) (s : Set) (class : ℕ) → slice_get (sets says) n ≡ Some s → s.owner ≡ Some (owners.Class class) → class < length (classes says)
   owners_there n s class h e =
       let named = set_named n s h in
-      let told : told_of (set_owners says) named.0 ≡ Some (owners.Class class) = ap (λ (x : Set). x.owner) named.1 ∙ e in
+      let value : value_for (set_owners says) named.0 ≡ Some (owners.Class class) = ap (λ (x : Set). x.owner) named.1 ∙ e in
       let all = first_entries (λ k (o : Owner). (c : ℕ) → o ≡ owners.Class c → c < length (classes says)) (owner_by (classes says)) says (λ (x : Saying). owner_said (classes says) x.said x.name) in
-      told_entry (λ k (o : Owner). (c : ℕ) → o ≡ owners.Class c → c < length (classes says)) (set_owners says) named.0 (owners.Class class) all told class refl
+      entry_holds (λ k (o : Owner). (c : ℕ) → o ≡ owners.Class c → c < length (classes says)) (set_owners says) named.0 (owners.Class class) all value class refl
 
   members_there : (n : ℕ) (s : Set) (class : ℕ) → slice_get (sets says) n ≡ Some s → s.member ≡ Some class → class < length (classes says)
   members_there n s class h e =
       let named = set_named n s h in
-      let told : told_of (set_members says) named.0 ≡ Some class = ap (λ (x : Set). x.member) named.1 ∙ e in
+      let value : value_for (set_members says) named.0 ≡ Some class = ap (λ (x : Set). x.member) named.1 ∙ e in
       let all = first_entries (λ k c. c < length (classes says)) (member_by (classes says)) says (λ (x : Saying). member_said (classes says) x.said x.name) in
-      told_entry (λ k c. c < length (classes says)) (set_members says) named.0 class all told
+      entry_holds (λ k c. c < length (classes says)) (set_members says) named.0 class all value
 
   class_modes_are : (n : ℕ) (name : NameBytes) (v : Variable) → slice_get (variables says) n ≡ Some (name, v) → IsClassMode v.kind v.mode
   class_modes_are n name v h =
@@ -329,7 +329,7 @@ module _ (says : List Saying) where
   pub is_table : IsTable (declared says)
   is_table = record {
     names = names_numbered says;
-    attributes = attribute_told_there;
+    attributes = attribute_value_there;
     fields = field_there;
     rows = row_there;
     owners = owners_there;

@@ -29,7 +29,7 @@ use Rattle.ss_names.specs.declared.meaning.Subject.TheVariants as subjects
 use Rattle.ss_names.specs.declared.entry.Variable.{Variable as VariableSaid}
 use Rattle.ss_names.specs.declared.entry.VariableKind.{VariableKind}
 use Rattle.ss_names.specs.declared.entry.VariableKind.TheVariants as kinds
-use Rattle.ss_names_declarations.specs.Firsts.{same_name, told_of}
+use Rattle.ss_names_declarations.specs.Firsts.{same_name, value_for}
 use Rattle.ss_names.specs.Table.{Table}
 use Rattle.ss_program.specs.declared.expression.Variable.TheVariants.{Global}
 use Rattle.ss_program.specs.declared.sections.Statistic.{Statistic}
@@ -44,8 +44,8 @@ use Rattle.ss_names_meaning.specs.Words.{class_kind, mode_given, mode_said, weig
 use Rattle.ss_names_laws.specs.Subjects.{IsWhole}
 use Rattle.ss_names_laws.specs.ValidTables.{IsKept}
 use Rattle.ss_names_laws.specs.LaidOut.{AreWellTyped, HasTables}
-use Rattle.ss_names_declarations.proofs.Entries.{entry_of_value, place_of_told, there, value_at}
-use Rattle.ss_names_laws.proofs.NamePlaces.{told_is_placed}
+use Rattle.ss_names_declarations.proofs.Entries.{entry_of_value, place_of_value, there, value_at}
+use Rattle.ss_names_laws.proofs.NamePlaces.{value_at_place}
 use Rattle.ss_names_laws.proofs.Sound.{laid_is, set_is}
 use Rattle.ss_names_laws.proofs.Steps.{contains_flat, each_at, each_every, each_zip, every_flat, every_map, got, held, numbers_at, numbers_length}
 use Rattle.ss_names_laws.proofs.Structure.{IsClassMode, IsTable}
@@ -59,7 +59,7 @@ module _ (t : Table) (is : IsTable t) (k : IsKept t) (p : Program) (h : HasTable
   pub record Layout : Type 0 where
     pub classes : each (class_laid t) (upto (length t.classes)) ≡ Some p.layout.classes
     pub sets : each (set_laid t) (upto (length t.sets)) ≡ Some p.layout.sets
-    pub stands : is_layout p.layout ≡ true
+    pub is_there : is_layout p.layout ≡ true
 
   pub laid : Layout
   laid =
@@ -70,7 +70,7 @@ module _ (t : Table) (is : IsTable t) (k : IsKept t) (p : Program) (h : HasTable
       record {
         classes = first.1 ∙ ap (λ (l : PlainLayout). Some l.classes) is.1;
         sets = second.1 ∙ ap (λ (l : PlainLayout). Some l.sets) is.1;
-        stands = subst (λ l. is_layout l ≡ true) is.1 is.0;
+        is_there = subst (λ l. is_layout l ≡ true) is.1 is.0;
       }
 
   pub class_count : length p.layout.classes ≡ length t.classes
@@ -95,21 +95,21 @@ module _ (t : Table) (is : IsTable t) (k : IsKept t) (p : Program) (h : HasTable
       let class = there t.classes a.class field.0 in
       let known = class_known a.class class.0.1 (value_at t.classes a.class class.0.0 class.0.1 class.1) in
       let at = each_at (field_mode t) (get_or t.fields a.class []) known.0 a.field name known.2 field.1 in
-      let named : attribute_named t name ≡ Some a = told_is_placed t.attributes name ∙ is.attributes n name a e in
+      let named : attribute_named t name ≡ Some a = value_at_place t.attributes name ∙ is.attributes n name a e in
       let mode : mode_given a.mode ≡ Some at.0 = ap (λ o. o >>= λ x. mode_given x.mode) (sym named) ∙ at.2 in
       (at.0, mode, ap (λ o. option_and_then (λ modes. slice_get modes a.field) (option_map (λ (c : PlainClass). c.fields) o)) known.1 ∙ at.1)
 
   attribute_known : (name : NameBytes) (a : Attribute) → attribute_named t name ≡ Some a → (m : Mode) × (mode_given a.mode ≡ Some m) × (typed.field_mode p a.class a.field ≡ Some m)
   attribute_known name a e =
-      let told : told_of t.attributes name ≡ Some a = sym (told_is_placed t.attributes name) ∙ e in
-      let place = place_of_told t.attributes name a told in
+      let value : value_for t.attributes name ≡ Some a = sym (value_at_place t.attributes name) ∙ e in
+      let place = place_of_value t.attributes name a value in
       field_known place.0 name a place.1.1
 
   pub set_known : (n : ℕ) (y : SetLayout) → set_laid t n ≡ Some y → (s : Set) × (slice_get t.sets n ≡ Some s) × (s.owner ≡ Some y.owner) × (s.member ≡ Some y.member)
   set_known n y e = set_is t n y e
 
   sound : is_sound p.layout ≡ true
-  sound = (and_parts (is_sound p.layout) (nat_le (length p.layout.classes) 1048576 && (nat_le (length p.layout.sets) 1048576 && list_all is_narrow p.layout.classes)) laid.stands).0
+  sound = (and_parts (is_sound p.layout) (nat_le (length p.layout.classes) 1048576 && (nat_le (length p.layout.sets) 1048576 && list_all is_narrow p.layout.classes)) laid.is_there).0
 
   -- ---- disciplines and ties
 
@@ -195,7 +195,7 @@ module _ (t : Table) (is : IsTable t) (k : IsKept t) (p : Program) (h : HasTable
       let single : slice_get counts_found.found n ≡ Some (count ∷ []) = at.1 ∙ ap Some (sym here) ∙ ap (λ (c : Counted). Some (c ∷ [])) (sym g) in
       subst (λ cs. Contains cs count) counts_found.together (contains_flat counts_found.found n count single)
 
-  -- a variable that is no N. of a class
+  -- a variable other than N. of a class
   pub plain : (n : ℕ) (v : VariableSaid) → slice_get (values_of t.variables) n ≡ Some v → ((class : ℕ) → v.kind ≢ kinds.CountOf class) → typed.IsPlain p (Global n)
   plain n v e f = every_map IsCountOf (λ (c : Counted). c.variable ≢ n) p.counts (λ c g same. other c g same) counts_are
     where
@@ -221,7 +221,7 @@ module _ (t : Table) (is : IsTable t) (k : IsKept t) (p : Program) (h : HasTable
 
   -- ---- statistics
 
-  -- what a statistic is kept of
+  -- the subject of a statistic
   pub statistic_known : (n : ℕ) (s : Statistic) → statistic_kept t n ≡ Some s → (hist : History) × (number : SubjectNumber) × (slice_get t.histories n ≡ Some hist) × (hist.subject ≡ Some number) × (subject_of t number ≡ Some s.subject)
   statistic_known n s e =
       let first = got (slice_get t.histories n) (λ hist. hist.subject >>= λ number. subject_of t number >>= λ subject. Some (record { subject = subject; weighting = weighting_of hist.weighting })) s e in

@@ -49,7 +49,7 @@ no_first : (rule : Rule) (found : List Line) (rest : Option Broken) → or_next 
 no_first rule [] rest h = (refl, h)
 no_first rule (line ∷ found) rest h = absurd cc
 
--- where no rule of some is the first that is broken, none has a line
+-- if no rule of some is the first that is broken, none has a line
 none_broken : (found : Rule → List Line) (some : List Rule) → first_broken found some ≡ None → Every (λ rule. found rule ≡ []) some
 none_broken found [] h = tt
 none_broken found (rule ∷ some) h =
@@ -91,7 +91,7 @@ module _ (w : Whole) (p : ProgramTree) where
         sections = each_image (uses_of w) (λ u. in_section rule w u ≡ []) p.sections (each_empty (in_section rule w) (map (uses_of w) p.sections) parts.1);
       }
 
-  -- the rules that are kept
+  -- no rule on uses has a line
   record AllUnbroken : Type 0 where
     no_main : Unbroken rules.NoMain
     no_event : Unbroken rules.NoEventRoutine
@@ -182,7 +182,7 @@ main_is_there w p h =
 
 -- ---- event routines
 
--- one of the names of EVENT sections is that of a section
+-- a name among those of the EVENT sections is the name of one
 named_section : (class : NameBytes) (ss : List SectionTree) → list_any (same_name class) (event_names ss) ≡ true → Somewhere (IsEventOf class) ss
 named_section class [] h = absurd cc
 named_section class (s ∷ ss) h =
@@ -270,19 +270,19 @@ events_fit w p h =
 
 -- ---- statistics
 
-numbers_told : (o : Option Known) → not (if_known may_be_told o) ≡ false → differ (known_mode o) (Some modes.Integer) ≡ false →
+subject_has_number : (o : Option Known) → not (if_known may_be_told o) ≡ false → differ (known_mode o) (Some modes.Integer) ≡ false →
     (meant : Known) × (o ≡ Some meant) × (may_be_told meant ≡ true) × (mode_of meant ≡ Some modes.Integer)
-numbers_told None h g = absurd cc
-numbers_told (Some (meanings.Variable modes.Integer)) h g = (meanings.Variable modes.Integer, refl, refl, refl)
-numbers_told (Some (meanings.Attribute class modes.Integer)) h g = (meanings.Attribute class modes.Integer, refl, refl, refl)
-numbers_told (Some (meanings.MemberCount holder)) h g = (meanings.MemberCount holder, refl, refl, refl)
-numbers_told (Some (meanings.Variable modes.Alpha)) h g = absurd cc
-numbers_told (Some (meanings.Attribute class modes.Alpha)) h g = absurd cc
-numbers_told (Some _) h g = absurd cc
+subject_has_number None h g = absurd cc
+subject_has_number (Some (meanings.Variable modes.Integer)) h g = (meanings.Variable modes.Integer, refl, refl, refl)
+subject_has_number (Some (meanings.Attribute class modes.Integer)) h g = (meanings.Attribute class modes.Integer, refl, refl, refl)
+subject_has_number (Some (meanings.MemberCount holder)) h g = (meanings.MemberCount holder, refl, refl, refl)
+subject_has_number (Some (meanings.Variable modes.Alpha)) h g = absurd cc
+subject_has_number (Some (meanings.Attribute class modes.Alpha)) h g = absurd cc
+subject_has_number (Some _) h g = absurd cc
 
 subject_fits : (w : Whole) (s : PreambleTree) → tells_of_unknown w s ≡ [] → tells_of_text w s ≡ [] → SubjectFits w s
-subject_fits w (statistics line weighting told subject) h g =
-    numbers_told (w.meanings subject) (no_line (not (if_known may_be_told (w.meanings subject))) line h) (no_line (differ (known_mode (w.meanings subject)) (Some modes.Integer)) line g)
+subject_fits w (statistics line weighting statistics_found subject) h g =
+    subject_has_number (w.meanings subject) (no_line (not (if_known may_be_told (w.meanings subject))) line h) (no_line (differ (known_mode (w.meanings subject)) (Some modes.Integer)) line g)
 subject_fits w _ h g = tt
 
 pub subjects_fit : (w : Whole) (p : ProgramTree) → KeepsUses w p → Every (SubjectFits w) p.preamble

@@ -9,7 +9,7 @@ use Rattle.ss_names_uses.specs.Mentions.{plain, in_expression, in_expressions, i
 use Rattle.ss_check_scopes.specs.Locals.{declares}
 use Rattle.ss_names_laws.proofs.Lists.{all_of, images, joined, pieces}
 
--- it declares no local variable
+-- a mention declares no local variable
 abbrev pub Silent : Mention → Type 0
 Silent m = declares m.role ≡ false
 

@@ -1,4 +1,4 @@
--- What holds of a program that breaks none of the rules 51 to 60, by what it says of its names.
+-- What holds of the sayings of a program that breaks none of the rules 51 to 60.
 use Rattle.std.specs.Prelude.{◌≡◌, ◌≢◌, ℕ, ◌+◌, ◌≤◌, Bool, true, false, List, [], ◌∷◌, ◌++◌, length, ◌⊎◌, Option, Some, None}
 use Rattle.std.specs.List.{AllByRecursion as Every, count_by}
 use Rattle.ss_tree.specs.declared.preamble.ClassKind.{ClassKind}
@@ -34,44 +34,44 @@ use Rattle.ss_names_laws.specs.Uses.{KeepsUses}
 abbrev pub KeepsDeclarations : ProgramTree → Type 0
 KeepsDeclarations p = refusal p ≡ None
 
--- what holds of what a program says that breaks no rule on declarations
+-- a fact on the sayings of every program that breaks no rule on declarations
 abbrev pub WhereKept : (List Saying → Type 0) → Type 0
 WhereKept Fact = (p : ProgramTree) → KeepsDeclarations p → Fact (sayings p)
 
--- this is said of a name
+-- one of the sayings is this, about this name
 abbrev pub Says : List Saying → Said → NameBytes → Type 0
 Says says what name = Somewhere (λ (s : Saying). (s.said ≡ what) × (s.name ≡ Some name)) says
 
--- ---- 51: what names stand for
+-- ---- 51: kinds of names
 
--- a set, or a derived name of a set: its owner and its members' class both declare it
+-- a set, or a derived name of a set: both its owner and the class of its members declare it
 abbrev pub IsOfSet : Standing → Type 0
 IsOfSet standings.Set = Unit
 IsOfSet standings.OfSet = Unit
 IsOfSet _ = ⊥
 
--- two declarations of one name are of one thing, which is a set or of a set
+-- two declarations of one name are of the same kind, which is a set or of a set
 abbrev pub Agree : Declaration → Declaration → Type 0
 Agree d e = d.name ≡ e.name → (d.standing ≡ e.standing) × IsOfSet e.standing
 
 abbrev pub NamesDeclaredOnce : List Saying → Type 0
 NamesDeclaredOnce says = Pairwise Agree (declarations says)
 
--- so a name stands for what any declaration of it says
-abbrev pub NamesStand : List Saying → Type 0
-NamesStand says = Every (λ (d : Declaration). standing_of (declarations says) d.name ≡ Some d.standing) (declarations says)
+-- each declaration has the kind that its name has
+abbrev pub KindsAgree : List Saying → Type 0
+KindsAgree says = Every (λ (d : Declaration). standing_of (declarations says) d.name ≡ Some d.standing) (declarations says)
 
--- ---- 51 and 58: what is said once
+-- ---- 51 and 58: what may be declared once
 
--- two sayings about this are of two things
+-- two sayings on this topic are of two things
 abbrev pub IsOnce : Topic → List Saying → Type 0
 IsOnce topic says = Pairwise (λ s t. is_about topic s.said ≡ true → is_about topic t.said ≡ true → thing_of s ≡ thing_of t → ⊥) says
 
--- two sayings about this are of two names
+-- two sayings on this topic are of two names
 abbrev pub IsOnceOf : Topic → List Saying → Type 0
 IsOnceOf topic says = Pairwise (λ s t. is_about topic s.said ≡ true → is_about topic t.said ≡ true → (name : NameBytes) → s.name ≡ Some name → t.name ≡ Some name → ⊥) says
 
--- what is said once of a name, or once in the program
+-- what is declared once for a name, or once in the program
 pub record SaidOnce (says : List Saying) : Type 0 where
   pub normally : IsOnce topics.Normally says
   pub classes : IsOnceOf topics.Class says
@@ -87,34 +87,34 @@ pub record SaidOnce (says : List Saying) : Type 0 where
   pub ties : IsOnce topics.Ties says
   pub subjects : IsOnce topics.Subject says
   pub mains : IsOnce topics.Main says
-  -- of a class
+  -- each class has at most one EVENT section
   pub events : Pairwise (λ s t. is_about topics.Event s.said ≡ true → is_about topics.Event t.said ≡ true → thing_of s ≡ thing_of t → (kind : ClassKind) (name : NameBytes) → t.name ≡ Some name → Says says (said.Class kind) name → ⊥) says
   pub parameters : IsOnce topics.Parameter says
   pub locals : IsOnce topics.Local says
 
--- a program has one MAIN: there is one, by the rules on uses, and no other
+-- a program has exactly one MAIN: the rules on uses ask for one, those on declarations for no more
 abbrev pub OneMain : Type 0
 OneMain =
     (w : Whole) (p : ProgramTree) → KeepsUses w p → KeepsDeclarations p →
     (front : List SectionTree) × (s : SectionTree) × (back : List SectionTree) ×
     (p.sections ≡ front ++ s ∷ back) × (s.kind ≡ main) × Every (λ (t : SectionTree). is_main t.kind ≡ false) (front ++ back)
 
--- no parameter of a section stands again
+-- no section has two parameters of one name
 abbrev pub ParametersDiffer : Type 0
 ParametersDiffer =
     (p : ProgramTree) → KeepsDeclarations p →
     Every (λ (s : SectionTree). Pairwise (λ name other. other ≢ name) (given_to s.kind ++ yielded_by s.kind)) p.sections
 
--- ---- 51: what a local variable hides
+-- ---- 51: names that a local variable may hide
 
--- nothing, a variable or a class's variable
+-- a local variable may have a new name, or that of a variable or of a class's variable
 abbrev pub MayBeHidden : Option Standing → Type 0
 MayBeHidden None = Unit
 MayBeHidden (Some standings.Variable) = Unit
 MayBeHidden (Some standings.Class) = Unit
 MayBeHidden (Some _) = ⊥
 
--- a parameter or a local DEFINE of a name hides no more
+-- a parameter or a local DEFINE hides no other name
 abbrev pub HidesLittle : List Declaration → Said → Option NameBytes → Type 0
 HidesLittle ds (said.Given section) (Some name) = MayBeHidden (standing_of ds name)
 HidesLittle ds (said.Yielding section) (Some name) = MayBeHidden (standing_of ds name)
@@ -129,13 +129,13 @@ LocalsHideLittle says = Every (λ (s : Saying). HidesLittle (declarations says) 
 abbrev pub NothingIsReal : List Saying → Type 0
 NothingIsReal says = Every (λ (s : Saying). says_real s.said ≡ false) says
 
--- a name without subscript that stands as a variable in the section of this number is global or has a DEFINE there
+-- a name without subscript that is used as a variable in the section of this number is global or has a DEFINE there
 abbrev pub HasDefine : List Saying → ℕ → Mention → Type 0
 HasDefine says number m =
     is_variable_role m.role ≡ true → m.subscripts ≡ 0 → (name : NameBytes) → m.what ≡ Name name →
     standing_of (declarations says) name ≡ None → (mode : Mode) × Says says (said.Local number mode) name
 
--- so it is in sections, the first of which has this number
+-- it holds in sections, the first of which has this number
 abbrev pub HaveDefines : List Saying → ℕ → List SectionTree → Type 0
 HaveDefines says number [] = Unit
 HaveDefines says number (s ∷ ss) = Every (HasDefine says number) (mentions s) × HaveDefines says (number + 1) ss
@@ -147,7 +147,7 @@ pub record AllDefined (says : List Saying) (sections : List SectionTree) : Type 
   pub yielding : (section : ℕ) (name : NameBytes) → Says says (said.Yielding section) name → (mode : Mode) × Says says (said.Local section mode) name
   pub used : HaveDefines says 0 sections
 
--- where NORMALLY gives no mode, each name has a DEFINE
+-- if NORMALLY gives no mode, each name has a DEFINE
 abbrev pub ModesAreGiven : Type 0
 ModesAreGiven =
     (p : ProgramTree) → KeepsDeclarations p →
@@ -161,7 +161,7 @@ IsOwned says set = Says says said.SystemSet set ⊎ ((class : NameBytes) × Says
 abbrev pub HasMembers : List Saying → NameBytes → Type 0
 HasMembers says set = (class : NameBytes) × Says says (said.MemberSet class) set
 
--- what is named is there
+-- names that are used are declared
 pub record ThingsAreThere (says : List Saying) : Type 0 where
   -- PRIORITY ORDER and BREAK name classes of notices
   pub priorities : (name : NameBytes) → Says says said.Priority name → Says says (said.Class class_kinds.EventNotice) name
@@ -171,12 +171,12 @@ pub record ThingsAreThere (says : List Saying) : Type 0 where
   pub owners : (set : NameBytes) → HasMembers says set → IsOwned says set
   pub members : (set : NameBytes) → IsOwned says set → HasMembers says set
 
--- what has attributes, owns sets or belongs to sets is a class, by the form of the statements
+-- each class that has attributes, owns sets or has members of sets is declared, by the form of the statements
 pub record ClassesAreThere (says : List Saying) : Type 0 where
   pub attributes : (class name : NameBytes) → Says says (said.Attribute class) name → (kind : ClassKind) × Says says (said.Class kind) class
   pub owners : (class set : NameBytes) → Says says (said.OwnedSet class) set → (kind : ClassKind) × Says says (said.Class kind) class
   pub members : (class set : NameBytes) → Says says (said.MemberSet class) set → (kind : ClassKind) × Says says (said.Class kind) class
-  -- a key for ties is of a BREAK, and a statistic of the subject of its statement
+  -- a key for ties comes with a BREAK, and a statistic with the subject of its statement
   pub tied : (class key : NameBytes) (high : Bool) → Says says (said.TieKey class high) key → Says says said.Ties class
   pub subjects : (weighting : Weighting) (kind : StatisticKind) (subject name : NameBytes) → Says says (said.Statistic weighting kind subject) name → Says says (said.Subject weighting) subject
 
@@ -198,7 +198,7 @@ TieKeysFit says = (class key : NameBytes) (high : Bool) → Says says (said.TieK
 
 -- ---- 59: limits
 
--- at most 64 classes, 64 sets, of each of which there is one line where it is named first, and 64 attributes of a class
+-- at most 64 classes, at most 64 sets (each has one line where it is named first), at most 64 attributes of a class
 pub record FewEnough (says : List Saying) : Type 0 where
   pub classes : count_by is_class says ≤ 64
   pub sets : length (sets says) ≤ 64

@@ -1,4 +1,4 @@
--- The tables of a resolved program.
+-- The table and a resolved program that has its layout.
 use Rattle.std.specs.Prelude.{◌≡◌, ℕ, true, List, length, slice_get, Some}
 use Rattle.std.specs.List.{AllZip, AllByRecursion as Every}
 use Rattle.std.specs.Map.{keys_of}
@@ -16,7 +16,7 @@ use Rattle.ss_program.specs.WellTyped.{GoodCount, GoodDiscipline, GoodKeys, Good
 use Rattle.ss_names_meaning.specs.Answers.{each, upto}
 use Rattle.ss_names_meaning.specs.Layouts.{counts, discipline, global_mode, layout, statistic_kept, tie_keys}
 
--- a table lays out its classes and sets, orders its sets, and has modes, counts, statistics and ties
+-- a table has classes and sets for a layout, disciplines, modes, counts, statistics and ties
 pub record LaysOut (t : Table) : Type 0 where
   pub layout : (laid : PlainLayout) × (layout t ≡ Some laid)
   pub disciplines : (ordered : List Discipline) × (each (discipline t) (upto (length t.sets)) ≡ Some ordered)
@@ -25,7 +25,7 @@ pub record LaysOut (t : Table) : Type 0 where
   pub statistics : (kept : List Statistic) × (each (statistic_kept t) (upto (length t.histories)) ≡ Some kept)
   pub ties : (class : ℕ) (name : NameBytes) → slice_get (keys_of t.classes) class ≡ Some name → (keys : List RankKey) × (tie_keys t class name ≡ Some keys)
 
--- the program is laid out by the table
+-- the program has what the table lays out
 pub record HasTables (t : Table) (p : Program) : Type 0 where
   pub layout : layout t ≡ Some p.layout
   pub disciplines : each (discipline t) (upto (length t.sets)) ≡ Some p.disciplines
@@ -33,9 +33,9 @@ pub record HasTables (t : Table) (p : Program) : Type 0 where
   pub counts : counts t ≡ Some p.counts
   pub statistics : each (statistic_kept t) (upto (length t.histories)) ≡ Some p.statistics
 
--- what is laid out is well typed
+-- the tables of a program are well typed
 pub record AreWellTyped (t : Table) (p : Program) : Type 0 where
-  -- the owners and member classes of the sets are there
+  -- the owners and member classes of the sets are classes
   pub sets : is_sound p.layout ≡ true
   pub disciplines : AllZip (GoodDiscipline p) p.layout.sets p.disciplines
   pub counts : Every (GoodCount p) p.counts

@@ -1,4 +1,4 @@
--- What is laid out by the table of a program that keeps the rules on declarations.
+-- The layout of the table of a program that keeps the rules on declarations.
 use Rattle.std.specs.Prelude.{◌≡◌, Some}
 use Rattle.ss_base.specs.Plain.{PlainLayout}
 use Rattle.ss_tree.specs.Tree.{ProgramTree}
@@ -9,11 +9,11 @@ use Rattle.ss_names_meaning.specs.Layouts.{layout}
 use Rattle.ss_names_laws.specs.ValidTables.{IsKept}
 use Rattle.ss_names_laws.specs.LaidOut.{AreWellTyped, HasTables, LaysOut}
 
--- the table of a program that keeps the rules on declarations lays it out
+-- the table of a program that keeps the rules on declarations has a layout
 abbrev pub TablesAreThere : Type 0
 TablesAreThere = (tree : ProgramTree) → IsKept (table tree) → LaysOut (table tree)
 
--- and what it lays out is well typed
+-- its layout is well typed
 abbrev pub TablesAreWellTyped : Type 0
 TablesAreWellTyped = (tree : ProgramTree) (p : Program) → IsKept (table tree) → HasTables (table tree) p → AreWellTyped (table tree) p
 

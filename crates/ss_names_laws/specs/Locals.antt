@@ -1,4 +1,4 @@
--- What the local variables of a section are where the rules on declarations are kept.
+-- The local variables of a section where the rules on declarations are kept.
 use Rattle.std.specs.Prelude.{◌≡◌, Option, Some, None}
 use Rattle.std.specs.List.{AllByRecursion as Every}
 use Rattle.std.specs.Map.{lookup}
@@ -14,7 +14,7 @@ use Rattle.ss_check_scopes.specs.WholeOf.{whole_of}
 use Rattle.ss_names_laws.specs.Declarations.{KeepsDeclarations}
 use Rattle.ss_names_laws.specs.Tables.{IsValueMode}
 
--- what the whole program and the local variables of a section say where the rules on declarations are kept
+-- facts on the local variables of a section where the rules on declarations are kept
 pub record KeepsLocals (w : Whole) (locals : Moded) : Type 0 where
   -- local variables have modes, none of which is REAL
   pub modes : (name : NameBytes) (mode : Option Mode) → lookup (same_name name) locals ≡ Some mode → IsValueMode mode

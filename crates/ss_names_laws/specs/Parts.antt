@@ -1,4 +1,4 @@
--- What is kept of all that a section mentions and demands is kept of its parts.
+-- If all mentions and demands of a section break no rule, those of its parts don't.
 use Rattle.std.specs.Prelude.{◌≡◌, List, ◌++◌}
 use Rattle.ss_tree.specs.Tree.{StatementTree, if_statement, loop_statement, find_if_statement, StatementRow, no_statement, and_statement, statement_row, SectionTree}
 use Rattle.ss_names_uses.specs.declared.mention.Mention.{Mention}
@@ -11,7 +11,7 @@ use Rattle.ss_names_laws.specs.Rules.{KeptMentions, KeptDemands}
 
 -- ---- lists
 
--- where lists that are joined are kept, each of both is
+-- if two lists that are joined break no rule, neither of them does
 abbrev pub JoinedListsAreKept : Type 0
 JoinedListsAreKept =
     (w : Whole) (locals : Moded) →
@@ -21,26 +21,26 @@ JoinedListsAreKept =
 module _ (w : Whole) (locals : Moded) where
   -- ---- statements
 
-  -- what a statement mentions and demands is kept, but for what the statements in it do
+  -- the mentions and demands of a statement break no rule, without those of the statements in it
   abbrev pub KeptItself : StatementTree → Type 0
   KeptItself s = KeptMentions w locals (mentioned.in_itself s) × KeptDemands w locals (demanded.in_itself s)
 
   abbrev mutual
-    -- the statements in a statement are kept, each itself and with those in it
+    -- the statements in a statement break no rule: of each its own mentions and demands, and those of the statements in it
     pub KeptInner : StatementTree → Type 0
     KeptInner (if_statement line condition first second) = KeptRow first × KeptRow second
     KeptInner (loop_statement line head body) = KeptRow body
     KeptInner (find_if_statement line head outcome first second) = KeptRow first × KeptRow second
     KeptInner _ = Unit
 
-    -- statements are kept, each itself and with those in it
+    -- statements break no rule: of each its own mentions and demands, and those of the statements in it
     pub KeptRow : StatementRow → Type 0
     KeptRow no_statement = Unit
     KeptRow (and_statement s ss) = KeptItself s × KeptInner s × KeptRow ss
 
   -- ---- sections
 
-  -- the head of a section, its DEFINEs and its statements are kept
+  -- the head of a section, its DEFINEs and its statements break no rule
   pub record KeptParts (s : SectionTree) : Type 0 where
     pub head_mentions : KeptMentions w locals (mentioned.in_kind s.line s.kind)
     pub definition_mentions : KeptMentions w locals (mentioned.in_definitions s.definitions)
@@ -49,7 +49,7 @@ module _ (w : Whole) (locals : Moded) where
     pub body_demands : KeptDemands w locals (demanded.in_body s.body)
     pub statements : KeptRow (statement_row s.body)
 
--- what the statements of a body mention and demand is what they do as a row
+-- a body has the same mentions and demands as a list and as a row
 abbrev pub BodiesAreRows : Type 0
 BodiesAreRows =
     (body : List StatementTree) →

@@ -12,12 +12,12 @@ use Rattle.ss_check_rules.specs.Arguments.{miscounts}
 use Rattle.ss_check_rules.specs.Modes.{mixes, misplaces}
 use Rattle.ss_check_rules.specs.Fields.{misfits}
 
--- what is mentioned is of the kind that its place needs, has as many subscripts as it takes, and is assignable where it is a target
+-- a mention is of the kind that its place needs, has as many subscripts as it takes, and is assignable if it is a target
 abbrev pub KeptMention : Whole → Moded → Mention → Type 0
 KeptMention w locals m = (is_unknown w locals m ≡ false) × (has_wrong_subscripts w locals m ≡ false) × (is_not_assignable w locals m ≡ false)
 
--- modes agree, as many arguments are given as are taken, there are as many items as fields and a field with decimals has
--- a MEAN, and a MEAN stands for no value
+-- Modes agree, and as many arguments are given as are taken. There are as many items as fields, and a field with decimals
+-- has a MEAN. No MEAN is used as a value.
 abbrev pub KeptDemand : Whole → Moded → Demand → Type 0
 KeptDemand w locals d = (mixes w locals d ≡ false) × (miscounts w d ≡ false) × (misfits w locals d ≡ false) × (misplaces w locals d ≡ false)
 

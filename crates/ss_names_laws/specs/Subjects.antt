@@ -1,4 +1,4 @@
--- What TALLY and ACCUMULATE name in a program that breaks no rule.
+-- The subjects of TALLY and ACCUMULATE in a program that breaks no rule.
 use Rattle.std.specs.Prelude.{◌≡◌, ℕ, slice_get, Some}
 use Rattle.std.specs.Map.{values_of}
 use Rattle.ss_tree.specs.declared.preamble.Mode.TheVariants as modes
@@ -15,13 +15,13 @@ use Rattle.ss_check_scopes.specs.WholeOf.{whole_of}
 use Rattle.ss_names_laws.specs.Declarations.{KeepsDeclarations}
 use Rattle.ss_names_laws.specs.Uses.{KeepsUses}
 
--- what has a history is a whole number
+-- a subject that has a history is a whole number
 abbrev pub IsWhole : Table → Subject → Type 0
 IsWhole t (subjects.Variable n) = (v : Variable) × (slice_get (values_of t.variables) n ≡ Some v) × (v.kind ≡ Defined) × (v.mode ≡ modes.Integer)
 IsWhole t (subjects.Attribute n) = (a : Attribute) × (slice_get (values_of t.attributes) n ≡ Some a) × (a.mode ≡ Some modes.Integer)
 IsWhole t (subjects.MemberCount n) = (s : Set) × (slice_get t.sets n ≡ Some s)
 
--- what TALLY and ACCUMULATE name is a whole number, where the rules on uses are kept as well
+-- the subjects of TALLY and ACCUMULATE are whole numbers, where the rules on uses are kept as well
 abbrev pub SubjectsAreWhole : Type 0
 SubjectsAreWhole =
     (p : ProgramTree) → KeepsDeclarations p → KeepsUses (whole_of p) p → (n : ℕ) (h : History) → slice_get (table p).histories n ≡ Some h →

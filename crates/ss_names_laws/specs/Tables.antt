@@ -1,4 +1,4 @@
--- What the table of a program says where the rules on declarations are kept.
+-- Facts on the table of a program where the rules on declarations are kept.
 use Rattle.std.specs.Prelude.{◌≡◌, ℕ, ◌+◌, ◌==◌, ◌<◌, ◌≤◌, ◌⊎◌, [], length, get_or, slice_get, Option, Some}
 use Rattle.std.specs.List.{AllByRecursion as Every, filter}
 use Rattle.std.specs.Map.{keys_of, values_of}
@@ -20,15 +20,15 @@ use Rattle.ss_names.specs.declared.entry.Set.{Set}
 use Rattle.ss_names.specs.declared.entry.Variable.{Variable}
 use Rattle.ss_names.specs.declared.entry.VariableKind.{VariableKind}
 use Rattle.ss_names.specs.declared.entry.VariableKind.TheVariants.{Defined, OfClass, CountOf}
-use Rattle.ss_names_declarations.specs.Firsts.{place_in, same_name, told_of}
+use Rattle.ss_names_declarations.specs.Firsts.{place_in, same_name, value_for}
 use Rattle.ss_names.specs.Table.{Table, table}
 use Rattle.ss_names_laws.specs.Declarations.{KeepsDeclarations}
 
--- a mode that values have is given
+-- a mode that values may have is given
 abbrev pub IsValueMode : Option Mode → Type 0
 IsValueMode mode = (mode ≡ Some modes.Integer) ⊎ (mode ≡ Some modes.Alpha)
 
--- what the name of a global variable stands for
+-- the meaning of the name of a global variable
 abbrev pub standing_of : (number : ℕ) → VariableKind → Meaning
 standing_of n Defined = meanings.Variable n
 standing_of n (OfClass class) = meanings.Class class n
@@ -38,7 +38,7 @@ standing_of n (CountOf class) = meanings.Count class n
 abbrev pub IsKeyOf : Table → (class : ℕ) → NameBytes → Type 0
 IsKeyOf t class name = (number : ℕ) × (a : Attribute) × (place_in t.attributes name ≡ Some number) × (slice_get (values_of t.attributes) number ≡ Some a) × (a.class ≡ class)
 
--- what a table says where the rules on declarations are kept
+-- facts on a table where the rules on declarations are kept
 pub record KeepsTable (t : Table) : Type 0 where
   -- there are at most 64 classes, 64 sets, and 64 attributes of a class
   pub few_classes : length t.classes ≤ 64
@@ -47,17 +47,17 @@ pub record KeepsTable (t : Table) : Type 0 where
   -- attributes and global variables have modes, none of which is REAL
   pub attribute_modes : (n : ℕ) (a : Attribute) → slice_get (values_of t.attributes) n ≡ Some a → IsValueMode a.mode
   pub variable_modes : (n : ℕ) (v : Variable) → slice_get (values_of t.variables) n ≡ Some v → IsValueMode (Some v.mode)
-  -- the name of a class stands for it, and the name of a global variable for what that is
-  pub class_names : (n : ℕ) (name : NameBytes) → slice_get (keys_of t.classes) n ≡ Some name → (variable : ℕ) × (told_of t.names name ≡ Some (meanings.Class n variable))
-  pub variable_names : (n : ℕ) (name : NameBytes) (v : Variable) → slice_get t.variables n ≡ Some (name, v) → told_of t.names name ≡ Some (standing_of n v.kind)
-  -- what has an N. as a variable is a permanent class
+  -- the name of a class means the class, and the name of a global variable means what the variable is
+  pub class_names : (n : ℕ) (name : NameBytes) → slice_get (keys_of t.classes) n ≡ Some name → (variable : ℕ) × (value_for t.names name ≡ Some (meanings.Class n variable))
+  pub variable_names : (n : ℕ) (name : NameBytes) (v : Variable) → slice_get t.variables n ≡ Some (name, v) → value_for t.names name ≡ Some (standing_of n v.kind)
+  -- a class that has an N. as a variable is permanent
   pub counts : (n : ℕ) (v : Variable) (class : ℕ) → slice_get (values_of t.variables) n ≡ Some v → v.kind ≡ CountOf class → (c : Class) × (slice_get (values_of t.classes) class ≡ Some c) × (c.kind ≡ Permanent)
-  -- the variable of a permanent class has its N. behind it
-  pub counts_behind : (n class : ℕ) (v : Variable) (c : Class) → slice_get (values_of t.variables) n ≡ Some v → v.kind ≡ OfClass class → slice_get (values_of t.classes) class ≡ Some c → c.kind ≡ Permanent → (next : Variable) × (slice_get (values_of t.variables) (n + 1) ≡ Some next) × (next.kind ≡ CountOf class)
+  -- N. of a permanent class is the variable after that of the class
+  pub counts_follow : (n class : ℕ) (v : Variable) (c : Class) → slice_get (values_of t.variables) n ≡ Some v → v.kind ≡ OfClass class → slice_get (values_of t.classes) class ≡ Some c → c.kind ≡ Permanent → (next : Variable) × (slice_get (values_of t.variables) (n + 1) ≡ Some next) × (next.kind ≡ CountOf class)
   -- a set has an owner, and a class of members
   pub owners : (n : ℕ) (s : Set) → slice_get t.sets n ≡ Some s → (owner : Owner) × (s.owner ≡ Some owner)
   pub members : (n : ℕ) (s : Set) → slice_get t.sets n ≡ Some s → (class : ℕ) × (s.member ≡ Some class)
-  -- the keys of a ranked set are attributes of its members' class, and those of a BREAK of its class
+  -- the keys of a ranked set are attributes of its members' class, and those of a BREAK are attributes of its class
   pub rank_keys : (n : ℕ) (s : Set) (o : Ordering) (class : ℕ) → slice_get t.sets n ≡ Some s → s.ordering ≡ Some o → o.rule ≡ Ranked → s.member ≡ Some class → Every (λ (k : RankedBy). IsKeyOf t class k.attribute) (filter (λ k. k.statement == o.statement) t.rank_keys)
   pub tie_keys : (n : ℕ) (name : NameBytes) → slice_get (keys_of t.classes) n ≡ Some name → Every (λ (k : TiedBy). IsKeyOf t n k.attribute) (filter (λ k. same_name k.class name) t.tie_keys)
 

@@ -69,7 +69,7 @@ NoticesHaveEvents =
 
 -- ---- counts of arguments
 
--- so many are as many as are taken, or at most as many as there are
+-- a count is the number that is taken; of attributes it is at most as many as there are
 abbrev pub CountFits : Whole → ℕ → Aspect → Type 0
 CountFits w count (aspects.ArgumentCount function) = count ≡ argument_count function
 CountFits w count (aspects.GivenCount called) = (modes : List Mode) → w.given called ≡ Some modes → count ≡ length modes
@@ -81,14 +81,14 @@ abbrev pub IsCounted : Whole → Aspect → Aspect → Type 0
 IsCounted w (aspects.Count count) wanted = CountFits w count wanted
 IsCounted w _ wanted = Unit
 
--- where the demand is one on a count, that fits
+-- a demand on a count fits
 abbrev pub CountKept : Whole → Demand → Type 0
 CountKept w d = IsCounted w d.found d.wanted
 
 abbrev pub CountsFit : Type 0
 CountsFit = (w : Whole) (p : ProgramTree) → KeepsUses w p → Every (λ s. Every (CountKept w) (demands s)) p.sections
 
--- an EVENT section is of a class of notices, and is given no more values than that has attributes
+-- an EVENT section is of a class of notices, and is given no more values than the class has attributes
 abbrev pub EventFits : Whole → SectionKindTree → Type 0
 EventFits w main = Unit
 EventFits w (routine name given yielding) = Unit
@@ -101,7 +101,7 @@ EventsFit = (w : Whole) (p : ProgramTree) → KeepsUses w p → Every (λ (s : S
 
 -- ---- statistics
 
--- a TALLY or an ACCUMULATE is of a variable, an attribute or N. of a set, and of numbers
+-- the subject of a TALLY or an ACCUMULATE is a variable, an attribute or N. of a set, and a whole number
 abbrev pub SubjectFits : Whole → PreambleTree → Type 0
 SubjectFits w (statistics line weighting found subject) =
     (meant : Known) × (w.meanings subject ≡ Some meant) × (may_be_told meant ≡ true) × (mode_of meant ≡ Some modes.Integer)

@@ -5,8 +5,8 @@ ghost use Rattle.ss_names_laws.specs.Subjects.{SubjectsAreWhole};
 ghost use Rattle.ss_names_laws.specs.Tables.{TablesAreKept};
 
 /// What is proved of the table of a program that breaks no rule on declarations, and of the local
-/// variables of its sections; where it breaks none on uses either, what TALLY and ACCUMULATE are of is a
-/// whole number.
+/// variables of its sections. If it breaks no rule on uses either, the subjects of TALLY and ACCUMULATE
+/// are whole numbers.
 pub fn laws_of_tables()
     ensures tables { TablesAreKept }
     ensures subjects { SubjectsAreWhole }

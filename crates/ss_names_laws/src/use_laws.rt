@@ -1,12 +1,12 @@
 //! Laws of programs that break no rule.
 
-ghost use Rattle.ss_names_laws.specs.Declarations.{WhereKept, NamesDeclaredOnce, NamesStand, SaidOnce, OneMain, ParametersDiffer, LocalsHideLittle, NothingIsReal, ModesAreGiven, ThingsAreThere, EveryIsOfClass, RankKeysFit, TieKeysFit, FewEnough};
+ghost use Rattle.ss_names_laws.specs.Declarations.{WhereKept, NamesDeclaredOnce, KindsAgree, SaidOnce, OneMain, ParametersDiffer, LocalsHideLittle, NothingIsReal, ModesAreGiven, ThingsAreThere, EveryIsOfClass, RankKeysFit, TieKeysFit, FewEnough};
 ghost use Rattle.ss_names_laws.specs.Parts.{JoinedListsAreKept, BodiesAreRows, RowsAreKept, PartsAreKept};
 ghost use Rattle.ss_names_laws.specs.Uses.{SectionsAreKept, MainIsThere, NoticesHaveEvents, CountsFit, EventsFit, SubjectsFit};
 
-/// What is proved of a program that breaks no rule on uses: each mention and each demand of its sections
-/// is kept, MAIN is there, each class of notices has its EVENT section, counts of arguments fit, and
-/// what TALLY and ACCUMULATE are of has numbers.
+/// What is proved of a program that breaks no rule on uses. No mention and no demand of its sections breaks
+/// one. MAIN is there, and each class of notices has its EVENT section. Counts of arguments fit. The subjects
+/// of TALLY and ACCUMULATE are whole numbers.
 pub fn laws_of_uses()
     ensures sections { SectionsAreKept }
     ensures main { MainIsThere }
@@ -16,8 +16,8 @@ pub fn laws_of_uses()
     ensures subjects { SubjectsFit }
 {}
 
-/// What is kept of all that a section mentions and demands is kept of its head, of its DEFINEs and of
-/// each of its statements, also of those within others.
+/// If no mention and no demand of a section breaks a rule, none of its parts does: neither its head, nor its
+/// DEFINEs, nor any of its statements, also those within others.
 pub fn laws_of_parts()
     ensures joined { JoinedListsAreKept }
     ensures bodies { BodiesAreRows }
@@ -25,12 +25,12 @@ pub fn laws_of_parts()
     ensures parts { PartsAreKept }
 {}
 
-/// What is proved of a program that breaks no rule on declarations, rule by rule: names are declared
-/// once and locals hide little, each name has a mode, the classes and sets that are named are there,
-/// keys are attributes of their class, and there are no more than 64 of a kind.
+/// What is proved of a program that breaks no rule on declarations, rule by rule. Names are declared once,
+/// and locals hide little. Each name has a mode. The classes and sets that are named are declared. Keys are
+/// attributes of their class, and there are no more than 64 of a kind.
 pub fn laws_of_declarations()
     ensures declared_once { WhereKept NamesDeclaredOnce }
-    ensures names_stand { WhereKept NamesStand }
+    ensures kinds_agree { WhereKept KindsAgree }
     ensures said_once { WhereKept SaidOnce }
     ensures one_main { OneMain }
     ensures parameters { ParametersDiffer }

@@ -5,7 +5,7 @@ use Rattle.ss_names_meaning.specs.declared.error.ResolveError.{ResolveError}
 use Rattle.ss_names_meaning.specs.declared.error.ResolveError.TheVariants.{Memory, Unresolved}
 use Rattle.ss_names_meaning.specs.Answers.{◌>>=◌, each, Fails}
 
--- one more in front
+-- one more item in front
 abbrev cons_of : {B : Type 0} → Option B → Option (List B) → Option (List B)
 cons_of r q = r >>= λ y. q >>= λ ys. Some (y ∷ ys)
 
@@ -43,7 +43,7 @@ pub each_fails : {X A B : Type 0} (step : A → Option B) (v : X → A) (xs : Li
 each_fails step v xs i x Memory lt is h = tt
 each_fails step v xs i x Unresolved lt is h = each_none step v xs i x lt (subst (λ y. step (v y) ≡ None) is h)
 
--- a call answered for an item
+-- a call gave a value for an item
 pub each_next : {X A B Y : Type 0} (step : A → Option B) (v : X → A) (view : Y → B) (xs : List X) (i : ℕ) (x : X) (old new : List Y) (y : Y) →
     i < length xs → x ≡ get_or xs i x → new ≡ old ++ y ∷ [] →
     each step (map v (take i xs)) ≡ Some (map view old) → step (v x) ≡ Some (view y) → each step (map v (take (i + 1) xs)) ≡ Some (map view new)
@@ -57,7 +57,7 @@ pub no_items : {A B Y : Type 0} (step : A → Option B) (view : Y → B) (ys : L
 unfolding each
 no_items step view ys e = rw e refl
 
--- ---- the same of items that stand for themselves
+-- ---- items that are seen as they are
 
 pub no_plain_items : {A B : Type 0} (step : A → Option B) (ys : List B) → ys ≡ [] → each step [] ≡ Some ys
 unfolding each

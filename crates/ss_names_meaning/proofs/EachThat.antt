@@ -1,4 +1,4 @@
--- Steps for each item of a list that passes a test, and lists with more behind them.
+-- Steps for each item of a list that passes a test, and for lists with more after them.
 use Rattle.std.proofs.Common.{◌≡◌, ℕ, zero, suc, ◌+◌, ◌<◌, Bool, true, false, cond, List, [], ◌∷◌, ◌++◌, length, get_or, take, Option, Some, None, refl, sym, ap, subst, ◌∙◌, arith}
 use Rattle.std.specs.List.{filter}
 use Rattle.std.proofs.lemmas.List.{append-nil}
@@ -8,7 +8,7 @@ use Rattle.ss_names_meaning.specs.declared.error.ResolveError.TheVariants.{Memor
 use Rattle.ss_names_meaning.specs.Answers.{◌>>=◌, each, Fails}
 use Rattle.ss_names_meaning.proofs.Each.{each_more}
 
--- one more in front
+-- one more item in front
 abbrev cons_of : {B : Type 0} → Option B → Option (List B) → Option (List B)
 cons_of r q = r >>= λ y. q >>= λ ys. Some (y ∷ ys)
 
@@ -16,7 +16,7 @@ cons_none : {B : Type 0} (r : Option B) → cons_of r None ≡ None
 cons_none None = refl
 cons_none (Some y) = refl
 
--- a list with more behind it
+-- a list without a result has none with more after it
 front_of : {B : Type 0} (r : Option B) (q p : Option (List B)) → cons_of r q ≡ None → (q ≡ None → p ≡ None) → cons_of r p ≡ None
 front_of None q p h f = refl
 front_of (Some y) None p h f = rw (f refl) refl

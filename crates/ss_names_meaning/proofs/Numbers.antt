@@ -1,4 +1,4 @@
--- Steps for each number below one.
+-- Steps for each number below a bound.
 use Rattle.std.proofs.Common.{◌≡◌, ℕ, zero, suc, ◌+◌, ◌<◌, List, [], ◌∷◌, ◌++◌, map, Option, Some, None, refl, ap, subst, ◌∙◌, arith, add-one, inl, inr}
 use Rattle.std.specs.List.{flat_map}
 use Rattle.std.proofs.lemmas.List.{append-nil, map-append}
@@ -34,7 +34,7 @@ numbers_next step view i old new y e h g =
     let made : map view new ≡ map view old ++ view y ∷ [] = ap (map view) e ∙ map-append view old (y ∷ []) in
     rw (add-one, made) (each_more step (upto i) i (map view old) (view y) h g)
 
--- ---- the same of results that stand for themselves
+-- ---- results that are seen as they are
 
 pub no_plain_numbers : {B : Type 0} (step : ℕ → Option B) (ys : List B) → ys ≡ [] → each step (upto 0) ≡ Some ys
 unfolding each upto
@@ -45,9 +45,9 @@ pub plain_numbers_next : {B : Type 0} (step : ℕ → Option B) (i : ℕ) (old n
 unfolding upto
 plain_numbers_next step i old new y e h g = rw (add-one, e) (each_more step (upto i) i old y h g)
 
--- ---- the same of results that are lists, which are put together
+-- ---- results that are lists, and are put together
 
--- lists one behind the other
+-- lists, one after the other
 abbrev pub together : {B : Type 0} → Option (List (List B)) → Option (List B)
 together found = found >>= λ them. Some (flat_map (λ one. one) them)
 
@@ -55,22 +55,22 @@ pub no_lists : {B : Type 0} (step : ℕ → Option (List B)) (ys : List B) → y
 unfolding each upto
 no_lists step ys e = rw e refl
 
-one_behind : {B : Type 0} (them : List (List B)) (more : List B) → flat_map (λ one. one) (them ++ more ∷ []) ≡ flat_map (λ one. one) them ++ more
-one_behind them more = flat_map-append (λ one. one) them (more ∷ []) ∙ ap (λ z. flat_map (λ one. one) them ++ z) (append-nil more)
+one_appended : {B : Type 0} (them : List (List B)) (more : List B) → flat_map (λ one. one) (them ++ more ∷ []) ≡ flat_map (λ one. one) them ++ more
+one_appended them more = flat_map-append (λ one. one) them (more ∷ []) ∙ ap (λ z. flat_map (λ one. one) them ++ z) (append-nil more)
 
-lists_behind : {B : Type 0} (found next : Option (List (List B))) (old more : List B) →
+lists_appended : {B : Type 0} (found next : Option (List (List B))) (old more : List B) →
     ((them : List (List B)) → found ≡ Some them → next ≡ Some (them ++ more ∷ [])) →
     together found ≡ Some old → together next ≡ Some (old ++ more)
-lists_behind None next old more h e = absurd cc
-lists_behind (Some them) next old more h e =
+lists_appended None next old more h e = absurd cc
+lists_appended (Some them) next old more h e =
     let made : flat_map (λ one. one) them ≡ old = cc in
-    rw (h them refl, one_behind them more, made) refl
+    rw (h them refl, one_appended them more, made) refl
 
 pub lists_next : {B : Type 0} (step : ℕ → Option (List B)) (i : ℕ) (old new more : List B) → new ≡ old ++ more →
     together (each step (upto i)) ≡ Some old → step i ≡ Some more → together (each step (upto (i + 1))) ≡ Some new
 unfolding upto
 lists_next step i old new more e h g =
-    rw (add-one, e) (lists_behind (each step (upto i)) (each step (upto i ++ i ∷ [])) old more (λ them k. each_more step (upto i) i them more k g) h)
+    rw (add-one, e) (lists_appended (each step (upto i)) (each step (upto i ++ i ∷ [])) old more (λ them k. each_more step (upto i) i them more k g) h)
 
 pub lists_fail : {B : Type 0} (step : ℕ → Option (List B)) (n i : ℕ) (e : ResolveError) → i < n → Fails e (step i) → Fails e (together (each step (upto n)))
 lists_fail step n i Memory lt h = tt

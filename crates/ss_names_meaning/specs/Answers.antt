@@ -1,4 +1,4 @@
--- Steps that may have no result, and what a call answers for them.
+-- Steps that may have no result, and what a call gives for them.
 use Rattle.std.specs.Prelude.{◌≡◌, ℕ, zero, suc, Bool, true, false, List, [], ◌∷◌, ◌++◌, Option, Some, None, Result, Ok, Err}
 use Rattle.ss_names_meaning.specs.declared.error.ResolveError.{ResolveError}
 use Rattle.ss_names_meaning.specs.declared.error.ResolveError.TheVariants.{Memory, Unresolved}
@@ -17,29 +17,29 @@ each step (x ∷ xs) = do
   ys ← each step xs
   Some (y ∷ ys)
 
--- the result of a step for what may be there
+-- the result of a step for an option
 abbrev pub if_there : {A B : Type 0} → (A → Option B) → Option A → Option (Option B)
 if_there step None = Some None
 if_there step (Some x) = do
   y ← step x
   Some (Some y)
 
--- a value, where a test holds
+-- a value, if a test holds
 abbrev pub where_holds : {A : Type 0} → Bool → A → Option A
 where_holds true x = Some x
 where_holds false x = None
 
--- numbers below one
+-- the numbers below a bound
 unfoldable pub upto : ℕ → List ℕ
 upto zero = []
 upto (suc n) = upto n ++ n ∷ []
 
--- what a call failed with, where this was to be found: there is nothing to find, or memory was refused
+-- a call that is to find a result failed: there is none, or memory was refused
 abbrev pub Fails : {Y : Type 0} → ResolveError → Option Y → Type 0
 Fails Memory found = Unit {0}
 Fails Unresolved found = found ≡ None
 
--- a call answers what is to be found, which its value stands for by view, unless memory is refused
+-- a call gives the result, as seen by this view, unless memory is refused
 abbrev pub Gives : {X Y : Type 0} → (X → Y) → Result X ResolveError → Option Y → Type 0
 Gives view (Ok x) found = found ≡ Some (view x)
 Gives view (Err e) found = Fails e found

@@ -1,4 +1,4 @@
--- Conditions in which each name is replaced by what it stands for.
+-- Resolved conditions: each name is replaced by what it means.
 use Rattle.std.specs.Prelude.{List, Option, Some, None}
 use Rattle.ss_tree.specs.declared.condition.Relation.{Relation as RelationWord}
 use Rattle.ss_tree.specs.declared.condition.Relation.TheVariants as words

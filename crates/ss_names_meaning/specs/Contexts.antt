@@ -12,14 +12,14 @@ use Rattle.ss_names_meaning.specs.declared.meaning.ClassMeant.{ClassMeant}
 use Rattle.ss_names_meaning.specs.declared.meaning.RoutineMeant.{RoutineMeant}
 use Rattle.ss_names_meaning.specs.Answers.{◌>>=◌}
 
--- what the names in a section mean; None where a name isn't of the kind
+-- what the names in a section mean; None if a name is of another kind
 pub record Context : Type 0 where
   -- as a value or a target
   pub meaning : Designator → Option Meaning
   pub set : Designator → Option SetMeant
   pub class : NameBytes → Option ClassMeant
   pub routine : NameBytes → Option RoutineMeant
-  -- the statistic that is kept of what is named
+  -- the number of the statistic, if the name is the subject of a TALLY or an ACCUMULATE
   pub statistic : Designator → Option ℕ
 
 -- ---- classes by their kind

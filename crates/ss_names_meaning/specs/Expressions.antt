@@ -1,4 +1,4 @@
--- Expressions, targets and sets in which each name is replaced by what it stands for.
+-- Resolved expressions, targets and sets: each name is replaced by what it means.
 use Rattle.std.specs.Prelude.{ℕ, List, [], ◌∷◌, option_map, Option, Some, None}
 use Rattle.ss_base.specs.declared.value.Value.TheVariants.{Whole, Text}
 use Rattle.ss_tree.specs.declared.expression.Sign.{Sign as SignWord}
@@ -25,19 +25,19 @@ abbrev pub sign_of : SignWord → Sign
 sign_of signs.Plus = Plus
 sign_of signs.Minus = Minus
 
--- what joins a further term to a sum
+-- the operator before a further term of a sum
 abbrev pub operator_of : SignWord → Operator
 operator_of signs.Plus = Add
 operator_of signs.Minus = Subtract
 
--- ---- what is named
+-- ---- names by what they mean
 
--- the entity that is meant: the one in the subscript, or else the one in the variable that is implied
+-- the entity: that of the subscript, or else the one in the variable that is implied
 abbrev pub entity_of : Variable → Option Expression → Expression
 entity_of implied None = Fetch implied
 entity_of implied (Some e) = e
 
--- what takes no subscript
+-- something that takes no subscript
 abbrev pub plain : {A : Type 0} → Option Expression → A → Option A
 plain None x = Some x
 plain (Some e) x = None
@@ -63,7 +63,7 @@ value_of meanings.NoticeTime e = time_of e
 value_of (meanings.Mean statistic) e = None
 value_of (meanings.MeanOf statistic implied) e = None
 
--- what PRINT shows of what is named, with the subscript if there is one
+-- what PRINT shows of a name, with the subscript if there is one
 abbrev pub item_of : Meaning → Option Expression → Option Item
 item_of (meanings.Mean statistic) e = plain e (AMean statistic)
 item_of (meanings.MeanOf statistic implied) e = Some (AMeanOf statistic (entity_of implied e))
@@ -76,7 +76,7 @@ place_of (meanings.Count n) e = plain e (ToCount n)
 place_of (meanings.Attribute class field mode implied) e = Some (ToAttribute class field (entity_of implied e))
 place_of _ e = None
 
--- a set, and whose it is
+-- a set and its owner
 abbrev pub owned_by : SetMeant → Option Expression → Option (ℕ × SetOwner)
 owned_by (OfSystem set) e = plain e (set, TheSystem)
 owned_by (OfEntity set implied) e = Some (set, Entity (entity_of implied e))
@@ -119,7 +119,7 @@ module _ (c : Context) where
       left ← expression first
       terms left further
 
-    -- the subscript, if there is one; None where there are more
+    -- the subscript, if there is one; None if there are more
     pub subscript : ExpressionRow → Option (Option Expression)
     subscript no_expression = Some None
     subscript (and_expression e no_expression) = do
@@ -140,21 +140,21 @@ module _ (c : Context) where
       Some (x, y)
     two _ = None
 
-    -- what stands on the left times further factors
+    -- what is on the left, times further factors
     pub factors : Expression → ExpressionRow → Option Expression
     factors left no_expression = Some left
     factors left (and_expression e es) = do
       x ← expression e
       factors (Calculate Multiply left x) es
 
-    -- what stands on the left and further terms
+    -- what is on the left, and further terms
     pub terms : Expression → TermRow → Option Expression
     terms left no_term = Some left
     terms left (and_term sign e es) = do
       x ← expression e
       terms (Calculate (operator_of sign) left x) es
 
-  -- an item of PRINT: a mean where that is named alone, through any parentheses, and else a value
+  -- an item of PRINT: a mean if one is named alone, in any parentheses, and else a value
   abbrev pub item : ExpressionTree → Option Item
   item (parenthesised e) = item e
   item (named designator subscripts) = do
@@ -170,7 +170,7 @@ module _ (c : Context) where
     meaning ← c.meaning n.designator
     place_of meaning e
 
-  -- a set, and whose it is
+  -- a set and its owner
   abbrev pub set_named : NamedTree → Option (ℕ × SetOwner)
   set_named n = do
     e ← subscript n.subscripts

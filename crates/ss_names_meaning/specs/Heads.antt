@@ -1,4 +1,4 @@
--- Heads of loops in which each name is replaced by what it stands for.
+-- Resolved heads of loops: each name is replaced by what it means.
 use Rattle.std.specs.Prelude.{List, Option, Some, None}
 use Rattle.ss_tree.specs.declared.expression.Designator.TheVariants.{Name}
 use Rattle.ss_tree.specs.declared.head.PhraseKind.{PhraseKind as PhraseWord}
@@ -71,7 +71,7 @@ start c (after_member e) = do
   x ← expression c e
   Some (After x)
 
--- the variable behind CALLED, or else that of the class
+-- the variable after CALLED, or else that of the class
 abbrev pub called_variable : Context → Variable → Option NameBytes → Option Variable
 called_variable c implied None = Some implied
 called_variable c implied (Some name) = loop_variable c name

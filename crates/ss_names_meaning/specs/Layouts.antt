@@ -1,4 +1,4 @@
--- What is laid out by the table of a program: classes, sets and their disciplines, global variables, statistics.
+-- What follows from the table of a program: classes, sets and their disciplines, global variables, statistics.
 use Rattle.std.specs.Prelude.{ℕ, ◌==◌, Bool, List, [], ◌∷◌, length, slice_get, get_or, Option, Some, None}
 use Rattle.std.specs.Map.{values_of}
 use Rattle.std.specs.List.{filter, flat_map}
@@ -29,7 +29,7 @@ use Rattle.ss_program.specs.declared.statement.Counted.{Counted}
 use Rattle.ss_names_meaning.specs.Answers.{◌>>=◌, each, upto, where_holds}
 use Rattle.ss_names_meaning.specs.Words.{class_kind, mode_given, mode_said, weighting_of}
 
--- N. of a permanent class, where the variable of this number is that
+-- N. of a permanent class, if the variable of this number is that
 abbrev pub counted_kind : ℕ → VariableKind → List Counted
 counted_kind number Defined = []
 counted_kind number (OfClass class) = []
@@ -49,14 +49,14 @@ module _ (t : Table) where
     attribute ← attribute_named name
     mode_given attribute.mode
 
-  -- the class of a number, with the modes of its attributes
+  -- the class of this number, with the modes of its attributes
   abbrev pub class_laid : ℕ → Option PlainClass
   class_laid n = do
     class ← slice_get (values_of t.classes) n
     modes ← each field_mode (get_or t.fields n [])
     Some (record { kind = class_kind class.kind; fields = modes })
 
-  -- the set of a number
+  -- the set of this number
   abbrev pub set_laid : ℕ → Option SetLayout
   set_laid n = do
     set ← slice_get t.sets n
@@ -88,7 +88,7 @@ module _ (t : Table) where
   abbrev pub rank_keys : ℕ → ℕ → Option (List RankKey)
   rank_keys class statement = each (ranked_by class) (filter (λ k. k.statement == statement) t.rank_keys)
 
-  -- what breaks the ties of a class
+  -- the keys that break the ties of a class
   abbrev pub tie_keys : ℕ → NameBytes → Option (List RankKey)
   tie_keys class name = each (tied_by class) (filter (λ k. same_name k.class name) t.tie_keys)
 
@@ -105,7 +105,7 @@ module _ (t : Table) where
   discipline_ordered member None = Some orders.Fifo
   discipline_ordered member (Some o) = discipline_ruled member o.statement o.rule
 
-  -- the discipline of the set of a number
+  -- the discipline of the set of this number
   abbrev pub discipline : ℕ → Option Discipline
   discipline n = do
     set ← slice_get t.sets n
@@ -142,7 +142,7 @@ module _ (t : Table) where
     Some (OfAttribute attribute.class attribute.field)
   subject_of (subjects.MemberCount n) = Some (OfCount n)
 
-  -- the statistic of the history of a number
+  -- the statistic of the history of this number
   abbrev pub statistic_kept : ℕ → Option Statistic
   statistic_kept n = do
     history ← slice_get t.histories n
@@ -152,7 +152,7 @@ module _ (t : Table) where
 
 -- ---- all of it
 
--- what is laid out
+-- the layout, with disciplines, globals, counts and statistics
 pub record Laid : Type 0 where
   pub layout : PlainLayout
   pub disciplines : List Discipline

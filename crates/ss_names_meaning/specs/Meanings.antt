@@ -16,7 +16,7 @@ use Rattle.ss_names.specs.declared.meaning.Subject.{Subject}
 use Rattle.ss_names.specs.declared.meaning.Subject.TheVariants as subjects
 use Rattle.ss_names.specs.declared.entry.VariableKind.{VariableKind}
 use Rattle.ss_names.specs.declared.entry.VariableKind.TheVariants.{CountOf}
-use Rattle.ss_names_declarations.specs.Firsts.{place_in, told_of, same_name}
+use Rattle.ss_names_declarations.specs.Firsts.{place_in, value_for, same_name}
 use Rattle.ss_names.specs.Table.{Table}
 use Rattle.ss_check_scopes.specs.Locals.{Moded, number_of}
 use Rattle.ss_program.specs.declared.expression.Fold.{Fold}
@@ -36,12 +36,12 @@ use Rattle.ss_names_meaning.specs.Answers.{◌>>=◌, where_holds}
 use Rattle.ss_names_meaning.specs.Contexts.{Context}
 use Rattle.ss_names_meaning.specs.Words.{class_kind, fold_of, mode_given, mode_said}
 
--- a statistic of one thing: a value, by what is asked of it, or the mean
+-- a statistic of one thing: a value, by its fold, or the mean
 abbrev pub figure_alone : Option Fold → ℕ → Meaning
 figure_alone (Some fold) history = meanings.Figure fold history
 figure_alone None history = meanings.Mean history
 
--- the same of each entity of a class, by the variable that has the entity where none is named
+-- a statistic of each entity of a class, with the variable that has the entity if none is named
 abbrev pub figure_of_each : Option Fold → ℕ → Variable → Meaning
 figure_of_each (Some fold) history implied = meanings.FigureOf fold history implied
 figure_of_each None history implied = meanings.MeanOf history implied
@@ -54,7 +54,7 @@ count_kind class number _ = None
 module _ (locals : Moded) where
   -- ---- variables
 
-  -- the variable of a name: the local one that hides the global one, or else that
+  -- the variable of a name: the local one if there is one, which hides the global one
   abbrev pub hidden_by : Option ℕ → ℕ → Variable
   hidden_by (Some local) global = variables.Local local
   hidden_by None global = variables.Global global
@@ -79,9 +79,9 @@ module _ (t : Table) where
     known ← slice_get (values_of t.variables) n
     Some (meanings.Variable (variables.Global n) (mode_said known.mode))
 
-  -- N. of a permanent class: the variable behind that of the class
-  abbrev pub count_behind : ℕ → ℕ → Option ℕ
-  count_behind class variable = do
+  -- N. of a permanent class: the variable after that of the class
+  abbrev pub count_of_class : ℕ → ℕ → Option ℕ
+  count_of_class class variable = do
     next ← slice_get (values_of t.variables) (variable + 1)
     count_kind class (variable + 1) next.kind
 
@@ -95,7 +95,7 @@ module _ (t : Table) where
 
   abbrev pub routine_of : NameBytes → Option RoutineMeant
   routine_of name = do
-    global ← told_of t.names name
+    global ← value_for t.names name
     global_routine global
 
   -- ---- statistics
@@ -108,11 +108,11 @@ module _ (t : Table) where
 module _ (t : Table) (locals : Moded) where
   -- ---- variables of classes
 
-  -- the variable of a class, which is meant where an entity of the class isn't named
+  -- the variable of a class, which has the entity if none is named
   abbrev pub class_variable : ℕ → Option Variable
   class_variable class = do
     name ← slice_get (keys_of t.classes) class
-    global ← told_of t.names name
+    global ← value_for t.names name
     variable_of_class locals name global
 
   -- ---- values and targets
@@ -162,7 +162,7 @@ module _ (t : Table) (locals : Moded) where
     implied ← class_variable class
     Some (figure_of_each fold history implied)
 
-  -- a statistic by what it is kept of
+  -- a statistic of its subject
   abbrev pub figure : Option Fold → ℕ → Subject → Option Meaning
   figure fold history (subjects.Variable n) = Some (figure_alone fold history)
   figure fold history (subjects.Attribute n) = do
@@ -181,7 +181,7 @@ module _ (t : Table) (locals : Moded) where
     subject ← history.subject
     figure (fold_of known.kind) known.history subject
 
-  -- as a value or a target; a set and a routine are neither
+  -- a global name as a value or a target; a set and a routine are neither
   abbrev pub global_meaning : Global → Option Meaning
   global_meaning (globals.Variable n) = global_variable t n
   global_meaning (globals.Class class variable) = Some (meanings.Variable (variables.Global variable) (Some Integer))
@@ -195,10 +195,10 @@ module _ (t : Table) (locals : Moded) where
   abbrev pub meaning_or : Option ℕ → NameBytes → Option Meaning
   meaning_or (Some local) name = local_meaning locals local name
   meaning_or None name = do
-    global ← told_of t.names name
+    global ← value_for t.names name
     global_meaning global
 
-  -- a name that is local hides what it means in the whole program
+  -- a local variable hides the meaning of its name in the whole program
   abbrev pub meaning_of : Designator → Option Meaning
   meaning_of (Name name) = meaning_or (number_of locals name) name
   meaning_of TimeV = Some meanings.Clock
@@ -221,7 +221,7 @@ module _ (t : Table) (locals : Moded) where
 
   abbrev pub set_of : Designator → Option SetMeant
   set_of (Name name) = do
-    global ← told_of t.names name
+    global ← value_for t.names name
     global_set global
   set_of TimeV = None
   set_of TimeA = None
@@ -236,16 +236,16 @@ module _ (t : Table) (locals : Moded) where
       kind = class_kind known.kind;
       attributes = length (get_or t.fields class []);
       variable = variable_of locals name variable;
-      count = count_behind t class variable;
+      count = count_of_class t class variable;
     })
   global_class name _ = None
 
   abbrev pub class_of : NameBytes → Option ClassMeant
   class_of name = do
-    global ← told_of t.names name
+    global ← value_for t.names name
     global_class name global
 
--- what the names mean
+-- what the names in a section mean
 unfoldable pub context_in : Table → Moded → Context
 context_in t locals = record {
   meaning = meaning_of t locals;

@@ -1,4 +1,4 @@
--- A program in which each name is replaced by what it stands for.
+-- A resolved program: each name is replaced by what it means.
 use Rattle.std.specs.Prelude.{ℕ, nat_le, Bool, true, false, is_some, List, [], length, take, drop, slice_get, get_or, Option, Some, None}
 use Rattle.std.specs.List.{find, list_all, position}
 use Rattle.std.specs.Map.{keys_of, lookup, values_of}
@@ -10,7 +10,7 @@ use Rattle.ss_names_declarations.specs.Sayings.{NameBytes}
 use Rattle.ss_names.specs.declared.entry.Event.{Event as EventSection}
 use Rattle.ss_names.specs.declared.meaning.Meaning.{Meaning as Global}
 use Rattle.ss_names.specs.declared.meaning.Meaning.TheVariants as globals
-use Rattle.ss_names_declarations.specs.Firsts.{place_in, told_of, same_name}
+use Rattle.ss_names_declarations.specs.Firsts.{place_in, value_for, same_name}
 use Rattle.ss_names.specs.Table.{Table}
 use Rattle.ss_check_scopes.specs.Locals.{Moded}
 use Rattle.ss_check_scopes.specs.Whole.{Whole, locals_of}
@@ -23,7 +23,7 @@ use Rattle.ss_names_meaning.specs.Statements.{statements}
 
 -- ---- sections
 
--- the mode of the local variable of a number
+-- the mode of the local variable of this number
 abbrev pub local_mode : Moded → ℕ → Option Mode
 local_mode locals n = do
   name ← slice_get (keys_of locals) n
@@ -38,7 +38,7 @@ local_modes locals = each (local_mode locals) (upto (length locals))
 abbrev pub body : Table → Moded → SectionTree → Option Block
 body t locals s = statements (context_in t locals) (statement_row s.body)
 
--- what a section comes to: the line of its head, the modes of its local variables, and its statements
+-- a resolved section: the line of its head, the modes of its local variables, and its statements
 pub record Parts : Type 0 where
   pub line : Line
   pub modes : List Mode
@@ -54,13 +54,13 @@ parts_with t locals s = do
 abbrev pub parts_of : Table → Whole → SectionTree → Option Parts
 parts_of t w s = parts_with t (locals_of w s) s
 
--- the section of a number
+-- the section of this number
 abbrev pub parts_at : Table → Whole → List SectionTree → ℕ → Option Parts
 parts_at t w sections n = do
   s ← slice_get sections n
   parts_of t w s
 
--- the same, where the local variables of each section are at hand
+-- the section of this number, with given lists of local variables
 abbrev pub parts_with_locals : Table → List Moded → List SectionTree → ℕ → Option Parts
 parts_with_locals t locals sections n = do
   s ← slice_get sections n
@@ -69,7 +69,7 @@ parts_with_locals t locals sections n = do
 
 -- ---- routines
 
--- a routine that is given and yields so many values: of its local variables given ones stand first, then yielded ones
+-- a routine that is given and yields so many values: the given ones are its first local variables, the yielded ones the next
 abbrev pub routine_of : ℕ → ℕ → Parts → Routine
 routine_of given yielding parts = record {
   given = take given parts.modes;
@@ -78,7 +78,7 @@ routine_of given yielding parts = record {
   body = parts.body;
 }
 
--- the routine of a number, from what the section of a number comes to
+-- the routine of this number, by a function that resolves each section
 abbrev pub routine_from : Table → (ℕ → Option Parts) → ℕ → Option Routine
 routine_from t section n = do
   known ← slice_get (values_of t.routines) n
@@ -94,11 +94,11 @@ abbrev pub class_variable : Global → Option (Option ℕ)
 class_variable (globals.Class class variable) = Some (Some variable)
 class_variable _ = None
 
--- the global variable that gets the number of the notice, also where the routine has a local one of its name
+-- the global variable that gets the number of the notice, also if the routine has a local one of its name
 abbrev pub saved : Table → NameBytes → Bool → Option (Option ℕ)
 saved t name false = Some None
 saved t name true = do
-  global ← told_of t.names name
+  global ← value_for t.names name
   class_variable global
 
 -- the event routine of a class that is given so many values
@@ -113,8 +113,8 @@ event_of class keys given variable parts = record {
   body = parts.body;
 }
 
--- a notice class with its EVENT section, which is given as many values as the class has attributes at most, from what
--- the section of a number comes to
+-- a notice class with its EVENT section, by a function that resolves each section; it is given at most as many values as
+-- the class has attributes
 abbrev pub class_event_from : Table → (ℕ → Option Parts) → ℕ → NameBytes → EventSection → Option Event
 class_event_from t section class name known = do
   given ← where_holds (nat_le known.given (length (get_or t.fields class []))) known.given
@@ -126,18 +126,18 @@ class_event_from t section class name known = do
 abbrev pub class_event : Table → Whole → List SectionTree → ℕ → NameBytes → EventSection → Option Event
 class_event t w sections class name known = class_event_from t (parts_at t w sections) class name known
 
--- the notice class of this place in the order of rank, from what the section of a number comes to
+-- the notice class at this place in the order of rank, by a function that resolves each section
 abbrev pub event_from : Table → (ℕ → Option Parts) → ℕ → Option Event
 event_from t section rank = do
   class ← slice_get (values_of t.ranks) rank
   name ← slice_get (keys_of t.classes) class
-  known ← told_of t.events name
+  known ← value_for t.events name
   class_event_from t section class name known
 
 abbrev pub resolved_event : Table → Whole → List SectionTree → ℕ → Option Event
 resolved_event t w sections rank = event_from t (parts_at t w sections) rank
 
--- an EVENT section is one of a notice class
+-- whether the class of an EVENT section is a notice class
 abbrev pub is_known_kind : Table → SectionKindTree → Bool
 is_known_kind t main = true
 is_known_kind t (routine name given yielding) = true
@@ -156,19 +156,19 @@ is_main_kind (event name given saving) = false
 abbrev pub is_main : SectionTree → Bool
 is_main s = is_main_kind s.kind
 
--- MAIN, the first where there are several
+-- MAIN, the first if there are several
 abbrev pub main_parts : Table → Whole → List SectionTree → Option Parts
 main_parts t w sections = do
   s ← find is_main sections
   parts_of t w s
 
--- MAIN, from what the section of a number comes to
+-- MAIN, by a function that resolves each section
 abbrev pub main_from : (ℕ → Option Parts) → List SectionTree → Option Parts
 main_from section sections = do
   n ← position is_main sections
   section n
 
--- the program that is laid out so, from what the section of a number comes to, and MAIN
+-- the program with this layout, by a function that resolves each section, and MAIN
 abbrev pub put_together : Table → Laid → (ℕ → Option Parts) → Option Parts → Option Program
 put_together t laid section of_main = do
   routines ← each (routine_from t section) (upto (length t.routines))
@@ -186,20 +186,19 @@ put_together t laid section of_main = do
     main = parts.body;
   })
 
--- the program that has these sections
+-- the program with these sections
 abbrev pub program_from : Table → (List SectionTree → ℕ → Option Parts) → (List SectionTree → Option Parts) → List SectionTree → Option Program
 program_from t section of_main sections = do
   laid ← laid_out t
   known ← where_holds (list_all (is_known t) sections) sections
   put_together t laid (section known) (of_main known)
 
--- The program that has these sections, by its table and by what it says of names, with each name replaced by what it
--- stands for. None where a name isn't of the kind that its place needs, a subscript is missing or too many, or a count of
--- arguments doesn't fit.
+-- The program with these sections, by its table and its names, with each name replaced by what it means. None if a name
+-- isn't of the kind that its place needs. None if a subscript is missing or too many, or a count of arguments doesn't fit.
 unfoldable pub resolved : Table → Whole → List SectionTree → Option Program
 resolved t w sections = program_from t (parts_at t w) (main_parts t w) sections
 
--- the same, where the local variables of each section are at hand
+-- the program with these sections, with given lists of local variables
 unfoldable pub resolved_with_locals : Table → List Moded → List SectionTree → Option Program
 resolved_with_locals t locals sections =
     program_from t (parts_with_locals t locals) (λ known. main_from (parts_with_locals t locals known) known) sections

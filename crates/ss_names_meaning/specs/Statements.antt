@@ -1,4 +1,4 @@
--- Statements in which each name is replaced by what it stands for.
+-- Resolved statements: each name is replaced by what it means.
 use Rattle.std.specs.Prelude.{nat_le, ◌&&◌, ◌==◌, List, [], ◌∷◌, length, Option, Some, None}
 use Rattle.ss_base.specs.declared.line.Line.{Line}
 use Rattle.ss_base.specs.declared.layout.Mode.{Mode}
@@ -33,14 +33,14 @@ end_of end_words.Last = ends.Last
 
 -- ---- targets
 
--- the mode of what a target is
+-- the mode of a target
 abbrev pub mode_of : Meaning → Option Mode
 mode_of (meanings.Variable x mode) = mode
 mode_of (meanings.Attribute class field mode implied) = mode
 mode_of (meanings.Count n) = Some Integer
 mode_of _ = None
 
--- what takes a word of input
+-- the variable or attribute that READ reads into, with its mode
 abbrev pub reader : Context → NamedTree → Option Target
 reader c n = do
   place ← target c n
@@ -48,31 +48,31 @@ reader c n = do
   mode ← mode_of meaning
   Some (record { place = place; mode = mode })
 
--- what takes the number of a new entity: the target behind CALLED, or else the variable of the class
+-- the target of the number of a new entity: the one after CALLED, or else the variable of the class
 abbrev pub new_place : Context → Variable → Option NamedTree → Option Place
 new_place c variable None = Some (ToVariable variable)
 new_place c variable (Some n) = target c n
 
--- the entity behind CALLED, or else the one in the variable of the class
+-- the entity after CALLED, or else the one in the variable of the class
 abbrev pub entity_called : Context → Variable → Option ExpressionTree → Option Expression
 entity_called c variable None = Some (Fetch variable)
 entity_called c variable (Some e) = expression c e
 
 -- ---- statistics
 
--- whose statistic of what is named starts afresh: None for that of a global variable or of N. of THE SYSTEM's set
-abbrev pub told_of : Meaning → Option Expression → Option (Option Expression)
-told_of (meanings.Variable (Global n) mode) e = plain e None
-told_of (meanings.Attribute class field mode implied) e = Some (Some (entity_of implied e))
-told_of (meanings.OfSystemSet query set) e = plain e None
-told_of (meanings.OfSet query set implied) e = Some (Some (entity_of implied e))
-told_of _ e = None
+-- the owner of the statistic that RESET starts afresh: None for a global variable and for N. of THE SYSTEM's set
+abbrev pub owner_of_statistic : Meaning → Option Expression → Option (Option Expression)
+owner_of_statistic (meanings.Variable (Global n) mode) e = plain e None
+owner_of_statistic (meanings.Attribute class field mode implied) e = Some (Some (entity_of implied e))
+owner_of_statistic (meanings.OfSystemSet query set) e = plain e None
+owner_of_statistic (meanings.OfSet query set implied) e = Some (Some (entity_of implied e))
+owner_of_statistic _ e = None
 
 abbrev pub restart : Context → NamedTree → Option Restart
 restart c n = do
   e ← subscript c n.subscripts
   meaning ← c.meaning n.designator
-  of ← told_of meaning e
+  of ← owner_of_statistic meaning e
   statistic ← c.statistic n.designator
   Some (record { statistic = statistic; of = of })
 
@@ -100,14 +100,14 @@ when c now = Some Now
 
 -- ---- statements
 
--- a FIND, with what follows where a case was found and where none was
+-- a FIND, with the statements for a case that was found, and those for none
 abbrev pub find : Line → Context → HeadTree → Block → Block → Option Statement
 find line c over found none = do
   h ← head c over
   phrases ← each (phrase c) (phrases_of over)
   Some (Find line h phrases found none)
 
--- the statements behind a FIND stand first for a case that was found, or for none
+-- a FIND, by which of its two lists of statements comes first: that for a case that was found, or that for none
 abbrev pub find_by : FindOutcome → Line → Context → HeadTree → Block → Block → Option Statement
 find_by outcomes.Found line c over first second = find line c over first second
 find_by outcomes.None line c over first second = find line c over second first
@@ -132,13 +132,13 @@ if_over line c test first second = do
   tests ← condition c test
   Some (If line tests first second)
 
--- a CALL, where the routine is given and yields as many values
+-- a CALL, if the routine is given and yields as many values
 abbrev pub call_of : Line → RoutineMeant → List Expression → List Place → Option Statement
 call_of line routine given yielding =
     where_holds ((length given == routine.given) && (length yielding == routine.yielding))
     (Call line routine.routine given yielding)
 
--- SCHEDULE A and SCHEDULE THE, where the class has as many attributes as are given at least
+-- SCHEDULE A and SCHEDULE THE, if the class has at least as many attributes as values are given
 abbrev pub new_notice : Line → ClassMeant → Place → List Expression → When → Option Statement
 new_notice line class place given due =
     where_holds (nat_le (length given) class.attributes) (ScheduleNew line class.class place given due)
@@ -244,7 +244,7 @@ module _ (c : Context) where
 
 -- ---- the bodies in a statement
 
--- what the bodies in a statement become: of a loop there is one, of an IF and of the IF behind a FIND two, of others none
+-- the resolved bodies in a statement: one of a loop, two of an IF and of the IF after a FIND, none of others
 abbrev pub inner : Context → StatementTree → Option (Block × Block)
 inner c (if_statement line test first second) = do
   a ← statements c first

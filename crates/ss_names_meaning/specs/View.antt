@@ -1,4 +1,4 @@
--- The plain data that what is laid out is, without where it lies in memory.
+-- What the table gives as plain data, wherever it is in memory.
 use Rattle.ss_names_meaning.specs.declared.laid.Laid.{Laid as LaidValue}
 use Rattle.ss_names_meaning.specs.Layouts.{Laid}
 

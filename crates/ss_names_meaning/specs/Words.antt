@@ -1,4 +1,4 @@
--- Modes, kinds and folds as they stand in the resolved program.
+-- Modes, kinds and folds of the resolved program.
 use Rattle.std.specs.Prelude.{Option, Some, None}
 use Rattle.ss_base.specs.declared.layout.ClassKind.{ClassKind}
 use Rattle.ss_base.specs.declared.layout.ClassKind.TheVariants.{Permanent, Temporary, Notice}
@@ -18,7 +18,7 @@ use Rattle.ss_program.specs.declared.sections.Weighting.{Weighting}
 use Rattle.ss_program.specs.declared.sections.Weighting.TheVariants.{Tally, Accumulate}
 use Rattle.ss_names_meaning.specs.Answers.{◌>>=◌}
 
--- the mode of a value; REAL is none, and what has no mode has none
+-- the mode of a value; REAL is none
 abbrev pub mode_said : ModeWord → Option Mode
 mode_said mode_words.Integer = Some Integer
 mode_said mode_words.Alpha = Some Alpha
@@ -32,7 +32,7 @@ class_kind class_words.Permanent = Permanent
 class_kind class_words.Temporary = Temporary
 class_kind class_words.EventNotice = Notice
 
--- what is asked of a statistic that is a value; a MEAN is none
+-- the fold of a statistic that is a value; a MEAN has none
 abbrev pub fold_of : StatisticKind → Option Fold
 fold_of folds_said.Number = Some folds.Number
 fold_of folds_said.Sum = Some folds.Sum
@@ -40,7 +40,7 @@ fold_of folds_said.Maximum = Some folds.Maximum
 fold_of folds_said.Minimum = Some folds.Minimum
 fold_of folds_said.Mean = None
 
--- whether a value counts once or by its time
+-- whether each value counts once, or by how long it lasts
 abbrev pub weighting_of : WeightingWord → Weighting
 weighting_of weighting_words.Tally = Tally
 weighting_of weighting_words.Accumulate = Accumulate

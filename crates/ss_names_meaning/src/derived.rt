@@ -1,4 +1,4 @@
-//! Attributes, and what the derived names of sets tell.
+//! Attributes and the derived names of sets.
 
 ghost use Rattle.ss_names_meaning.specs.Answers.{Gives};
 ghost use Rattle.ss_names_meaning.specs.Meanings.{asked, attribute, derived_name, of_member, of_owner, of_set};
@@ -94,7 +94,7 @@ fn of_member(
     }
 }
 
-// What a derived name asks of a set.
+// The meaning of a derived name, by its set.
 fn asked(
     names: &Names,
     locals: &Locals,
@@ -114,7 +114,7 @@ fn asked(
     }
 }
 
-// A derived name of the set of a number.
+// A derived name of the set of this number.
 pub(crate) fn derived_name(
     names: &Names,
     locals: &Locals,

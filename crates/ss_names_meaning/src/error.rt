@@ -1,16 +1,16 @@
-//! Why nothing was resolved.
+//! Why a name or a statement couldn't be resolved.
 
 ghost use Rattle.std.specs.Prelude.{◌≡◌};
 ghost use Rattle.ss_names_meaning.specs.declared.error.ResolveError.TheVariants.{Memory};
 
 use std::alloc::{AllocError, AllocFailed};
 
-/// Why nothing was resolved.
+/// Why a name or a statement couldn't be resolved.
 #[derive(Clone, Copy)]
 pub enum ResolveError {
     /// Memory was refused.
     Memory,
-    /// It has no resolved form.
+    /// There is no resolved form.
     Unresolved,
 }
 

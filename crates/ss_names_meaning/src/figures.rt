@@ -14,7 +14,7 @@ use ss_names::{Names, Subject};
 use ss_program::expression::{Fold, Variable};
 use ss_tree::expression::Designator;
 
-// A statistic of one thing: a value, or where nothing is asked of it the mean.
+// A statistic of one thing: a value, or the mean if there is no fold.
 fn figure_alone(fold: Option<Fold>, statistic: usize) -> Meaning
     ensures { result ≡ figure_alone fold statistic }
 {
@@ -24,7 +24,7 @@ fn figure_alone(fold: Option<Fold>, statistic: usize) -> Meaning
     }
 }
 
-// The same of each entity of a class.
+// A statistic of each entity of a class, with the variable that has the entity if none is named.
 fn figure_of_each(fold: Option<Fold>, statistic: usize, implied: Variable) -> Meaning
     ensures { result ≡ figure_of_each fold statistic implied }
 {
@@ -57,7 +57,7 @@ fn figure_owned(
     }
 }
 
-// A statistic by what it is kept of.
+// A statistic of its subject.
 fn figure(
     names: &Names,
     locals: &Locals,
@@ -88,7 +88,7 @@ fn figure(
     }
 }
 
-// The statistic of a number.
+// The statistic of this number.
 pub(crate) fn statistic(
     names: &Names,
     locals: &Locals,
@@ -108,7 +108,7 @@ pub(crate) fn statistic(
     figure(names, locals, fold_of(known.kind), known.history, subject)
 }
 
-// The number of the statistic that is kept of a name.
+// The number of the statistic of a name, if it is the subject of a TALLY or an ACCUMULATE.
 pub(crate) fn statistic_of_name(names: &Names, name: Name) -> Result<usize, ResolveError>
     ensures { Gives (λ x. x) result (statistic_of names.now (Designator.Name name)) }
 {

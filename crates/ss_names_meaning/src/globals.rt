@@ -11,7 +11,7 @@ use ss_names::{Names, VariableKind};
 use ss_program::statement::Counted;
 use std::alloc::{AllocError, Global};
 
-// The mode of the global variable of a number.
+// The mode of the global variable of this number.
 fn global_mode(names: &Names, number: usize) -> Result<Mode, ResolveError>
     ensures { Gives (λ x. x) result (global_mode names.now number) }
 {
@@ -54,7 +54,7 @@ fn counted_kind(
     Ok(counted)
 }
 
-// N. of a permanent class, where the variable of this number is that.
+// N. of a permanent class, if the variable of this number is that.
 fn counted_variable(
     alloc: Global,
     names: &Names,

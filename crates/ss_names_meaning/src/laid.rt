@@ -1,4 +1,4 @@
-//! All that is laid out.
+//! What the table lays out, in one struct.
 
 ghost use Rattle.ss_names_meaning.specs.Answers.{Gives};
 ghost use Rattle.ss_names_meaning.specs.Layouts.{laid_out};
@@ -15,7 +15,7 @@ use ss_program::sections::Statistic;
 use ss_program::statement::Counted;
 use std::alloc::Global;
 
-/// What is laid out: classes, sets and their disciplines, global variables and statistics.
+/// What the table lays out: classes, sets and their disciplines, global variables and statistics.
 #[derive(Drop)]
 pub struct Laid {
     pub layout: Layout,
@@ -25,7 +25,7 @@ pub struct Laid {
     pub statistics: Vec<Statistic>,
 }
 
-/// What is laid out by a table of names.
+/// What the table of names lays out.
 pub fn lay_out(alloc: Global, names: &Names) -> Result<Laid, ResolveError>
     ensures { Gives view_laid result (laid_out names.now) }
 {

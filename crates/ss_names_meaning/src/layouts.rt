@@ -45,7 +45,7 @@ fn field_modes(alloc: Global, names: &Names, trees: &[Name]) -> Result<Vec<Mode>
     Ok(resolved)
 }
 
-// The class of a number.
+// The class of this number.
 fn class_laid(alloc: Global, names: &Names, number: usize) -> Result<ClassLayout, ResolveError>
     ensures { Gives (λ x. x) result (class_laid names.now number) }
 {
@@ -71,7 +71,7 @@ fn classes_laid(alloc: Global, names: &Names) -> Result<Vec<ClassLayout>, Resolv
     Ok(resolved)
 }
 
-// The set of a number.
+// The set of this number.
 fn set_laid(names: &Names, number: usize) -> Result<SetLayout, ResolveError>
     ensures { Gives (λ x. x) result (set_laid names.now number) }
 {
@@ -108,8 +108,8 @@ pub(crate) fn resolve_layout(alloc: Global, names: &Names) -> Result<Layout, Res
     Layout::new(classes, sets).ok_or(ResolveError::Unresolved)
 }
 
-/// The classes and the sets, by their numbers. None where an attribute has no mode, or the mode REAL, or a set
-/// has no owner or no class of members, or where they are too many for a layout.
+/// The classes and the sets, by their numbers. None if an attribute has no mode, or the mode REAL. None if a
+/// set has no owner or no class of members. None if they are too many for a layout.
 ///
 /// # Errors
 /// `AllocError` where memory is refused.

@@ -4,8 +4,8 @@ use ss_base::{ClassKind, Mode};
 use ss_program::expression::{Fold, MemberQuery, SetQuery, Variable};
 use ss_program::statement::Counted;
 
-/// What is named as a value or a target. Where an entity is meant, `implied` is the variable that has it
-/// where no subscript is written.
+/// What a name means as a value or a target. Where it is of an entity, `implied` is the variable that has the
+/// entity if no subscript is written.
 #[derive(Clone, Copy)]
 pub enum Meaning {
     /// A variable, and its mode, if anything gives it one.
@@ -67,29 +67,29 @@ pub enum Meaning {
     NoticeTime,
 }
 
-/// The set that is named.
+/// What a name means as a set.
 #[derive(Clone, Copy)]
 pub enum SetMeant {
     /// A set of THE SYSTEM.
     OfSystem { set: usize },
-    /// A set that the entities of a class own. The variable has the owner where no subscript is written.
+    /// A set that the entities of a class own. The variable has the owner if no subscript is written.
     OfEntity { set: usize, implied: Variable },
 }
 
-/// The class that is named.
+/// What a name means as a class.
 #[derive(Clone, Copy)]
 pub struct ClassMeant {
     pub class: usize,
     pub kind: ClassKind,
     /// How many attributes it has.
     pub attributes: usize,
-    /// What its name stands for as a variable.
+    /// The variable that its name means.
     pub variable: Variable,
     /// The global variable N. of a permanent class.
     pub count: Option<usize>,
 }
 
-/// The routine that is called.
+/// What a name means as a routine.
 #[derive(Clone, Copy)]
 pub struct RoutineMeant {
     pub routine: usize,

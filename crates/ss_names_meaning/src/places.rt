@@ -2,7 +2,7 @@
 
 ghost use Rattle.std.specs.Prelude.{◌≡◌};
 ghost use Rattle.ss_names_meaning.specs.Answers.{Gives};
-ghost use Rattle.ss_names_meaning.specs.Meanings.{class_of, count_behind, count_kind, global_class, global_routine, global_set, routine_of, set_of, set_owned};
+ghost use Rattle.ss_names_meaning.specs.Meanings.{class_of, count_of_class, count_kind, global_class, global_routine, global_set, routine_of, set_of, set_owned};
 
 use crate::error::ResolveError;
 use crate::meaning::{ClassMeant, RoutineMeant, SetMeant};
@@ -49,7 +49,7 @@ fn global_set(names: &Names, locals: &Locals, global: Global) -> Result<SetMeant
     }
 }
 
-// The set of a name.
+// The set that a name means.
 pub(crate) fn set_of_name(
     names: &Names,
     locals: &Locals,
@@ -74,9 +74,9 @@ fn count_kind(class: usize, number: usize, kind: VariableKind) -> Option<usize>
     }
 }
 
-// N. of a permanent class: the variable behind that of the class.
-fn count_behind(names: &Names, class: usize, variable: usize) -> Option<usize>
-    ensures { result ≡ count_behind names.now class variable }
+// N. of a permanent class: the variable after that of the class.
+fn count_of_class(names: &Names, class: usize, variable: usize) -> Option<usize>
+    ensures { result ≡ count_of_class names.now class variable }
 {
     if variable >= names.variables() {
         return None;
@@ -102,7 +102,7 @@ fn global_class(
             let Some(known) = names.class(class) else {
                 return Err(ResolveError::Unresolved);
             };
-            let count = count_behind(names, class, variable);
+            let count = count_of_class(names, class, variable);
             let variable = variable_of(locals, name, variable);
             Ok(ClassMeant {
                 class,
@@ -116,7 +116,7 @@ fn global_class(
     }
 }
 
-// The class that is named.
+// The class that a name means.
 pub(crate) fn class_of(
     names: &Names,
     locals: &Locals,
@@ -149,7 +149,7 @@ fn global_routine(names: &Names, global: Global) -> Result<RoutineMeant, Resolve
     }
 }
 
-// The routine that is named.
+// The routine that a name means.
 pub(crate) fn routine_of(names: &Names, name: Name) -> Result<RoutineMeant, ResolveError>
     ensures { Gives (λ x. x) result (routine_of names.now name) }
 {

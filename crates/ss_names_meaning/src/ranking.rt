@@ -1,4 +1,4 @@
-//! How FILE orders the members of sets, and what breaks the ties of notices.
+//! The disciplines of sets, and the keys that break the ties of notices.
 
 ghost use Rattle.std.specs.Prelude.{◌≡◌, length, IfOk};
 ghost use Rattle.std.specs.List.{filter};
@@ -63,7 +63,7 @@ fn rank_keys(
     Ok(resolved)
 }
 
-/// What breaks the ties of a class, by its number and its name.
+/// The keys that break the ties of a class, by its number and its name.
 pub fn resolve_ties(
     alloc: Global,
     names: &Names,
@@ -82,7 +82,7 @@ pub fn resolve_ties(
     Ok(resolved)
 }
 
-// The discipline of a set, by the class of its members, if it has one, and its DEFINE.
+// The discipline of a set, by its DEFINE and by the class of its members, if it has one.
 fn discipline_ordered(
     alloc: Global,
     names: &Names,
@@ -107,7 +107,7 @@ fn discipline_ordered(
     }
 }
 
-// The discipline of the set of a number.
+// The discipline of the set of this number.
 fn discipline(alloc: Global, names: &Names, number: usize) -> Result<Discipline, ResolveError>
     ensures { Gives (λ x. x) result (discipline names.now number) }
 {
@@ -132,8 +132,8 @@ pub(crate) fn resolve_disciplines(
     Ok(resolved)
 }
 
-/// The disciplines of the sets, by their numbers. None where a set that is ranked has no class of members, or
-/// is ranked by what is no attribute of that class.
+/// The disciplines of the sets, by their numbers. None if a ranked set has no class of members, or has a key
+/// that is no attribute of that class.
 ///
 /// # Errors
 /// `AllocError` where memory is refused.

@@ -9,30 +9,30 @@ use crate::meaning::{ClassMeant, Meaning, RoutineMeant, SetMeant};
 use ss_base::Name;
 use ss_tree::expression::Designator;
 
-/// What the names in a section mean. Each call fails with `Unresolved` where the name isn't of the kind, and
-/// with `Memory` where memory is refused.
+/// What the names in a section mean. Each call fails with `Unresolved` if the name is of another kind, and
+/// with `Memory` if memory is refused.
 ///
 /// A contract sees it as plain data (`Context`).
 pub trait Scope {
     ghost context: { Self → Context };
 
-    /// What is named as a value or a target.
+    /// What a name means as a value or a target.
     fn meaning(&self, designator: Designator) -> Result<Meaning, ResolveError>
         ensures { Gives (λ x. x) result ((context self.now).meaning designator) };
 
-    /// The set that is named.
+    /// The set that a name means.
     fn set(&self, designator: Designator) -> Result<SetMeant, ResolveError>
         ensures { Gives (λ x. x) result ((context self.now).set designator) };
 
-    /// The class that is named.
+    /// The class that a name means.
     fn class(&self, name: Name) -> Result<ClassMeant, ResolveError>
         ensures { Gives (λ x. x) result ((context self.now).class name) };
 
-    /// The routine that is named.
+    /// The routine that a name means.
     fn routine(&self, name: Name) -> Result<RoutineMeant, ResolveError>
         ensures { Gives (λ x. x) result ((context self.now).routine name) };
 
-    /// The number of the statistic that is kept of what is named.
+    /// The number of the statistic of a name, if it is the subject of a TALLY or an ACCUMULATE.
     fn statistic(&self, designator: Designator) -> Result<usize, ResolveError>
         ensures { Gives (λ x. x) result ((context self.now).statistic designator) };
 }

@@ -10,7 +10,7 @@ use ss_names::{Names, Subject as SubjectNumber};
 use ss_program::sections::{Statistic, Subject};
 use std::alloc::Global;
 
-// What a statistic is kept of.
+// The subject of a statistic.
 fn subject_of(names: &Names, subject: SubjectNumber) -> Result<Subject, ResolveError>
     ensures { Gives (λ x. x) result (subject_of names.now subject) }
 {
@@ -29,7 +29,7 @@ fn subject_of(names: &Names, subject: SubjectNumber) -> Result<Subject, ResolveE
     }
 }
 
-// The statistic of the history of a number.
+// The statistic of the history of this number.
 fn statistic_kept(names: &Names, number: usize) -> Result<Statistic, ResolveError>
     ensures { Gives (λ x. x) result (statistic_kept names.now number) }
 {

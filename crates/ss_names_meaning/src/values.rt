@@ -40,7 +40,7 @@ fn global_meaning(names: &Names, locals: &Locals, global: Global) -> Result<Mean
     }
 }
 
-// A name as a value or a target. A name that is local hides what it means in the whole program.
+// A name as a value or a target. A local variable hides the meaning of its name in the whole program.
 pub(crate) fn name_meaning(
     names: &Names,
     locals: &Locals,

@@ -12,7 +12,7 @@ use ss_check_scopes::Locals;
 use ss_names::{Meaning as Global, Names};
 use ss_program::expression::Variable;
 
-// The variable of a name: the local one that hides the global one, or else that.
+// The variable of a name: the local one if there is one, which hides the global one.
 pub(crate) fn variable_of(locals: &Locals, name: Name, global: usize) -> Variable
     ensures { result ≡ variable_of locals.now name global }
 {
@@ -22,7 +22,7 @@ pub(crate) fn variable_of(locals: &Locals, name: Name, global: usize) -> Variabl
     }
 }
 
-// The variable that a class's name stands for.
+// The variable that the name of a class means.
 fn variable_of_class(locals: &Locals, name: Name, global: Global) -> Result<Variable, ResolveError>
     ensures { Gives (λ x. x) result (variable_of_class locals.now name global) }
 {
@@ -35,7 +35,7 @@ fn variable_of_class(locals: &Locals, name: Name, global: Global) -> Result<Vari
     }
 }
 
-// The variable of a class, which is meant where an entity of the class isn't named.
+// The variable of a class, which has the entity if none is named.
 pub(crate) fn class_variable(
     names: &Names,
     locals: &Locals,

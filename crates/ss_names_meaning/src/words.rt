@@ -1,4 +1,4 @@
-//! Modes, kinds and numbers as they stand in the resolved program.
+//! Modes, kinds and folds of the resolved program.
 
 ghost use Rattle.std.specs.Prelude.{◌≡◌};
 ghost use Rattle.ss_names_meaning.specs.Words.{class_kind, fold_of, mode_given, mode_said, weighting_of};
@@ -21,7 +21,7 @@ pub(crate) fn mode_said(mode: ModeWord) -> Option<Mode>
     }
 }
 
-/// The mode of a value, where one may be given; REAL is none.
+/// The mode of a value, if one is given; REAL is none.
 pub fn mode_given(mode: Option<ModeWord>) -> Option<Mode>
     ensures { result ≡ mode_given mode }
 {
@@ -42,7 +42,7 @@ pub(crate) fn class_kind(kind: ClassWord) -> ClassKind
     }
 }
 
-// What is asked of a statistic that is a value; None of a MEAN.
+// The fold of a statistic that is a value. None for a MEAN.
 pub(crate) fn fold_of(kind: StatisticKind) -> Option<Fold>
     ensures { result ≡ fold_of kind }
 {
@@ -55,7 +55,7 @@ pub(crate) fn fold_of(kind: StatisticKind) -> Option<Fold>
     }
 }
 
-// Whether a value counts once or by its time.
+// Whether each value counts once, or by how long it lasts.
 pub(crate) fn weighting_of(weighting: WeightingWord) -> Weighting
     ensures { result ≡ weighting_of weighting }
 {

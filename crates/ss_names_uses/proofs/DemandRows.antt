@@ -1,4 +1,4 @@
--- The demands of what stands in a row, as lists.
+-- The demands of rows of the tree, by rows as lists.
 use Rattle.std.proofs.Common.{◌≡◌, append_assoc, Bool, ℕ, suc, ◌+◌, ◌<◌, List, [], ◌∷◌, ◌++◌, length, get_or, take, map, refl, sym, ap, ◌∙◌, arith}
 use Rattle.std.proofs.lemmas.List.{append-nil, take_more, map-append, flat_map_more, length-map, length-take-le}
 use Rattle.std.specs.List.{flat_map}
@@ -23,7 +23,7 @@ use Rattle.ss_names_uses.specs.declared.demand.Aspect.TheVariants.{Integer, Coun
 use Rattle.ss_names_uses.specs.declared.demand.Demand.{Demand}
 use Rattle.ss_names_uses.specs.declared.demand.Noted.{Noted}
 use Rattle.ss_names_uses.specs.Demands.{row_length, demand, a_number, designated, mode_of, implied, in_expression, in_number, in_numbers, in_terms, in_term, in_all_numbers, in_named, in_itself, in_inner, in_row, in_statement, in_body, in_places, valued, in_item}
-use Rattle.ss_names_uses.specs.Noted.{asked, in_asked, of_place, stands_for}
+use Rattle.ss_names_uses.specs.Noted.{asked, in_asked, of_place, noted_demands}
 
 -- ---- rows
 
@@ -45,7 +45,7 @@ in_named_listed line n =
     ap (λ (k : ℕ). implied line n.designator k ++ in_numbers line (expression_row (map view_expression n.subscripts.items))) (row_counted n.subscripts.items) ∙
     ap (λ ds. implied line n.designator (length n.subscripts.items) ++ ds) (in_number_row line (map view_expression n.subscripts.items))
 
--- ---- expressions where a number may have to be
+-- ---- expressions that may have to be numbers
 
 pub in_named_made : (b : Bool) (line : Line) (n : Named) → in_asked b line (view_expression (variants.Named n)) ≡ of_place b line n.designator (length n.subscripts.items) ++ in_all_numbers line (map view_expression n.subscripts.items)
 in_named_made b line n =
@@ -95,18 +95,18 @@ next_taken : {X Y : Type 0} (f : X → Y) (xs : List X) (i : ℕ) (x : X) → i 
 next_taken f xs i x lt e =
     ap (map f) (take_more xs i x lt) ∙ map-append f (take i xs) (get_or xs i x ∷ []) ∙ ap (λ y. map f (take i xs) ++ f y ∷ []) (sym e)
 
--- one more of a list is noted
+-- the demands of one more of a list come last
 pub next_noted : {X Y A : Type 0} (f : Y → List A) (v : X → Y) (xs : List X) (i : ℕ) (x : X) (old now new : List A) → i < length xs → x ≡ get_or xs i x → now ≡ old ++ flat_map f (map v (take i xs)) → new ≡ now ++ f (v x) → new ≡ old ++ flat_map f (map v (take (i + 1) xs))
 next_noted f v xs i x old now new lt is h e =
     e ∙ ap (λ ms. ms ++ f (v x)) h ∙ flat_map_more f old (map v (take i xs)) (v x) ∙ ap (λ l. old ++ flat_map f l) (sym (next_taken v xs i x lt is))
 
--- what is noted in two steps
+-- demands that are added in two steps
 pub both_noted : {A : Type 0} (now mid new xs ys : List A) → mid ≡ now ++ xs → new ≡ mid ++ ys → new ≡ now ++ (xs ++ ys)
 both_noted now mid new xs ys m n = n ∙ ap (λ l. l ++ ys) m ∙ append_assoc now xs ys
 
--- one more is noted at once
-pub one_more_noted : (noted : List Noted) (one : Noted) → flat_map stands_for (noted ++ one ∷ []) ≡ flat_map stands_for noted ++ stands_for one
-one_more_noted noted one = sym (flat_map_more stands_for [] noted one)
+-- the demands of one more record come last
+pub one_more_noted : (noted : List Noted) (one : Noted) → flat_map noted_demands (noted ++ one ∷ []) ≡ flat_map noted_demands noted ++ noted_demands one
+one_more_noted noted one = sym (flat_map_more noted_demands [] noted one)
 
 -- ---- places
 
@@ -126,7 +126,7 @@ place_added f ys y i old now new counted h e =
     e ∙ ap (λ l. l ++ f i y) h ∙ append_assoc old (in_places f 0 ys) (f i y) ∙
     ap (λ l. old ++ l) (ap (λ (n : ℕ). in_places f 0 ys ++ f n y) (sym (plus_zero (length ys) ∙ counted)) ∙ sym (places_more f 0 ys y))
 
--- the next thing in its place
+-- the demands of the next in its place come last
 pub next_place : {X Y : Type 0} (f : ℕ → Y → List Demand) (v : X → Y) (xs : List X) (i : ℕ) (x : X) (old now new : List Demand) → i < length xs → x ≡ get_or xs i x → now ≡ old ++ in_places f 0 (map v (take i xs)) → new ≡ now ++ f i (v x) → new ≡ old ++ in_places f 0 (map v (take (i + 1) xs))
 next_place f v xs i x old now new lt is h e =
     place_added f (map v (take i xs)) (v x) i old now new (length-map (take i xs) v ∙ length-take-le i xs (omega arith)) h e ∙
@@ -158,7 +158,7 @@ inner_find_if l h o t e =
 pub inner_loop : (l : Line) (h : LoopHead) (b : Vec Statement) → in_inner (view_statement (statements.Loop l h b)) ≡ in_body (map view_statement b.items)
 inner_loop l h b = ap in_inner (view_loop_made l h b) ∙ in_statement_row (map view_statement b.items)
 
--- one more statement of a body is noted: itself, and then the statements in it
+-- the demands of one more statement of a body come last: its own, and then those of the statements in it
 pub next_walked : (xs : List Statement) (i : ℕ) (x : Statement) (old now noted new : List Demand) → i < length xs → x ≡ get_or xs i x → now ≡ old ++ in_body (map view_statement (take i xs)) → noted ≡ now ++ in_itself (view_statement x) → new ≡ noted ++ in_inner (view_statement x) → new ≡ old ++ in_body (map view_statement (take (i + 1) xs))
 next_walked xs i x old now noted new lt is h n e =
     let s = view_statement x in

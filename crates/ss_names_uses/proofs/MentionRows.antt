@@ -1,4 +1,4 @@
--- The mentions of what stands in a row, as lists.
+-- The mentions of rows of the tree, by rows as lists.
 use Rattle.std.proofs.Common.{◌≡◌, append_assoc, ℕ, suc, ◌+◌, ◌<◌, List, [], ◌∷◌, ◌++◌, length, get_or, take, map, refl, sym, ap, ◌∙◌}
 use Rattle.std.proofs.lemmas.List.{take_more, map-append, flat_map_more}
 use Rattle.std.specs.List.{flat_map}
@@ -64,7 +64,7 @@ next_taken : {X Y : Type 0} (f : X → Y) (xs : List X) (i : ℕ) (x : X) → i 
 next_taken f xs i x lt e =
     ap (map f) (take_more xs i x lt) ∙ map-append f (take i xs) (get_or xs i x ∷ []) ∙ ap (λ y. map f (take i xs) ++ f y ∷ []) (sym e)
 
--- one more of a list is noted
+-- the mentions of one more of a list come last
 pub next_noted : {X Y A : Type 0} (f : Y → List A) (v : X → Y) (xs : List X) (i : ℕ) (x : X) (old now new : List A) → i < length xs → x ≡ get_or xs i x → now ≡ old ++ flat_map f (map v (take i xs)) → new ≡ now ++ f (v x) → new ≡ old ++ flat_map f (map v (take (i + 1) xs))
 next_noted f v xs i x old now new lt is h e =
     e ∙ ap (λ ms. ms ++ f (v x)) h ∙ flat_map_more f old (map v (take i xs)) (v x) ∙ ap (λ l. old ++ flat_map f l) (sym (next_taken v xs i x lt is))
@@ -90,7 +90,7 @@ inner_find_if l h o t e =
 pub inner_loop : (l : Line) (h : LoopHead) (b : Vec Statement) → in_inner (view_statement (statements.Loop l h b)) ≡ in_body (map view_statement b.items)
 inner_loop l h b = ap in_inner (view_loop_made l h b) ∙ in_statement_row (map view_statement b.items)
 
--- one more statement of a body is noted: itself, and then the statements in it
+-- the mentions of one more statement of a body come last: its own, and then those of the statements in it
 pub next_walked : (xs : List Statement) (i : ℕ) (x : Statement) (old now noted new : List Mention) → i < length xs → x ≡ get_or xs i x → now ≡ old ++ in_body (map view_statement (take i xs)) → noted ≡ now ++ in_itself (view_statement x) → new ≡ noted ++ in_inner (view_statement x) → new ≡ old ++ in_body (map view_statement (take (i + 1) xs))
 next_walked xs i x old now noted new lt is h n e =
     let s = view_statement x in

@@ -1,4 +1,4 @@
--- Worked examples: what small statements demand, read off by hand.
+-- Worked examples: the demands of small statements, read off by hand.
 use Rattle.std.specs.Prelude.{◌≡◌, ℕ, pos, true, false, [], ◌∷◌, Some, None, codes, refl}
 use Rattle.ss_base.specs.declared.line.Line.{Line}
 use Rattle.ss_tree.specs.declared.expression.Sign.TheVariants.{Plus}
@@ -28,7 +28,7 @@ at n = record { designator = designators.Name n; subscripts = no_expression }
 abbrev one : ExpressionTree
 one = number (pos 1)
 
--- what has to hold
+-- something that has to hold
 abbrev holds : ℕ → Aspect → Demand
 holds n found = demand (line n) found (Fits true)
 

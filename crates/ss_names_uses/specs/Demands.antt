@@ -1,4 +1,4 @@
--- What a section demands of the modes and counts of its values, in the order of the text.
+-- The demands of a section on the modes and counts of its values, in the order of the text.
 use Rattle.std.specs.Prelude.{ℕ, zero, suc, ◌+◌, ◌==◌, nat_le, true, false, List, [], ◌∷◌, ◌++◌, length, slice_get, Option, Some, None}
 use Rattle.std.specs.List.{flat_map}
 use Rattle.ss_base.specs.declared.line.Line.{Line}
@@ -23,7 +23,7 @@ NameBytes = List ℕ
 abbrev pub demand : Line → Aspect → Aspect → Demand
 demand line found wanted = record { line = line; found = found; wanted = wanted }
 
--- what has this mode is a number
+-- what has this mode is to be a number
 abbrev pub a_number : Line → Aspect → Demand
 a_number line found = demand line found Integer
 
@@ -34,13 +34,13 @@ abbrev pub row_length : ExpressionRow → ℕ
 row_length no_expression = 0
 row_length (and_expression e es) = suc (row_length es)
 
--- the mode of a named place: that of what its name means; times are numbers
+-- the mode of a named place: that of what its name means, and a time is a number
 abbrev pub designated : Designator → Aspect
 designated (designators.Name name) = Named name
 designated designators.TimeV = Integer
 designated designators.TimeA = Integer
 
--- the mode of an expression; parentheses alone make no number of a text
+-- the mode of an expression; a text in parentheses is still a text
 abbrev pub mode_of : ExpressionTree → Aspect
 mode_of (number z) = Integer
 mode_of (text t) = Alpha
@@ -51,19 +51,19 @@ mode_of (product e further) = Integer
 mode_of (signed sign e) = Integer
 mode_of (sum e further) = Integer
 
--- a name without subscript leaves the entity that it may be of to the variable of a class
+-- a name without subscript may be of an entity: then the variable of its class has the entity, and is to be a number
 abbrev pub implied : Line → Designator → ℕ → List Demand
 implied line (designators.Name name) zero = a_number line (Implied name) ∷ []
 implied line _ _ = []
 
--- a name that stands as a value is of something that is one, as a MEAN isn't
+-- a name in the place of a value is to mean a value; a MEAN is none
 abbrev pub valued : Line → Designator → List Demand
 valued line (designators.Name name) = demand line (Value name) (Fits true) ∷ []
 valued line _ = []
 
 abbrev mutual
   -- the demands of an expression in a statement of this line, from left to right: subscripts, the arguments of
-  -- functions, and what is added, subtracted, multiplied or stands behind a sign are numbers
+  -- functions, and all that is added, subtracted, multiplied or has a sign before it are to be numbers
   pub in_expression : Line → ExpressionTree → List Demand
   in_expression line (number z) = []
   in_expression line (text t) = []
@@ -75,7 +75,7 @@ abbrev mutual
   in_expression line (signed sign e) = a_number line (mode_of e) ∷ in_expression line e
   in_expression line (sum e further) = a_number line (mode_of e) ∷ in_expression line e ++ in_terms line further
 
-  -- expressions that are numbers
+  -- expressions that are to be numbers
   pub in_numbers : Line → ExpressionRow → List Demand
   in_numbers line no_expression = []
   in_numbers line (and_expression e es) = a_number line (mode_of e) ∷ in_expression line e ++ in_numbers line es
@@ -84,14 +84,14 @@ abbrev mutual
   in_terms line no_term = []
   in_terms line (and_term sign e es) = a_number line (mode_of e) ∷ in_expression line e ++ in_terms line es
 
--- an expression that is a number
+-- an expression that is to be a number
 abbrev pub in_number : Line → ExpressionTree → List Demand
 in_number line e = a_number line (mode_of e) ∷ in_expression line e
 
 abbrev pub in_all_numbers : Line → List ExpressionTree → List Demand
 in_all_numbers line es = flat_map (in_number line) es
 
--- a term behind its sign
+-- a term after its sign
 abbrev pub in_term : Line → Sign × ExpressionTree → List Demand
 in_term line t = in_number line t.1
 
@@ -99,7 +99,7 @@ in_term line t = in_number line t.1
 abbrev pub target_mode : NamedTree → Aspect
 target_mode n = designated n.designator
 
--- a target, a set or what RESET names
+-- a target, a set or a statistic of RESET
 abbrev pub in_named : Line → NamedTree → List Demand
 in_named line n = implied line n.designator (row_length n.subscripts) ++ in_numbers line n.subscripts
 
@@ -110,20 +110,20 @@ in_all_named line ns = flat_map (in_named line) ns
 abbrev pub in_number_target : Line → NamedTree → List Demand
 in_number_target line n = a_number line (target_mode n) ∷ in_named line n
 
--- the demands of what may be there
+-- the demands of an expression or a target, if there is one
 abbrev pub in_option : {A : Type 0} → (A → List Demand) → Option A → List Demand
 in_option of None = []
 in_option of (Some x) = of x
 
--- ---- values that are handed over
+-- ---- values that are passed
 
--- what takes the value in a place
+-- the aspect with which the value in a place is compared
 abbrev pub received : Receiver → ℕ → Aspect
 received (receivers.Given name) place = Given name place
 received (receivers.Yielding name) place = Yielded name place
 received (receivers.Attributes class) place = Attribute class place
 
--- a value has the mode of what takes it, by its place
+-- a value has the mode of the parameter or the attribute in its place
 abbrev pub handed : Line → Receiver → ℕ → ExpressionTree → List Demand
 handed line by place e = demand line (mode_of e) (received by place) ∷ in_expression line e
 
@@ -135,7 +135,7 @@ taken line by place n = demand line (target_mode n) (received by place) ∷ in_n
 abbrev pub parameter : Line → Receiver → ℕ → NameBytes → List Demand
 parameter line by place name = demand line (Named name) (received by place) ∷ []
 
--- what is demanded of things each in its place, the first of which is this
+-- the demands of a list, each by its place, the first of which is this
 abbrev pub in_places : {A : Type 0} → (ℕ → A → List Demand) → ℕ → List A → List Demand
 in_places of place [] = []
 in_places of place (x ∷ xs) = of place x ++ in_places of (place + 1) xs
@@ -198,12 +198,12 @@ in_when line (at_time e) = in_number line e
 in_when line (in_units e) = in_number line e
 in_when line now = []
 
--- what gets a new entity: the target behind CALLED, or else the variable of the class
+-- the target of a new entity: the one after CALLED, or else the variable of the class
 abbrev pub in_new : Line → NameBytes → Option NamedTree → List Demand
 in_new line class None = a_number line (Named class) ∷ []
 in_new line class (Some place) = in_number_target line place
 
--- the reference to an entity: what stands behind CALLED, or else the variable of the class
+-- the reference to an entity: the expression after CALLED, or else the variable of the class
 abbrev pub in_old : Line → NameBytes → Option ExpressionTree → List Demand
 in_old line class None = a_number line (Named class) ∷ []
 in_old line class (Some e) = in_number line e
@@ -227,7 +227,7 @@ in_entity_statement _ = []
 
 -- ---- items and fields of PRINT
 
--- the demands of an item: it may be the name of a MEAN, through any parentheses, and is else an expression
+-- the demands of an item: it may be the name of a MEAN, in any parentheses, and is else an expression
 abbrev pub in_item : Line → ExpressionTree → List Demand
 in_item line (named designator subscripts) = in_named line (record { designator = designator; subscripts = subscripts })
 in_item line (parenthesised e) = in_item line e
@@ -236,18 +236,18 @@ in_item line e = in_expression line e
 abbrev pub in_items : Line → List ExpressionTree → List Demand
 in_items line es = flat_map (in_item line) es
 
--- whether a name means a MEAN; times are none
+-- whether a name means a MEAN; a time means none
 abbrev pub mean_designated : Designator → Aspect
 mean_designated (designators.Name name) = Mean name
 mean_designated _ = Fits false
 
--- whether an item is a MEAN: through any parentheses a name that means one
+-- whether an item is a MEAN: a name that means one, in any parentheses
 abbrev pub mean_of : ExpressionTree → Aspect
 mean_of (named designator subscripts) = mean_designated designator
 mean_of (parenthesised e) = mean_of e
 mean_of _ = Fits false
 
--- a field of so many decimals with an item: where it has any, there are at most 9 and the item is a MEAN
+-- a field of so many decimals with an item: a field with decimals has at most 9 of them, and its item is a MEAN
 abbrev pub with_decimals : Line → ExpressionTree → ℕ → List Demand
 with_decimals line e zero = []
 with_decimals line e (suc more) = demand line (Fits (nat_le (suc more) 9)) (Fits true) ∷ demand line (mean_of e) (Fits true) ∷ []
@@ -255,7 +255,7 @@ with_decimals line e (suc more) = demand line (Fits (nat_le (suc more) 9)) (Fits
 abbrev pub in_field : Line → ExpressionTree → Field → List Demand
 in_field line e field = with_decimals line e field.decimals
 
--- the item in a place, and the field in the same place of these, where there is one
+-- the item in a place, with the field in the same place, if there is one
 abbrev pub in_field_at : Line → List Field → ℕ → ExpressionTree → List Demand
 in_field_at line fields place e = in_option (in_field line e) (slice_get fields place)
 
@@ -263,7 +263,7 @@ in_field_at line fields place e = in_option (in_field line e) (slice_get fields 
 abbrev pub fields_of : List (List ℕ) → List Field
 fields_of pictures = flat_map picture_fields pictures
 
--- what is given to a routine, and what takes the values that it yields
+-- the values that are given to a routine, and the targets of those that it yields
 abbrev pub in_call : Line → NameBytes → List ExpressionTree → List NamedTree → List Demand
 in_call line name given yielding =
     demand line (Count (length given)) (GivenCount name) ∷ demand line (Count (length yielding)) (YieldedCount name) ∷
@@ -273,7 +273,7 @@ in_call line name given yielding =
 abbrev pub in_let : Line → NamedTree → ExpressionTree → List Demand
 in_let line place e = demand line (target_mode place) (mode_of e) ∷ in_named line place ++ in_expression line e
 
--- as many items as there are fields, each with the field in its place
+-- as many items as there are fields, and each item with the field in its place
 abbrev pub in_fields : Line → List ExpressionTree → List Field → List Demand
 in_fields line items fields =
     demand line (Fits (length items == length fields)) (Fits true) ∷ in_places (in_field_at line fields) 0 items ++ in_items line items
@@ -281,7 +281,7 @@ in_fields line items fields =
 abbrev pub in_print : Line → List ExpressionTree → List (List ℕ) → List Demand
 in_print line items pictures = in_fields line items (fields_of pictures)
 
--- the demands of a statement, but for those of the statements in it: of an IF its condition, of a loop its head
+-- the demands of a statement, without those of the statements in it: of an IF its condition, of a loop its head
 abbrev pub in_itself : StatementTree → List Demand
 in_itself (let_statement line place e) = in_let line place e
 in_itself (add_statement line e place) = in_number line e ++ in_number_target line place

@@ -1,4 +1,4 @@
--- Worked examples: what small sections mention, read off by hand.
+-- Worked examples: the mentions of small sections, read off by hand.
 use Rattle.std.specs.Prelude.{◌≡◌, ℕ, pos, Bool, true, false, [], ◌∷◌, Some, None, codes, refl}
 use Rattle.ss_base.specs.declared.line.Line.{Line}
 use Rattle.ss_tree.specs.declared.expression.Sign.TheVariants.{Plus}
@@ -18,7 +18,7 @@ use Rattle.ss_names_uses.specs.Mentions.{NameBytes, in_statement, mentions}
 abbrev line : ℕ → Line
 line n = record { 0 = n }
 
--- a mention in words: in which line, as what, of what, with how many subscripts, and whether an entity is implied
+-- a mention: its line, its role, what is mentioned, with how many subscripts, and whether an entity is implied
 abbrev said : ℕ → Role → Mentioned → ℕ → Bool → Mention
 said l role what subscripts implied = record { line = line l; role = role; what = what; subscripts = subscripts; implied = implied }
 
@@ -35,7 +35,7 @@ at n = record { designator = designators.Name n; subscripts = no_expression }
 abbrev at_of : NameBytes → ExpressionTree → NamedTree
 at_of n e = record { designator = designators.Name n; subscripts = and_expression e no_expression }
 
--- LET RANK(J) = SIZE + TIME.V: the target and its subscript stand before the value
+-- LET RANK(J) = SIZE + TIME.V: the target and its subscript come before the value
 pub a_let : in_statement (let_statement (line 3) (at_of (codes "RANK") (name (codes "J"))) (sum (name (codes "SIZE")) (and_term Plus (named designators.TimeV no_expression) no_term))) ≡
     said 3 Target (Name (codes "RANK")) 1 false ∷ said 3 Value (Name (codes "J")) 0 true ∷
     said 3 Value (Name (codes "SIZE")) 0 true ∷ said 3 Value TimeV 0 false ∷ []

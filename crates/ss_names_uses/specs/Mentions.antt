@@ -1,4 +1,4 @@
--- What a section mentions, in the order of the text.
+-- The mentions of a section, in the order of the text.
 use Rattle.std.specs.Prelude.{ℕ, zero, suc, Bool, true, false, not, is_some, List, [], ◌∷◌, ◌++◌, map, Option, Some, None}
 use Rattle.std.specs.List.{flat_map}
 use Rattle.ss_base.specs.declared.line.Line.{Line}
@@ -18,7 +18,7 @@ NameBytes = List ℕ
 
 -- ---- single mentions
 
--- what stands in an expression, as a target or as a set
+-- what is named in an expression, as a target or as a set
 abbrev pub mentioned : Designator → Mentioned
 mentioned (designators.Name name) = Name name
 mentioned designators.TimeV = TimeV
@@ -29,15 +29,15 @@ abbrev pub is_bare : Designator → ℕ → Bool
 is_bare (designators.Name name) zero = true
 is_bare _ _ = false
 
--- a named place with so many subscripts; where it has none, the entity is implied
+-- a named place with so many subscripts; if it has none, the entity is implied
 abbrev pub place : Line → Role → Designator → ℕ → Mention
 place line role d n = record { line = line; role = role; what = mentioned d; subscripts = n; implied = is_bare d n }
 
--- a class; where CALLED isn't written, the entity is implied
+-- a class; if CALLED isn't written, the entity is implied
 abbrev pub class_named : Line → Role → Bool → NameBytes → Mention
 class_named line role is_called name = record { line = line; role = role; what = Name name; subscripts = 0; implied = not is_called }
 
--- a name that stands for itself
+-- a name that needs no subscript and implies no entity
 abbrev pub plain : Line → Role → NameBytes → Mention
 plain line role name = record { line = line; role = role; what = Name name; subscripts = 0; implied = false }
 
@@ -73,7 +73,7 @@ abbrev mutual
   in_terms line no_term = []
   in_terms line (and_term sign e es) = in_expression line e ++ in_terms line es
 
--- the mentions of a term behind its sign
+-- the mentions of a term after its sign
 abbrev pub in_term : Line → Sign × ExpressionTree → List Mention
 in_term line t = in_expression line t.1
 
@@ -81,15 +81,15 @@ in_term line t = in_expression line t.1
 abbrev pub in_all : Line → List ExpressionTree → List Mention
 in_all line es = flat_map (in_expression line) es
 
--- a target, a set or what RESET names, and then what stands in its subscripts
+-- a target, a set or a statistic of RESET, and then the mentions of its subscripts
 abbrev pub in_named : Line → Role → NamedTree → List Mention
 in_named line role n = place line role n.designator (row_length n.subscripts) ∷ in_expressions line n.subscripts
 
--- the same of several
+-- several targets, sets or statistics of RESET
 abbrev pub in_all_named : Line → Role → List NamedTree → List Mention
 in_all_named line role ns = flat_map (in_named line role) ns
 
--- the mentions of what may be there
+-- the mentions of an expression or a target, if there is one
 abbrev pub in_option : {A : Type 0} → (A → List Mention) → Option A → List Mention
 in_option of None = []
 in_option of (Some x) = of x
@@ -146,15 +146,15 @@ in_when line (at_time e) = in_expression line e
 in_when line (in_units e) = in_expression line e
 in_when line now = []
 
--- a class, and the target behind CALLED that gets its new entity
+-- a class, and the target after CALLED that gets its new entity
 abbrev pub in_new : Line → Role → NameBytes → Option NamedTree → List Mention
 in_new line role class called = class_named line role (is_some called) class ∷ in_option (in_named line Target) called
 
--- a class, and the reference behind CALLED to an entity of it
+-- a class, and the reference after CALLED to an entity of it
 abbrev pub in_old : Line → Role → NameBytes → Option ExpressionTree → List Mention
 in_old line role class called = class_named line role (is_some called) class ∷ in_option (in_expression line) called
 
--- what a statement on entities, sets or notices mentions
+-- the mentions of a statement on entities, sets or notices
 abbrev pub in_entity_statement : StatementTree → List Mention
 in_entity_statement (create_statement line class called) = in_new line Create class called
 in_entity_statement (create_every line classes) = map (plain line CreateEvery) classes
@@ -169,7 +169,7 @@ in_entity_statement (schedule_statement line class called given when) =
 in_entity_statement (cancel_statement line class called) = in_old line Cancel class called
 in_entity_statement _ = []
 
--- what a statement mentions, but for what the statements in it do: of an IF its condition, of a loop its head
+-- the mentions of a statement, without those of the statements in it: of an IF its condition, of a loop its head
 abbrev pub in_itself : StatementTree → List Mention
 in_itself (let_statement line place e) = in_named line Target place ++ in_expression line e
 in_itself (add_statement line e place) = in_expression line e ++ in_named line Target place
@@ -189,19 +189,19 @@ in_itself (skip_statement line count) = in_expression line count
 in_itself s = in_entity_statement s
 
 abbrev mutual
-  -- what the statements in a statement mention
+  -- the mentions of the statements in a statement
   pub in_inner : StatementTree → List Mention
   in_inner (if_statement line condition first second) = in_row first ++ in_row second
   in_inner (loop_statement line head body) = in_row body
   in_inner (find_if_statement line head outcome first second) = in_row first ++ in_row second
   in_inner _ = []
 
-  -- what statements mention: each itself, and then the statements in it
+  -- the mentions of statements: of each its own, and then those of the statements in it
   pub in_row : StatementRow → List Mention
   in_row no_statement = []
   in_row (and_statement s ss) = in_itself s ++ in_inner s ++ in_row ss
 
--- what a statement mentions, with the statements in it
+-- the mentions of a statement, with those of the statements in it
 abbrev pub in_statement : StatementTree → List Mention
 in_statement s = in_itself s ++ in_inner s
 
@@ -247,10 +247,10 @@ in_definition d = map (plain d.line (Define d.mode)) d.names
 abbrev pub in_definitions : List DefinitionTree → List Mention
 in_definitions definitions = flat_map in_definition definitions
 
--- what the statements of a body mention
+-- the mentions of the statements of a body
 abbrev pub in_body : List StatementTree → List Mention
 in_body body = flat_map in_statement body
 
--- what a section mentions
+-- the mentions of a section
 abbrev pub mentions : SectionTree → List Mention
 mentions s = in_kind s.line s.kind ++ in_definitions s.definitions ++ in_body s.body

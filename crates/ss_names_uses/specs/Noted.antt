@@ -1,4 +1,4 @@
--- The demands of an expression where a number may have to be, and those that what was noted at once stands for.
+-- Records of demands, each of which is one or three demands.
 use Rattle.std.specs.Prelude.{ℕ, Bool, true, false, List, [], ◌∷◌, ◌++◌}
 use Rattle.ss_base.specs.declared.line.Line.{Line}
 use Rattle.ss_tree.specs.declared.expression.Designator.{Designator}
@@ -10,20 +10,20 @@ use Rattle.ss_names_uses.specs.declared.demand.Noted.{Noted}
 use Rattle.ss_names_uses.specs.declared.demand.Noted.TheVariants.{One, Number}
 use Rattle.ss_names_uses.specs.Demands.{a_number, demand, designated, implied, in_expression, mode_of, valued}
 
--- what has this mode is a number, where that is asked
+-- the demand that what has this mode is a number, if that is asked
 abbrev pub asked : Bool → Line → Aspect → List Demand
 asked true line mode = a_number line mode ∷ []
 asked false line mode = []
 
--- the demands of an expression, and before them, where that is asked, that it is a number
+-- the demand that an expression is a number, if that is asked, and then its own demands
 abbrev pub in_asked : Bool → Line → ExpressionTree → List Demand
 in_asked as_number line e = asked as_number line (mode_of e) ++ in_expression line e
 
--- the demands of what is named with so many subscripts and stands as a value, but for those of its subscripts
+-- the demands of a named place with so many subscripts as a value, without those of its subscripts
 abbrev pub of_place : Bool → Line → Designator → ℕ → List Demand
 of_place as_number line designator subscripts = asked as_number line (designated designator) ++ valued line designator ++ implied line designator subscripts
 
--- what was noted at once: a demand, or what is demanded of a name without subscript where a number has to be
-abbrev pub stands_for : Noted → List Demand
-stands_for (One line found wanted) = demand line found wanted ∷ []
-stands_for (Number line name) = of_place true line (designators.Name name) 0
+-- the demands of a record: one, or the three of a name without subscript that has to be a number
+abbrev pub noted_demands : Noted → List Demand
+noted_demands (One line found wanted) = demand line found wanted ∷ []
+noted_demands (Number line name) = of_place true line (designators.Name name) 0

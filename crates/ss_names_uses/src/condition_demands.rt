@@ -11,7 +11,7 @@ use ss_base::Line;
 use ss_tree::condition::{Condition, Test};
 use std::alloc::AllocError;
 
-// Notes the demands of a test.
+// Adds the demands of a test.
 fn note_test(into: &mut Demands, line: Line, test: &Test) -> Result<(), AllocError>
     ensures { IfOk result (λ _. into.new ≡ into.old ++ in_test line (view_test test.now)) }
 {
@@ -29,7 +29,7 @@ fn note_test(into: &mut Demands, line: Line, test: &Test) -> Result<(), AllocErr
     }
 }
 
-// Notes the demands of tests joined by AND.
+// Adds the demands of tests joined by AND.
 fn note_conjunction(into: &mut Demands, line: Line, tests: &[Test]) -> Result<(), AllocError>
     ensures { IfOk result (λ _. into.new ≡ into.old ++ flat_map (in_test line) (map view_test tests.now)) }
 {
@@ -39,7 +39,7 @@ fn note_conjunction(into: &mut Demands, line: Line, tests: &[Test]) -> Result<()
     Ok(())
 }
 
-// Notes the demands of a condition.
+// Adds the demands of a condition.
 pub(crate) fn note_condition(
     into: &mut Demands,
     line: Line,

@@ -11,7 +11,7 @@ use ss_base::Line;
 use ss_tree::condition::{Condition, Test};
 use std::alloc::AllocError;
 
-// Notes the mentions of a test.
+// Adds the mentions of a test.
 fn note_test(into: &mut Vec<Mention>, line: Line, test: &Test) -> Result<(), AllocError>
     ensures { IfOk result (λ _. into.new.items ≡ into.old.items ++ in_test line (view_test test.now)) }
 {
@@ -29,7 +29,7 @@ fn note_test(into: &mut Vec<Mention>, line: Line, test: &Test) -> Result<(), All
     }
 }
 
-// Notes the mentions of tests joined by AND.
+// Adds the mentions of tests joined by AND.
 fn note_conjunction(into: &mut Vec<Mention>, line: Line, tests: &[Test]) -> Result<(), AllocError>
     ensures { IfOk result (λ _. into.new.items ≡ into.old.items ++ flat_map (in_test line) (map view_test tests.now)) }
 {
@@ -39,7 +39,7 @@ fn note_conjunction(into: &mut Vec<Mention>, line: Line, tests: &[Test]) -> Resu
     Ok(())
 }
 
-// Notes the mentions of a condition.
+// Adds the mentions of a condition.
 pub(crate) fn note_condition(
     into: &mut Vec<Mention>,
     line: Line,

@@ -1,15 +1,15 @@
-//! Demands, and how they are noted.
+//! Demands and their records.
 
 ghost use Rattle.std.specs.Prelude.{◌≡◌, ◌++◌, [], IfOk};
 ghost use Rattle.std.specs.List.{flat_map};
-ghost use Rattle.ss_names_uses.specs.Noted.{stands_for};
+ghost use Rattle.ss_names_uses.specs.Noted.{noted_demands};
 
 use ss_base::{Line, Name};
 use ss_tree::expression::Function;
 use std::alloc::{AllocError, Global};
 use std::marker::Model;
 
-/// What a demand compares: modes, counts, or what holds.
+/// What a demand compares: modes, counts, or whether something holds.
 #[derive(Clone, Copy)]
 pub enum Aspect {
     /// The mode of whole numbers.
@@ -18,8 +18,8 @@ pub enum Aspect {
     Alpha,
     /// The mode of what a name means.
     Named(Name),
-    /// The mode of the variable of the class of which what a name means is implied: where the name
-    /// stands without subscript, that variable has the entity.
+    /// The mode of the variable that has the entity of a name without subscript, if the name is of an
+    /// entity: the variable of its class.
     Implied(Name),
     /// The mode of what a routine is given in this place, from 0.
     Given { routine: Name, place: usize },
@@ -27,7 +27,7 @@ pub enum Aspect {
     Yielded { routine: Name, place: usize },
     /// The mode of the attribute of a class of this number, from 0.
     Attribute { class: Name, number: usize },
-    /// How many there are.
+    /// A count.
     Count(usize),
     /// How many arguments a function takes.
     ArgumentCount(Function),
@@ -35,28 +35,27 @@ pub enum Aspect {
     GivenCount(Name),
     /// How many values a routine yields.
     YieldedCount(Name),
-    /// How many attributes a class has, which is the most that there may be.
+    /// How many attributes a class has: the most that there may be.
     AttributeCount(Name),
-    /// Whether this holds of the fields of a PRINT.
+    /// Whether the fields of a PRINT fit.
     Fits(bool),
-    /// Whether a name means what is a value, as a MEAN isn't.
+    /// Whether a name means a value. A MEAN is none.
     Value(Name),
     /// Whether a name means a MEAN.
     Mean(Name),
 }
 
-/// A demand: what is found in the text is what is wanted there.
+/// A demand: what is found in the text has to be what is wanted there.
 #[derive(Clone, Copy)]
 pub struct Demand {
-    /// The line of the innermost statement that makes it; of the head of a loop or of an IF it is that
-    /// of the loop or the IF, of the head of an EVENT section that of the section.
+    /// The line of the innermost statement that makes it. The head of a loop has the line of the loop, the
+    /// condition of an IF that of the IF. The head of an EVENT section has the line of the section.
     pub line: Line,
     pub found: Aspect,
     pub wanted: Aspect,
 }
 
-/// What is noted at once: a demand, or the three of a name where a number has to be, which take as much room
-/// as one.
+/// A record of demands: one demand, or the three of a name that has to be a number. Both take the same room.
 #[derive(Clone, Copy)]
 pub enum Noted {
     /// A demand.
@@ -65,15 +64,15 @@ pub enum Noted {
         found: Aspect,
         wanted: Aspect,
     },
-    /// What is demanded of a name without subscript where a number has to be: that it is one, that it is a
-    /// value, and that the variable in which the entity is that it may be of has numbers.
+    /// The demands of a name without subscript that has to be a number: that it is a number and a value.
+    /// If it is of an entity, the variable that has the entity is a number too.
     Number {
         line: Line,
         name: Name,
     },
 }
 
-/// Demands, in the order in which they were noted. A contract sees their list.
+/// Demands, in the order in which they were added. A contract sees their list.
 #[derive(Drop)]
 pub struct Demands {
     noted: Vec<Noted>,
@@ -83,15 +82,15 @@ impl Model for Demands {
     ghost use Rattle.std.specs.Prelude.{List};
     ghost use Rattle.std.specs.List.{flat_map};
     ghost use Rattle.ss_names_uses.specs.declared.demand.Demand.{Demand};
-    ghost use Rattle.ss_names_uses.specs.Noted.{stands_for};
+    ghost use Rattle.ss_names_uses.specs.Noted.{noted_demands};
 
     ghost Value = { List Demand };
 
-    ghost view = { λ d. flat_map stands_for d.noted.items };
+    ghost view = { λ d. flat_map noted_demands d.noted.items };
 }
 
 impl Demands {
-    /// None.
+    /// No demands.
     pub(crate) fn new(alloc: Global) -> Demands
         ensures { result ≡ [] }
     {
@@ -100,23 +99,23 @@ impl Demands {
         }
     }
 
-    /// Adds what is noted at once.
+    /// Adds the demands of a record.
     ///
     /// # Errors
     /// `AllocError` where memory is refused.
     #[tactic(auto, using(crate::proofs::DemandRows::one_more_noted))]
     pub(crate) fn add(&mut self, noted: Noted) -> Result<(), AllocError>
-        ensures { IfOk result (λ _. self.new ≡ self.old ++ stands_for noted) }
+        ensures { IfOk result (λ _. self.new ≡ self.old ++ noted_demands noted) }
     {
-        // The checker has to meet the type of what a demand compares.
+        // The checker needs to see the type of what a demand compares.
         let _met = Aspect::Integer;
         self.noted.push(noted)?;
         Ok(())
     }
 
-    /// What was noted.
+    /// The records.
     pub fn noted(&self) -> &[Noted]
-        ensures { flat_map stands_for result.now ≡ self.now }
+        ensures { flat_map noted_demands result.now ≡ self.now }
     {
         &self.noted
     }

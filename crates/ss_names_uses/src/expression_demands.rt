@@ -12,7 +12,7 @@ use ss_base::{Line, Name};
 use ss_tree::expression::{Designator, Expression, Named, Term};
 use std::alloc::AllocError;
 
-// What the mode of a named place is.
+// The mode of a named place.
 fn designated(designator: Designator) -> Aspect
     ensures { result ≡ designated designator }
 {
@@ -22,14 +22,14 @@ fn designated(designator: Designator) -> Aspect
     }
 }
 
-// What the mode of a target is.
+// The mode of a target.
 pub(crate) fn target_mode(target: &Named) -> Aspect
     ensures { result ≡ target_mode (view_named target.now) }
 {
     designated(target.designator)
 }
 
-// What the mode of an expression is.
+// The mode of an expression.
 #[tactic(auto, unfolding(ss_tree::specs::View::view_expression))]
 pub(crate) fn mode_of(expression: &Expression) -> Aspect
     ensures { result ≡ mode_of (view_expression expression.now) }
@@ -46,7 +46,7 @@ pub(crate) fn mode_of(expression: &Expression) -> Aspect
     }
 }
 
-// Notes a demand.
+// Adds a demand.
 pub(crate) fn note(
     into: &mut Demands,
     line: Line,
@@ -62,7 +62,7 @@ pub(crate) fn note(
     })
 }
 
-// Notes, where that is asked, that what has this mode is a number.
+// Adds the demand that what has this mode is a number, if that is asked.
 fn note_asked(
     into: &mut Demands,
     line: Line,
@@ -78,7 +78,7 @@ fn note_asked(
     }
 }
 
-// Notes the entity that a named place with so many subscripts leaves to the variable of a class.
+// Adds the demand on the variable that has the entity of a named place, if no subscript does.
 fn note_implied(
     into: &mut Demands,
     line: Line,
@@ -99,7 +99,7 @@ fn note_implied(
     }
 }
 
-// Notes the demands of a name with so many subscripts that stands as a value, but for those of its subscripts.
+// Adds the demands of a name with so many subscripts as a value, without those of its subscripts.
 fn note_name(
     into: &mut Demands,
     line: Line,
@@ -117,7 +117,7 @@ fn note_name(
     note_implied(into, line, Designator::Name(name), subscripts)
 }
 
-// The same of what is named.
+// Adds the demands of a named place as a value, without those of its subscripts.
 fn note_place(
     into: &mut Demands,
     line: Line,
@@ -135,8 +135,8 @@ fn note_place(
     }
 }
 
-// Notes the demands of an expression, from left to right, and before them, where that is asked, that it is a
-// number.
+// Adds the demand that an expression is a number, if that is asked, and then its own demands, from left to
+// right.
 #[cycle(demanding)]
 #[tactic(auto, unfolding(ss_tree::specs::View::view_expression))]
 fn note_in(
@@ -182,7 +182,7 @@ fn note_in(
     }
 }
 
-// Notes the demands of expressions that are numbers.
+// Adds the demands of expressions that are to be numbers.
 #[cycle(demanding)]
 fn note_numbers(
     into: &mut Demands,
@@ -197,7 +197,7 @@ fn note_numbers(
     Ok(())
 }
 
-// Notes the demands of the further terms of a sum.
+// Adds the demands of the further terms of a sum.
 #[cycle(demanding)]
 fn note_terms(into: &mut Demands, line: Line, terms: &[Term]) -> Result<(), AllocError>
     ensures { IfOk result (λ _. into.new ≡ into.old ++ flat_map (in_term line) (map view_term terms.now)) }
@@ -208,7 +208,7 @@ fn note_terms(into: &mut Demands, line: Line, terms: &[Term]) -> Result<(), Allo
     Ok(())
 }
 
-// Notes the demands of an expression.
+// Adds the demands of an expression.
 pub(crate) fn note_expression(
     into: &mut Demands,
     line: Line,
@@ -219,7 +219,7 @@ pub(crate) fn note_expression(
     note_in(into, line, false, expression)
 }
 
-// Notes the demands of an expression that is a number.
+// Adds the demands of an expression that is to be a number.
 pub(crate) fn note_number(
     into: &mut Demands,
     line: Line,
@@ -230,7 +230,7 @@ pub(crate) fn note_number(
     note_in(into, line, true, expression)
 }
 
-// Notes the demands of an expression that has this mode.
+// Adds the demands of an expression that is to have this mode.
 pub(crate) fn note_of_mode(
     into: &mut Demands,
     line: Line,
@@ -248,7 +248,7 @@ pub(crate) fn note_of_mode(
     }
 }
 
-// Notes the demands of an expression that is a number, where there is one.
+// Adds the demands of an expression that is to be a number, if there is one.
 pub(crate) fn note_maybe_number(
     into: &mut Demands,
     line: Line,
@@ -262,7 +262,7 @@ pub(crate) fn note_maybe_number(
     }
 }
 
-// Notes the demands of a target, a set or what RESET names.
+// Adds the demands of a target, a set or a statistic of RESET.
 pub(crate) fn note_named(into: &mut Demands, line: Line, named: &Named) -> Result<(), AllocError>
     ensures { IfOk result (λ _. into.new ≡ into.old ++ in_named line (view_named named.now)) }
 {
@@ -270,7 +270,7 @@ pub(crate) fn note_named(into: &mut Demands, line: Line, named: &Named) -> Resul
     note_numbers(into, line, &named.subscripts)
 }
 
-// Notes the demands of several targets.
+// Adds the demands of several targets.
 pub(crate) fn note_all_named(
     into: &mut Demands,
     line: Line,
@@ -284,7 +284,7 @@ pub(crate) fn note_all_named(
     Ok(())
 }
 
-// Notes the demands of a target that takes a number.
+// Adds the demands of a target that takes a number.
 pub(crate) fn note_number_target(
     into: &mut Demands,
     line: Line,

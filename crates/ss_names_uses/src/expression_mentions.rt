@@ -10,7 +10,7 @@ use ss_base::{Line, Name};
 use ss_tree::expression::{Designator, Expression, Named, Term};
 use std::alloc::AllocError;
 
-// What stands in an expression, as a target or as a set.
+// What is named in an expression, as a target or as a set.
 fn mentioned(designator: Designator) -> Mentioned
     ensures { result ≡ mentioned designator }
 {
@@ -21,7 +21,7 @@ fn mentioned(designator: Designator) -> Mentioned
     }
 }
 
-// Whether it is a name without a subscript.
+// Whether it is a name that has no subscript.
 fn is_bare(designator: &Designator, subscripts: usize) -> bool
     ensures { result ≡ is_bare designator.now subscripts }
 {
@@ -31,7 +31,7 @@ fn is_bare(designator: &Designator, subscripts: usize) -> bool
     }
 }
 
-// Notes a named place with so many subscripts.
+// Adds the mention of a named place with so many subscripts.
 fn note_place(
     into: &mut Vec<Mention>,
     line: Line,
@@ -52,7 +52,7 @@ fn note_place(
     Ok(())
 }
 
-// Notes a class, with whether CALLED is written.
+// Adds the mention of a class, with whether CALLED is written.
 pub(crate) fn note_class(
     into: &mut Vec<Mention>,
     line: Line,
@@ -72,7 +72,7 @@ pub(crate) fn note_class(
     Ok(())
 }
 
-// Notes a name that stands for itself.
+// Adds the mention of a name that needs no subscript and implies no entity.
 pub(crate) fn note_plain(
     into: &mut Vec<Mention>,
     line: Line,
@@ -91,7 +91,7 @@ pub(crate) fn note_plain(
     Ok(())
 }
 
-// Notes several names that stand for themselves.
+// Adds the mentions of several names that need no subscript and imply no entity.
 pub(crate) fn note_all_plain(
     into: &mut Vec<Mention>,
     line: Line,
@@ -106,7 +106,7 @@ pub(crate) fn note_all_plain(
     Ok(())
 }
 
-// Notes the mentions of an expression, from left to right.
+// Adds the mentions of an expression, from left to right.
 #[cycle(mentioning)]
 #[tactic(auto, unfolding(ss_tree::specs::View::view_expression))]
 pub(crate) fn note_expression(
@@ -142,7 +142,7 @@ pub(crate) fn note_expression(
     }
 }
 
-// Notes the mentions of several expressions.
+// Adds the mentions of several expressions.
 #[cycle(mentioning)]
 pub(crate) fn note_expressions(
     into: &mut Vec<Mention>,
@@ -157,7 +157,7 @@ pub(crate) fn note_expressions(
     Ok(())
 }
 
-// Notes the mentions of the further terms of a sum.
+// Adds the mentions of the further terms of a sum.
 #[cycle(mentioning)]
 fn note_terms(into: &mut Vec<Mention>, line: Line, terms: &[Term]) -> Result<(), AllocError>
     ensures { IfOk result (λ _. into.new.items ≡ into.old.items ++ flat_map (in_term line) (map view_term terms.now)) }
@@ -168,7 +168,7 @@ fn note_terms(into: &mut Vec<Mention>, line: Line, terms: &[Term]) -> Result<(),
     Ok(())
 }
 
-// Notes the mentions of an expression, where there is one.
+// Adds the mentions of an expression, if there is one.
 pub(crate) fn note_maybe(
     into: &mut Vec<Mention>,
     line: Line,
@@ -182,7 +182,7 @@ pub(crate) fn note_maybe(
     }
 }
 
-// Notes a named place and then the mentions of its subscripts.
+// Adds the mention of a named place and then those of its subscripts.
 pub(crate) fn note_named(
     into: &mut Vec<Mention>,
     line: Line,
@@ -195,7 +195,7 @@ pub(crate) fn note_named(
     note_expressions(into, line, &named.subscripts)
 }
 
-// Notes several named places with the mentions of their subscripts.
+// Adds the mentions of several named places, each with those of its subscripts.
 pub(crate) fn note_all_named(
     into: &mut Vec<Mention>,
     line: Line,
@@ -210,7 +210,7 @@ pub(crate) fn note_all_named(
     Ok(())
 }
 
-// Notes a target and the mentions of its subscripts, where there is one.
+// Adds the mention of a target and those of its subscripts, if there is one.
 pub(crate) fn note_maybe_target(
     into: &mut Vec<Mention>,
     line: Line,

@@ -1,4 +1,4 @@
-//! The demands of values that are handed over, each in its place.
+//! The demands of values that are passed, each by its place.
 
 ghost use Rattle.std.specs.Prelude.{◌≡◌, ◌++◌, map, IfOk};
 ghost use Rattle.ss_tree.specs.View.{view_expression, view_named};
@@ -10,18 +10,18 @@ use ss_base::{Line, Name};
 use ss_tree::expression::{Expression, Named};
 use std::alloc::AllocError;
 
-/// What takes values that a statement hands over, each in its place.
+/// Where the values go that a statement passes, each by its place.
 #[derive(Clone, Copy)]
 pub(crate) enum Receiver {
-    /// The parameters that a routine is given.
+    /// To the parameters that a routine is given.
     Given(Name),
-    /// The parameters that a routine yields.
+    /// To the parameters that a routine yields.
     Yielding(Name),
-    /// The attributes of a class.
+    /// To the attributes of a class.
     Attributes(Name),
 }
 
-// What takes the value in a place.
+// The aspect with which the value in a place is compared.
 fn received(by: &Receiver, place: usize) -> Aspect
     ensures { result ≡ received by.now place }
 {
@@ -41,7 +41,7 @@ fn received(by: &Receiver, place: usize) -> Aspect
     }
 }
 
-// Notes the demands of a value for a place.
+// Adds the demands of a value in a place.
 fn note_value(
     into: &mut Demands,
     line: Line,
@@ -54,7 +54,7 @@ fn note_value(
     note_of_mode(into, line, value, received(by, place))
 }
 
-// Notes the demands of values for the places from the first on.
+// Adds the demands of values in the places from the first on.
 pub(crate) fn note_handed(
     into: &mut Demands,
     line: Line,
@@ -69,7 +69,7 @@ pub(crate) fn note_handed(
     Ok(())
 }
 
-// Notes the demands of a target for a place.
+// Adds the demands of a target in a place.
 fn note_target(
     into: &mut Demands,
     line: Line,
@@ -83,7 +83,7 @@ fn note_target(
     note_named(into, line, target)
 }
 
-// Notes the demands of targets for the places from the first on.
+// Adds the demands of targets in the places from the first on.
 pub(crate) fn note_taken(
     into: &mut Demands,
     line: Line,
@@ -98,7 +98,7 @@ pub(crate) fn note_taken(
     Ok(())
 }
 
-// Notes that parameters have the modes of the attributes in their places.
+// Adds the demands that parameters have the modes of the attributes in their places.
 pub(crate) fn note_parameters(
     into: &mut Demands,
     line: Line,

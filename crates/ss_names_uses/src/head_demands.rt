@@ -11,7 +11,7 @@ use ss_base::{Line, Name};
 use ss_tree::head::{Guard, Head, LoopHead, MemberStart, Phrase};
 use std::alloc::AllocError;
 
-// Notes the demands of phrases.
+// Adds the demands of phrases.
 fn note_phrases(into: &mut Demands, line: Line, phrases: &[Phrase]) -> Result<(), AllocError>
     ensures { IfOk result (λ _. into.new ≡ into.old ++ in_phrases line (map view_phrase phrases.now)) }
 {
@@ -21,7 +21,7 @@ fn note_phrases(into: &mut Demands, line: Line, phrases: &[Phrase]) -> Result<()
     Ok(())
 }
 
-// Notes the demands of the conditions of a loop that begins with WHILE or UNTIL.
+// Adds the demands of the conditions of a loop that begins with WHILE or UNTIL.
 fn note_guards(into: &mut Demands, line: Line, guards: &[Guard]) -> Result<(), AllocError>
     ensures { IfOk result (λ _. into.new ≡ into.old ++ in_guards line (map view_guard guards.now)) }
 {
@@ -31,7 +31,7 @@ fn note_guards(into: &mut Demands, line: Line, guards: &[Guard]) -> Result<(), A
     Ok(())
 }
 
-// Notes the demands of the member with which a loop begins.
+// Adds the demands of the member with which a loop begins.
 fn note_start(into: &mut Demands, line: Line, start: &MemberStart) -> Result<(), AllocError>
     ensures { IfOk result (λ _. into.new ≡ into.old ++ in_start line (view_start start.now)) }
 {
@@ -43,14 +43,14 @@ fn note_start(into: &mut Demands, line: Line, start: &MemberStart) -> Result<(),
     }
 }
 
-// Notes that the variable of a loop takes numbers.
+// Adds the demand that the variable of a loop takes numbers.
 fn note_variable(into: &mut Demands, line: Line, variable: Name) -> Result<(), AllocError>
     ensures { IfOk result (λ _. into.new ≡ into.old ++ in_variable line variable) }
 {
     note(into, line, Aspect::Named(variable), Aspect::Integer)
 }
 
-// Notes the same of a loop over a class.
+// Adds the demand that the variable of a loop over a class takes numbers.
 fn note_class_variable(
     into: &mut Demands,
     line: Line,
@@ -65,7 +65,7 @@ fn note_class_variable(
     }
 }
 
-// Notes the demands of the head of a FOR.
+// Adds the demands of the head of a FOR.
 pub(crate) fn note_head(into: &mut Demands, line: Line, head: &Head) -> Result<(), AllocError>
     ensures { IfOk result (λ _. into.new ≡ into.old ++ in_head line (view_head head.now)) }
 {
@@ -106,7 +106,7 @@ pub(crate) fn note_head(into: &mut Demands, line: Line, head: &Head) -> Result<(
     }
 }
 
-// Notes the demands of the head of a loop.
+// Adds the demands of the head of a loop.
 pub(crate) fn note_loop_head(
     into: &mut Demands,
     line: Line,

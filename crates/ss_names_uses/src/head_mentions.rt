@@ -11,7 +11,7 @@ use ss_base::Line;
 use ss_tree::head::{Guard, Head, LoopHead, MemberStart, Phrase};
 use std::alloc::AllocError;
 
-// Notes the mentions of phrases.
+// Adds the mentions of phrases.
 fn note_phrases(into: &mut Vec<Mention>, line: Line, phrases: &[Phrase]) -> Result<(), AllocError>
     ensures { IfOk result (λ _. into.new.items ≡ into.old.items ++ in_phrases line (map view_phrase phrases.now)) }
 {
@@ -21,7 +21,7 @@ fn note_phrases(into: &mut Vec<Mention>, line: Line, phrases: &[Phrase]) -> Resu
     Ok(())
 }
 
-// Notes the mentions of the conditions of a loop that begins with WHILE or UNTIL.
+// Adds the mentions of the conditions of a loop that begins with WHILE or UNTIL.
 fn note_guards(into: &mut Vec<Mention>, line: Line, guards: &[Guard]) -> Result<(), AllocError>
     ensures { IfOk result (λ _. into.new.items ≡ into.old.items ++ in_guards line (map view_guard guards.now)) }
 {
@@ -31,7 +31,7 @@ fn note_guards(into: &mut Vec<Mention>, line: Line, guards: &[Guard]) -> Result<
     Ok(())
 }
 
-// Notes the mentions of the member with which a loop begins.
+// Adds the mentions of the member with which a loop begins.
 fn note_start(into: &mut Vec<Mention>, line: Line, start: &MemberStart) -> Result<(), AllocError>
     ensures { IfOk result (λ _. into.new.items ≡ into.old.items ++ in_start line (view_start start.now)) }
 {
@@ -43,7 +43,7 @@ fn note_start(into: &mut Vec<Mention>, line: Line, start: &MemberStart) -> Resul
     }
 }
 
-// Notes the mentions of the head of a FOR.
+// Adds the mentions of the head of a FOR.
 pub(crate) fn note_head(into: &mut Vec<Mention>, line: Line, head: &Head) -> Result<(), AllocError>
     ensures { IfOk result (λ _. into.new.items ≡ into.old.items ++ in_head line (view_head head.now)) }
 {
@@ -87,7 +87,7 @@ pub(crate) fn note_head(into: &mut Vec<Mention>, line: Line, head: &Head) -> Res
     }
 }
 
-// Notes the mentions of the head of a loop.
+// Adds the mentions of the head of a loop.
 pub(crate) fn note_loop_head(
     into: &mut Vec<Mention>,
     line: Line,

@@ -1,16 +1,16 @@
-//! Mentions.
+//! The mentions of a section.
 
 use ss_base::{Line, Name};
 use ss_tree::preamble::Mode;
 
-/// As what a name stands in a section.
+/// The role of a name in a section.
 #[derive(Clone, Copy)]
 pub enum Role {
-    /// A value of an expression.
+    /// A value in an expression.
     Value,
-    /// What a statement assigns to.
+    /// The target of a statement.
     Target,
-    /// What RESET names.
+    /// A statistic of RESET.
     Reset,
     /// A set.
     Set,
@@ -50,22 +50,22 @@ pub enum Mentioned {
     TimeV,
     /// TIME.A, the time for which a notice is scheduled.
     TimeA,
-    /// The simulation, which START SIMULATION names and nothing else does.
+    /// The simulation, which START SIMULATION alone names.
     Simulation,
 }
 
-/// A mention.
+/// One use of a name.
 #[derive(Clone, Copy)]
 pub struct Mention {
-    /// The line of the innermost statement that it stands in; of the head of a loop or of an IF it is
-    /// that of the loop or the IF, of a parameter that of the section, of a local variable that of its
-    /// DEFINE.
+    /// The line of the innermost statement that has it. The head of a loop has the line of the loop, the
+    /// condition of an IF that of the IF. A parameter has the line of the section, a local variable that of
+    /// its DEFINE.
     pub line: Line,
     pub role: Role,
     pub what: Mentioned,
     /// How many subscripts are written.
     pub subscripts: usize,
-    /// Whether nothing is written of the entity that may be meant: a value, a target, a set or what
-    /// RESET names has no subscript, a class no CALLED. Then the variable of a class means it.
+    /// Whether an entity may be meant that isn't written: a value, a target, a set or a statistic of RESET
+    /// without subscript, a class without CALLED. Then it is the one in the variable of a class.
     pub implied: bool,
 }

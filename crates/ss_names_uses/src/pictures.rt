@@ -58,7 +58,7 @@ fn mean_of(item: &Expression) -> Aspect
     }
 }
 
-// Notes what a field demands of its item.
+// Adds the demands of a field on its item.
 fn note_field(
     into: &mut Demands,
     line: Line,
@@ -79,14 +79,14 @@ fn note_field(
     note(into, line, mean_of(item), Aspect::Fits(true))
 }
 
-// The field in a place, where there is one.
+// The field in a place, if there is one.
 fn field_at(fields: &[Field], place: usize) -> Option<Field>
     ensures { result ≡ slice_get fields.now place }
 {
     fields.get(place).copied()
 }
 
-// Notes what the field in the same place demands of an item.
+// Adds the demands of the field in the same place on an item.
 fn note_field_at(
     into: &mut Demands,
     line: Line,
@@ -102,7 +102,7 @@ fn note_field_at(
     }
 }
 
-// Notes what fields demand of items, each of the item in its place.
+// Adds the demands of fields on items, each on the item in its place.
 fn note_places(
     into: &mut Demands,
     line: Line,
@@ -117,7 +117,7 @@ fn note_places(
     Ok(())
 }
 
-// Notes the demands of an item.
+// Adds the demands of an item.
 #[tactic(auto, unfolding(ss_tree::specs::View::view_expression))]
 fn note_item(into: &mut Demands, line: Line, item: &Expression) -> Result<(), AllocError>
     ensures { IfOk result (λ _. into.new ≡ into.old ++ in_item line (view_expression item.now)) }
@@ -134,7 +134,7 @@ fn note_item(into: &mut Demands, line: Line, item: &Expression) -> Result<(), Al
     }
 }
 
-// Notes the demands of items.
+// Adds the demands of items.
 fn note_items(into: &mut Demands, line: Line, items: &[Expression]) -> Result<(), AllocError>
     ensures { IfOk result (λ _. into.new ≡ into.old ++ in_items line (map view_expression items.now)) }
 {
@@ -144,7 +144,7 @@ fn note_items(into: &mut Demands, line: Line, items: &[Expression]) -> Result<()
     Ok(())
 }
 
-// Notes the demands of items with fields.
+// Adds the demands of items with fields.
 fn note_fields(
     into: &mut Demands,
     line: Line,
@@ -159,7 +159,7 @@ fn note_fields(
     note_items(into, line, items)
 }
 
-// Notes the demands of a PRINT.
+// Adds the demands of a PRINT.
 pub(crate) fn note_print(
     alloc: Global,
     into: &mut Demands,

@@ -1,4 +1,4 @@
-//! What a section demands.
+//! The demands of a section.
 
 ghost use Rattle.std.specs.Prelude.{◌≡◌, ◌++◌, map, IfOk};
 ghost use Rattle.ss_tree.specs.View.{view_kind, view_section};
@@ -12,7 +12,7 @@ use ss_base::Line;
 use ss_tree::program::{Section, SectionKind};
 use std::alloc::{AllocError, Global};
 
-// Notes the demands of the head of a section.
+// Adds the demands of the head of a section.
 fn note_kind(into: &mut Demands, line: Line, kind: &SectionKind) -> Result<(), AllocError>
     ensures { IfOk result (λ _. into.new ≡ into.old ++ in_kind line (view_kind kind.now)) }
 {
@@ -26,7 +26,7 @@ fn note_kind(into: &mut Demands, line: Line, kind: &SectionKind) -> Result<(), A
     }
 }
 
-/// What a section demands, in the order of the text.
+/// The demands of a section, in the order of the text.
 ///
 /// # Errors
 /// `AllocError` where memory is refused.

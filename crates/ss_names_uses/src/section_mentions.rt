@@ -1,4 +1,4 @@
-//! What a section mentions.
+//! The mentions of a section.
 
 ghost use Rattle.std.specs.Prelude.{◌≡◌, ◌++◌, map, IfOk};
 ghost use Rattle.ss_tree.specs.View.{view_definition, view_kind, view_section};
@@ -11,7 +11,7 @@ use ss_base::Line;
 use ss_tree::program::{LocalDefinition, Section, SectionKind};
 use std::alloc::{AllocError, Global};
 
-// Notes the class of an EVENT section, and the parameters of a section.
+// Adds the mentions of the class of an EVENT section, and of the parameters of a section.
 fn note_kind(into: &mut Vec<Mention>, line: Line, kind: &SectionKind) -> Result<(), AllocError>
     ensures { IfOk result (λ _. into.new.items ≡ into.old.items ++ in_kind line (view_kind kind.now)) }
 {
@@ -32,7 +32,7 @@ fn note_kind(into: &mut Vec<Mention>, line: Line, kind: &SectionKind) -> Result<
     }
 }
 
-// Notes the names that local DEFINEs give modes.
+// Adds the mentions of the names that local DEFINEs give modes.
 fn note_definitions(
     into: &mut Vec<Mention>,
     definitions: &[LocalDefinition],
@@ -50,7 +50,7 @@ fn note_definitions(
     Ok(())
 }
 
-/// What a section mentions, in the order of the text: its parameters, the names that it defines, and
+/// The mentions of a section, in the order of the text: its parameters, the names that it defines, and
 /// each name that its statements mention.
 ///
 /// # Errors

@@ -18,7 +18,7 @@ use ss_tree::expression::{Expression, Named};
 use ss_tree::statement::{Position, Statement, When};
 use std::alloc::{AllocError, Global};
 
-// Notes the demands of where a member is filed.
+// Adds the demands of the position at which a member is filed.
 fn note_position(into: &mut Demands, line: Line, position: &Position) -> Result<(), AllocError>
     ensures { IfOk result (λ _. into.new ≡ into.old ++ in_position line (view_position position.now)) }
 {
@@ -30,7 +30,7 @@ fn note_position(into: &mut Demands, line: Line, position: &Position) -> Result<
     }
 }
 
-// Notes the demands of when a notice is due.
+// Adds the demands of the time at which a notice is due.
 fn note_when(into: &mut Demands, line: Line, when: &When) -> Result<(), AllocError>
     ensures { IfOk result (λ _. into.new ≡ into.old ++ in_when line (view_when when.now)) }
 {
@@ -40,7 +40,7 @@ fn note_when(into: &mut Demands, line: Line, when: &When) -> Result<(), AllocErr
     }
 }
 
-// Notes the demands of what gets a new entity.
+// Adds the demands of the target of a new entity.
 fn note_new(
     into: &mut Demands,
     line: Line,
@@ -55,7 +55,7 @@ fn note_new(
     }
 }
 
-// Notes the demands of the reference to an entity.
+// Adds the demands of the reference to an entity.
 fn note_old(
     into: &mut Demands,
     line: Line,
@@ -70,7 +70,7 @@ fn note_old(
     }
 }
 
-// Notes the demands of the values that SCHEDULE gives to the attributes of a class.
+// Adds the demands of the values that SCHEDULE gives to the attributes of a class.
 fn note_given(
     into: &mut Demands,
     line: Line,
@@ -84,7 +84,7 @@ fn note_given(
     note_handed(into, line, &Receiver::Attributes(class), given)
 }
 
-// Notes the demands of a CALL.
+// Adds the demands of a CALL.
 fn note_call(
     into: &mut Demands,
     line: Line,
@@ -102,7 +102,7 @@ fn note_call(
     note_taken(into, line, &Receiver::Yielding(routine), yielding)
 }
 
-// Notes the demands of a statement on entities, sets or notices; of others it notes nothing.
+// Adds the demands of a statement on entities, sets or notices, and none of others.
 #[tactic(auto, unfolding(ss_tree::specs::View::view_statement))]
 fn note_of_entities(into: &mut Demands, statement: &Statement) -> Result<(), AllocError>
     ensures { IfOk result (λ _. into.new ≡ into.old ++ in_entity_statement (view_statement statement.now)) }
@@ -172,7 +172,7 @@ fn note_of_entities(into: &mut Demands, statement: &Statement) -> Result<(), All
     }
 }
 
-// Notes the demands of a LET.
+// Adds the demands of a LET.
 fn note_let(
     into: &mut Demands,
     line: Line,
@@ -186,7 +186,7 @@ fn note_let(
     note_expression(into, line, value)
 }
 
-// Notes the demands of a statement, but for those of the statements in it.
+// Adds the demands of a statement, without those of the statements in it.
 #[tactic(auto, unfolding(ss_tree::specs::View::view_statement))]
 fn note_itself(alloc: Global, into: &mut Demands, statement: &Statement) -> Result<(), AllocError>
     ensures { IfOk result (λ _. into.new ≡ into.old ++ in_itself (view_statement statement.now)) }
@@ -241,7 +241,7 @@ fn note_itself(alloc: Global, into: &mut Demands, statement: &Statement) -> Resu
     }
 }
 
-// Notes the demands of the statements in a statement, in the order of the text.
+// Adds the demands of the statements in a statement, in the order of the text.
 #[cycle(demanding_statements)]
 #[tactic(auto, unfolding(ss_tree::specs::View::view_statement))]
 fn note_inner(alloc: Global, into: &mut Demands, statement: &Statement) -> Result<(), AllocError>
@@ -289,7 +289,7 @@ fn note_inner(alloc: Global, into: &mut Demands, statement: &Statement) -> Resul
     }
 }
 
-// Notes the demands of the statements of a body, in the order of the text.
+// Adds the demands of the statements of a body, in the order of the text.
 #[cycle(demanding_statements)]
 pub(crate) fn note_body(
     alloc: Global,

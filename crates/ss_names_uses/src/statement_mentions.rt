@@ -16,7 +16,7 @@ use ss_tree::expression::{Expression, Named};
 use ss_tree::statement::{Position, Statement, When};
 use std::alloc::AllocError;
 
-// Notes START SIMULATION.
+// Adds the mention of START SIMULATION.
 fn note_started(into: &mut Vec<Mention>, line: Line) -> Result<(), AllocError>
     ensures { IfOk result (λ _. into.new.items ≡ into.old.items ++ started line ∷ []) }
 {
@@ -30,7 +30,7 @@ fn note_started(into: &mut Vec<Mention>, line: Line) -> Result<(), AllocError>
     Ok(())
 }
 
-// Notes the mentions of where a member is filed.
+// Adds the mentions of the position at which a member is filed.
 fn note_position(into: &mut Vec<Mention>, line: Line, position: &Position) -> Result<(), AllocError>
     ensures { IfOk result (λ _. into.new.items ≡ into.old.items ++ in_position line (view_position position.now)) }
 {
@@ -42,7 +42,7 @@ fn note_position(into: &mut Vec<Mention>, line: Line, position: &Position) -> Re
     }
 }
 
-// Notes the mentions of when a notice is due.
+// Adds the mentions of the time at which a notice is due.
 fn note_when(into: &mut Vec<Mention>, line: Line, when: &When) -> Result<(), AllocError>
     ensures { IfOk result (λ _. into.new.items ≡ into.old.items ++ in_when line (view_when when.now)) }
 {
@@ -52,7 +52,7 @@ fn note_when(into: &mut Vec<Mention>, line: Line, when: &When) -> Result<(), All
     }
 }
 
-// Notes a class and the target of its new entity.
+// Adds the mentions of a class and of the target of its new entity.
 fn note_new(
     into: &mut Vec<Mention>,
     line: Line,
@@ -66,7 +66,7 @@ fn note_new(
     note_maybe_target(into, line, called)
 }
 
-// Notes a class and the mentions of the reference to an entity of it.
+// Adds the mentions of a class and of the reference to an entity of it.
 fn note_old(
     into: &mut Vec<Mention>,
     line: Line,
@@ -80,7 +80,7 @@ fn note_old(
     note_maybe(into, line, called)
 }
 
-// Notes the mentions of a statement on entities, sets or notices; of others it notes nothing.
+// Adds the mentions of a statement on entities, sets or notices, and none of others.
 #[tactic(auto, unfolding(ss_tree::specs::View::view_statement))]
 fn note_of_entities(into: &mut Vec<Mention>, statement: &Statement) -> Result<(), AllocError>
     ensures { IfOk result (λ _. into.new.items ≡ into.old.items ++ in_entity_statement (view_statement statement.now)) }
@@ -153,7 +153,7 @@ fn note_of_entities(into: &mut Vec<Mention>, statement: &Statement) -> Result<()
     }
 }
 
-// Notes the mentions of a statement, but for those of the statements in it.
+// Adds the mentions of a statement, without those of the statements in it.
 #[tactic(auto, unfolding(ss_tree::specs::View::view_statement))]
 fn note_itself(into: &mut Vec<Mention>, statement: &Statement) -> Result<(), AllocError>
     ensures { IfOk result (λ _. into.new.items ≡ into.old.items ++ in_itself (view_statement statement.now)) }
@@ -209,7 +209,7 @@ fn note_itself(into: &mut Vec<Mention>, statement: &Statement) -> Result<(), All
     }
 }
 
-// Notes the mentions of the statements in a statement, in the order of the text.
+// Adds the mentions of the statements in a statement, in the order of the text.
 #[cycle(walking)]
 #[tactic(auto, unfolding(ss_tree::specs::View::view_statement))]
 fn note_inner(into: &mut Vec<Mention>, statement: &Statement) -> Result<(), AllocError>
@@ -257,7 +257,7 @@ fn note_inner(into: &mut Vec<Mention>, statement: &Statement) -> Result<(), Allo
     }
 }
 
-// Notes the mentions of the statements of a body, in the order of the text.
+// Adds the mentions of the statements of a body, in the order of the text.
 #[cycle(walking)]
 pub(crate) fn note_body(into: &mut Vec<Mention>, body: &[Statement]) -> Result<(), AllocError>
     ensures { IfOk result (λ _. into.new.items ≡ into.old.items ++ in_body (map view_statement body.now)) }

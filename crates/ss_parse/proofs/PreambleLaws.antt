@@ -22,19 +22,19 @@ use Rattle.ss_parse_expressions.specs.declared.failure.Failure.{Failure}
 use Rattle.ss_parse_expressions.specs.declared.failure.Failure.TheVariants as failures
 use Rattle.ss_parse_expressions.specs.declared.classes.Class.TheVariants as alike
 use Rattle.ss_parse_expressions.specs.Openers.{openers}
-use Rattle.ss_parse_expressions.specs.Shapes.{Shape, ◌▷◌, nothing, never, either, provided, separator, Word_is, Name_is, Said, at, first_line, listed}
+use Rattle.ss_parse_expressions.specs.Shapes.{Shape, ◌▷◌, nothing, never, either, provided, separator, Word_is, Name_is, Word_for, at, first_line, listed}
 use Rattle.ss_parse_expressions.specs.Words.{has_word, Item_is, perhaps_listed}
-use Rattle.ss_parse_expressions.specs.Reading.{Reader, ◌>>=◌, Fails, word, is, begins, begins_by, expect, in_table, taken, name_of, behind, closed, apply, comma, skip_separator, begins_more, list_of}
+use Rattle.ss_parse_expressions.specs.Reading.{Reader, ◌>>=◌, Fails, word, is, begins, begins_by, expect, in_table, taken, name_of, following, closed, apply, comma, skip_separator, begins_more, list_of}
 use Rattle.ss_parse_expressions.specs.ReadWords.{fail, begins_class, begins_noisy, among, begins_among, begins_name, begins_item, items}
 use Rattle.ss_parse_expressions.proofs.Tools.{bind_ok, which, chosen, carry, or_false, ok_or_err}
 use Rattle.ss_parse_expressions.proofs.Marks.{token, token_less, no_skip, begins_table}
 use Rattle.ss_parse_expressions.proofs.Depth.{upto_same, Bounded, bounded_bind, bounded_if}
-use Rattle.ss_parse_expressions.proofs.ReaderLaws.{Reads, Item, nowise, Made, made_reads, said_reads, apply_reads, seq_reads, behind_reads, bind_reads, marked_reads, closed_reads, optional_reads, fewer_reads, item_of, item_marked, maybe_list_reads, expect_reads}
+use Rattle.ss_parse_expressions.proofs.ReaderLaws.{Reads, Item, continues_never, Made, made_reads, reshaped_reads, apply_reads, seq_reads, following_reads, bind_reads, marked_reads, closed_reads, optional_reads, fewer_reads, item_of, item_marked, maybe_list_reads, expect_reads}
 use Rattle.ss_parse_expressions.proofs.Rows as rows_laws
 use Rattle.ss_parse_expressions.proofs.Rows.{first_and_reads, list_reads, separated_item, Loop, loop_of, with_front, with_front_more}
 use Rattle.ss_parse_expressions.proofs.WordLaws.{word_in_reads, optional_class_reads, done_reads, fail_reads, noisy_mark_reads, noisy_begins, noisy_less, name_reads, name_begins, name_no_and, name_less, names_reads, items_reads, perhaps_listed_reads, either_reads, item_made, no_word}
 use Rattle.ss_parse_statements.specs.SpelledStatements.{noisy}
-use Rattle.ss_parse.specs.SpelledPreambles.{Key_is, Keys_are, Statistic_is, Clause_is, Clauses_are, Order_is, article, preamble_line, weighting_word, preamble_first, Preamble_behind, Preamble_from, group_behind, Preambles_are, Whole_preamble}
+use Rattle.ss_parse.specs.SpelledPreambles.{Key_is, Keys_are, Statistic_is, Clause_is, Clauses_are, Order_is, article, preamble_line, weighting_word, preamble_first, Preamble_rest, Preamble_from, group_after, Preambles_are, Whole_preamble}
 use Rattle.ss_parse_expressions.specs.WordTables.{mode_of, rank_of, statistic_of}
 use Rattle.ss_parse.specs.ReadPreambles.{key_tree, key, then_rank, then_key, keys, statistic_tree, statistic_kind, statistic, found, clause, clause_word, begins_clause, clauses, ranking, order, permanent_at, temporary_at, notices_at, every_at, normally_at, system_at, define_end, define_at, priority_at, break_at, statistics_at, preamble_at, preamble_word, begins_preamble, preamble_in, preamble_row, preambles, whole_preamble}
 use Rattle.ss_parse_statements.proofs.FirstWords.{Form, plain_form, by_word_reads, first_less}
@@ -60,13 +60,13 @@ no_comma ts stop = (or_false (begins comma ts) (begins_among preamble_more ts) s
 over : (w : Word) → preamble_more w ≡ true → (ts : List Token) → continues_preamble ts ≡ false → begins (word w) ts ≡ false
 over w held ts stop = no_word preamble_more w held ts (or_false (begins comma ts) (begins_among preamble_more ts) stop).1
 
-over_list : (starts : List Token → Bool) (ts : List Token) → continues_preamble ts ≡ false → (begins_more starts ts || (nowise ts || nowise ts)) ≡ false
+over_list : (starts : List Token → Bool) (ts : List Token) → continues_preamble ts ≡ false → (begins_more starts ts || (continues_never ts || continues_never ts)) ≡ false
 over_list starts ts stop =
     let a : begins comma ts ≡ false = no_comma ts stop in
     let b : begins (word words.And) ts ≡ false = over words.And refl ts stop in
     rw (a, b) refl
 
-over_keys : (ts : List Token) → continues_preamble ts ≡ false → (begins_noisy (word words.Then) ts || (nowise ts || nowise ts)) ≡ false
+over_keys : (ts : List Token) → continues_preamble ts ≡ false → (begins_noisy (word words.Then) ts || (continues_never ts || continues_never ts)) ≡ false
 over_keys ts stop =
     let same = no_skip comma ts (no_comma ts stop) in
     let a : begins (word words.Then) ts ≡ false = over words.Then refl ts stop in
@@ -116,18 +116,18 @@ preamble_known : (x : PreambleTree) → preamble_word (preamble_first x) ≡ tru
 preamble_known (statistics line weighting fs subject) = (weighting_known weighting).1
 preamble_known _ = refl
 
--- behind the first word
+-- a statement of this line and this first word, in a group of this kind, after the first word
 abbrev Pre_is : Option ClassKind → Line → Word → PreambleTree → Shape
-Pre_is group line w x ts rest = (preamble_line x ≡ line) × (preamble_first x ≡ w) × Preamble_behind group x ts rest
+Pre_is group line w x ts rest = (preamble_line x ≡ line) × (preamble_first x ≡ w) × Preamble_rest group x ts rest
 
-formed : {k : ℕ} {r r' : Reader PreambleTree} {T : PreambleTree → Shape} {c : List Token → Bool} → Reads k r r' T c → (group : Option ClassKind) (line : Line) (w : Word) → statistics_word w ≡ false → ((x : PreambleTree) (ts rest : List Token) → T x ts rest → Pre_is group line w x ts rest) → ((x : PreambleTree) → is_statistics x ≡ false → preamble_first x ≡ w → preamble_line x ≡ line → (ts rest : List Token) → Preamble_behind group x ts rest → T x ts rest) → ((ts : List Token) → continues_preamble ts ≡ false → c ts ≡ false) → Reads k r r' (Pre_is group line w) continues_preamble
+formed : {k : ℕ} {r r' : Reader PreambleTree} {T : PreambleTree → Shape} {c : List Token → Bool} → Reads k r r' T c → (group : Option ClassKind) (line : Line) (w : Word) → statistics_word w ≡ false → ((x : PreambleTree) (ts rest : List Token) → T x ts rest → Pre_is group line w x ts rest) → ((x : PreambleTree) → is_statistics x ≡ false → preamble_first x ≡ w → preamble_line x ≡ line → (ts rest : List Token) → Preamble_rest group x ts rest → T x ts rest) → ((ts : List Token) → continues_preamble ts ≡ false → c ts ≡ false) → Reads k r r' (Pre_is group line w) continues_preamble
 formed law group line w other to from stops =
-    fewer_reads (said_reads law (Pre_is group line w) to (λ x ts rest s. from x (sym (statistics_first x) ∙ ap statistics_word s.1 ∙ other) s.1 s.0 ts rest s.2)) continues_preamble stops
+    fewer_reads (reshaped_reads law (Pre_is group line w) to (λ x ts rest s. from x (sym (statistics_first x) ∙ ap statistics_word s.1 ∙ other) s.1 s.0 ts rest s.2)) continues_preamble stops
 
-made_form : {k : ℕ} {A : Type 0} {r r' : Reader A} {P : A → Shape} {c : List Token → Bool} → Reads k r r' P c → (f : A → PreambleTree) (group : Option ClassKind) (line : Line) (w : Word) → statistics_word w ≡ false → ((p : A) → (preamble_line (f p) ≡ line) × (preamble_first (f p) ≡ w)) → ((p : A) (ts rest : List Token) → P p ts rest → Preamble_behind group (f p) ts rest) → ((x : PreambleTree) → is_statistics x ≡ false → preamble_first x ≡ w → preamble_line x ≡ line → (ts rest : List Token) → Preamble_behind group x ts rest → Made f P x ts rest) → ((ts : List Token) → continues_preamble ts ≡ false → c ts ≡ false) → Reads k (apply f r) (apply f r') (Pre_is group line w) continues_preamble
-made_form law f group line w other tells same from stops =
+made_form : {k : ℕ} {A : Type 0} {r r' : Reader A} {P : A → Shape} {c : List Token → Bool} → Reads k r r' P c → (f : A → PreambleTree) (group : Option ClassKind) (line : Line) (w : Word) → statistics_word w ≡ false → ((p : A) → (preamble_line (f p) ≡ line) × (preamble_first (f p) ≡ w)) → ((p : A) (ts rest : List Token) → P p ts rest → Preamble_rest group (f p) ts rest) → ((x : PreambleTree) → is_statistics x ≡ false → preamble_first x ≡ w → preamble_line x ≡ line → (ts rest : List Token) → Preamble_rest group x ts rest → Made f P x ts rest) → ((ts : List Token) → continues_preamble ts ≡ false → c ts ≡ false) → Reads k (apply f r) (apply f r') (Pre_is group line w) continues_preamble
+made_form law f group line w other line_and_word same from stops =
     formed (made_reads law f) group line w other
-    (λ x ts rest s. subst (λ x. Pre_is group line w x ts rest) s.1 ((tells s.0).0, (tells s.0).1, same s.0 ts rest s.2))
+    (λ x ts rest s. subst (λ x. Pre_is group line w x ts rest) s.1 ((line_and_word s.0).0, (line_and_word s.0).1, same s.0 ts rest s.2))
     from stops
 
 -- a clause begins with a word of its own
@@ -148,30 +148,30 @@ no_statistics v w none e there = let same : statistics_word v ≡ statistics_wor
 module _ (k : ℕ) where
   -- ---- keys
 
-  key_reads : Reads k key key Key_is nowise
+  key_reads : Reads k key key Key_is continues_never
   unfolding key
   key_reads = apply_reads (seq_reads (word_in_reads k rank_of) (name_reads k) (λ n ts rest s stop. refl)) key_tree Key_is (λ p ts rest s. s) (λ x ts rest s. ((x.high, x.name), refl, s))
 
   key_less : (ts : List Token) (x : Key) (rest : List Token) → Key_is x ts rest → length rest < length ts
   key_less ts x rest (a, (w, means, at), s) = omega (arith, token_less (kinds.Word w) ts a at, name_less a x.name rest s)
 
-  then_rank_reads : Reads k then_rank then_rank (λ high. noisy words.Then ▷ Word_is words.By ▷ Said rank_of high) nowise
-  then_rank_reads = behind_reads (noisy_mark_reads k (word words.Then) refl) (marked_reads (word words.By) (word_in_reads k rank_of)) (λ x ts rest s stop. refl)
+  then_rank_reads : Reads k then_rank then_rank (λ high. noisy words.Then ▷ Word_is words.By ▷ Word_for rank_of high) continues_never
+  then_rank_reads = following_reads (noisy_mark_reads k (word words.Then) refl) (marked_reads (word words.By) (word_in_reads k rank_of)) (λ x ts rest s stop. refl)
 
   abbrev Then_key : Key → Shape
   Then_key x = noisy words.Then ▷ Word_is words.By ▷ Key_is x
 
-  then_reads : Reads k then_key then_key Then_key nowise
+  then_reads : Reads k then_key then_key Then_key continues_never
   unfolding then_key
   then_reads = apply_reads (seq_reads then_rank_reads (name_reads k) (λ n ts rest s stop. refl)) key_tree Then_key to from
     where
-      to : (p : Bool × List ℕ) (ts rest : List Token) → ((noisy words.Then ▷ Word_is words.By ▷ Said rank_of p.0) ▷ Name_is p.1) ts rest → Then_key (key_tree p) ts rest
+      to : (p : Bool × List ℕ) (ts rest : List Token) → ((noisy words.Then ▷ Word_is words.By ▷ Word_for rank_of p.0) ▷ Name_is p.1) ts rest → Then_key (key_tree p) ts rest
       to p ts rest (c, (a, t, (b, by, r)), n) = (a, t, (b, by, (c, r, n)))
 
-      from : (x : Key) (ts rest : List Token) → Then_key x ts rest → (p : Bool × List ℕ) × (key_tree p ≡ x) × ((noisy words.Then ▷ Word_is words.By ▷ Said rank_of p.0) ▷ Name_is p.1) ts rest
+      from : (x : Key) (ts rest : List Token) → Then_key x ts rest → (p : Bool × List ℕ) × (key_tree p ≡ x) × ((noisy words.Then ▷ Word_is words.By ▷ Word_for rank_of p.0) ▷ Name_is p.1) ts rest
       from x ts rest (a, t, (b, by, (c, r, n))) = ((x.high, x.name), refl, (c, (a, t, (b, by, r)), n))
 
-  then_item : Item k (begins_noisy (word words.Then)) then_key then_key Then_key nowise
+  then_item : Item k (begins_noisy (word words.Then)) then_key then_key Then_key continues_never
   then_item = item_of (begins_noisy (word words.Then)) then_reads (λ ts x rest s. noisy_begins (word words.Then) refl ts s.0 s.1) (λ ts x rest s. omega (arith, noisy_less (word words.Then) ts s.0 s.1, token_less (kinds.Word words.By) s.0 s.2.0 s.2.1, key_less s.2.0 x rest s.2.2))
 
   keys_reads : Reads k keys keys Keys_are continues_preamble
@@ -179,7 +179,7 @@ module _ (k : ℕ) where
 
   -- ---- statistics
 
-  statistic_reads : Reads k statistic statistic Statistic_is nowise
+  statistic_reads : Reads k statistic statistic Statistic_is continues_never
   unfolding statistic
   statistic_reads = apply_reads (seq_reads (name_reads k) (marked_reads (word words.As) (optional_reads (word_in_reads k statistic_of) (word words.The) (λ x ts rest s. ap (begins (word words.The)) s.2.2 ∙ rank_reads_word s.0 x s.1))) (λ n ts rest s stop. refl)) statistic_tree Statistic_is (λ p ts rest s. s) (λ x ts rest s. ((x.name, x.kind), refl, s))
 
@@ -189,18 +189,18 @@ module _ (k : ℕ) where
   statistic_less : (ts : List Token) (x : Statistic) (rest : List Token) → Statistic_is x ts rest → length rest < length ts
   statistic_less ts x rest s = omega (arith, name_less ts x.name s.0 s.1, (marked_reads (word words.As) (optional_reads (word_in_reads k statistic_of) (word words.The) (λ x ts rest s. ap (begins (word words.The)) s.2.2 ∙ rank_reads_word s.0 x s.1))).shorter s.0 x.kind rest s.2)
 
-  found_reads : Reads k found found (listed Statistic_is) (λ ts. begins_more begins_name ts || (nowise ts || nowise ts))
+  found_reads : Reads k found found (listed Statistic_is) (λ ts. begins_more begins_name ts || (continues_never ts || continues_never ts))
   found_reads = list_reads statistic_reads begins_name statistic_begins name_no_and statistic_less (λ span line ts. refl) (λ span line ts. refl)
 
   -- ---- clauses
 
   abbrev continues_items : List Token → Bool
-  continues_items ts = begins_more begins_item ts || (nowise ts || nowise ts)
+  continues_items ts = begins_more begins_item ts || (continues_never ts || continues_never ts)
 
   abbrev Belongs_parts : List (List ℕ) → Shape
   Belongs_parts ns = Word_is words.May ▷ Word_is words.Belong ▷ Word_is words.To ▷ listed Item_is ns
 
-  belongs_reads : Reads k (apply belongs_to (behind (expect (word words.May)) (behind (expect (word words.Belong)) (behind (expect (word words.To)) items)))) (apply belongs_to (behind (expect (word words.May)) (behind (expect (word words.Belong)) (behind (expect (word words.To)) items)))) (Made belongs_to Belongs_parts) continues_items
+  belongs_reads : Reads k (apply belongs_to (following (expect (word words.May)) (following (expect (word words.Belong)) (following (expect (word words.To)) items)))) (apply belongs_to (following (expect (word words.May)) (following (expect (word words.Belong)) (following (expect (word words.To)) items)))) (Made belongs_to Belongs_parts) continues_items
   belongs_reads = made_reads (marked_reads (word words.May) (marked_reads (word words.Belong) (marked_reads (word words.To) (items_reads k)))) belongs_to
 
   abbrev Owns_or_belongs : ClauseTree → Shape
@@ -209,7 +209,7 @@ module _ (k : ℕ) where
   clause_reads : Reads k clause clause Clause_is continues_items
   unfolding clause
   clause_reads =
-      said_reads (either_reads (item_made (word words.Has) (items_reads k) has)
+      reshaped_reads (either_reads (item_made (word words.Has) (items_reads k) has)
       (either_reads (item_made (word words.Owns) (items_reads k) owns) belongs_reads continues_items (λ ts stop. (stop, stop)) (λ x ts rest s stop. ap (begins (word words.Owns)) s.2.1.2))
       continues_items (λ ts stop. (stop, stop)) late) Clause_is to from
     where
@@ -243,9 +243,9 @@ module _ (k : ℕ) where
       go (kinds.Word w) e = (clause_no_item w e).1
       go _ e = absurd cc
 
-  -- a clause behind a separator is no item behind one
+  -- a separator and a clause are not a separator and an item
   clause_stops : (ts : List Token) (x : ClauseTree) (rest : List Token) → (separator ▷ Clause_is x) ts rest → continues_items ts ≡ false
-  clause_stops ts x rest (a, parted, s) = go parted (clause_first x a rest s)
+  clause_stops ts x rest (a, separated, s) = go separated (clause_first x a rest s)
     where
       go : separator ts a → ((w : Word) × (m : List Token) × (clause_word w ≡ true) × Word_is w a m) → continues_items ts ≡ false
       go (inl (span, line, e)) (w, m, held, (span', line', f)) =
@@ -324,7 +324,7 @@ module _ (k : ℕ) where
   order_reads : Reads k order order Order_is continues_preamble
   unfolding order
   order_reads =
-      said_reads (either_reads (item_made (word words.Fifo) (expect_reads k (word words.Set)) (λ u. fifo))
+      reshaped_reads (either_reads (item_made (word words.Fifo) (expect_reads k (word words.Set)) (λ u. fifo))
       (either_reads (item_made (word words.Lifo) (expect_reads k (word words.Set)) (λ u. lifo)) (marked_reads (word words.Set) ranking_reads) continues_preamble (λ ts stop. (refl, stop)) (λ x ts rest s stop. ap (begins (word words.Lifo)) s.1.2))
       continues_preamble (λ ts stop. (refl, stop)) late) Order_is to from
     where
@@ -350,7 +350,7 @@ module _ (k : ℕ) where
   order_no_mode lifo ts rest (a, (span, line, f), s) = (ap (begins_by (in_table mode_of)) f, ap (begins_class alike.Article) f)
   order_no_mode (ranked ks) ts rest (a, (span, line, f), s) = (ap (begins_by (in_table mode_of)) f, ap (begins_class alike.Article) f)
 
-  -- ---- statements, behind their first word
+  -- ---- statements, after their first word
 
   abbrev permanent_parts : Unit {0} → Shape
   permanent_parts u = Word_is words.Entities
@@ -361,7 +361,7 @@ module _ (k : ℕ) where
       made_form {P = permanent_parts} (expect_reads k (word words.Entities)) (λ u. permanent_entities line) group line words.Permanent refl
       (λ p. (refl, refl)) (λ p ts rest s. s) from (λ ts stop. refl)
     where
-      from : (x : PreambleTree) → is_statistics x ≡ false → preamble_first x ≡ words.Permanent → preamble_line x ≡ line → (ts rest : List Token) → Preamble_behind group x ts rest → Made (λ u. permanent_entities line) permanent_parts x ts rest
+      from : (x : PreambleTree) → is_statistics x ≡ false → preamble_first x ≡ words.Permanent → preamble_line x ≡ line → (ts rest : List Token) → Preamble_rest group x ts rest → Made (λ u. permanent_entities line) permanent_parts x ts rest
       from (permanent_entities l) u w at ts rest s = (tt, ap (λ (l : Line). permanent_entities l) (sym at), s)
       from _ u w at ts rest s = absurd cc
 
@@ -374,7 +374,7 @@ module _ (k : ℕ) where
       made_form {P = temporary_parts} (expect_reads k (word words.Entities)) (λ u. temporary_entities line) group line words.Temporary refl
       (λ p. (refl, refl)) (λ p ts rest s. s) from (λ ts stop. refl)
     where
-      from : (x : PreambleTree) → is_statistics x ≡ false → preamble_first x ≡ words.Temporary → preamble_line x ≡ line → (ts rest : List Token) → Preamble_behind group x ts rest → Made (λ u. temporary_entities line) temporary_parts x ts rest
+      from : (x : PreambleTree) → is_statistics x ≡ false → preamble_first x ≡ words.Temporary → preamble_line x ≡ line → (ts rest : List Token) → Preamble_rest group x ts rest → Made (λ u. temporary_entities line) temporary_parts x ts rest
       from (temporary_entities l) u w at ts rest s = (tt, ap (λ (l : Line). temporary_entities l) (sym at), s)
       from _ u w at ts rest s = absurd cc
 
@@ -385,22 +385,22 @@ module _ (k : ℕ) where
   unfolding notices_at
   notices_form group line =
       made_form {P = notices_parts} (marked_reads (word words.Notices) (perhaps_listed_reads (item_marked (word words.Include) (names_reads k)))) (event_notices line) group line words.Event refl
-      (λ p. (refl, refl)) (λ p ts rest s. s) from (λ ts stop. let a : begins (word words.Include) ts ≡ false = over words.Include refl ts stop in let b : (begins_more begins_name ts || (nowise ts || nowise ts)) ≡ false = over_list begins_name ts stop in or_both _ _ a b)
+      (λ p. (refl, refl)) (λ p ts rest s. s) from (λ ts stop. let a : begins (word words.Include) ts ≡ false = over words.Include refl ts stop in let b : (begins_more begins_name ts || (continues_never ts || continues_never ts)) ≡ false = over_list begins_name ts stop in or_both _ _ a b)
     where
-      from : (x : PreambleTree) → is_statistics x ≡ false → preamble_first x ≡ words.Event → preamble_line x ≡ line → (ts rest : List Token) → Preamble_behind group x ts rest → Made (event_notices line) notices_parts x ts rest
+      from : (x : PreambleTree) → is_statistics x ≡ false → preamble_first x ≡ words.Event → preamble_line x ≡ line → (ts rest : List Token) → Preamble_rest group x ts rest → Made (event_notices line) notices_parts x ts rest
       from (event_notices l included) u w at ts rest s = (included, ap (λ (l : Line). event_notices l included) (sym at), s)
       from _ u w at ts rest s = absurd cc
 
   abbrev normally_parts : Mode → Shape
-  normally_parts mode = noisy words.Mode ▷ Word_is words.Is ▷ Said mode_of mode
+  normally_parts mode = noisy words.Mode ▷ Word_is words.Is ▷ Word_for mode_of mode
 
   normally_form : (group : Option ClassKind) (line : Line) → Reads k (normally_at line) (normally_at line) (Pre_is group line words.Normally) continues_preamble
   unfolding normally_at
   normally_form group line =
-      made_form {P = normally_parts} (behind_reads (noisy_mark_reads k (word words.Mode) refl) (marked_reads (word words.Is) (word_in_reads k mode_of)) (λ x ts rest s stop. refl)) (normally line) group line words.Normally refl
+      made_form {P = normally_parts} (following_reads (noisy_mark_reads k (word words.Mode) refl) (marked_reads (word words.Is) (word_in_reads k mode_of)) (λ x ts rest s stop. refl)) (normally line) group line words.Normally refl
       (λ p. (refl, refl)) (λ p ts rest s. s) from (λ ts stop. refl)
     where
-      from : (x : PreambleTree) → is_statistics x ≡ false → preamble_first x ≡ words.Normally → preamble_line x ≡ line → (ts rest : List Token) → Preamble_behind group x ts rest → Made (normally line) normally_parts x ts rest
+      from : (x : PreambleTree) → is_statistics x ≡ false → preamble_first x ≡ words.Normally → preamble_line x ≡ line → (ts rest : List Token) → Preamble_rest group x ts rest → Made (normally line) normally_parts x ts rest
       from (normally l mode) u w at ts rest s = (mode, ap (λ (l : Line). normally l mode) (sym at), s)
       from _ u w at ts rest s = absurd cc
 
@@ -413,7 +413,7 @@ module _ (k : ℕ) where
       made_form {P = system_parts} (marked_reads (word words.System) (marked_reads (word words.Owns) (items_reads k))) (system_owns line) group line words.The refl
       (λ p. (refl, refl)) (λ p ts rest s. s) from (λ ts stop. over_list begins_item ts stop)
     where
-      from : (x : PreambleTree) → is_statistics x ≡ false → preamble_first x ≡ words.The → preamble_line x ≡ line → (ts rest : List Token) → Preamble_behind group x ts rest → Made (system_owns line) system_parts x ts rest
+      from : (x : PreambleTree) → is_statistics x ≡ false → preamble_first x ≡ words.The → preamble_line x ≡ line → (ts rest : List Token) → Preamble_rest group x ts rest → Made (system_owns line) system_parts x ts rest
       from (system_owns l sets) u w at ts rest s = (sets, ap (λ (l : Line). system_owns l sets) (sym at), s)
       from _ u w at ts rest s = absurd cc
 
@@ -426,7 +426,7 @@ module _ (k : ℕ) where
       made_form {P = priority_parts} (marked_reads (word words.Order) (marked_reads (word words.Is) (names_reads k))) (priority_order line) group line words.Priority refl
       (λ p. (refl, refl)) (λ p ts rest s. s) from (λ ts stop. over_list begins_name ts stop)
     where
-      from : (x : PreambleTree) → is_statistics x ≡ false → preamble_first x ≡ words.Priority → preamble_line x ≡ line → (ts rest : List Token) → Preamble_behind group x ts rest → Made (priority_order line) priority_parts x ts rest
+      from : (x : PreambleTree) → is_statistics x ≡ false → preamble_first x ≡ words.Priority → preamble_line x ≡ line → (ts rest : List Token) → Preamble_rest group x ts rest → Made (priority_order line) priority_parts x ts rest
       from (priority_order l classes) u w at ts rest s = (classes, ap (λ (l : Line). priority_order l classes) (sym at), s)
       from _ u w at ts rest s = absurd cc
 
@@ -439,7 +439,7 @@ module _ (k : ℕ) where
       made_form {P = break_parts} (seq_reads (name_reads k) (marked_reads (word words.Ties) (marked_reads (word words.By) keys_reads)) (λ p ts rest s stop. refl)) (λ p. break_ties line p.0 p.1) group line words.Break refl
       (λ p. (refl, refl)) (λ p ts rest s. s) from (λ ts stop. stop)
     where
-      from : (x : PreambleTree) → is_statistics x ≡ false → preamble_first x ≡ words.Break → preamble_line x ≡ line → (ts rest : List Token) → Preamble_behind group x ts rest → Made (λ p. break_ties line p.0 p.1) break_parts x ts rest
+      from : (x : PreambleTree) → is_statistics x ≡ false → preamble_first x ≡ words.Break → preamble_line x ≡ line → (ts rest : List Token) → Preamble_rest group x ts rest → Made (λ p. break_ties line p.0 p.1) break_parts x ts rest
       from (break_ties l class keys) u w at ts rest s = ((class, keys), ap (λ (l : Line). break_ties l class keys) (sym at), s)
       from _ u w at ts rest s = absurd cc
 
@@ -451,25 +451,25 @@ module _ (k : ℕ) where
   unfolding every_at
   every_form None line = formed (fail_reads k) None line words.Every refl (λ x ts rest s. absurd s) from (λ ts stop. refl)
     where
-      from : (x : PreambleTree) → is_statistics x ≡ false → preamble_first x ≡ words.Every → preamble_line x ≡ line → (ts rest : List Token) → Preamble_behind None x ts rest → never ts rest
+      from : (x : PreambleTree) → is_statistics x ≡ false → preamble_first x ≡ words.Every → preamble_line x ≡ line → (ts rest : List Token) → Preamble_rest None x ts rest → never ts rest
       from (every l kind class cs) u w at ts rest s = let no = s.0 in absurd cc
       from _ u w at ts rest s = absurd cc
   every_form (Some kind) line =
       made_form {P = every_parts} (seq_reads (name_reads k) clauses_reads (λ p ts rest s stop. refl)) (λ p. every line kind p.0 p.1) (Some kind) line words.Every refl
       (λ p. (refl, refl)) (λ p ts rest s. (refl, s)) from (λ ts stop. stop)
     where
-      from : (x : PreambleTree) → is_statistics x ≡ false → preamble_first x ≡ words.Every → preamble_line x ≡ line → (ts rest : List Token) → Preamble_behind (Some kind) x ts rest → Made (λ p. every line kind p.0 p.1) every_parts x ts rest
+      from : (x : PreambleTree) → is_statistics x ≡ false → preamble_first x ≡ words.Every → preamble_line x ≡ line → (ts rest : List Token) → Preamble_rest (Some kind) x ts rest → Made (λ p. every line kind p.0 p.1) every_parts x ts rest
       from (every l kind' class cs) u w at ts rest (is, s) = let same : kind ≡ kind' = some_same kind kind' is in ((class, cs), (λ i. every (sym at i) (same i) class cs), s)
       from _ u w at ts rest s = absurd cc
 
   -- DEFINE
   abbrev Mode_end : Line → List (List ℕ) → PreambleTree → Shape
-  Mode_end line ns = Made (define_variables line ns) (λ mode. Said mode_of mode ▷ Word_is words.Variable)
+  Mode_end line ns = Made (define_variables line ns) (λ mode. Word_for mode_of mode ▷ Word_is words.Variable)
 
   abbrev Order_end : Line → List (List ℕ) → PreambleTree → Shape
   Order_end line ns = Made (define_sets line ns) Order_is
 
-  mode_item : (line : Line) (ns : List (List ℕ)) → Item k (begins_by (in_table mode_of)) (apply (define_variables line ns) (closed (taken (in_table mode_of)) (expect (word words.Variable)))) (apply (define_variables line ns) (closed (taken (in_table mode_of)) (expect (word words.Variable)))) (Mode_end line ns) nowise
+  mode_item : (line : Line) (ns : List (List ℕ)) → Item k (begins_by (in_table mode_of)) (apply (define_variables line ns) (closed (taken (in_table mode_of)) (expect (word words.Variable)))) (apply (define_variables line ns) (closed (taken (in_table mode_of)) (expect (word words.Variable)))) (Mode_end line ns) continues_never
   mode_item line ns =
       item_of (begins_by (in_table mode_of)) (made_reads (closed_reads (word_in_reads k mode_of) (expect_reads k (word words.Variable)) (λ ts rest s stop. refl)) (define_variables line ns))
       (λ ts x rest s. begins_table (in_table mode_of) ts s.2.0 s.0 (kinds.Word s.2.1.0, s.2.1.1, s.2.1.2))
@@ -488,14 +488,14 @@ module _ (k : ℕ) where
   define_form : (group : Option ClassKind) (line : Line) → Reads k (define_at line) (define_at line) (Pre_is group line words.Define) continues_preamble
   unfolding define_at
   define_form group line =
-      formed (bind_reads (closed_reads (names_reads k) (expect_reads k (word words.As)) (λ ts rest s stop. ap (λ (r : List Token). begins_more begins_name r || (nowise r || nowise r)) s.2)) (λ ns. optional_class_reads (end_reads line ns) alike.Article (end_no_article line ns)) (λ ns x ts rest s stop. refl))
+      formed (bind_reads (closed_reads (names_reads k) (expect_reads k (word words.As)) (λ ts rest s stop. ap (λ (r : List Token). begins_more begins_name r || (continues_never r || continues_never r)) s.2)) (λ ns. optional_class_reads (end_reads line ns) alike.Article (end_no_article line ns)) (λ ns x ts rest s stop. refl))
       group line words.Define refl to from (λ ts stop. stop)
     where
       to : (x : PreambleTree) (ts rest : List Token) → Define_parts line x ts rest → Pre_is group line words.Define x ts rest
       to x ts rest (ns, (a, (b, s, w), (c, art, inl (mode, is, t)))) = subst (λ x. Pre_is group line words.Define x ts rest) is (refl, refl, (b, s, (a, w, (c, art, t))))
       to x ts rest (ns, (a, (b, s, w), (c, art, inr (o, is, t)))) = subst (λ x. Pre_is group line words.Define x ts rest) is (refl, refl, (b, s, (a, w, (c, art, t))))
 
-      from : (x : PreambleTree) → is_statistics x ≡ false → preamble_first x ≡ words.Define → preamble_line x ≡ line → (ts rest : List Token) → Preamble_behind group x ts rest → Define_parts line x ts rest
+      from : (x : PreambleTree) → is_statistics x ≡ false → preamble_first x ≡ words.Define → preamble_line x ≡ line → (ts rest : List Token) → Preamble_rest group x ts rest → Define_parts line x ts rest
       from (define_variables l ns mode) u w at ts rest (b, s, (a, v, (c, art, t))) = (ns, (a, (b, s, v), (c, art, inl (mode, ap (λ (l : Line). define_variables l ns mode) (sym at), t))))
       from (define_sets l ns o) u w at ts rest (b, s, (a, v, (c, art, t))) = (ns, (a, (b, s, v), (c, art, inr (o, ap (λ (l : Line). define_sets l ns o) (sym at), t))))
       from _ u w at ts rest s = absurd cc
@@ -507,7 +507,7 @@ module _ (k : ℕ) where
   statistics_form : (group : Option ClassKind) (line : Line) (weighting : Weighting) (w : Word) → weighting_word weighting ≡ w → statistics_word w ≡ true → ((v : Weighting) → weighting_word v ≡ w → weighting ≡ v) → Reads k (statistics_at line weighting) (statistics_at line weighting) (Pre_is group line w) continues_preamble
   unfolding statistics_at
   statistics_form group line weighting w is known only =
-      fewer_reads (apply_reads {S = Statistics_parts} (seq_reads found_reads (marked_reads (word words.Of) (name_reads k)) (λ n ts rest s stop. ap (λ (r : List Token). begins_more begins_name r || (nowise r || nowise r)) s.1.2)) (λ p. statistics line weighting p.0 p.1) (Pre_is group line w) (λ p ts rest s. (refl, is, s)) from) continues_preamble (λ ts stop. refl)
+      fewer_reads (apply_reads {S = Statistics_parts} (seq_reads found_reads (marked_reads (word words.Of) (name_reads k)) (λ n ts rest s stop. ap (λ (r : List Token). begins_more begins_name r || (continues_never r || continues_never r)) s.1.2)) (λ p. statistics line weighting p.0 p.1) (Pre_is group line w) (λ p ts rest s. (refl, is, s)) from) continues_preamble (λ ts stop. refl)
     where
       from : (x : PreambleTree) (ts rest : List Token) → Pre_is group line w x ts rest → (p : List Statistic × List ℕ) × (statistics line weighting p.0 p.1 ≡ x) × Statistics_parts p ts rest
       from (statistics l v fs subject) ts rest (at, u, s) = let same : weighting ≡ v = only v u in ((fs, subject), (λ i. statistics (sym at i) (same i) fs subject), s)
@@ -531,7 +531,7 @@ module _ (k : ℕ) where
   accumulate_only weightings.Accumulate e = refl
 
   no_form : (group : Option ClassKind) (line : Line) (w : Word) → preamble_word w ≡ false → Reads k fail fail (Pre_is group line w) continues_preamble
-  no_form group line w other = fewer_reads (said_reads (fail_reads k) (Pre_is group line w) (λ x ts rest s. absurd s) (λ x ts rest s. absurd (let a = preamble_known x in let b : preamble_word (preamble_first x) ≡ preamble_word w = ap preamble_word s.1 in cc))) continues_preamble (λ ts stop. refl)
+  no_form group line w other = fewer_reads (reshaped_reads (fail_reads k) (Pre_is group line w) (λ x ts rest s. absurd s) (λ x ts rest s. absurd (let a = preamble_known x in let b : preamble_word (preamble_first x) ≡ preamble_word w = ap preamble_word s.1 in cc))) continues_preamble (λ ts stop. refl)
 
   word_law : (group : Option ClassKind) (line : Line) (w : Word) → Reads k (preamble_at group line w) (preamble_at group line w) (Pre_is group line w) continues_preamble
   unfolding preamble_at
@@ -592,7 +592,7 @@ module _ (k : ℕ) where
               | inl x ↦
                   let small : length x.0.1 < length ts = preamble_less group ts x.0.0 x.0.1 ((preamble_reads group).sound ts x.0.0 x.0.1 x.1) in
                   let e : preamble_in group ts ≡ Ok x.0 = x.1 in
-                  let same = row_enough n m (group_behind group x.0.0) x.0.1 (omega arith) (omega arith) in
+                  let same = row_enough n m (group_after group x.0.0) x.0.1 (omega arith) (omega arith) in
                   rw (p, e, same) refl
               | inr f ↦ let e : preamble_in group ts ≡ Err f.0 = f.1 in rw (p, e) refl
             ]
@@ -607,15 +607,15 @@ module _ (k : ℕ) where
       elim (chosen (begins_preamble ts) _ _ _ e) [
         | inl p ↦
             let x = bind_ok (preamble_in group ts) _ _ p.1 in
-            let more = bind_ok (preamble_row n (group_behind group x.0.0) x.0.1) _ _ x.2 in
+            let more = bind_ok (preamble_row n (group_after group x.0.0) x.0.1) _ _ x.2 in
             carry (λ (y : List PreambleTree) (z : List Token). Preambles_are group y ts z) (x.0.0 ∷ more.0.0) xs more.0.1 rest more.2
-            (x.0.1, (preamble_reads group).sound ts x.0.0 x.0.1 x.1, row_sound n (group_behind group x.0.0) x.0.1 more.0.0 more.0.1 more.1)
+            (x.0.1, (preamble_reads group).sound ts x.0.0 x.0.1 x.1, row_sound n (group_after group x.0.0) x.0.1 more.0.0 more.0.1 more.1)
         | inr p ↦ carry (λ (y : List PreambleTree) (z : List Token). Preambles_are group y ts z) [] xs ts rest p.1 refl
       ]
 
   row_shorter : (group : Option ClassKind) (xs : List PreambleTree) (ts rest : List Token) → Preambles_are group xs ts rest → length rest ≤ length ts
   row_shorter group [] ts rest e = omega (arith, ap length e)
-  row_shorter group (x ∷ xs) ts rest (m, one, more) = omega (arith, preamble_less group ts x m one, row_shorter (group_behind group x) xs m rest more)
+  row_shorter group (x ∷ xs) ts rest (m, one, more) = omega (arith, preamble_less group ts x m one, row_shorter (group_after group x) xs m rest more)
 
   row_stops : (group : Option ClassKind) (xs : List PreambleTree) (ts rest : List Token) → Preambles_are group xs ts rest → continues_preamble rest ≡ false → continues_preamble ts ≡ false
   row_stops group [] ts rest e stop = ap continues_preamble e ∙ stop
@@ -628,16 +628,16 @@ module _ (k : ℕ) where
       let none : begins_preamble ts ≡ false = ap begins_preamble e ∙ over in
       rw none (ap (λ (r : List Token). Ok ([], r)) e)
   row_complete (suc n) group (x ∷ xs) ts rest (m, one, more) long over stop =
-      let stands : begins_preamble ts ≡ true = preamble_begins group ts x m one in
-      let read : preamble_in group ts ≡ Ok (x, m) = (preamble_reads group).complete ts x m one (row_stops (group_behind group x) xs m rest more stop) in
-      let others = row_complete n (group_behind group x) xs m rest more (omega (arith, preamble_less group ts x m one)) over stop in
-      rw (stands, read, others) refl
+      let started : begins_preamble ts ≡ true = preamble_begins group ts x m one in
+      let read : preamble_in group ts ≡ Ok (x, m) = (preamble_reads group).complete ts x m one (row_stops (group_after group x) xs m rest more stop) in
+      let others = row_complete n (group_after group x) xs m rest more (omega (arith, preamble_less group ts x m one)) over stop in
+      rw (started, read, others) refl
 
   row_opening : (n : ℕ) (group : Option ClassKind) (ts : List Token) → Bounded k (openers ts) (preamble_row n group ts)
   row_opening zero group ts = omega arith
   row_opening (suc n) group ts =
       bounded_if k (openers ts) (begins_preamble ts) _ _
-      (bounded_bind k (openers ts) (preamble_in group ts) _ ((preamble_reads group).opening ts) (λ x. bounded_bind k (openers x.1) (preamble_row n (group_behind group x.0) x.1) _ (row_opening n (group_behind group x.0) x.1) (λ xs. omega arith)))
+      (bounded_bind k (openers ts) (preamble_in group ts) _ ((preamble_reads group).opening ts) (λ x. bounded_bind k (openers x.1) (preamble_row n (group_after group x.0) x.1) _ (row_opening n (group_after group x.0) x.1) (λ xs. omega arith)))
       (omega arith)
 
   preambles_reads : (group : Option ClassKind) → Reads k (preambles group) (preambles group) (Preambles_are group) (λ ts. begins_preamble ts || continues_preamble ts)
@@ -663,7 +663,7 @@ module _ (k : ℕ) where
   whole_from [] ts rest (inr (a, w, end)) = inr (a, w, (a, refl, end))
   whole_from (x ∷ xs) ts rest s = inr s
 
-  pub whole_preamble_reads : Reads k whole_preamble whole_preamble Whole_preamble (λ ts. begins (word words.Preamble) ts || nowise ts)
+  pub whole_preamble_reads : Reads k whole_preamble whole_preamble Whole_preamble (λ ts. begins (word words.Preamble) ts || continues_never ts)
   unfolding whole_preamble
   whole_preamble_reads =
       maybe_list_reads (item_marked (word words.Preamble) (closed_reads (preambles_reads None) (expect_reads k (word words.End)) (λ ts rest s stop. ap (λ (r : List Token). begins_preamble r || continues_preamble r) s.2)))
@@ -681,18 +681,18 @@ pub clauses_loop : Loop (begins_more begins_clause) (λ r. clause (skip_separato
 clauses_loop = loop_of (separated_item (clause_reads 0) begins_clause (clause_begins 0) (clause_no_and 0)) refl
 
 -- what a loop has read, and what reading the rest gives
-pub preambles_more : (group : Option ClassKind) (ts rest : List Token) (x : PreambleTree) → begins_preamble ts ≡ true → preamble_in group ts ≡ Ok (x, rest) → preambles group ts ≡ (preambles (group_behind group x) rest >>= λ xs. Ok (x ∷ xs.0, xs.1))
+pub preambles_more : (group : Option ClassKind) (ts rest : List Token) (x : PreambleTree) → begins_preamble ts ≡ true → preamble_in group ts ≡ Ok (x, rest) → preambles group ts ≡ (preambles (group_after group x) rest >>= λ xs. Ok (x ∷ xs.0, xs.1))
 unfolding preambles
-preambles_more group [] rest x stands e = absurd cc
-preambles_more group (t ∷ ts) rest x stands e =
+preambles_more group [] rest x started e = absurd cc
+preambles_more group (t ∷ ts) rest x started e =
     let small : length rest < length (t ∷ ts) = preamble_less 0 group (t ∷ ts) x rest ((preamble_reads 0 group).sound (t ∷ ts) x rest e) in
-    let same = row_enough 0 (length ts) (length rest) (group_behind group x) rest (omega arith) (omega arith) in
-    rw (stands, e, same) refl
+    let same = row_enough 0 (length ts) (length rest) (group_after group x) rest (omega arith) (omega arith) in
+    rw (started, e, same) refl
 
 pub preambles_fail : (group : Option ClassKind) (ts : List Token) (f : Fault) → begins_preamble ts ≡ true → preamble_in group ts ≡ Err f → preambles group ts ≡ Err f
 unfolding preambles
-preambles_fail group [] f stands e = absurd cc
-preambles_fail group (t ∷ ts) f stands e = rw (stands, e) refl
+preambles_fail group [] f started e = absurd cc
+preambles_fail group (t ∷ ts) f started e = rw (started, e) refl
 
 pub preambles_done : (group : Option ClassKind) (ts : List Token) → begins_preamble ts ≡ false → preambles group ts ≡ Ok ([], ts)
 unfolding preambles
@@ -703,19 +703,19 @@ preambles_done group (t ∷ ts) e = rw e refl
 pub preamble_shrinks : (group : Option ClassKind) (ts : List Token) (x : PreambleTree) (rest : List Token) → preamble_in group ts ≡ Ok (x, rest) → length rest < length ts
 preamble_shrinks group ts x rest e = preamble_less 0 group ts x rest ((preamble_reads 0 group).sound ts x rest e)
 
-pub preamble_grows : (view : PreambleStatement → PreambleTree) (old new : List PreambleStatement) (x : PreambleStatement) (group group' : Option ClassKind) (ts rest : List Token) (total : Result (List PreambleTree × List Token) Fault) → new ≡ old ++ x ∷ [] → begins_preamble ts ≡ true → preamble_in group ts ≡ Ok (view x, rest) → group' ≡ group_behind group (view x) → with_front (map view old) (preambles group ts) ≡ total → with_front (map view new) (preambles group' rest) ≡ total
-preamble_grows view old new x group group' ts rest total pushed stands e goes so_far =
+pub preamble_grows : (view : PreambleStatement → PreambleTree) (old new : List PreambleStatement) (x : PreambleStatement) (group group' : Option ClassKind) (ts rest : List Token) (total : Result (List PreambleTree × List Token) Fault) → new ≡ old ++ x ∷ [] → begins_preamble ts ≡ true → preamble_in group ts ≡ Ok (view x, rest) → group' ≡ group_after group (view x) → with_front (map view old) (preambles group ts) ≡ total → with_front (map view new) (preambles group' rest) ≡ total
+preamble_grows view old new x group group' ts rest total pushed started e goes so_far =
     let all : map view new ≡ map view old ++ view x ∷ [] = rw pushed (map_push view old x) in
-    rw (all, goes) (with_front_more (map view old) (view x) (preambles (group_behind group (view x)) rest)) ∙ ap (with_front (map view old)) (sym (preambles_more group ts rest (view x) stands e)) ∙ so_far
+    rw (all, goes) (with_front_more (map view old) (view x) (preambles (group_after group (view x)) rest)) ∙ ap (with_front (map view old)) (sym (preambles_more group ts rest (view x) started e)) ∙ so_far
 
 pub preamble_ends : (view : PreambleStatement → PreambleTree) (read : List PreambleStatement) (group : Option ClassKind) (ts : List Token) (total : Result (List PreambleTree × List Token) Fault) → begins_preamble ts ≡ false → with_front (map view read) (preambles group ts) ≡ total → total ≡ Ok (map view read, ts)
 preamble_ends view read group ts total over so_far = sym so_far ∙ ap (with_front (map view read)) (preambles_done group ts over) ∙ ap (λ (ys : List PreambleTree). Ok (ys, ts)) (append-nil (map view read))
 
 pub preamble_breaks : (view : PreambleStatement → PreambleTree) (read : List PreambleStatement) (group : Option ClassKind) (ts : List Token) (e : Failure) (total : Result (List PreambleTree × List Token) Fault) → begins_preamble ts ≡ true → Fails e (preamble_in group ts) → with_front (map view read) (preambles group ts) ≡ total → Fails e total
-preamble_breaks view read group ts failures.Memory total stands f so_far = tt
-preamble_breaks view read group ts (failures.Refused f left) total stands e so_far = sym so_far ∙ ap (with_front (map view read)) (preambles_fail group ts f stands e)
+preamble_breaks view read group ts failures.Memory total started f so_far = tt
+preamble_breaks view read group ts (failures.Refused f left) total started e so_far = sym so_far ∙ ap (with_front (map view read)) (preambles_fail group ts f started e)
 
--- a key behind THEN BY, part by part
+-- a key after THEN BY, part by part
 pub then_key_read : (ts a b : List Token) (high : Bool) (n : List ℕ) → then_rank ts ≡ Ok (high, a) → taken name_of a ≡ Ok (n, drop 1 a) → b ≡ drop 1 a → then_key ts ≡ Ok (record { high = high; name = n }, b)
 unfolding then_key
 then_key_read ts a b high n e f g = rw (e, f, g) refl

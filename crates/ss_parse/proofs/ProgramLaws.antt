@@ -12,21 +12,21 @@ use Rattle.ss_tree.specs.Tree.{StatementTree, DefinitionTree, SectionKindTree, m
 use Rattle.ss_parse_expressions.specs.declared.classes.Class.TheVariants as classes
 use Rattle.ss_parse_expressions.specs.Shapes.{Shape, ◌▷◌, nothing, optional, provided, noise, Word_is, Name_is, at, first_line, each, flagged}
 use Rattle.ss_parse_expressions.specs.Words.{has_word, One_of, perhaps_listed}
-use Rattle.ss_parse_expressions.specs.Reading.{word, is, begins, expect, behind, maybe_list, rows, begins_more}
+use Rattle.ss_parse_expressions.specs.Reading.{word, is, begins, expect, following, maybe_list, rows, begins_more}
 use Rattle.ss_parse_expressions.specs.ReadWords.{fail, begins_class, begins_among, begins_name, names}
 use Rattle.ss_parse_expressions.proofs.Tools.{or_false}
 use Rattle.ss_parse_expressions.proofs.Marks.{token, mark_begins, token_less}
-use Rattle.ss_parse_expressions.proofs.ReaderLaws.{Reads, Item, nowise, Made, made_reads, said_reads, seq_reads, marked_reads, closed_reads, before_mark_reads, optional_reads, apply_reads, fewer_reads, lined_reads, item_of, item_marked, flag_reads, expect_reads}
+use Rattle.ss_parse_expressions.proofs.ReaderLaws.{Reads, Item, continues_never, Made, made_reads, reshaped_reads, seq_reads, marked_reads, closed_reads, before_mark_reads, optional_reads, apply_reads, fewer_reads, lined_reads, item_of, item_marked, flag_reads, expect_reads}
 use Rattle.ss_parse_expressions.proofs.Rows.{rows_reads, Loop, loop_of}
 use Rattle.ss_parse_expressions.proofs.WordLaws.{word_in_reads, optional_class_reads, done_reads, fail_reads, name_reads, names_reads, perhaps_listed_reads, no_word}
 use Rattle.ss_parse.specs.SpelledPreambles.{Variables_are}
 use Rattle.ss_parse_expressions.specs.WordTables.{mode_of}
-use Rattle.ss_parse.specs.SpelledPrograms.{section_word, Saving_words, Kind_behind, Definition_is, Section_is, Program_is}
+use Rattle.ss_parse.specs.SpelledPrograms.{section_word, Saving_words, Kind_rest, Definition_is, Section_is, Program_is}
 use Rattle.ss_parse_statements.specs.ReadStatements.{form_word}
 use Rattle.ss_parse.proofs.PreambleLaws.{whole_preamble_reads}
 use Rattle.ss_parse.specs.ReadPrograms.{section_words, begins_section, saving, routine_kind, event_kind, kind_at, variables, definition_tree, definition_at, definition, definitions, body_in, section_tree, section_at, section_in, program_tree, program_in}
 use Rattle.ss_parse_statements.proofs.FirstWords.{Form, plain_form, by_word_reads, first_less}
-use Rattle.ss_parse_statements.proofs.StatementLaws.{blank_behind, In_statement, all_statements_reads}
+use Rattle.ss_parse_statements.proofs.StatementLaws.{false_past_comma, In_statement, all_statements_reads}
 
 -- ---- the headers of sections
 
@@ -35,7 +35,7 @@ section_known main = refl
 section_known (routine name given yielding) = refl
 section_known (event name given saves) = refl
 
--- words that go on with the header of a section
+-- words that continue the header of a section
 abbrev kind_more : Word → Bool
 kind_more words.Given = true
 kind_more words.Yielding = true
@@ -47,7 +47,7 @@ abbrev continues_kind : List Token → Bool
 continues_kind ts = begins_among kind_more ts || begins_more begins_name ts
 
 abbrev continues_listed : Word → List Token → Bool
-continues_listed w ts = begins (word w) ts || (begins_more begins_name ts || (nowise ts || nowise ts))
+continues_listed w ts = begins (word w) ts || (begins_more begins_name ts || (continues_never ts || continues_never ts))
 
 kind_word : (w : Word) → kind_more w ≡ true → (ts : List Token) → continues_kind ts ≡ false → begins (word w) ts ≡ false
 kind_word w held ts stop = no_word kind_more w held ts (or_false (begins_among kind_more ts) (begins_more begins_name ts) stop).0
@@ -65,8 +65,8 @@ mode_no_article words.Real mode e = refl
 mode_no_article _ mode e = absurd cc
 
 module _ (k : ℕ) where
-  names_behind : (w : Word) → Reads k (maybe_list (begins (word w)) (behind (expect (word w)) names)) (maybe_list (begins (word w)) (behind (expect (word w)) names)) (perhaps_listed (Word_is w) Name_is) (continues_listed w)
-  names_behind w = perhaps_listed_reads (item_marked (word w) (names_reads k))
+  names_after : (w : Word) → Reads k (maybe_list (begins (word w)) (following (expect (word w)) names)) (maybe_list (begins (word w)) (following (expect (word w)) names)) (perhaps_listed (Word_is w) Name_is) (continues_listed w)
+  names_after w = perhaps_listed_reads (item_marked (word w) (names_reads k))
 
   yielding_stops : (ys : List (List ℕ)) (ts rest : List Token) → perhaps_listed (Word_is words.Yielding) Name_is ys ts rest → continues_kind rest ≡ false → continues_listed words.Given ts ≡ false
   yielding_stops [] ts rest e stop = ap (continues_listed words.Given) e ∙ kind_names words.Given refl rest stop
@@ -77,7 +77,7 @@ module _ (k : ℕ) where
 
   routine_reads : Reads k routine_kind routine_kind (Made (λ p. routine p.0 p.1.0 p.1.1) Routine_parts) continues_kind
   unfolding routine_kind
-  routine_reads = made_reads {S = Routine_parts} (optional_class_reads (seq_reads (name_reads k) (seq_reads (names_behind words.Given) (fewer_reads (names_behind words.Yielding) continues_kind (kind_names words.Yielding refl)) yielding_stops) (λ p ts rest s stop. refl)) classes.Towards (λ x ts rest s. ap (begins_class classes.Towards) s.1.2)) (λ p. routine p.0 p.1.0 p.1.1)
+  routine_reads = made_reads {S = Routine_parts} (optional_class_reads (seq_reads (name_reads k) (seq_reads (names_after words.Given) (fewer_reads (names_after words.Yielding) continues_kind (kind_names words.Yielding refl)) yielding_stops) (λ p ts rest s stop. refl)) classes.Towards (λ x ts rest s. ap (begins_class classes.Towards) s.1.2)) (λ p. routine p.0 p.1.0 p.1.1)
 
   saving_reads : Reads k saving saving (flagged Saving_words) continues_kind
   unfolding saving
@@ -92,28 +92,28 @@ module _ (k : ℕ) where
 
   event_reads : Reads k event_kind event_kind (Made (λ p. event p.0 p.1.0 p.1.1) Event_parts) continues_kind
   unfolding event_kind
-  event_reads = made_reads {S = Event_parts} (seq_reads (name_reads k) (seq_reads (names_behind words.Given) saving_reads saving_stops) (λ p ts rest s stop. refl)) (λ p. event p.0 p.1.0 p.1.1)
+  event_reads = made_reads {S = Event_parts} (seq_reads (name_reads k) (seq_reads (names_after words.Given) saving_reads saving_stops) (λ p ts rest s stop. refl)) (λ p. event p.0 p.1.0 p.1.1)
 
   abbrev Kind_is : Word → SectionKindTree → Shape
-  Kind_is w x = provided (section_word x ≡ w) (Kind_behind x)
+  Kind_is w x = provided (section_word x ≡ w) (Kind_rest x)
 
   no_kind : (w : Word) → section_words w ≡ false → Reads k fail fail (Kind_is w) continues_kind
-  no_kind w other = fewer_reads (said_reads (fail_reads k) (Kind_is w) (λ x ts rest s. absurd s) (λ x ts rest s. absurd (let a = section_known x in let b : section_words (section_word x) ≡ section_words w = ap section_words s.0 in cc))) continues_kind (λ ts stop. refl)
+  no_kind w other = fewer_reads (reshaped_reads (fail_reads k) (Kind_is w) (λ x ts rest s. absurd s) (λ x ts rest s. absurd (let a = section_known x in let b : section_words (section_word x) ≡ section_words w = ap section_words s.0 in cc))) continues_kind (λ ts stop. refl)
 
   kind_reads : (w : Word) → Reads k (kind_at w) (kind_at w) (Kind_is w) continues_kind
-  kind_reads words.Main = fewer_reads (said_reads (done_reads k main) (Kind_is words.Main) (λ x ts rest s. subst (λ x. Kind_is words.Main x ts rest) s.0 (refl, s.1)) from) continues_kind (λ ts stop. refl)
+  kind_reads words.Main = fewer_reads (reshaped_reads (done_reads k main) (Kind_is words.Main) (λ x ts rest s. subst (λ x. Kind_is words.Main x ts rest) s.0 (refl, s.1)) from) continues_kind (λ ts stop. refl)
     where
       from : (x : SectionKindTree) (ts rest : List Token) → Kind_is words.Main x ts rest → provided (main ≡ x) nothing ts rest
       from main ts rest (u, s) = (refl, s)
       from (routine name given yielding) ts rest (u, s) = absurd cc
       from (event name given saving) ts rest (u, s) = absurd cc
-  kind_reads words.Routine = said_reads routine_reads (Kind_is words.Routine) (λ x ts rest s. subst (λ x. Kind_is words.Routine x ts rest) s.1 (refl, s.2)) from
+  kind_reads words.Routine = reshaped_reads routine_reads (Kind_is words.Routine) (λ x ts rest s. subst (λ x. Kind_is words.Routine x ts rest) s.1 (refl, s.2)) from
     where
       from : (x : SectionKindTree) (ts rest : List Token) → Kind_is words.Routine x ts rest → Made (λ p. routine p.0 p.1.0 p.1.1) Routine_parts x ts rest
       from main ts rest (u, s) = absurd cc
       from (routine name given yielding) ts rest (u, s) = ((name, (given, yielding)), refl, s)
       from (event name given saving) ts rest (u, s) = absurd cc
-  kind_reads words.Event = said_reads event_reads (Kind_is words.Event) (λ x ts rest s. subst (λ x. Kind_is words.Event x ts rest) s.1 (refl, s.2)) from
+  kind_reads words.Event = reshaped_reads event_reads (Kind_is words.Event) (λ x ts rest s. subst (λ x. Kind_is words.Event x ts rest) s.1 (refl, s.2)) from
     where
       from : (x : SectionKindTree) (ts rest : List Token) → Kind_is words.Event x ts rest → Made (λ p. event p.0 p.1.0 p.1.1) Event_parts x ts rest
       from main ts rest (u, s) = absurd cc
@@ -123,21 +123,21 @@ module _ (k : ℕ) where
 
   -- ---- definitions
 
-  pub variables_reads : Reads k variables variables Variables_are nowise
+  pub variables_reads : Reads k variables variables Variables_are continues_never
   unfolding variables
-  variables_reads = seq_reads (names_reads k) (marked_reads (word words.As) (optional_class_reads (closed_reads (word_in_reads k mode_of) (expect_reads k (word words.Variable)) (λ ts rest s stop. refl)) classes.Article (λ mode ts rest s. ap (begins_class classes.Article) s.1.2.2 ∙ mode_no_article s.1.0 mode s.1.1))) (λ mode ts rest s stop. ap (λ (r : List Token). begins_more begins_name r || (nowise r || nowise r)) s.1.2)
+  variables_reads = seq_reads (names_reads k) (marked_reads (word words.As) (optional_class_reads (closed_reads (word_in_reads k mode_of) (expect_reads k (word words.Variable)) (λ ts rest s stop. refl)) classes.Article (λ mode ts rest s. ap (begins_class classes.Article) s.1.2.2 ∙ mode_no_article s.1.0 mode s.1.1))) (λ mode ts rest s stop. ap (λ (r : List Token). begins_more begins_name r || (continues_never r || continues_never r)) s.1.2)
 
-  definition_at_reads : (line : Line) → Reads k (definition_at line) (definition_at line) (Made (definition_tree line) (λ p. Word_is words.Define ▷ Variables_are p)) nowise
+  definition_at_reads : (line : Line) → Reads k (definition_at line) (definition_at line) (Made (definition_tree line) (λ p. Word_is words.Define ▷ Variables_are p)) continues_never
   unfolding definition_at
   definition_at_reads line = made_reads (marked_reads (word words.Define) variables_reads) (definition_tree line)
 
-  definition_reads : Reads k definition definition Definition_is nowise
+  definition_reads : Reads k definition definition Definition_is continues_never
   definition_reads = lined_reads definition_at_reads Definition_is (λ x ts rest s. subst (λ x. Definition_is x ts rest) s.1 (refl, s.2)) (λ x ts rest s. ((x.names, x.mode), (λ i. record { line = s.0 i; names = x.names; mode = x.mode }), s.1))
 
-  definition_item : Item k (begins (word words.Define)) definition definition Definition_is nowise
+  definition_item : Item k (begins (word words.Define)) definition definition Definition_is continues_never
   definition_item = item_of (begins (word words.Define)) definition_reads (λ ts x rest s. mark_begins (word words.Define) ts s.1.0 s.1.1) (λ ts x rest s. omega (arith, token_less (kinds.Word words.Define) ts s.1.0 s.1.1, variables_reads.shorter s.1.0 (x.names, x.mode) rest s.1.2))
 
-  definitions_reads : Reads k definitions definitions (each Definition_is) (λ ts. begins (word words.Define) ts || nowise ts)
+  definitions_reads : Reads k definitions definitions (each Definition_is) (λ ts. begins (word words.Define) ts || continues_never ts)
   definitions_reads = rows_reads definition_item (λ ts x rest s. refl)
 
 pub definitions_loop : Loop (begins (word words.Define)) definition
@@ -157,23 +157,23 @@ module _ (n : ℕ) where
   abbrev Room_statement : StatementTree → Shape
   Room_statement x = noise ▷ In_statement n x
 
-  statement_blank : (c : List Token → Bool) → ((span span' : Span) (line line' : Line) (w : Word) (ts : List Token) → form_word w ≡ true → c (token (kinds.Symbol Comma) span line ∷ token (kinds.Word w) span' line' ∷ ts) ≡ false) → ((w : Word) (span : Span) (line : Line) (ts : List Token) → form_word w ≡ true → c (token (kinds.Word w) span line ∷ ts) ≡ false) → (x : StatementTree) (ts rest : List Token) → Room_statement x ts rest → c ts ≡ false
-  statement_blank = go n
+  false_at_any_statement : (c : List Token → Bool) → ((span span' : Span) (line line' : Line) (w : Word) (ts : List Token) → form_word w ≡ true → c (token (kinds.Symbol Comma) span line ∷ token (kinds.Word w) span' line' ∷ ts) ≡ false) → ((w : Word) (span : Span) (line : Line) (ts : List Token) → form_word w ≡ true → c (token (kinds.Word w) span line ∷ ts) ≡ false) → (x : StatementTree) (ts rest : List Token) → Room_statement x ts rest → c ts ≡ false
+  false_at_any_statement = go n
     where
       go : (n : ℕ) (c : List Token → Bool) → ((span span' : Span) (line line' : Line) (w : Word) (ts : List Token) → form_word w ≡ true → c (token (kinds.Symbol Comma) span line ∷ token (kinds.Word w) span' line' ∷ ts) ≡ false) → ((w : Word) (span : Span) (line : Line) (ts : List Token) → form_word w ≡ true → c (token (kinds.Word w) span line ∷ ts) ≡ false) → (x : StatementTree) (ts rest : List Token) → (noise ▷ In_statement n x) ts rest → c ts ≡ false
       go zero c on_comma on_word x ts rest (a, m, s) = absurd s
-      go (suc l) c on_comma on_word x ts rest s = blank_behind c on_comma on_word l x ts rest s
+      go (suc l) c on_comma on_word x ts rest s = false_past_comma c on_comma on_word l x ts rest s
 
   -- the statements of a section, and END
   abbrev Statements_end : List StatementTree → Shape
   Statements_end xs = each Room_statement xs ▷ Word_is words.End
 
-  end_blank : (c : List Token → Bool) → ((span span' : Span) (line line' : Line) (w : Word) (ts : List Token) → form_word w ≡ true → c (token (kinds.Symbol Comma) span line ∷ token (kinds.Word w) span' line' ∷ ts) ≡ false) → ((w : Word) (span : Span) (line : Line) (ts : List Token) → form_word w ≡ true → c (token (kinds.Word w) span line ∷ ts) ≡ false) → ((span : Span) (line : Line) (ts : List Token) → c (token (kinds.Word words.End) span line ∷ ts) ≡ false) → (xs : List StatementTree) (ts rest : List Token) → Statements_end xs ts rest → c ts ≡ false
-  end_blank c on_comma on_word on_end [] ts rest (a, e, (span, line, f)) = ap c (e ∙ f) ∙ on_end span line rest
-  end_blank c on_comma on_word on_end (x ∷ xs) ts rest (a, (b, one, more), s) = statement_blank c on_comma on_word x ts b one
+  false_at_end : (c : List Token → Bool) → ((span span' : Span) (line line' : Line) (w : Word) (ts : List Token) → form_word w ≡ true → c (token (kinds.Symbol Comma) span line ∷ token (kinds.Word w) span' line' ∷ ts) ≡ false) → ((w : Word) (span : Span) (line : Line) (ts : List Token) → form_word w ≡ true → c (token (kinds.Word w) span line ∷ ts) ≡ false) → ((span : Span) (line : Line) (ts : List Token) → c (token (kinds.Word words.End) span line ∷ ts) ≡ false) → (xs : List StatementTree) (ts rest : List Token) → Statements_end xs ts rest → c ts ≡ false
+  false_at_end c on_comma on_word on_end [] ts rest (a, e, (span, line, f)) = ap c (e ∙ f) ∙ on_end span line rest
+  false_at_end c on_comma on_word on_end (x ∷ xs) ts rest (a, (b, one, more), s) = false_at_any_statement c on_comma on_word x ts b one
 
   no_define : (xs : List StatementTree) (ts rest : List Token) → Statements_end xs ts rest → begins (word words.Define) ts ≡ false
-  no_define xs ts rest s = end_blank (begins (word words.Define)) (λ span span' line line' w r e. refl) (λ w span line r e. (word_no_define w e).0) (λ span line ts. refl) xs ts rest s
+  no_define xs ts rest s = false_at_end (begins (word words.Define)) (λ span span' line line' w r e. refl) (λ w span line r e. (word_no_define w e).0) (λ span line ts. refl) xs ts rest s
 
   abbrev Body_is : List DefinitionTree × List StatementTree → Shape
   Body_is p = each Definition_is p.0 ▷ Statements_end p.1
@@ -181,7 +181,7 @@ module _ (n : ℕ) where
   body_no_kind : (p : List DefinitionTree × List StatementTree) (ts rest : List Token) → Body_is p ts rest → continues_kind ts ≡ false
   body_no_kind (d ∷ ds, xs) ts rest (a, (b, (at, (c, (span, line, e), s)), more), t) = ap continues_kind e
   body_no_kind ([], xs) ts rest (a, f, s) =
-      ap continues_kind f ∙ end_blank continues_kind
+      ap continues_kind f ∙ false_at_end continues_kind
       (λ span span' line line' w r e. let no : is (word words.And) (kinds.Word w) ≡ false = (word_no_define w e).1 in rw no refl)
       (λ w span line r e. let no : is (word words.And) (kinds.Word w) ≡ false = (word_no_define w e).1 in let more : kind_more w ≡ false = (word_no_define w e).2 in rw (no, more) refl)
       (λ span line ts. refl) xs a rest s
@@ -189,13 +189,13 @@ module _ (n : ℕ) where
 -- ---- sections
 
 module _ (n m : ℕ) (le : n ≤ m) where
-  body_reads : Reads n (body_in n) (body_in m) (Body_is n) nowise
+  body_reads : Reads n (body_in n) (body_in m) (Body_is n) continues_never
   body_reads = seq_reads (definitions_reads n) (before_mark_reads (word words.End) (all_statements_reads n m le) (λ span line ts. refl)) (λ xs ts rest s stop. let none : begins (word words.Define) ts ≡ false = no_define n xs ts rest s in rw none refl)
 
   abbrev Sections_by : Line → Word → SectionTree → Shape
-  Sections_by line w x ts rest = (x.line ≡ line) × (section_word x.kind ≡ w) × (Kind_behind x.kind ▷ Body_is n (x.definitions, x.body)) ts rest
+  Sections_by line w x ts rest = (x.line ≡ line) × (section_word x.kind ≡ w) × (Kind_rest x.kind ▷ Body_is n (x.definitions, x.body)) ts rest
 
-  section_law : (line : Line) (w : Word) → Form n w (section_at n line w) (section_at m line w) (Sections_by line w) nowise
+  section_law : (line : Line) (w : Word) → Form n w (section_at n line w) (section_at m line w) (Sections_by line w) continues_never
   unfolding section_at
   section_law line w =
       plain_form w (apply_reads (seq_reads (kind_reads n w) body_reads (λ p ts rest s stop. body_no_kind n p ts rest s)) (section_tree line) (Sections_by line w)
@@ -203,7 +203,7 @@ module _ (n m : ℕ) (le : n ≤ m) where
       (λ x ts rest s. ((x.kind, (x.definitions, x.body)), (λ i. record { line = sym s.0 i; kind = x.kind; definitions = x.definitions; body = x.body }), (s.2.0, (s.1, s.2.1), s.2.2))))
 
   abbrev In_section : SectionTree → Shape
-  In_section x = at x.line (Word_is (section_word x.kind) ▷ Kind_behind x.kind ▷ Body_is n (x.definitions, x.body))
+  In_section x = at x.line (Word_is (section_word x.kind) ▷ Kind_rest x.kind ▷ Body_is n (x.definitions, x.body))
 
   section_to : (x : SectionTree) (w : Word) (span : Span) (line : Line) (ts rest : List Token) → Sections_by line w x ts rest → In_section x (token (kinds.Word w) span line ∷ ts) rest
   section_to x w span line ts rest (at, is, s) = (sym at, (ts, subst (λ (v : Word). Word_is v (token (kinds.Word w) span line ∷ ts) ts) (sym is) (span, line, refl), s))
@@ -211,17 +211,17 @@ module _ (n m : ℕ) (le : n ≤ m) where
   section_from : (x : SectionTree) (ts rest : List Token) → In_section x ts rest → (w : Word) × (r : List Token) × (Word_is w ts r) × Sections_by (first_line ts) w x r rest
   section_from x ts rest (at, (r, w, s)) = (section_word x.kind, r, w, (sym at, refl, s))
 
-  section_reads : Reads n (section_in n) (section_in m) In_section nowise
+  section_reads : Reads n (section_in n) (section_in m) In_section continues_never
   section_reads = by_word_reads section_law In_section section_to section_from
 
-  in_section_item : Item n begins_section (section_in n) (section_in m) In_section nowise
+  in_section_item : Item n begins_section (section_in n) (section_in m) In_section continues_never
   in_section_item = item_of begins_section section_reads (λ ts x rest s. ap begins_section s.1.1.2 ∙ section_known x.kind) (λ ts x rest s. first_less section_law In_section section_to section_from ts x rest s)
 
 pub sections_loop : (room : ℕ) → Loop begins_section (section_in room)
 sections_loop room = loop_of (in_section_item room room (omega arith)) refl
 
 module _ (n m : ℕ) (le : n ≤ m) where
-  pub section_item : Item (suc n) begins_section (section_in (suc n)) (section_in (suc m)) (Section_is n) nowise
+  pub section_item : Item (suc n) begins_section (section_in (suc n)) (section_in (suc m)) (Section_is n) continues_never
   section_item = in_section_item (suc n) (suc m) (omega arith)
 
   -- ---- programs
@@ -232,15 +232,15 @@ module _ (n m : ℕ) (le : n ≤ m) where
   sections_reads : Reads (suc n) (rows begins_section (section_in (suc n))) (rows begins_section (section_in (suc m))) (each (Section_is n)) continues_program
   sections_reads = fewer_reads (rows_reads section_item (λ ts x rest s. refl)) continues_program (λ ts stop. let none = (or_false (begins (word words.Preamble) ts) (begins_section ts) stop).1 in rw none refl)
 
-  section_no_preamble : (x : SectionTree) (ts rest : List Token) → Section_is n x ts rest → (begins (word words.Preamble) ts || nowise ts) ≡ false
+  section_no_preamble : (x : SectionTree) (ts rest : List Token) → Section_is n x ts rest → (begins (word words.Preamble) ts || continues_never ts) ≡ false
   section_no_preamble x ts rest (at, (m, (span, line, e), s)) = go x.kind e
     where
-      go : (kind : SectionKindTree) → ts ≡ token (kinds.Word (section_word kind)) span line ∷ m → (begins (word words.Preamble) ts || nowise ts) ≡ false
+      go : (kind : SectionKindTree) → ts ≡ token (kinds.Word (section_word kind)) span line ∷ m → (begins (word words.Preamble) ts || continues_never ts) ≡ false
       go main e = rw e refl
       go (routine name given yielding) e = rw e refl
       go (event name given saving) e = rw e refl
 
-  sections_stop : (xs : List SectionTree) (ts rest : List Token) → each (Section_is n) xs ts rest → continues_program rest ≡ false → (begins (word words.Preamble) ts || nowise ts) ≡ false
+  sections_stop : (xs : List SectionTree) (ts rest : List Token) → each (Section_is n) xs ts rest → continues_program rest ≡ false → (begins (word words.Preamble) ts || continues_never ts) ≡ false
   sections_stop [] ts rest e stop = let none = (or_false (begins (word words.Preamble) rest) (begins_section rest) stop).0 in rw (e, none) refl
   sections_stop (x ∷ xs) ts rest (a, one, more) stop = section_no_preamble x ts a one
 

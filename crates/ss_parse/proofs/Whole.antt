@@ -34,7 +34,7 @@ program_upto : (n m : ℕ) (ts : List Token) → n ≤ m → Upto (program_of n 
 unfolding program_of
 program_upto n m ts le = upto_bind _ _ none_left none_left ((program_reads n m le).under ts) (λ x. upto_same _)
 
--- with more levels the same tree is spelled
+-- with more levels allowed, the tokens have the same tree
 raised : (n m : ℕ) (ts : List Token) (p : ProgramTree) → n ≤ m → program_of n ts ≡ Ok p → program_of m ts ≡ Ok p
 raised n m ts p le read = elim (program_upto n m ts le) [ inl e ↦ absurd cc | inr e ↦ sym e ∙ read ]
 

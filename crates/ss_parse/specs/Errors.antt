@@ -4,7 +4,7 @@ use Rattle.ss_base.specs.declared.line.Line.{Line}
 use Rattle.ss_parse.specs.declared.error.ParseError.{ParseError}
 use Rattle.ss_parse.specs.declared.error.ParseError.TheVariants.{Syntax, TooDeep, Memory}
 
--- its number, 41 or 42, and 0 for memory
+-- its number, 41 or 42; 0 where memory ran out
 abbrev pub error_number : ParseError → ℕ
 error_number (Syntax line) = 41
 error_number (TooDeep line) = 42
@@ -16,7 +16,7 @@ error_name (Syntax line) = codes "Syntax"
 error_name (TooDeep line) = codes "TooDeep"
 error_name Memory = codes "Memory"
 
--- its line, 0 for memory
+-- its line; 0 where memory ran out
 abbrev pub error_line : ParseError → Line
 error_line (Syntax line) = line
 error_line (TooDeep line) = line

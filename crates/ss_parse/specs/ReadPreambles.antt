@@ -12,11 +12,11 @@ use Rattle.ss_tree.specs.declared.preamble.StatisticKind.{StatisticKind}
 use Rattle.ss_tree.specs.declared.preamble.Statistic.{Statistic}
 use Rattle.ss_tree.specs.Tree.{ClauseTree, has, owns, belongs_to, OrderTree, fifo, lifo, ranked, PreambleTree, permanent_entities, temporary_entities, event_notices, every, normally, system_owns, define_variables, define_sets, priority_order, break_ties, statistics}
 use Rattle.ss_parse_expressions.specs.declared.classes.Class.TheVariants as alike
-use Rattle.ss_parse_expressions.specs.Reading.{Reader, ◌>>=◌, word, begins, begins_by, expect, in_table, taken, name_of, seq, behind, closed, apply, maybe_list, choose, first_and, list_of}
+use Rattle.ss_parse_expressions.specs.Reading.{Reader, ◌>>=◌, word, begins, begins_by, expect, in_table, taken, name_of, seq, following, closed, apply, maybe_list, choose, first_and, list_of}
 use Rattle.ss_parse_expressions.specs.ReadWords.{done, fail, skip_class, begins_noisy, expect_noisy, begins_among, begins_name, names, items}
-use Rattle.ss_parse.specs.SpelledPreambles.{group_behind}
+use Rattle.ss_parse.specs.SpelledPreambles.{group_after}
 use Rattle.ss_parse_expressions.specs.WordTables.{mode_of, rank_of, statistic_of}
-use Rattle.ss_parse_statements.specs.ReadSimple.{behind_the}
+use Rattle.ss_parse_statements.specs.ReadSimple.{after_the}
 use Rattle.ss_parse_statements.specs.ReadStatements.{by_word}
 
 -- ---- parts
@@ -29,21 +29,21 @@ key = apply key_tree (seq (taken (in_table rank_of)) (taken name_of))
 
 -- THEN BY, and HIGH or LOW
 abbrev pub then_rank : Reader Bool
-then_rank = behind (expect_noisy (word words.Then)) (behind (expect (word words.By)) (taken (in_table rank_of)))
+then_rank = following (expect_noisy (word words.Then)) (following (expect (word words.By)) (taken (in_table rank_of)))
 
 unfoldable pub then_key : Reader Key
 then_key = apply key_tree (seq then_rank (taken name_of))
 
--- keys, the further ones behind THEN BY
+-- keys, the further ones after THEN BY
 abbrev pub keys : Reader (List Key)
 keys = first_and key (begins_noisy (word words.Then)) then_key
 
 abbrev pub statistic_tree : List ℕ × StatisticKind → Statistic
 statistic_tree p = record { name = p.0; kind = p.1 }
 
--- AS, and what a statistic tells
+-- AS and the kind of a statistic
 abbrev pub statistic_kind : Reader StatisticKind
-statistic_kind = behind (expect (word words.As)) (behind_the (taken (in_table statistic_of)))
+statistic_kind = following (expect (word words.As)) (after_the (taken (in_table statistic_of)))
 
 unfoldable pub statistic : Reader Statistic
 statistic = apply statistic_tree (seq (taken name_of) statistic_kind)
@@ -53,9 +53,9 @@ found = list_of begins_name statistic
 
 unfoldable pub clause : Reader ClauseTree
 clause =
-    choose (begins (word words.Has)) (apply has (behind (expect (word words.Has)) items))
-    (choose (begins (word words.Owns)) (apply owns (behind (expect (word words.Owns)) items))
-    (apply belongs_to (behind (expect (word words.May)) (behind (expect (word words.Belong)) (behind (expect (word words.To)) items)))))
+    choose (begins (word words.Has)) (apply has (following (expect (word words.Has)) items))
+    (choose (begins (word words.Owns)) (apply owns (following (expect (word words.Owns)) items))
+    (apply belongs_to (following (expect (word words.May)) (following (expect (word words.Belong)) (following (expect (word words.To)) items)))))
 
 abbrev pub clause_word : Word → Bool
 clause_word words.Has = true
@@ -72,18 +72,18 @@ clause_list = list_of begins_clause clause
 abbrev pub clauses : Reader (List ClauseTree)
 clauses = maybe_list begins_clause clause_list
 
--- behind SET
+-- the ranking of a set, after SET
 abbrev pub ranking : Reader OrderTree
-ranking = choose (begins (word words.Ranked)) (apply ranked (behind (expect (word words.Ranked)) (behind (expect (word words.By)) keys))) (done fifo)
+ranking = choose (begins (word words.Ranked)) (apply ranked (following (expect (word words.Ranked)) (following (expect (word words.By)) keys))) (done fifo)
 
 -- how a set is ordered
 unfoldable pub order : Reader OrderTree
 order =
-    choose (begins (word words.Fifo)) (apply (λ u. fifo) (behind (expect (word words.Fifo)) (expect (word words.Set))))
-    (choose (begins (word words.Lifo)) (apply (λ u. lifo) (behind (expect (word words.Lifo)) (expect (word words.Set))))
-    (behind (expect (word words.Set)) ranking))
+    choose (begins (word words.Fifo)) (apply (λ u. fifo) (following (expect (word words.Fifo)) (expect (word words.Set))))
+    (choose (begins (word words.Lifo)) (apply (λ u. lifo) (following (expect (word words.Lifo)) (expect (word words.Set))))
+    (following (expect (word words.Set)) ranking))
 
--- ---- statements of a preamble, behind their first word
+-- ---- statements of a preamble, after their first word
 
 unfoldable pub permanent_at : Line → Reader PreambleTree
 permanent_at line = apply (λ u. permanent_entities line) (expect (word words.Entities))
@@ -92,17 +92,17 @@ unfoldable pub temporary_at : Line → Reader PreambleTree
 temporary_at line = apply (λ u. temporary_entities line) (expect (word words.Entities))
 
 unfoldable pub notices_at : Line → Reader PreambleTree
-notices_at line = apply (event_notices line) (behind (expect (word words.Notices)) (maybe_list (begins (word words.Include)) (behind (expect (word words.Include)) names)))
+notices_at line = apply (event_notices line) (following (expect (word words.Notices)) (maybe_list (begins (word words.Include)) (following (expect (word words.Include)) names)))
 
 unfoldable pub every_at : Option ClassKind → Line → Reader PreambleTree
 every_at None line = fail
 every_at (Some kind) line = apply (λ p. every line kind p.0 p.1) (seq (taken name_of) clauses)
 
 unfoldable pub normally_at : Line → Reader PreambleTree
-normally_at line = apply (normally line) (behind (expect_noisy (word words.Mode)) (behind (expect (word words.Is)) (taken (in_table mode_of))))
+normally_at line = apply (normally line) (following (expect_noisy (word words.Mode)) (following (expect (word words.Is)) (taken (in_table mode_of))))
 
 unfoldable pub system_at : Line → Reader PreambleTree
-system_at line = apply (system_owns line) (behind (expect (word words.System)) (behind (expect (word words.Owns)) items))
+system_at line = apply (system_owns line) (following (expect (word words.System)) (following (expect (word words.Owns)) items))
 
 -- a mode, or how a set is ordered
 abbrev pub define_end : Line → List (List ℕ) → Reader PreambleTree
@@ -112,13 +112,13 @@ unfoldable pub define_at : Line → Reader PreambleTree
 define_at line ts = closed names (expect (word words.As)) ts >>= λ ns. define_end line ns.0 (skip_class alike.Article ns.1)
 
 unfoldable pub priority_at : Line → Reader PreambleTree
-priority_at line = apply (priority_order line) (behind (expect (word words.Order)) (behind (expect (word words.Is)) names))
+priority_at line = apply (priority_order line) (following (expect (word words.Order)) (following (expect (word words.Is)) names))
 
 unfoldable pub break_at : Line → Reader PreambleTree
-break_at line = apply (λ p. break_ties line p.0 p.1) (seq (taken name_of) (behind (expect (word words.Ties)) (behind (expect (word words.By)) keys)))
+break_at line = apply (λ p. break_ties line p.0 p.1) (seq (taken name_of) (following (expect (word words.Ties)) (following (expect (word words.By)) keys)))
 
 unfoldable pub statistics_at : Line → Weighting → Reader PreambleTree
-statistics_at line weighting = apply (λ p. statistics line weighting p.0 p.1) (seq found (behind (expect (word words.Of)) (taken name_of)))
+statistics_at line weighting = apply (λ p. statistics line weighting p.0 p.1) (seq found (following (expect (word words.Of)) (taken name_of)))
 
 unfoldable pub preamble_at : Option ClassKind → Line → Word → Reader PreambleTree
 preamble_at group line words.Permanent = permanent_at line
@@ -159,7 +159,7 @@ preamble_in group = by_word (preamble_at group)
 abbrev pub preamble_row : ℕ → Option ClassKind → Reader (List PreambleTree)
 preamble_row zero group ts = Ok ([], ts)
 preamble_row (suc n) group ts =
-    if begins_preamble ts then (preamble_in group ts >>= λ x. preamble_row n (group_behind group x.0) x.1 >>= λ xs. Ok (x.0 ∷ xs.0, xs.1)) else Ok ([], ts)
+    if begins_preamble ts then (preamble_in group ts >>= λ x. preamble_row n (group_after group x.0) x.1 >>= λ xs. Ok (x.0 ∷ xs.0, xs.1)) else Ok ([], ts)
 
 -- statements as long as there is one more
 unfoldable pub preambles : Option ClassKind → Reader (List PreambleTree)
@@ -167,4 +167,4 @@ preambles group ts = preamble_row (length ts) group ts
 
 -- a preamble, if there is one
 unfoldable pub whole_preamble : Reader (List PreambleTree)
-whole_preamble = maybe_list (begins (word words.Preamble)) (behind (expect (word words.Preamble)) (closed (preambles None) (expect (word words.End))))
+whole_preamble = maybe_list (begins (word words.Preamble)) (following (expect (word words.Preamble)) (closed (preambles None) (expect (word words.End))))

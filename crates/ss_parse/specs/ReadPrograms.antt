@@ -10,10 +10,10 @@ use Rattle.ss_tree.specs.declared.preamble.Mode.{Mode}
 use Rattle.ss_tree.specs.Tree.{PreambleTree, DefinitionTree, SectionKindTree, main, routine, event, SectionTree, ProgramTree, StatementTree}
 use Rattle.ss_parse_expressions.specs.declared.classes.Class.TheVariants as classes
 use Rattle.ss_parse_expressions.specs.ReadWords.{done, fail, skip_class, begins_among, names}
-use Rattle.ss_parse_expressions.specs.Reading.{Reader, ◌>>=◌, word, begins, expect, in_table, taken, name_of, flag, seq, behind, closed, apply, lined, maybe_list, rows}
+use Rattle.ss_parse_expressions.specs.Reading.{Reader, ◌>>=◌, word, begins, expect, in_table, taken, name_of, flag, seq, following, closed, apply, lined, maybe_list, rows}
 use Rattle.ss_parse_expressions.specs.WordTables.{mode_of}
 use Rattle.ss_parse.specs.ReadPreambles.{whole_preamble}
-use Rattle.ss_parse_statements.specs.ReadSimple.{behind_the}
+use Rattle.ss_parse_statements.specs.ReadSimple.{after_the}
 use Rattle.ss_parse_statements.specs.ReadStatements.{by_word, statements_in}
 
 -- ---- sections
@@ -28,13 +28,13 @@ abbrev pub begins_section : List Token → Bool
 begins_section = begins_among section_words
 
 abbrev pub given_names : Reader (List (List ℕ))
-given_names = maybe_list (begins (word words.Given)) (behind (expect (word words.Given)) names)
+given_names = maybe_list (begins (word words.Given)) (following (expect (word words.Given)) names)
 
 abbrev pub yielding_names : Reader (List (List ℕ))
-yielding_names = maybe_list (begins (word words.Yielding)) (behind (expect (word words.Yielding)) names)
+yielding_names = maybe_list (begins (word words.Yielding)) (following (expect (word words.Yielding)) names)
 
 unfoldable pub saving : Reader Bool
-saving = flag (begins (word words.Saving)) (behind (expect (word words.Saving)) (behind_the (behind (expect (word words.Event)) (expect (word words.Notice)))))
+saving = flag (begins (word words.Saving)) (following (expect (word words.Saving)) (after_the (following (expect (word words.Event)) (expect (word words.Notice)))))
 
 unfoldable pub routine_kind : Reader SectionKindTree
 routine_kind = apply (λ p. routine p.0 p.1.0 p.1.1) (λ ts. seq (taken name_of) (seq given_names yielding_names) (skip_class classes.Towards ts))
@@ -42,22 +42,22 @@ routine_kind = apply (λ p. routine p.0 p.1.0 p.1.1) (λ ts. seq (taken name_of)
 unfoldable pub event_kind : Reader SectionKindTree
 event_kind = apply (λ p. event p.0 p.1.0 p.1.1) (seq (taken name_of) (seq given_names saving))
 
--- the header of a section, behind its first word
+-- the header of a section, after its first word
 abbrev pub kind_at : Word → Reader SectionKindTree
 kind_at words.Main = done main
 kind_at words.Routine = routine_kind
 kind_at words.Event = event_kind
 kind_at _ = fail
 
--- names and their mode, behind DEFINE
+-- names and their mode, after DEFINE
 unfoldable pub variables : Reader (List (List ℕ) × Mode)
-variables = seq names (behind (expect (word words.As)) (λ ts. closed (taken (in_table mode_of)) (expect (word words.Variable)) (skip_class classes.Article ts)))
+variables = seq names (following (expect (word words.As)) (λ ts. closed (taken (in_table mode_of)) (expect (word words.Variable)) (skip_class classes.Article ts)))
 
 abbrev pub definition_tree : Line → List (List ℕ) × Mode → DefinitionTree
 definition_tree line p = record { line = line; names = p.0; mode = p.1 }
 
 unfoldable pub definition_at : Line → Reader DefinitionTree
-definition_at line = apply (definition_tree line) (behind (expect (word words.Define)) variables)
+definition_at line = apply (definition_tree line) (following (expect (word words.Define)) variables)
 
 abbrev pub definition : Reader DefinitionTree
 definition = lined definition_at
@@ -85,7 +85,7 @@ program_tree p = record { preamble = p.0; sections = p.1 }
 unfoldable pub program_in : ℕ → Reader ProgramTree
 program_in room = apply program_tree (seq whole_preamble (rows begins_section (section_in room)))
 
--- and nothing behind it
+-- only where no tokens are left
 abbrev pub none_left : {A : Type 0} → A × List Token → Result A Fault
 none_left (x, []) = Ok x
 none_left (x, t ∷ ts) = Err Syntax

@@ -12,7 +12,7 @@ use Rattle.ss_tree.specs.declared.preamble.Weighting.TheVariants as weightings
 use Rattle.ss_tree.specs.declared.preamble.Statistic.{Statistic}
 use Rattle.ss_tree.specs.Tree.{ClauseTree, has, owns, belongs_to, OrderTree, fifo, lifo, ranked, PreambleTree, permanent_entities, temporary_entities, event_notices, every, normally, system_owns, define_variables, define_sets, priority_order, break_ties, statistics}
 use Rattle.ss_parse_expressions.specs.declared.classes.Class.TheVariants as alike
-use Rattle.ss_parse_expressions.specs.Shapes.{Shape, ◌▷◌, nothing, optional, provided, Word_is, Name_is, Said, first_and, listed, at}
+use Rattle.ss_parse_expressions.specs.Shapes.{Shape, ◌▷◌, nothing, optional, provided, Word_is, Name_is, Word_for, first_and, listed, at}
 use Rattle.ss_parse_expressions.specs.Words.{One_of, the, Item_is, perhaps_listed}
 use Rattle.ss_parse_statements.specs.SpelledStatements.{noisy}
 use Rattle.ss_parse_expressions.specs.WordTables.{mode_of, rank_of, statistic_of}
@@ -20,14 +20,14 @@ use Rattle.ss_parse_expressions.specs.WordTables.{mode_of, rank_of, statistic_of
 -- ---- parts
 
 abbrev pub Key_is : Key → Shape
-Key_is key = Said rank_of key.high ▷ Name_is key.name
+Key_is key = Word_for rank_of key.high ▷ Name_is key.name
 
--- keys, the further ones behind THEN BY
+-- keys, the further ones after THEN BY
 abbrev pub Keys_are : List Key → Shape
 Keys_are = first_and Key_is (λ key. noisy words.Then ▷ Word_is words.By ▷ Key_is key)
 
 abbrev pub Statistic_is : Statistic → Shape
-Statistic_is s = Name_is s.name ▷ Word_is words.As ▷ the ▷ Said statistic_of s.kind
+Statistic_is s = Name_is s.name ▷ Word_is words.As ▷ the ▷ Word_for statistic_of s.kind
 
 abbrev pub Clause_is : ClauseTree → Shape
 Clause_is (has names) = Word_is words.Has ▷ listed Item_is names
@@ -38,7 +38,7 @@ abbrev pub Clauses_are : List ClauseTree → Shape
 Clauses_are [] = nothing
 Clauses_are (c ∷ cs) = listed Clause_is (c ∷ cs)
 
--- how a set is ordered: FIFO where nothing is said
+-- how a set is ordered: FIFO where the text doesn't say
 abbrev pub Order_is : OrderTree → Shape
 Order_is fifo = optional (Word_is words.Fifo) ▷ Word_is words.Set
 Order_is lifo = Word_is words.Lifo ▷ Word_is words.Set
@@ -48,9 +48,9 @@ Order_is (ranked keys) = Word_is words.Set ▷ Word_is words.Ranked ▷ Word_is 
 abbrev pub article : Shape
 article = optional (One_of alike.Article)
 
--- names and their mode, behind DEFINE
+-- names and their mode, after DEFINE
 abbrev pub Variables_are : List (List ℕ) × Mode → Shape
-Variables_are p = listed Name_is p.0 ▷ Word_is words.As ▷ article ▷ Said mode_of p.1 ▷ Word_is words.Variable
+Variables_are p = listed Name_is p.0 ▷ Word_is words.As ▷ article ▷ Word_for mode_of p.1 ▷ Word_is words.Variable
 
 -- ---- statements of a preamble
 
@@ -86,34 +86,34 @@ preamble_first (priority_order line classes) = words.Priority
 preamble_first (break_ties line class keys) = words.Break
 preamble_first (statistics line weighting found subject) = weighting_word weighting
 
--- What stands behind it. EVERY stands only in a group, and declares a class of its kind.
-abbrev pub Preamble_behind : Option ClassKind → PreambleTree → Shape
-Preamble_behind group (permanent_entities line) = Word_is words.Entities
-Preamble_behind group (temporary_entities line) = Word_is words.Entities
-Preamble_behind group (event_notices line included) = Word_is words.Notices ▷ perhaps_listed (Word_is words.Include) Name_is included
-Preamble_behind group (every line kind class clauses) = provided (group ≡ Some kind) (Name_is class ▷ Clauses_are clauses)
-Preamble_behind group (normally line mode) = noisy words.Mode ▷ Word_is words.Is ▷ Said mode_of mode
-Preamble_behind group (system_owns line sets) = Word_is words.System ▷ Word_is words.Owns ▷ listed Item_is sets
-Preamble_behind group (define_variables line names mode) = Variables_are (names, mode)
-Preamble_behind group (define_sets line names order) = listed Name_is names ▷ Word_is words.As ▷ article ▷ Order_is order
-Preamble_behind group (priority_order line classes) = Word_is words.Order ▷ Word_is words.Is ▷ listed Name_is classes
-Preamble_behind group (break_ties line class keys) = Name_is class ▷ Word_is words.Ties ▷ Word_is words.By ▷ Keys_are keys
-Preamble_behind group (statistics line weighting found subject) = listed Statistic_is found ▷ Word_is words.Of ▷ Name_is subject
+-- What follows the first word. EVERY is allowed only in a group, and declares a class of the group's kind.
+abbrev pub Preamble_rest : Option ClassKind → PreambleTree → Shape
+Preamble_rest group (permanent_entities line) = Word_is words.Entities
+Preamble_rest group (temporary_entities line) = Word_is words.Entities
+Preamble_rest group (event_notices line included) = Word_is words.Notices ▷ perhaps_listed (Word_is words.Include) Name_is included
+Preamble_rest group (every line kind class clauses) = provided (group ≡ Some kind) (Name_is class ▷ Clauses_are clauses)
+Preamble_rest group (normally line mode) = noisy words.Mode ▷ Word_is words.Is ▷ Word_for mode_of mode
+Preamble_rest group (system_owns line sets) = Word_is words.System ▷ Word_is words.Owns ▷ listed Item_is sets
+Preamble_rest group (define_variables line names mode) = Variables_are (names, mode)
+Preamble_rest group (define_sets line names order) = listed Name_is names ▷ Word_is words.As ▷ article ▷ Order_is order
+Preamble_rest group (priority_order line classes) = Word_is words.Order ▷ Word_is words.Is ▷ listed Name_is classes
+Preamble_rest group (break_ties line class keys) = Name_is class ▷ Word_is words.Ties ▷ Word_is words.By ▷ Keys_are keys
+Preamble_rest group (statistics line weighting found subject) = listed Statistic_is found ▷ Word_is words.Of ▷ Name_is subject
 
--- in a group of this kind, or before the first
+-- a statement in a group of this kind, or before the first group
 abbrev pub Preamble_from : Option ClassKind → PreambleTree → Shape
-Preamble_from group s = at (preamble_line s) (Word_is (preamble_first s) ▷ Preamble_behind group s)
+Preamble_from group s = at (preamble_line s) (Word_is (preamble_first s) ▷ Preamble_rest group s)
 
--- the kind of the group that goes on behind the statement
-abbrev pub group_behind : Option ClassKind → PreambleTree → Option ClassKind
-group_behind group (permanent_entities line) = Some classes.Permanent
-group_behind group (temporary_entities line) = Some classes.Temporary
-group_behind group (event_notices line included) = Some classes.EventNotice
-group_behind group _ = group
+-- the kind of the group that the next statement is in
+abbrev pub group_after : Option ClassKind → PreambleTree → Option ClassKind
+group_after group (permanent_entities line) = Some classes.Permanent
+group_after group (temporary_entities line) = Some classes.Temporary
+group_after group (event_notices line included) = Some classes.EventNotice
+group_after group _ = group
 
 abbrev pub Preambles_are : Option ClassKind → List PreambleTree → Shape
 Preambles_are group [] = nothing
-Preambles_are group (s ∷ ss) = Preamble_from group s ▷ Preambles_are (group_behind group s) ss
+Preambles_are group (s ∷ ss) = Preamble_from group s ▷ Preambles_are (group_after group s) ss
 
 -- a preamble, which may be left out where it would be empty
 abbrev pub Whole_preamble : List PreambleTree → Shape

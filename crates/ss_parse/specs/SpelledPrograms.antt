@@ -21,18 +21,18 @@ section_word (event name given saving) = words.Event
 abbrev pub Saving_words : Shape
 Saving_words = Word_is words.Saving ▷ the ▷ Word_is words.Event ▷ Word_is words.Notice
 
--- the header of a section behind its first word
-abbrev pub Kind_behind : SectionKindTree → Shape
-Kind_behind main = nothing
-Kind_behind (routine name given yielding) =
+-- the header of a section after its first word
+abbrev pub Kind_rest : SectionKindTree → Shape
+Kind_rest main = nothing
+Kind_rest (routine name given yielding) =
     optional (One_of alike.Towards) ▷ Name_is name ▷ perhaps_listed (Word_is words.Given) Name_is given ▷ perhaps_listed (Word_is words.Yielding) Name_is yielding
-Kind_behind (event name given saving) = Name_is name ▷ perhaps_listed (Word_is words.Given) Name_is given ▷ flagged Saving_words saving
+Kind_rest (event name given saving) = Name_is name ▷ perhaps_listed (Word_is words.Given) Name_is given ▷ flagged Saving_words saving
 
 abbrev pub Definition_is : DefinitionTree → Shape
 Definition_is d = at d.line (Word_is words.Define ▷ Variables_are (d.names, d.mode))
 
 abbrev pub Section_is : ℕ → SectionTree → Shape
-Section_is levels s = at s.line (Word_is (section_word s.kind) ▷ Kind_behind s.kind ▷ each Definition_is s.definitions ▷ each (Statement_is levels) s.body ▷ Word_is words.End)
+Section_is levels s = at s.line (Word_is (section_word s.kind) ▷ Kind_rest s.kind ▷ each Definition_is s.definitions ▷ each (Statement_is levels) s.body ▷ Word_is words.End)
 
 abbrev pub Program_is : ℕ → ProgramTree → Shape
 Program_is levels p = Whole_preamble p.preamble ▷ each (Section_is levels) p.sections

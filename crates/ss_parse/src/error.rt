@@ -1,4 +1,4 @@
-//! Why tokens are no program.
+//! Why tokens spell no program.
 
 ghost use Rattle.std.specs.Prelude.{◌≡◌};
 ghost use Rattle.ss_parse.specs.Errors.{error_number, error_name, error_line};
@@ -20,7 +20,7 @@ pub enum ParseError {
 }
 
 impl ParseError {
-    /// The number that the refusal is reported by, 41 or 42; 0 for memory.
+    /// The number that the refusal is reported by, 41 or 42; 0 where memory ran out.
     pub fn number(&self) -> u32
         ensures { result ≡ error_number self.now }
     {
@@ -42,7 +42,7 @@ impl ParseError {
         }
     }
 
-    /// The line that the refusal is reported with; 0 for memory.
+    /// The line that the refusal is reported with; 0 where memory ran out.
     pub fn line(&self) -> Line
         ensures { result ≡ error_line self.now }
     {

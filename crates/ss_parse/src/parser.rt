@@ -13,7 +13,7 @@ use ss_parse_expressions::failure::{Failure, Fault};
 use ss_tree::program::Program;
 use std::alloc::Global;
 
-/// The line of the token before which so many stand, or of the last one.
+/// The line of the token with this index, or of the last one.
 fn line_of(tokens: &[Token], index: usize) -> Line
     requires { 0 < length tokens.now }
     ensures { Line_of_one tokens.now result }

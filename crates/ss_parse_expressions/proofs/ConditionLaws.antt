@@ -13,107 +13,107 @@ use Rattle.ss_tree.specs.declared.expression.Designator.TheVariants as designato
 use Rattle.ss_tree.specs.Tree.{ExpressionTree, named, ExpressionRow, no_expression, and_expression, NamedTree, TestTree, compare, empty, member, data_ended, ConditionTree}
 use Rattle.ss_parse_expressions.specs.declared.conditions.Verb.{Verb}
 use Rattle.ss_parse_expressions.specs.declared.conditions.Verb.TheVariants as verbs
-use Rattle.ss_parse_expressions.specs.declared.conditions.Told.{Told}
-use Rattle.ss_parse_expressions.specs.declared.conditions.Told.TheVariants as tolds
-use Rattle.ss_parse_expressions.specs.Shapes.{Shape, ◌▷◌, nothing, never, optional, provided, Token_is, Word_is, Name_is, Said, flagged, within}
+use Rattle.ss_parse_expressions.specs.declared.conditions.TestWord.{TestWord}
+use Rattle.ss_parse_expressions.specs.declared.conditions.TestWord.TheVariants as test_words
+use Rattle.ss_parse_expressions.specs.Shapes.{Shape, ◌▷◌, nothing, never, optional, provided, Token_is, Word_is, Name_is, Word_for, flagged, within}
 use Rattle.ss_parse_expressions.specs.Words.{the}
 use Rattle.ss_parse_expressions.specs.SpelledExpressions.{sum_place, Spelled, Sum_is, Plain_name, Subscript, Reference_is}
 use Rattle.ss_parse_expressions.specs.SpelledConditions.{In_words, Relation_is, Test_is, joined}
 use Rattle.ss_parse_expressions.specs.WordTables.{relation_of}
 use Rattle.ss_parse_expressions.specs.Reading.{word, is, begins, begins_by, skip, in_table, taken, seq, closed, choose}
-use Rattle.ss_parse_expressions.specs.ReadWords.{said}
+use Rattle.ss_parse_expressions.specs.ReadWords.{present}
 use Rattle.ss_parse_expressions.specs.ReadExpressions.{opening, star, begins_sign, begins_value, begins_sum, sum_in}
 use Rattle.ss_parse_expressions.specs.ReadPlaces.{reference_in}
-use Rattle.ss_parse_expressions.specs.ReadConditions.{relation_symbol, told_of, verb_end, worded_verb, verb, reference_of, empty_of, data_test, test_end, sum_test, test_in, conjunction_in, condition_in}
+use Rattle.ss_parse_expressions.specs.ReadConditions.{relation_symbol, test_word_of, verb_end, worded_verb, verb, reference_of, empty_of, data_test, test_end, sum_test, test_in, conjunction_in, condition_in}
 use Rattle.ss_parse_expressions.proofs.Tools.{or_false}
 use Rattle.ss_parse_expressions.proofs.Marks.{token_less, In_table, begins_table}
-use Rattle.ss_parse_expressions.proofs.ReaderLaws.{Reads, Item, nowise, Made, item_of, item_marked, item_skipped, expect_reads, taken_reads, seq_reads, bind_reads, made_reads, marked_reads, closed_reads, said_reads, fewer_reads, optional_reads, choose_reads, too_deep_reads}
+use Rattle.ss_parse_expressions.proofs.ReaderLaws.{Reads, Item, continues_never, Made, item_of, item_marked, item_skipped, expect_reads, taken_reads, seq_reads, bind_reads, made_reads, marked_reads, closed_reads, reshaped_reads, fewer_reads, optional_reads, choose_reads, too_deep_reads}
 use Rattle.ss_parse_expressions.proofs.Rows.{first_and_reads, first_less, Loop, loop_of}
-use Rattle.ss_parse_expressions.proofs.WordLaws.{word_in_reads, mark_said_reads, done_reads, fail_reads}
+use Rattle.ss_parse_expressions.proofs.WordLaws.{word_in_reads, present_reads, done_reads, fail_reads}
 use Rattle.ss_parse_expressions.proofs.ExpressionLaws.{in_less, in_begins, sum_in_reads, continues_sum}
 use Rattle.ss_parse_expressions.proofs.PlaceLaws.{reference_in_reads, continues_place}
 
 -- ---- words
 
-abbrev word_of : Told → Word
-word_of tolds.Empty = words.Empty
-word_of tolds.In = words.In
-word_of tolds.Equal = words.Equal
-word_of tolds.Less = words.Less
-word_of tolds.Greater = words.Greater
+abbrev word_of : TestWord → Word
+word_of test_words.Empty = words.Empty
+word_of test_words.In = words.In
+word_of test_words.Equal = words.Equal
+word_of test_words.Less = words.Less
+word_of test_words.Greater = words.Greater
 
-told_word : (w : Word) (t : Told) → told_of w ≡ Some t → w ≡ word_of t
-told_word words.Empty t e = let same : tolds.Empty ≡ t = cc in subst (λ t. words.Empty ≡ word_of t) same refl
-told_word words.In t e = let same : tolds.In ≡ t = cc in subst (λ t. words.In ≡ word_of t) same refl
-told_word words.Equal t e = let same : tolds.Equal ≡ t = cc in subst (λ t. words.Equal ≡ word_of t) same refl
-told_word words.Less t e = let same : tolds.Less ≡ t = cc in subst (λ t. words.Less ≡ word_of t) same refl
-told_word words.Greater t e = let same : tolds.Greater ≡ t = cc in subst (λ t. words.Greater ≡ word_of t) same refl
-told_word _ t e = absurd cc
+only_test_word : (w : Word) (t : TestWord) → test_word_of w ≡ Some t → w ≡ word_of t
+only_test_word words.Empty t e = let same : test_words.Empty ≡ t = cc in subst (λ t. words.Empty ≡ word_of t) same refl
+only_test_word words.In t e = let same : test_words.In ≡ t = cc in subst (λ t. words.In ≡ word_of t) same refl
+only_test_word words.Equal t e = let same : test_words.Equal ≡ t = cc in subst (λ t. words.Equal ≡ word_of t) same refl
+only_test_word words.Less t e = let same : test_words.Less ≡ t = cc in subst (λ t. words.Less ≡ word_of t) same refl
+only_test_word words.Greater t e = let same : test_words.Greater ≡ t = cc in subst (λ t. words.Greater ≡ word_of t) same refl
+only_test_word _ t e = absurd cc
 
 -- none of them is IS, NOT or a relation
-told_other : (t : Told) → (is (word words.Is) (kinds.Word (word_of t)) ≡ false) × (is (word words.Not) (kinds.Word (word_of t)) ≡ false) × (relation_of (word_of t) ≡ None)
-told_other tolds.Empty = (refl, refl, refl)
-told_other tolds.In = (refl, refl, refl)
-told_other tolds.Equal = (refl, refl, refl)
-told_other tolds.Less = (refl, refl, refl)
-told_other tolds.Greater = (refl, refl, refl)
+test_word_other : (t : TestWord) → (is (word words.Is) (kinds.Word (word_of t)) ≡ false) × (is (word words.Not) (kinds.Word (word_of t)) ≡ false) × (relation_of (word_of t) ≡ None)
+test_word_other test_words.Empty = (refl, refl, refl)
+test_word_other test_words.In = (refl, refl, refl)
+test_word_other test_words.Equal = (refl, refl, refl)
+test_word_other test_words.Less = (refl, refl, refl)
+test_word_other test_words.Greater = (refl, refl, refl)
 
 -- the word that says what is tested
-abbrev Told_is : Told → Shape
-Told_is t = Word_is (word_of t)
+abbrev Test_word_is : TestWord → Shape
+Test_word_is t = Word_is (word_of t)
 
-told_to : (t : Told) (ts rest : List Token) → Said told_of t ts rest → Told_is t ts rest
-told_to t ts rest (w, means, at) = subst (λ w. Word_is w ts rest) (told_word w t means) at
+test_word_to : (t : TestWord) (ts rest : List Token) → Word_for test_word_of t ts rest → Test_word_is t ts rest
+test_word_to t ts rest (w, means, at) = subst (λ w. Word_is w ts rest) (only_test_word w t means) at
 
-told_from : (t : Told) (ts rest : List Token) → Told_is t ts rest → Said told_of t ts rest
-told_from tolds.Empty ts rest at = (words.Empty, refl, at)
-told_from tolds.In ts rest at = (words.In, refl, at)
-told_from tolds.Equal ts rest at = (words.Equal, refl, at)
-told_from tolds.Less ts rest at = (words.Less, refl, at)
-told_from tolds.Greater ts rest at = (words.Greater, refl, at)
+test_word_from : (t : TestWord) (ts rest : List Token) → Test_word_is t ts rest → Word_for test_word_of t ts rest
+test_word_from test_words.Empty ts rest at = (words.Empty, refl, at)
+test_word_from test_words.In ts rest at = (words.In, refl, at)
+test_word_from test_words.Equal ts rest at = (words.Equal, refl, at)
+test_word_from test_words.Less ts rest at = (words.Less, refl, at)
+test_word_from test_words.Greater ts rest at = (words.Greater, refl, at)
 
--- ---- what stands behind the first expression
+-- ---- the verb of a test, after its first expression
 
 abbrev Verb_is : Verb → Shape
 Verb_is (verbs.Compares r) = Relation_is r
 Verb_is (verbs.IsEmpty negated) = Word_is words.Is ▷ flagged (Word_is words.Not) negated ▷ Word_is words.Empty
 Verb_is (verbs.IsIn negated) = Word_is words.Is ▷ flagged (Word_is words.Not) negated ▷ Word_is words.In
 
-abbrev Verb_words : Bool × (Bool × Told) → Shape
-Verb_words p = flagged (Word_is words.Is) p.0 ▷ flagged (Word_is words.Not) p.1.0 ▷ Told_is p.1.1
+abbrev Verb_words : Bool × (Bool × TestWord) → Shape
+Verb_words p = flagged (Word_is words.Is) p.0 ▷ flagged (Word_is words.Not) p.1.0 ▷ Test_word_is p.1.1
 
-verb_words_reads : (k : ℕ) → Reads k (seq (said (word words.Is)) (seq (said (word words.Not)) (taken (in_table told_of)))) (seq (said (word words.Is)) (seq (said (word words.Not)) (taken (in_table told_of)))) Verb_words nowise
-verb_words_reads k = seq_reads (mark_said_reads k (word words.Is)) (seq_reads (mark_said_reads k (word words.Not)) (said_reads (word_in_reads k told_of) Told_is told_to told_from) no_not) no_is
+verb_words_reads : (k : ℕ) → Reads k (seq (present (word words.Is)) (seq (present (word words.Not)) (taken (in_table test_word_of)))) (seq (present (word words.Is)) (seq (present (word words.Not)) (taken (in_table test_word_of)))) Verb_words continues_never
+verb_words_reads k = seq_reads (present_reads k (word words.Is)) (seq_reads (present_reads k (word words.Not)) (reshaped_reads (word_in_reads k test_word_of) Test_word_is test_word_to test_word_from) no_not) no_is
   where
-    no_not : (t : Told) (ts rest : List Token) → Told_is t ts rest → nowise rest ≡ false → begins (word words.Not) ts ≡ false
-    no_not t ts rest (span, line, e) stop = ap (begins (word words.Not)) e ∙ (told_other t).1
+    no_not : (t : TestWord) (ts rest : List Token) → Test_word_is t ts rest → continues_never rest ≡ false → begins (word words.Not) ts ≡ false
+    no_not t ts rest (span, line, e) stop = ap (begins (word words.Not)) e ∙ (test_word_other t).1
 
-    no_is : (p : Bool × Told) (ts rest : List Token) → (flagged (Word_is words.Not) p.0 ▷ Told_is p.1) ts rest → nowise rest ≡ false → begins (word words.Is) ts ≡ false
+    no_is : (p : Bool × TestWord) (ts rest : List Token) → (flagged (Word_is words.Not) p.0 ▷ Test_word_is p.1) ts rest → continues_never rest ≡ false → begins (word words.Is) ts ≡ false
     no_is (true, t) ts rest (a, (span, line, e), s) stop = ap (begins (word words.Is)) e
-    no_is (false, t) ts rest (a, e, (span, line, f)) stop = ap (begins (word words.Is)) (e ∙ f) ∙ (told_other t).0
+    no_is (false, t) ts rest (a, e, (span, line, f)) stop = ap (begins (word words.Is)) (e ∙ f) ∙ (test_word_other t).0
 
-abbrev Verb_end : Told → Bool → Bool → Verb → Shape
-Verb_end tolds.Empty true negated v = provided (verbs.IsEmpty negated ≡ v) nothing
-Verb_end tolds.Empty false negated v = never
-Verb_end tolds.In true negated v = provided (verbs.IsIn negated ≡ v) nothing
-Verb_end tolds.In false negated v = never
-Verb_end tolds.Equal i negated v = Made (λ (u : Unit {0}). verbs.Compares (cond negated relations.NotEqual relations.Equal)) (λ (u : Unit {0}). Word_is words.To) v
-Verb_end tolds.Less i negated v = Made (λ (u : Unit {0}). verbs.Compares (cond negated relations.GreaterOrEqual relations.Less)) (λ (u : Unit {0}). Word_is words.Than) v
-Verb_end tolds.Greater i negated v = Made (λ (u : Unit {0}). verbs.Compares (cond negated relations.LessOrEqual relations.Greater)) (λ (u : Unit {0}). Word_is words.Than) v
+abbrev Verb_end : TestWord → Bool → Bool → Verb → Shape
+Verb_end test_words.Empty true negated v = provided (verbs.IsEmpty negated ≡ v) nothing
+Verb_end test_words.Empty false negated v = never
+Verb_end test_words.In true negated v = provided (verbs.IsIn negated ≡ v) nothing
+Verb_end test_words.In false negated v = never
+Verb_end test_words.Equal i negated v = Made (λ (u : Unit {0}). verbs.Compares (cond negated relations.NotEqual relations.Equal)) (λ (u : Unit {0}). Word_is words.To) v
+Verb_end test_words.Less i negated v = Made (λ (u : Unit {0}). verbs.Compares (cond negated relations.GreaterOrEqual relations.Less)) (λ (u : Unit {0}). Word_is words.Than) v
+Verb_end test_words.Greater i negated v = Made (λ (u : Unit {0}). verbs.Compares (cond negated relations.LessOrEqual relations.Greater)) (λ (u : Unit {0}). Word_is words.Than) v
 
-verb_end_reads : (k : ℕ) (t : Told) (i negated : Bool) → Reads k (verb_end t i negated) (verb_end t i negated) (Verb_end t i negated) nowise
-verb_end_reads k tolds.Empty true negated = done_reads k (verbs.IsEmpty negated)
-verb_end_reads k tolds.Empty false negated = fail_reads k
-verb_end_reads k tolds.In true negated = done_reads k (verbs.IsIn negated)
-verb_end_reads k tolds.In false negated = fail_reads k
-verb_end_reads k tolds.Equal i negated = made_reads (expect_reads k (word words.To)) (λ (u : Unit {0}). verbs.Compares (cond negated relations.NotEqual relations.Equal))
-verb_end_reads k tolds.Less i negated = made_reads (expect_reads k (word words.Than)) (λ (u : Unit {0}). verbs.Compares (cond negated relations.GreaterOrEqual relations.Less))
-verb_end_reads k tolds.Greater i negated = made_reads (expect_reads k (word words.Than)) (λ (u : Unit {0}). verbs.Compares (cond negated relations.LessOrEqual relations.Greater))
+verb_end_reads : (k : ℕ) (t : TestWord) (i negated : Bool) → Reads k (verb_end t i negated) (verb_end t i negated) (Verb_end t i negated) continues_never
+verb_end_reads k test_words.Empty true negated = done_reads k (verbs.IsEmpty negated)
+verb_end_reads k test_words.Empty false negated = fail_reads k
+verb_end_reads k test_words.In true negated = done_reads k (verbs.IsIn negated)
+verb_end_reads k test_words.In false negated = fail_reads k
+verb_end_reads k test_words.Equal i negated = made_reads (expect_reads k (word words.To)) (λ (u : Unit {0}). verbs.Compares (cond negated relations.NotEqual relations.Equal))
+verb_end_reads k test_words.Less i negated = made_reads (expect_reads k (word words.Than)) (λ (u : Unit {0}). verbs.Compares (cond negated relations.GreaterOrEqual relations.Less))
+verb_end_reads k test_words.Greater i negated = made_reads (expect_reads k (word words.Than)) (λ (u : Unit {0}). verbs.Compares (cond negated relations.LessOrEqual relations.Greater))
 
 abbrev Worded : Verb → Shape
-Worded v ts rest = (p : Bool × (Bool × Told)) × (Verb_words p ▷ Verb_end p.1.1 p.0 p.1.0 v) ts rest
+Worded v ts rest = (p : Bool × (Bool × TestWord)) × (Verb_words p ▷ Verb_end p.1.1 p.0 p.1.0 v) ts rest
 
-worded_reads : (k : ℕ) → Reads k worded_verb worded_verb Worded nowise
+worded_reads : (k : ℕ) → Reads k worded_verb worded_verb Worded continues_never
 unfolding worded_verb
 worded_reads k = bind_reads (verb_words_reads k) (λ p. verb_end_reads k p.1.1 p.0 p.1.0) (λ p v ts rest s stop. refl)
 
@@ -122,7 +122,7 @@ worded_first : (v : Verb) (ts rest : List Token) → Worded v ts rest → (begin
 worded_first v ts rest ((true, (negated, t)), (m, (a, (span, line, e), s), end)) = (ap (begins_by relation_symbol) e, ap continues_sum e)
 worded_first v ts rest ((false, (true, t)), (m, (a, e, (b, (span, line, f), s)), end)) = (ap (begins_by relation_symbol) (e ∙ f), ap continues_sum (e ∙ f))
 worded_first v ts rest ((false, (false, t)), (m, (a, e, (b, f, (span, line, g))), end)) =
-    let no : relation_of (word_of t) ≡ None = (told_other t).2 in
+    let no : relation_of (word_of t) ≡ None = (test_word_other t).2 in
     (rw (e, f, g, no) refl, ap continues_sum (e ∙ f ∙ g))
 
 optionally : (i : Bool) (P : Shape) (ts rest : List Token) → flagged P i ts rest → optional P ts rest
@@ -132,31 +132,31 @@ optionally false P ts rest s = inl s
 worded_to : (v : Verb) (ts rest : List Token) → Worded v ts rest → Verb_is v ts rest
 worded_to v ts rest ((i, (negated, t)), (m, (a, s, (b, neg, at)), end)) = go t i negated a b m s neg at end
   where
-    go : (t : Told) (i negated : Bool) (a b m : List Token) → flagged (Word_is words.Is) i ts a → flagged (Word_is words.Not) negated a b → Told_is t b m → Verb_end t i negated v m rest → Verb_is v ts rest
-    go tolds.Empty true negated a b m s neg at end = subst (λ v. Verb_is v ts rest) end.0 (a, s, (b, neg, subst (λ r. Word_is words.Empty b r) end.1 at))
-    go tolds.Empty false negated a b m s neg at end = absurd end
-    go tolds.In true negated a b m s neg at end = subst (λ v. Verb_is v ts rest) end.0 (a, s, (b, neg, subst (λ r. Word_is words.In b r) end.1 at))
-    go tolds.In false negated a b m s neg at end = absurd end
-    go tolds.Equal i true a b m s neg at (u, makes, end) = subst (λ v. Verb_is v ts rest) makes (inr (inr (a, optionally i (Word_is words.Is) ts a s, (b, neg, (m, at, end)))))
-    go tolds.Equal i false a b m s neg at (u, makes, end) = subst (λ v. Verb_is v ts rest) makes (inr (inr (a, optionally i (Word_is words.Is) ts a s, (m, subst (λ r. Word_is words.Equal r m) (sym neg) at, end))))
-    go tolds.Less i true a b m s neg at (u, makes, end) = subst (λ v. Verb_is v ts rest) makes (inr (inr (a, optionally i (Word_is words.Is) ts a s, (b, neg, (m, at, end)))))
-    go tolds.Less i false a b m s neg at (u, makes, end) = subst (λ v. Verb_is v ts rest) makes (inr (inr (a, optionally i (Word_is words.Is) ts a s, (m, subst (λ r. Word_is words.Less r m) (sym neg) at, end))))
-    go tolds.Greater i true a b m s neg at (u, makes, end) = subst (λ v. Verb_is v ts rest) makes (inr (inr (a, optionally i (Word_is words.Is) ts a s, (b, neg, (m, at, end)))))
-    go tolds.Greater i false a b m s neg at (u, makes, end) = subst (λ v. Verb_is v ts rest) makes (inr (inr (a, optionally i (Word_is words.Is) ts a s, (m, subst (λ r. Word_is words.Greater r m) (sym neg) at, end))))
+    go : (t : TestWord) (i negated : Bool) (a b m : List Token) → flagged (Word_is words.Is) i ts a → flagged (Word_is words.Not) negated a b → Test_word_is t b m → Verb_end t i negated v m rest → Verb_is v ts rest
+    go test_words.Empty true negated a b m s neg at end = subst (λ v. Verb_is v ts rest) end.0 (a, s, (b, neg, subst (λ r. Word_is words.Empty b r) end.1 at))
+    go test_words.Empty false negated a b m s neg at end = absurd end
+    go test_words.In true negated a b m s neg at end = subst (λ v. Verb_is v ts rest) end.0 (a, s, (b, neg, subst (λ r. Word_is words.In b r) end.1 at))
+    go test_words.In false negated a b m s neg at end = absurd end
+    go test_words.Equal i true a b m s neg at (u, makes, end) = subst (λ v. Verb_is v ts rest) makes (inr (inr (a, optionally i (Word_is words.Is) ts a s, (b, neg, (m, at, end)))))
+    go test_words.Equal i false a b m s neg at (u, makes, end) = subst (λ v. Verb_is v ts rest) makes (inr (inr (a, optionally i (Word_is words.Is) ts a s, (m, subst (λ r. Word_is words.Equal r m) (sym neg) at, end))))
+    go test_words.Less i true a b m s neg at (u, makes, end) = subst (λ v. Verb_is v ts rest) makes (inr (inr (a, optionally i (Word_is words.Is) ts a s, (b, neg, (m, at, end)))))
+    go test_words.Less i false a b m s neg at (u, makes, end) = subst (λ v. Verb_is v ts rest) makes (inr (inr (a, optionally i (Word_is words.Is) ts a s, (m, subst (λ r. Word_is words.Less r m) (sym neg) at, end))))
+    go test_words.Greater i true a b m s neg at (u, makes, end) = subst (λ v. Verb_is v ts rest) makes (inr (inr (a, optionally i (Word_is words.Is) ts a s, (b, neg, (m, at, end)))))
+    go test_words.Greater i false a b m s neg at (u, makes, end) = subst (λ v. Verb_is v ts rest) makes (inr (inr (a, optionally i (Word_is words.Is) ts a s, (m, subst (λ r. Word_is words.Greater r m) (sym neg) at, end))))
 
 words_from : (i : Bool) (r : Relation) (ts a rest : List Token) → flagged (Word_is words.Is) i ts a → In_words r a rest → Worded (verbs.Compares r) ts rest
-words_from i relations.Equal ts a rest s (m, at, end) = ((i, (false, tolds.Equal)), (m, (a, s, (a, refl, at)), (tt, refl, end)))
-words_from i relations.NotEqual ts a rest s (b, neg, (m, at, end)) = ((i, (true, tolds.Equal)), (m, (a, s, (b, neg, at)), (tt, refl, end)))
-words_from i relations.Less ts a rest s (m, at, end) = ((i, (false, tolds.Less)), (m, (a, s, (a, refl, at)), (tt, refl, end)))
-words_from i relations.Greater ts a rest s (m, at, end) = ((i, (false, tolds.Greater)), (m, (a, s, (a, refl, at)), (tt, refl, end)))
-words_from i relations.LessOrEqual ts a rest s (b, neg, (m, at, end)) = ((i, (true, tolds.Greater)), (m, (a, s, (b, neg, at)), (tt, refl, end)))
-words_from i relations.GreaterOrEqual ts a rest s (b, neg, (m, at, end)) = ((i, (true, tolds.Less)), (m, (a, s, (b, neg, at)), (tt, refl, end)))
+words_from i relations.Equal ts a rest s (m, at, end) = ((i, (false, test_words.Equal)), (m, (a, s, (a, refl, at)), (tt, refl, end)))
+words_from i relations.NotEqual ts a rest s (b, neg, (m, at, end)) = ((i, (true, test_words.Equal)), (m, (a, s, (b, neg, at)), (tt, refl, end)))
+words_from i relations.Less ts a rest s (m, at, end) = ((i, (false, test_words.Less)), (m, (a, s, (a, refl, at)), (tt, refl, end)))
+words_from i relations.Greater ts a rest s (m, at, end) = ((i, (false, test_words.Greater)), (m, (a, s, (a, refl, at)), (tt, refl, end)))
+words_from i relations.LessOrEqual ts a rest s (b, neg, (m, at, end)) = ((i, (true, test_words.Greater)), (m, (a, s, (b, neg, at)), (tt, refl, end)))
+words_from i relations.GreaterOrEqual ts a rest s (b, neg, (m, at, end)) = ((i, (true, test_words.Less)), (m, (a, s, (b, neg, at)), (tt, refl, end)))
 
 -- a relation that is one token
-abbrev Symbol_said : Verb → Shape
-Symbol_said = Made verbs.Compares (In_table relation_symbol)
+abbrev Verb_symbol : Verb → Shape
+Verb_symbol = Made verbs.Compares (In_table relation_symbol)
 
-symbol_to : (v : Verb) (ts rest : List Token) → Symbol_said v ts rest → Verb_is v ts rest
+symbol_to : (v : Verb) (ts rest : List Token) → Verb_symbol v ts rest → Verb_is v ts rest
 symbol_to v ts rest (r, makes, (k, takes, at)) = subst (λ v. Verb_is v ts rest) makes (go k takes at)
   where
     go : (k : TokenKind) → relation_symbol k ≡ Some r → Token_is k ts rest → Relation_is r ts rest
@@ -164,15 +164,15 @@ symbol_to v ts rest (r, makes, (k, takes, at)) = subst (λ v. Verb_is v ts rest)
     go (kinds.Word w) e at = inr (inl (w, e, at))
     go _ e at = absurd cc
 
-verb_from : (v : Verb) (ts rest : List Token) → Verb_is v ts rest → Symbol_said v ts rest ⊎ Worded v ts rest
+verb_from : (v : Verb) (ts rest : List Token) → Verb_is v ts rest → Verb_symbol v ts rest ⊎ Worded v ts rest
 verb_from (verbs.Compares r) ts rest (inl (same, at)) = inl (r, refl, (kinds.Symbol Equals, ap Some (sym same), at))
 verb_from (verbs.Compares r) ts rest (inr (inl (w, e, at))) = inl (r, refl, (kinds.Word w, e, at))
 verb_from (verbs.Compares r) ts rest (inr (inr (a, inl e, s))) = inr (words_from false r ts a rest e s)
 verb_from (verbs.Compares r) ts rest (inr (inr (a, inr w, s))) = inr (words_from true r ts a rest w s)
-verb_from (verbs.IsEmpty negated) ts rest (a, s, (b, neg, at)) = inr ((true, (negated, tolds.Empty)), (rest, (a, s, (b, neg, at)), (refl, refl)))
-verb_from (verbs.IsIn negated) ts rest (a, s, (b, neg, at)) = inr ((true, (negated, tolds.In)), (rest, (a, s, (b, neg, at)), (refl, refl)))
+verb_from (verbs.IsEmpty negated) ts rest (a, s, (b, neg, at)) = inr ((true, (negated, test_words.Empty)), (rest, (a, s, (b, neg, at)), (refl, refl)))
+verb_from (verbs.IsIn negated) ts rest (a, s, (b, neg, at)) = inr ((true, (negated, test_words.In)), (rest, (a, s, (b, neg, at)), (refl, refl)))
 
-pub verb_reads : (k : ℕ) → Reads k verb verb Verb_is nowise
+pub verb_reads : (k : ℕ) → Reads k verb verb Verb_is continues_never
 unfolding verb
 verb_reads k =
     choose_reads (item_of (begins_by relation_symbol) (made_reads (taken_reads k relation_symbol) verbs.Compares) (λ ts v rest s. begins_table relation_symbol ts rest s.0 s.2) (λ ts v rest s. omega (arith, token_less s.2.0 ts rest s.2.2)))
@@ -184,7 +184,7 @@ symbol_stops (kinds.Symbol Equals) r ts rest e at = ap continues_sum at.2
 symbol_stops (kinds.Word w) r ts rest e at = ap continues_sum at.2
 symbol_stops _ r ts rest e at = absurd cc
 
-verb_stops : (v : Verb) (ts rest : List Token) → Verb_is v ts rest → nowise rest ≡ false → continues_sum ts ≡ false
+verb_stops : (v : Verb) (ts rest : List Token) → Verb_is v ts rest → continues_never rest ≡ false → continues_sum ts ≡ false
 verb_stops v ts rest s stop =
     elim (verb_from v ts rest s) [
       | inl p ↦ symbol_stops p.2.0 p.0 ts rest p.2.1 p.2.2
@@ -283,9 +283,9 @@ module _ (n m : ℕ) (le : n ≤ m) where
   abbrev Data_test : TestTree → Shape
   Data_test x = Word_is words.Data ▷ Word_is words.Is ▷ Made data_ended (λ negated. flagged (Word_is words.Not) negated ▷ Word_is words.Ended) x
 
-  data_item : Item (suc n) (begins (word words.Data)) data_test data_test Data_test nowise
+  data_item : Item (suc n) (begins (word words.Data)) data_test data_test Data_test continues_never
   unfolding data_test
-  data_item = item_marked (word words.Data) (marked_reads (word words.Is) (made_reads (closed_reads (mark_said_reads (suc n) (word words.Not)) (expect_reads (suc n) (word words.Ended)) (λ ts rest s stop. ap (begins (word words.Not)) s.2)) data_ended))
+  data_item = item_marked (word words.Data) (marked_reads (word words.Is) (made_reads (closed_reads (present_reads (suc n) (word words.Not)) (expect_reads (suc n) (word words.Ended)) (λ ts rest s stop. ap (begins (word words.Not)) s.2)) data_ended))
 
   data_to : (x : TestTree) (ts rest : List Token) → Data_test x ts rest → Test_is n x ts rest
   data_to x ts rest (a, d, (b, i, (negated, makes, s))) = subst (λ x. Test_is n x ts rest) makes (a, d, (b, i, s))

@@ -1,4 +1,4 @@
--- With more levels a reader reads the same, or it gave up for depth before. It gives up so only where many levels are opened.
+-- With more levels allowed, a reader reads the same, unless it gave up before for depth. It gives up so only where many levels are opened.
 use Rattle.std.proofs.Common.{◌≡◌, ℕ, suc, ◌<◌, ◌≤◌, Bool, true, false, cond, List, Result, Ok, Err, refl, ap, subst, arith, inl, inr, ◌⊎◌}
 use Rattle.ss_lex.specs.declared.token.Token.{Token}
 use Rattle.ss_parse_expressions.specs.declared.failure.Fault.{Fault}
@@ -25,7 +25,7 @@ upto_if false x x' y y' h k = k
 
 -- ---- many levels are opened
 
--- of n tokens that open a level, the rest has no more; and where it is too deep, they are k at least
+-- Of n tokens that open a level, the rest has no more. Where a reader finds them too deep, they are at least k.
 abbrev pub Bounded : {A : Type 0} → ℕ → ℕ → Result (A × List Token) Fault → Type 0
 Bounded k n (Ok x) = openers x.1 ≤ n
 Bounded k n (Err Syntax) = Unit {0}

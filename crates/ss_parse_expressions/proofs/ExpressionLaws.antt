@@ -14,7 +14,7 @@ use Rattle.ss_tree.specs.declared.expression.Function.{Function}
 use Rattle.ss_tree.specs.declared.expression.Designator.{Designator}
 use Rattle.ss_tree.specs.declared.expression.Designator.TheVariants as designators
 use Rattle.ss_tree.specs.Tree.{ExpressionTree, number, text, named, call, parenthesised, product, signed, sum, ExpressionRow, no_expression, and_expression, expression_row, TermRow, no_term, and_term, term_row}
-use Rattle.ss_parse_expressions.specs.Shapes.{Shape, ◌▷◌, nothing, never, Token_is, Symbol_is, Said, separator, each, listed, within}
+use Rattle.ss_parse_expressions.specs.Shapes.{Shape, ◌▷◌, nothing, never, Token_is, Symbol_is, Word_for, separator, each, listed, within}
 use Rattle.ss_parse_expressions.specs.SpelledExpressions.{Place, sum_place, first_place, term_place, factor_place, Sign_is, Designated, Spelled, Further_arguments, Further_factors, Further_terms}
 use Rattle.ss_parse_expressions.specs.WordTables.{function_of}
 use Rattle.ss_parse_expressions.specs.Openers.{opens, openers}
@@ -23,30 +23,30 @@ use Rattle.ss_parse_expressions.specs.ReadExpressions.{opening, closing, star, s
 use Rattle.ss_parse_expressions.proofs.Tools.{bind_ok, carry, or_false}
 use Rattle.ss_parse_expressions.proofs.Marks.{token, mark_begins, token_less, In_table}
 use Rattle.ss_parse_expressions.proofs.Depth.{Upto, upto_same, upto_bind, Bounded, bounded_more, bounded_bind, bounded_opened}
-use Rattle.ss_parse_expressions.proofs.ReaderLaws.{Reads, Item, nowise, item_of, item_skipped, taken_reads, seq_reads, before_mark_reads, opened_reads, apply_reads, maybe_list_reads, choose_reads, too_deep_reads}
+use Rattle.ss_parse_expressions.proofs.ReaderLaws.{Reads, Item, continues_never, item_of, item_skipped, taken_reads, seq_reads, before_mark_reads, opened_reads, apply_reads, maybe_list_reads, choose_reads, too_deep_reads}
 use Rattle.ss_parse_expressions.proofs.Rows.{rows_reads, each_first, list_reads, Loop, loop_of, separated_item}
 
 -- ---- rows as lists
 
 pub further_arguments : (levels : ℕ) (xs : List ExpressionTree) (ts rest : List Token) → each (λ e. separator ▷ Spelled e sum_place levels) xs ts rest → Further_arguments (expression_row xs) levels ts rest
 further_arguments levels [] ts rest e = e
-further_arguments levels (x ∷ xs) ts rest (m, (n, parted, one), more) = (n, parted, (m, one, further_arguments levels xs m rest more))
+further_arguments levels (x ∷ xs) ts rest (m, (n, separated, one), more) = (n, separated, (m, one, further_arguments levels xs m rest more))
 
 pub arguments_listed : (levels : ℕ) (es : ExpressionRow) (ts rest : List Token) → Further_arguments es levels ts rest → (xs : List ExpressionTree) × (expression_row xs ≡ es) × each (λ e. separator ▷ Spelled e sum_place levels) xs ts rest
 arguments_listed levels no_expression ts rest e = ([], refl, e)
-arguments_listed levels (and_expression x es) ts rest (n, parted, (m, one, more)) =
+arguments_listed levels (and_expression x es) ts rest (n, separated, (m, one, more)) =
     let found = arguments_listed levels es m rest more in
-    (x ∷ found.0, ap (and_expression x) found.1, (m, (n, parted, one), found.2))
+    (x ∷ found.0, ap (and_expression x) found.1, (m, (n, separated, one), found.2))
 
 further_factors : (levels : ℕ) (xs : List ExpressionTree) (ts rest : List Token) → each (λ e. Symbol_is Star ▷ Spelled e factor_place levels) xs ts rest → Further_factors (expression_row xs) levels ts rest
 further_factors levels [] ts rest e = e
-further_factors levels (x ∷ xs) ts rest (m, (n, parted, one), more) = (n, parted, (m, one, further_factors levels xs m rest more))
+further_factors levels (x ∷ xs) ts rest (m, (n, separated, one), more) = (n, separated, (m, one, further_factors levels xs m rest more))
 
 factors_listed : (levels : ℕ) (es : ExpressionRow) (ts rest : List Token) → Further_factors es levels ts rest → (xs : List ExpressionTree) × (expression_row xs ≡ es) × each (λ e. Symbol_is Star ▷ Spelled e factor_place levels) xs ts rest
 factors_listed levels no_expression ts rest e = ([], refl, e)
-factors_listed levels (and_expression x es) ts rest (n, parted, (m, one, more)) =
+factors_listed levels (and_expression x es) ts rest (n, separated, (m, one, more)) =
     let found = factors_listed levels es m rest more in
-    (x ∷ found.0, ap (and_expression x) found.1, (m, (n, parted, one), found.2))
+    (x ∷ found.0, ap (and_expression x) found.1, (m, (n, separated, one), found.2))
 
 -- a further term of a sum
 abbrev Term_is : ℕ → Sign × ExpressionTree → Shape
@@ -77,7 +77,7 @@ designated_begins (designators.Name n) ts rest (span, line, e) = (rw e refl, rw 
 designated_begins designators.TimeV ts rest (span, line, e) = (rw e refl, rw e refl)
 designated_begins designators.TimeA ts rest (span, line, e) = (rw e refl, rw e refl)
 
-function_begins : (f : Function) (ts rest : List Token) → Said function_of f ts rest → (begins_sum ts ≡ true) × (begins_sign ts ≡ false)
+function_begins : (f : Function) (ts rest : List Token) → Word_for function_of f ts rest → (begins_sum ts ≡ true) × (begins_sign ts ≡ false)
 function_begins f ts rest (w, means, (span, line, e)) =
     let there : is_some (function_of w) ≡ true = rw means refl in
     (ap begins_sum e ∙ or_right (is_some (designator_of_word w)) (is_some (function_of w)) there, rw e refl)
@@ -214,12 +214,12 @@ sign_from : (sign : Sign) (ts rest : List Token) → Sign_is sign ts rest → In
 sign_from signs.Plus ts rest at = (kinds.Symbol Plus, refl, at)
 sign_from signs.Minus ts rest at = (kinds.Symbol Minus, refl, at)
 
--- ---- what stands in parentheses
+-- ---- arguments in parentheses
 
 abbrev Enclosed : ℕ → List ExpressionTree → Shape
 Enclosed n xs = Symbol_is OpenParenthesis ▷ listed (In n) xs ▷ Symbol_is CloseParenthesis
 
--- the same of a row
+-- arguments in parentheses, as a row of the tree
 abbrev Enclosed_row : ℕ → ExpressionRow → Shape
 Enclosed_row n no_expression = never
 Enclosed_row n (and_expression e es) = Symbol_is OpenParenthesis ▷ within (λ l. Spelled e sum_place l ▷ Further_arguments es l) n ▷ Symbol_is CloseParenthesis
@@ -263,11 +263,11 @@ named_from d n (and_expression e es) place ts rest (a, at, s) =
     go [] is s = absurd cc
     go (x ∷ xs) is s = s
 
-call_to : (f : Function) (n : ℕ) (xs : List ExpressionTree) (place : Place) (ts a rest : List Token) → Said function_of f ts a → Enclosed n xs a rest → Spelled (call f (expression_row xs)) place n ts rest
+call_to : (f : Function) (n : ℕ) (xs : List ExpressionTree) (place : Place) (ts a rest : List Token) → Word_for function_of f ts a → Enclosed n xs a rest → Spelled (call f (expression_row xs)) place n ts rest
 call_to f n [] place ts a rest at (b, opened, (c, nothing_there, close)) = absurd nothing_there
 call_to f n (x ∷ xs) place ts a rest at s = (a, at, enclosed_to n (x ∷ xs) a rest s)
 
-call_from : (f : Function) (n : ℕ) (es : ExpressionRow) (place : Place) (ts rest : List Token) → Spelled (call f es) place n ts rest → (xs : List ExpressionTree) × (expression_row xs ≡ es) × (Said function_of f ▷ Enclosed n xs) ts rest
+call_from : (f : Function) (n : ℕ) (es : ExpressionRow) (place : Place) (ts rest : List Token) → Spelled (call f es) place n ts rest → (xs : List ExpressionTree) × (expression_row xs ≡ es) × (Word_for function_of f ▷ Enclosed n xs) ts rest
 call_from f n no_expression place ts rest s = absurd s
 call_from f n (and_expression e es) place ts rest (a, at, s) =
     let found = enclosed_from n (and_expression e es) a rest s in
@@ -292,26 +292,26 @@ function_no_designator words.TimeV f e = absurd cc
 function_no_designator words.TimeA f e = absurd cc
 function_no_designator _ f e = refl
 
--- ---- the laws, where they hold of what stands in parentheses
+-- ---- the laws of an expression, given those of what is in its parentheses
 
 module _ (n m : ℕ) (inner : Reads n (sum_in n) (sum_in m) (In n) continues_sum) (inner_less : (ts : List Token) (e : ExpressionTree) (rest : List Token) → In n e ts rest → length rest < length ts) where
   pub arguments_reads : Reads n (arguments_with (sum_in n)) (arguments_with (sum_in m)) (listed (In n)) (λ ts. begins_more begins_sum ts || (continues_sum ts || continues_sum ts))
   arguments_reads = list_reads inner begins_sum (in_begins n) sum_no_and inner_less (λ span line ts. refl) (λ span line ts. refl)
 
-  enclosed_reads : Reads (suc n) (enclosed_with (sum_in n)) (enclosed_with (sum_in m)) (Enclosed n) nowise
+  enclosed_reads : Reads (suc n) (enclosed_with (sum_in n)) (enclosed_with (sum_in m)) (Enclosed n) continues_never
   unfolding enclosed_with
   enclosed_reads = opened_reads opening refl (before_mark_reads closing arguments_reads (λ span line ts. refl))
 
-  enclosed_item : Item (suc n) (begins opening) (enclosed_with (sum_in n)) (enclosed_with (sum_in m)) (Enclosed n) nowise
+  enclosed_item : Item (suc n) (begins opening) (enclosed_with (sum_in n)) (enclosed_with (sum_in m)) (Enclosed n) continues_never
   enclosed_item =
       item_of (begins opening) enclosed_reads (λ ts xs rest s. mark_begins opening ts s.0 s.1)
       (λ ts xs rest s. omega (arith, token_less (kinds.Symbol OpenParenthesis) ts s.0 s.1, arguments_reads.shorter s.0 xs s.2.0 s.2.1, token_less (kinds.Symbol CloseParenthesis) s.2.0 rest s.2.2))
 
-  subscripts_reads : Reads (suc n) (subscripts_with (sum_in n)) (subscripts_with (sum_in m)) (Subscripts n) (λ ts. begins opening ts || nowise ts)
+  subscripts_reads : Reads (suc n) (subscripts_with (sum_in n)) (subscripts_with (sum_in m)) (Subscripts n) (λ ts. begins opening ts || continues_never ts)
   unfolding subscripts_with
   subscripts_reads = maybe_list_reads enclosed_item (subscripts_to n) (subscripts_from n) (λ ts. refl)
 
-  parenthesised_reads : Reads n (parenthesised_with (sum_in n)) (parenthesised_with (sum_in m)) (λ x ts rest. (e : ExpressionTree) × (parenthesised e ≡ x) × (In n e ▷ Symbol_is CloseParenthesis) ts rest) nowise
+  parenthesised_reads : Reads n (parenthesised_with (sum_in n)) (parenthesised_with (sum_in m)) (λ x ts rest. (e : ExpressionTree) × (parenthesised e ≡ x) × (In n e ▷ Symbol_is CloseParenthesis) ts rest) continues_never
   unfolding parenthesised_with
   parenthesised_reads =
       apply_reads (before_mark_reads closing inner (λ span line ts. refl)) parenthesised
@@ -326,7 +326,7 @@ module _ (n m : ℕ) (inner : Reads n (sum_in n) (sum_in m) (In n) continues_sum
       carry (λ (x : ExpressionTree) (r : List Token). Spelled x factor_place n ts r) (named d (expression_row xs.0.0)) x xs.0.1 rest xs.2
       (named_to d n xs.0.0 factor_place ts a xs.0.1 at (subscripts_reads.sound a xs.0.0 xs.0.1 xs.1))
 
-  call_sound : (f : Function) (ts a : List Token) (x : ExpressionTree) (rest : List Token) → Said function_of f ts a → call_with (sum_in n) f a ≡ Ok (x, rest) → Spelled x factor_place n ts rest
+  call_sound : (f : Function) (ts a : List Token) (x : ExpressionTree) (rest : List Token) → Word_for function_of f ts a → call_with (sum_in n) f a ≡ Ok (x, rest) → Spelled x factor_place n ts rest
   call_sound f ts a x rest at e =
       let xs = bind_ok (enclosed_with (sum_in n) a) _ _ e in
       carry (λ (x : ExpressionTree) (r : List Token). Spelled x factor_place n ts r) (call f (expression_row xs.0.0)) x xs.0.1 rest xs.2
@@ -375,7 +375,7 @@ module _ (n m : ℕ) (inner : Reads n (sum_in n) (sum_in m) (In n) continues_sum
       let found = call_from f n es factor_place ts rest s in
       go found.0 found.1 found.2
     where
-      go : (xs : List ExpressionTree) → expression_row xs ≡ es → (Said function_of f ▷ Enclosed n xs) ts rest → factor_with (sum_in n) ts ≡ Ok (call f es, rest)
+      go : (xs : List ExpressionTree) → expression_row xs ≡ es → (Word_for function_of f ▷ Enclosed n xs) ts rest → factor_with (sum_in n) ts ≡ Ok (call f es, rest)
       go xs is (a, (w, means, (span, line, e)), s) =
           let no = function_no_designator w f means in
           let read : enclosed_with (sum_in n) a ≡ Ok (xs, rest) = enclosed_reads.complete a xs rest s refl in
@@ -511,7 +511,7 @@ module _ (n m : ℕ) (inner : Reads n (sum_in n) (sum_in m) (In n) continues_sum
   unfolding signed_term_with
   signed_term_reads = seq_reads sign_reads term_reads (λ x ts rest s stop. refl)
     where
-      sign_reads : Reads (suc n) (taken sign_of) (taken sign_of) Sign_is nowise
+      sign_reads : Reads (suc n) (taken sign_of) (taken sign_of) Sign_is continues_never
       sign_reads =
           let law = taken_reads (suc n) sign_of in
           record { sound = λ ts x rest e. sign_to x ts rest (law.sound ts x rest e); complete = λ ts x rest s stop. law.complete ts x rest (sign_from x ts rest s) stop; shorter = λ ts x rest s. law.shorter ts x rest (sign_from x ts rest s); under = law.under; opening = law.opening }

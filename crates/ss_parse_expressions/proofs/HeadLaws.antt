@@ -10,25 +10,25 @@ use Rattle.ss_tree.specs.declared.head.PhraseKind.{PhraseKind}
 use Rattle.ss_tree.specs.declared.head.GuardKind.{GuardKind}
 use Rattle.ss_tree.specs.Tree.{ExpressionTree, NamedTree, ConditionTree, PhraseTree, GuardTree, StartTree, from_end, from_member, after_member, HeadTree, over_range, over_members, over_class, LoopHeadTree, guarded}
 use Rattle.ss_parse_expressions.specs.declared.classes.Class.TheVariants as classes
-use Rattle.ss_parse_expressions.specs.Shapes.{Shape, ◌▷◌, nothing, either, provided, noise, Word_is, Symbol_is, Name_is, Said, each, perhaps, flagged}
+use Rattle.ss_parse_expressions.specs.Shapes.{Shape, ◌▷◌, nothing, either, provided, noise, Word_is, Symbol_is, Name_is, Word_for, each, perhaps, flagged}
 use Rattle.ss_parse_expressions.specs.Words.{One_of, the}
 use Rattle.ss_parse_expressions.specs.SpelledExpressions.{Sum_is, Reference_is}
-use Rattle.ss_parse_expressions.specs.SpelledConditions.{Start_is, Head_behind}
+use Rattle.ss_parse_expressions.specs.SpelledConditions.{Start_is, Head_rest}
 use Rattle.ss_parse_expressions.specs.WordTables.{phrase_of, guard_of}
-use Rattle.ss_parse_expressions.specs.Reading.{word, symbol, is, is_some, begins, expect, in_table, behind, apply, choose, comma, skip_comma}
+use Rattle.ss_parse_expressions.specs.Reading.{word, symbol, is, is_some, begins, expect, in_table, following, apply, choose, comma, skip_comma}
 use Rattle.ss_parse_expressions.specs.ReadWords.{done, begins_class, begins_among}
 use Rattle.ss_parse_expressions.specs.ReadExpressions.{sum_in}
 use Rattle.ss_parse_expressions.specs.ReadHeads.{phrase_tree, guard_tree, begins_phrase, begins_guard, phrase_in, guard_in, phrases_in, guards_in, step_in, range_tree, range_in, start_in, reverse, members_tree, members_in, class_tree, class_in, each_named, each_in, for_in, guarded_in}
 use Rattle.ss_parse_expressions.proofs.Tools.{or_false}
 use Rattle.ss_parse_expressions.proofs.Marks.{token_less}
-use Rattle.ss_parse_expressions.proofs.ReaderLaws.{Reads, Item, nowise, Made, item_of, item_marked, noisy_item, expect_reads, seq_reads, behind_reads, bind_reads, apply_reads, made_reads, marked_reads, said_reads, fewer_reads, maybe_reads, flag_reads}
+use Rattle.ss_parse_expressions.proofs.ReaderLaws.{Reads, Item, continues_never, Made, item_of, item_marked, noisy_item, expect_reads, seq_reads, following_reads, bind_reads, apply_reads, made_reads, marked_reads, reshaped_reads, fewer_reads, maybe_reads, flag_reads}
 use Rattle.ss_parse_expressions.proofs.Rows.{rows_reads, each_first, Loop, loop_of}
 use Rattle.ss_parse_expressions.proofs.WordLaws.{word_in_reads, expect_class_reads, done_reads, name_reads, either_reads, item_made, one_begins, one_less, no_word}
 use Rattle.ss_parse_expressions.proofs.ExpressionLaws.{sum_in_reads, continues_sum}
 use Rattle.ss_parse_expressions.proofs.PlaceLaws.{continues_place}
 use Rattle.ss_parse_expressions.proofs.ConditionLaws.{stops_place, the_set_reads, In_condition, continues_condition, condition_in_reads, condition_less}
 
--- words that may follow a part of a head and go on with it
+-- words that may follow a part of a head and continue it
 abbrev pub head_more : Word → Bool
 head_more words.By = true
 head_more words.From = true
@@ -37,7 +37,7 @@ head_more words.In = true
 head_more words.Called = true
 head_more _ = false
 
--- what continues a part of a head, phrases apart
+-- which tokens continue a part of a head, other than those that begin phrases
 abbrev pub continues_head : List Token → Bool
 continues_head ts = begins_among head_more ts || continues_condition ts
 
@@ -67,10 +67,10 @@ phrase_no_more words.While kind e = (refl, refl, refl)
 phrase_no_more words.Until kind e = (refl, refl, refl)
 phrase_no_more _ kind e = absurd cc
 
-abbrev pub phrase_said : ℕ → PhraseTree → Shape
-phrase_said n x = Said phrase_of x.kind ▷ In_condition n x.condition
+abbrev pub Bare_phrase : ℕ → PhraseTree → Shape
+Bare_phrase n x = Word_for phrase_of x.kind ▷ In_condition n x.condition
 
-phrase_starts : (n : ℕ) (ts : List Token) (x : PhraseTree) (rest : List Token) → phrase_said n x ts rest → begins_phrase ts ≡ true
+phrase_starts : (n : ℕ) (ts : List Token) (x : PhraseTree) (rest : List Token) → Bare_phrase n x ts rest → begins_phrase ts ≡ true
 phrase_starts n ts x rest (a, (w, means, (span, line, e)), s) = let there : is_some (phrase_of w) ≡ true = rw means refl in ap begins_phrase e ∙ there
 
 phrase_no_comma : (ts : List Token) → begins_phrase ts ≡ true → begins comma ts ≡ false
@@ -81,7 +81,7 @@ phrase_no_comma (t ∷ ts) e = go t.kind e
     go (kinds.Word w) e = refl
     go _ e = absurd cc
 
-phrase_stops : (n : ℕ) (ts : List Token) (x : PhraseTree) (rest : List Token) → (noise ▷ phrase_said n x) ts rest → continues_head ts ≡ false
+phrase_stops : (n : ℕ) (ts : List Token) (x : PhraseTree) (rest : List Token) → (noise ▷ Bare_phrase n x) ts rest → continues_head ts ≡ false
 phrase_stops n ts x rest (a, inr (span, line, e), s) = ap continues_head e
 phrase_stops n ts x rest (a, inl e, (b, (w, means, (span, line, f)), s)) =
     let no = phrase_no_more w x.kind means in
@@ -91,18 +91,18 @@ phrase_stops n ts x rest (a, inl e, (b, (w, means, (span, line, f)), s)) =
     rw (e, f, no_or, no_and, no_more) refl
 
 module _ (n m : ℕ) (le : n ≤ m) where
-  phrase_reads : Reads n (phrase_in n) (phrase_in m) (phrase_said n) continues_condition
+  phrase_reads : Reads n (phrase_in n) (phrase_in m) (Bare_phrase n) continues_condition
   unfolding phrase_in
-  phrase_reads = apply_reads (seq_reads (word_in_reads n phrase_of) (condition_in_reads n m le) (λ c ts rest s stop. refl)) phrase_tree (phrase_said n) (λ p ts rest s. s) (λ x ts rest s. ((x.kind, x.condition), refl, s))
+  phrase_reads = apply_reads (seq_reads (word_in_reads n phrase_of) (condition_in_reads n m le) (λ c ts rest s stop. refl)) phrase_tree (Bare_phrase n) (λ p ts rest s. s) (λ x ts rest s. ((x.kind, x.condition), refl, s))
 
-  phrase_item : Item n (λ ts. begins_phrase (skip_comma ts)) (λ r. phrase_in n (skip_comma r)) (λ r. phrase_in m (skip_comma r)) (λ x. noise ▷ phrase_said n x) continues_condition
+  phrase_item : Item n (λ ts. begins_phrase (skip_comma ts)) (λ r. phrase_in n (skip_comma r)) (λ r. phrase_in m (skip_comma r)) (λ x. noise ▷ Bare_phrase n x) continues_condition
   phrase_item = noisy_item phrase_reads begins_phrase (phrase_starts n) phrase_no_comma (λ ts x rest s. omega (arith, token_less (kinds.Word s.1.0) ts s.0 s.1.2, condition_less n m le s.0 x.condition rest s.2))
 
-  pub phrases_reads : Reads n (phrases_in n) (phrases_in m) (each (λ x. noise ▷ phrase_said n x)) (λ ts. begins_phrase (skip_comma ts) || continues_condition ts)
+  pub phrases_reads : Reads n (phrases_in n) (phrases_in m) (each (λ x. noise ▷ Bare_phrase n x)) (λ ts. begins_phrase (skip_comma ts) || continues_condition ts)
   phrases_reads = rows_reads phrase_item (λ ts x rest s. no_condition ts (phrase_stops n ts x rest s))
 
-  -- what can't continue a head, and no phrase begins with, doesn't begin phrases
-  pub phrases_stop : (xs : List PhraseTree) (ts rest : List Token) → each (λ x. noise ▷ phrase_said n x) xs ts rest → continues_head rest ≡ false → continues_head ts ≡ false
+  -- a token that can't continue a head and begins no phrase doesn't begin phrases
+  pub phrases_stop : (xs : List PhraseTree) (ts rest : List Token) → each (λ x. noise ▷ Bare_phrase n x) xs ts rest → continues_head rest ≡ false → continues_head ts ≡ false
   phrases_stop xs ts rest s stop = each_first continues_head (phrase_stops n) xs ts rest s stop
 
 pub phrases_loop : (n : ℕ) → Loop (λ ts. begins_phrase (skip_comma ts)) (λ r. phrase_in n (skip_comma r))
@@ -115,10 +115,10 @@ guard_no_more words.While kind e = (refl, refl, refl)
 guard_no_more words.Until kind e = (refl, refl, refl)
 guard_no_more _ kind e = absurd cc
 
-abbrev pub guard_said : ℕ → GuardTree → Shape
-guard_said n x = Said guard_of x.kind ▷ In_condition n x.condition
+abbrev pub Bare_guard : ℕ → GuardTree → Shape
+Bare_guard n x = Word_for guard_of x.kind ▷ In_condition n x.condition
 
-guard_starts : (n : ℕ) (ts : List Token) (x : GuardTree) (rest : List Token) → guard_said n x ts rest → begins_guard ts ≡ true
+guard_starts : (n : ℕ) (ts : List Token) (x : GuardTree) (rest : List Token) → Bare_guard n x ts rest → begins_guard ts ≡ true
 guard_starts n ts x rest (a, (w, means, (span, line, e)), s) = let there : is_some (guard_of w) ≡ true = rw means refl in ap begins_guard e ∙ there
 
 guard_no_comma : (ts : List Token) → begins_guard ts ≡ true → begins comma ts ≡ false
@@ -129,7 +129,7 @@ guard_no_comma (t ∷ ts) e = go t.kind e
     go (kinds.Word w) e = refl
     go _ e = absurd cc
 
-guard_stops : (n : ℕ) (ts : List Token) (x : GuardTree) (rest : List Token) → (noise ▷ guard_said n x) ts rest → continues_head ts ≡ false
+guard_stops : (n : ℕ) (ts : List Token) (x : GuardTree) (rest : List Token) → (noise ▷ Bare_guard n x) ts rest → continues_head ts ≡ false
 guard_stops n ts x rest (a, inr (span, line, e), s) = ap continues_head e
 guard_stops n ts x rest (a, inl e, (b, (w, means, (span, line, f)), s)) =
     let no = guard_no_more w x.kind means in
@@ -139,18 +139,18 @@ guard_stops n ts x rest (a, inl e, (b, (w, means, (span, line, f)), s)) =
     rw (e, f, no_or, no_and, no_more) refl
 
 module _ (n m : ℕ) (le : n ≤ m) where
-  guard_reads : Reads n (guard_in n) (guard_in m) (guard_said n) continues_condition
+  guard_reads : Reads n (guard_in n) (guard_in m) (Bare_guard n) continues_condition
   unfolding guard_in
-  guard_reads = apply_reads (seq_reads (word_in_reads n guard_of) (condition_in_reads n m le) (λ c ts rest s stop. refl)) guard_tree (guard_said n) (λ p ts rest s. s) (λ x ts rest s. ((x.kind, x.condition), refl, s))
+  guard_reads = apply_reads (seq_reads (word_in_reads n guard_of) (condition_in_reads n m le) (λ c ts rest s stop. refl)) guard_tree (Bare_guard n) (λ p ts rest s. s) (λ x ts rest s. ((x.kind, x.condition), refl, s))
 
-  guard_item : Item n (λ ts. begins_guard (skip_comma ts)) (λ r. guard_in n (skip_comma r)) (λ r. guard_in m (skip_comma r)) (λ x. noise ▷ guard_said n x) continues_condition
+  guard_item : Item n (λ ts. begins_guard (skip_comma ts)) (λ r. guard_in n (skip_comma r)) (λ r. guard_in m (skip_comma r)) (λ x. noise ▷ Bare_guard n x) continues_condition
   guard_item = noisy_item guard_reads begins_guard (guard_starts n) guard_no_comma (λ ts x rest s. omega (arith, token_less (kinds.Word s.1.0) ts s.0 s.1.2, condition_less n m le s.0 x.condition rest s.2))
 
-  pub guards_reads : Reads n (guards_in n) (guards_in m) (each (λ x. noise ▷ guard_said n x)) (λ ts. begins_guard (skip_comma ts) || continues_condition ts)
+  pub guards_reads : Reads n (guards_in n) (guards_in m) (each (λ x. noise ▷ Bare_guard n x)) (λ ts. begins_guard (skip_comma ts) || continues_condition ts)
   guards_reads = rows_reads guard_item (λ ts x rest s. no_condition ts (guard_stops n ts x rest s))
 
-  -- what can't continue a head, and no guard begins with, doesn't begin guards
-  pub guards_stop : (xs : List GuardTree) (ts rest : List Token) → each (λ x. noise ▷ guard_said n x) xs ts rest → continues_head rest ≡ false → continues_head ts ≡ false
+  -- a token that can't continue a head and begins no guard doesn't begin guards
+  pub guards_stop : (xs : List GuardTree) (ts rest : List Token) → each (λ x. noise ▷ Bare_guard n x) xs ts rest → continues_head rest ≡ false → continues_head ts ≡ false
   guards_stop xs ts rest s stop = each_first continues_head (guard_stops n) xs ts rest s stop
 
 pub guards_loop : (n : ℕ) → Loop (λ ts. begins_guard (skip_comma ts)) (λ r. guard_in n (skip_comma r))
@@ -162,14 +162,14 @@ guards_loop n = loop_of (guard_item n n (omega arith)) refl
 abbrev pub continues_for : List Token → Bool
 continues_for ts = begins_phrase (skip_comma ts) || continues_head ts
 
-abbrev pub Phrase_said : ℕ → PhraseTree → Shape
-Phrase_said n x = noise ▷ phrase_said n x
+abbrev pub Noisy_phrase : ℕ → PhraseTree → Shape
+Noisy_phrase n x = noise ▷ Bare_phrase n x
 
 module _ (n m : ℕ) (le : n ≤ m) where
   room_sum : Reads (suc n) (sum_in (suc n)) (sum_in (suc m)) (λ e. Sum_is n e) continues_sum
   room_sum = sum_in_reads (suc n) (suc m) (omega arith)
 
-  room_phrases : Reads (suc n) (phrases_in (suc n)) (phrases_in (suc m)) (each (Phrase_said (suc n))) continues_for
+  room_phrases : Reads (suc n) (phrases_in (suc n)) (phrases_in (suc m)) (each (Noisy_phrase (suc n))) continues_for
   room_phrases = fewer_reads (phrases_reads (suc n) (suc m) (omega arith)) continues_for (λ ts stop.
       let both = or_false (begins_phrase (skip_comma ts)) (continues_head ts) stop in
       let a : begins_phrase (skip_comma ts) ≡ false = both.0 in
@@ -177,7 +177,7 @@ module _ (n m : ℕ) (le : n ≤ m) where
       rw (a, b) refl)
 
   -- what can't continue a part of a head is no phrase
-  by_phrases : (xs : List PhraseTree) (ts rest : List Token) → each (Phrase_said (suc n)) xs ts rest → continues_for rest ≡ false → continues_head ts ≡ false
+  by_phrases : (xs : List PhraseTree) (ts rest : List Token) → each (Noisy_phrase (suc n)) xs ts rest → continues_for rest ≡ false → continues_head ts ≡ false
   by_phrases xs ts rest s stop = phrases_stop (suc n) (suc n) (omega arith) xs ts rest s (or_false (begins_phrase (skip_comma rest)) (continues_head rest) stop).1
 
   step_reads : Reads (suc n) (step_in (suc n)) (step_in (suc m)) (perhaps (λ e. Word_is words.By ▷ Sum_is n e)) (λ ts. begins (word words.By) ts || continues_sum ts)
@@ -189,12 +189,12 @@ module _ (n m : ℕ) (le : n ≤ m) where
       let b : continues_sum ts ≡ false = no_sum ts stop in
       rw (a, b) refl
 
-  step_stops : (p : Option ExpressionTree × List PhraseTree) (ts rest : List Token) → (perhaps (λ e. Word_is words.By ▷ Sum_is n e) p.0 ▷ each (Phrase_said (suc n)) p.1) ts rest → continues_for rest ≡ false → continues_sum ts ≡ false
+  step_stops : (p : Option ExpressionTree × List PhraseTree) (ts rest : List Token) → (perhaps (λ e. Word_is words.By ▷ Sum_is n e) p.0 ▷ each (Noisy_phrase (suc n)) p.1) ts rest → continues_for rest ≡ false → continues_sum ts ≡ false
   step_stops (None, ps) ts rest (a, e, s) stop = ap continues_sum e ∙ no_sum a (by_phrases ps a rest s stop)
   step_stops (Some e, ps) ts rest (a, (b, (span, line, f), s), t) stop = ap continues_sum f
 
   abbrev Range_parts : List ℕ × (ExpressionTree × (ExpressionTree × (Option ExpressionTree × List PhraseTree))) → Shape
-  Range_parts p = Name_is p.0 ▷ Symbol_is Equals ▷ Sum_is n p.1.0 ▷ Word_is words.To ▷ Sum_is n p.1.1.0 ▷ perhaps (λ e. Word_is words.By ▷ Sum_is n e) p.1.1.1.0 ▷ each (Phrase_said (suc n)) p.1.1.1.1
+  Range_parts p = Name_is p.0 ▷ Symbol_is Equals ▷ Sum_is n p.1.0 ▷ Word_is words.To ▷ Sum_is n p.1.1.0 ▷ perhaps (λ e. Word_is words.By ▷ Sum_is n e) p.1.1.1.0 ▷ each (Noisy_phrase (suc n)) p.1.1.1.1
 
   range_reads : Reads (suc n) (range_in (suc n)) (range_in (suc m)) (Made range_tree Range_parts) continues_for
   unfolding range_in
@@ -203,7 +203,7 @@ module _ (n m : ℕ) (le : n ≤ m) where
 
   -- ---- over a set
 
-  -- what continues where a loop over a set begins
+  -- which tokens continue the place where a loop over a set begins
   abbrev continues_start : List Token → Bool
   continues_start ts = begins (word words.From) ts || (begins (word words.After) ts || continues_sum ts)
 
@@ -214,7 +214,7 @@ module _ (n m : ℕ) (le : n ≤ m) where
       let c : continues_sum ts ≡ false = no_sum ts stop in
       rw (a, b, c) refl
 
-  after_reads : Reads (suc n) (choose (begins (word words.After)) (apply after_member (behind (expect (word words.After)) (sum_in (suc n)))) (done from_end)) (choose (begins (word words.After)) (apply after_member (behind (expect (word words.After)) (sum_in (suc m)))) (done from_end)) (λ x. either (Made after_member (λ e. Word_is words.After ▷ Sum_is n e) x) (provided (from_end ≡ x) nothing)) (λ ts. begins (word words.After) ts || continues_sum ts)
+  after_reads : Reads (suc n) (choose (begins (word words.After)) (apply after_member (following (expect (word words.After)) (sum_in (suc n)))) (done from_end)) (choose (begins (word words.After)) (apply after_member (following (expect (word words.After)) (sum_in (suc m)))) (done from_end)) (λ x. either (Made after_member (λ e. Word_is words.After ▷ Sum_is n e) x) (provided (from_end ≡ x) nothing)) (λ ts. begins (word words.After) ts || continues_sum ts)
   after_reads =
       either_reads (item_made (word words.After) room_sum after_member) (done_reads (suc n) from_end) (λ ts. begins (word words.After) ts || continues_sum ts)
       (λ ts stop. ((or_false (begins (word words.After) ts) (continues_sum ts) stop).1, refl))
@@ -227,7 +227,7 @@ module _ (n m : ℕ) (le : n ≤ m) where
   start_reads : Reads (suc n) (start_in (suc n)) (start_in (suc m)) (Start_is n) continues_start
   unfolding start_in
   start_reads =
-      said_reads (either_reads (item_made (word words.From) room_sum from_member) after_reads continues_start
+      reshaped_reads (either_reads (item_made (word words.From) room_sum from_member) after_reads continues_start
       (λ ts stop. let both = or_false (begins (word words.From) ts) (begins (word words.After) ts || continues_sum ts) stop in ((or_false (begins (word words.After) ts) (continues_sum ts) both.1).1, both.1))
       after_late) (Start_is n) to from
     where
@@ -244,20 +244,20 @@ module _ (n m : ℕ) (le : n ≤ m) where
   abbrev Reverse_words : Shape
   Reverse_words = Word_is words.In ▷ Word_is words.Reverse ▷ Word_is words.Order
 
-  reverse_reads : Reads (suc n) reverse reverse (flagged Reverse_words) (λ ts. begins (word words.In) ts || nowise ts)
+  reverse_reads : Reads (suc n) reverse reverse (flagged Reverse_words) (λ ts. begins (word words.In) ts || continues_never ts)
   unfolding reverse
   reverse_reads = flag_reads (item_marked (word words.In) (marked_reads (word words.Reverse) (expect_reads (suc n) (word words.Order))))
 
-  stops_reverse : (ts : List Token) → continues_head ts ≡ false → (begins (word words.In) ts || nowise ts) ≡ false
+  stops_reverse : (ts : List Token) → continues_head ts ≡ false → (begins (word words.In) ts || continues_never ts) ≡ false
   stops_reverse ts stop =
       let a : begins (word words.In) ts ≡ false = no_word head_more words.In refl ts (no_more ts stop) in
       rw a refl
 
-  reverse_stops : (p : Bool × List PhraseTree) (ts rest : List Token) → (flagged Reverse_words p.0 ▷ each (Phrase_said (suc n)) p.1) ts rest → continues_for rest ≡ false → continues_start ts ≡ false
+  reverse_stops : (p : Bool × List PhraseTree) (ts rest : List Token) → (flagged Reverse_words p.0 ▷ each (Noisy_phrase (suc n)) p.1) ts rest → continues_for rest ≡ false → continues_start ts ≡ false
   reverse_stops (true, ps) ts rest (a, (b, (span, line, e), s), t) stop = ap continues_start e
   reverse_stops (false, ps) ts rest (a, e, t) stop = ap continues_start e ∙ stops_start a (by_phrases ps a rest t stop)
 
-  start_stops : (p : StartTree × (Bool × List PhraseTree)) (ts rest : List Token) → (Start_is n p.0 ▷ flagged Reverse_words p.1.0 ▷ each (Phrase_said (suc n)) p.1.1) ts rest → continues_for rest ≡ false → continues_place ts ≡ false
+  start_stops : (p : StartTree × (Bool × List PhraseTree)) (ts rest : List Token) → (Start_is n p.0 ▷ flagged Reverse_words p.1.0 ▷ each (Noisy_phrase (suc n)) p.1.1) ts rest → continues_for rest ≡ false → continues_place ts ≡ false
   start_stops (from_end, q) ts rest (a, e, s) stop =
       let no = reverse_stops q a rest s stop in
       ap continues_place e ∙ stops_place a (or_false (begins (word words.After) a) (continues_sum a) (or_false (begins (word words.From) a) (begins (word words.After) a || continues_sum a) no).1).1
@@ -265,7 +265,7 @@ module _ (n m : ℕ) (le : n ≤ m) where
   start_stops (after_member x, q) ts rest (a, (b, (span, line, e), s), t) stop = ap continues_place e
 
   abbrev Members_parts : NamedTree × (StartTree × (Bool × List PhraseTree)) → Shape
-  Members_parts p = Word_is words.In ▷ (the ▷ Reference_is n p.0) ▷ Start_is n p.1.0 ▷ flagged Reverse_words p.1.1.0 ▷ each (Phrase_said (suc n)) p.1.1.1
+  Members_parts p = Word_is words.In ▷ (the ▷ Reference_is n p.0) ▷ Start_is n p.1.0 ▷ flagged Reverse_words p.1.1.0 ▷ each (Noisy_phrase (suc n)) p.1.1.1
 
   members_item : (v : List ℕ) → Item (suc n) (begins (word words.In)) (members_in (suc n) v) (members_in (suc m) v) (Made (members_tree v) Members_parts) continues_for
   unfolding members_in
@@ -277,9 +277,9 @@ module _ (n m : ℕ) (le : n ≤ m) where
   Called_name = perhaps (λ v. Word_is words.Called ▷ Name_is v)
 
   abbrev Class_parts : Option (List ℕ) × List PhraseTree → Shape
-  Class_parts p = Called_name p.0 ▷ each (Phrase_said (suc n)) p.1
+  Class_parts p = Called_name p.0 ▷ each (Noisy_phrase (suc n)) p.1
 
-  stops_called : (ts : List Token) → continues_head ts ≡ false → (begins (word words.Called) ts || nowise ts) ≡ false
+  stops_called : (ts : List Token) → continues_head ts ≡ false → (begins (word words.Called) ts || continues_never ts) ≡ false
   stops_called ts stop =
       let a : begins (word words.Called) ts ≡ false = no_word head_more words.Called refl ts (no_more ts stop) in
       rw a refl
@@ -303,7 +303,7 @@ module _ (n m : ℕ) (le : n ≤ m) where
 
   each_reads : Reads (suc n) (each_in (suc n)) (each_in (suc m)) Each_parts continues_for
   unfolding each_in
-  each_reads = behind_reads (expect_class_reads (suc n) classes.Each) (bind_reads (name_reads (suc n)) named_reads (λ v x ts rest s stop. refl)) (λ x ts rest s stop. refl)
+  each_reads = following_reads (expect_class_reads (suc n) classes.Each) (bind_reads (name_reads (suc n)) named_reads (λ v x ts rest s stop. refl)) (λ x ts rest s stop. refl)
 
   each_item : Item (suc n) (begins_class classes.Each) (each_in (suc n)) (each_in (suc m)) Each_parts continues_for
   each_item =
@@ -315,27 +315,27 @@ module _ (n m : ℕ) (le : n ≤ m) where
   range_late : (x : HeadTree) (ts rest : List Token) → Made range_tree Range_parts x ts rest → continues_for rest ≡ false → begins_class classes.Each ts ≡ false
   range_late x ts rest (p, is, (a, (span, line, e), s)) stop = ap (begins_class classes.Each) e
 
-  for_to : (x : HeadTree) (ts rest : List Token) → either (Each_parts x) (Made range_tree Range_parts x) ts rest → Head_behind n x ts rest
-  for_to x ts rest (inl (a, e, (v, (b, name, inl (p, is, (c, i, (d, s, t))))))) = subst (λ x. Head_behind n x ts rest) is (a, e, (b, name, (c, i, (s.0, s.1, (d, s.2, t)))))
-  for_to x ts rest (inl (a, e, (v, (b, name, inr (p, is, s))))) = subst (λ x. Head_behind n x ts rest) is (a, e, (b, name, s))
-  for_to x ts rest (inr (p, is, s)) = subst (λ x. Head_behind n x ts rest) is s
+  for_to : (x : HeadTree) (ts rest : List Token) → either (Each_parts x) (Made range_tree Range_parts x) ts rest → Head_rest n x ts rest
+  for_to x ts rest (inl (a, e, (v, (b, name, inl (p, is, (c, i, (d, s, t))))))) = subst (λ x. Head_rest n x ts rest) is (a, e, (b, name, (c, i, (s.0, s.1, (d, s.2, t)))))
+  for_to x ts rest (inl (a, e, (v, (b, name, inr (p, is, s))))) = subst (λ x. Head_rest n x ts rest) is (a, e, (b, name, s))
+  for_to x ts rest (inr (p, is, s)) = subst (λ x. Head_rest n x ts rest) is s
 
-  for_from : (x : HeadTree) (ts rest : List Token) → Head_behind n x ts rest → either (Each_parts x) (Made range_tree Range_parts x) ts rest
+  for_from : (x : HeadTree) (ts rest : List Token) → Head_rest n x ts rest → either (Each_parts x) (Made range_tree Range_parts x) ts rest
   for_from (over_range v from to step ps) ts rest s = inr ((v, (from, (to, (step, ps)))), refl, s)
   for_from (over_members v set start rev ps) ts rest (a, e, (b, name, (c, i, (f, t, (d, s, more))))) = inl (a, e, (v, (b, name, inl ((set, (start, (rev, ps))), refl, (c, i, (d, (f, t, s), more))))))
   for_from (over_class c v ps) ts rest (a, e, (b, name, s)) = inl (a, e, (c, (b, name, inr ((v, ps), refl, s))))
 
-  -- the head of a FOR behind its first word
-  pub for_reads : Reads (suc n) (for_in (suc n)) (for_in (suc m)) (Head_behind n) continues_for
+  -- the head of a FOR after its first word
+  pub for_reads : Reads (suc n) (for_in (suc n)) (for_in (suc m)) (Head_rest n) continues_for
   unfolding for_in
-  for_reads = said_reads (either_reads each_item range_reads continues_for (λ ts stop. (stop, stop)) range_late) (Head_behind n) for_to for_from
+  for_reads = reshaped_reads (either_reads each_item range_reads continues_for (λ ts stop. (stop, stop)) range_late) (Head_rest n) for_to for_from
 
   -- ---- WHILE and UNTIL
 
   abbrev pub continues_guarded : List Token → Bool
   continues_guarded ts = begins_guard (skip_comma ts) || continues_head ts
 
-  room_guards : Reads (suc n) (guards_in (suc n)) (guards_in (suc m)) (each (λ x. noise ▷ guard_said (suc n) x)) continues_guarded
+  room_guards : Reads (suc n) (guards_in (suc n)) (guards_in (suc m)) (each (λ x. noise ▷ Bare_guard (suc n) x)) continues_guarded
   room_guards = fewer_reads (guards_reads (suc n) (suc m) (omega arith)) continues_guarded (λ ts stop.
       let both = or_false (begins_guard (skip_comma ts)) (continues_head ts) stop in
       let a : begins_guard (skip_comma ts) ≡ false = both.0 in
@@ -343,7 +343,7 @@ module _ (n m : ℕ) (le : n ≤ m) where
       rw (a, b) refl)
 
   abbrev pub Guards_made : GuardKind → ConditionTree → LoopHeadTree → Shape
-  Guards_made kind c = Made guarded (Made (λ gs. guard_tree (kind, c) ∷ gs) (each (λ x. noise ▷ guard_said (suc n) x)))
+  Guards_made kind c = Made guarded (Made (λ gs. guard_tree (kind, c) ∷ gs) (each (λ x. noise ▷ Bare_guard (suc n) x)))
 
   guards_no_condition : (kind : GuardKind) (c : ConditionTree) (x : LoopHeadTree) (ts rest : List Token) → Guards_made kind c x ts rest → continues_guarded rest ≡ false → continues_condition ts ≡ false
   guards_no_condition kind c x ts rest (all, is, (gs, makes, s)) stop = no_condition ts (guards_stop (suc n) (suc n) (omega arith) gs ts rest s (or_false (begins_guard (skip_comma rest)) (continues_head rest) stop).1)

@@ -95,7 +95,7 @@ skip_openers m (t ∷ ts) = elim (which (is m t.kind)) [ inl p ↦ rw p (omega a
 
 -- ---- tables
 
--- a token that the table takes for x
+-- a token that the table maps to x
 abbrev pub In_table : {A : Type 0} → (TokenKind → Option A) → A → Shape
 In_table table x ts rest = (k : TokenKind) × (table k ≡ Some x) × Token_is k ts rest
 

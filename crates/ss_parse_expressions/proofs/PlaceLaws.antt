@@ -15,7 +15,7 @@ use Rattle.ss_parse_expressions.specs.Reading.{word, is, begins, is_some, taken,
 use Rattle.ss_parse_expressions.specs.ReadExpressions.{opening, closing, designator_of_word, designator_of, begins_sum, sum_in}
 use Rattle.ss_parse_expressions.specs.ReadPlaces.{subscript_row, named_tree, subscript_with, plain_of, place_in, target_in, reference_in, begins_target, targets_in, sums_in}
 use Rattle.ss_parse_expressions.proofs.Marks.{mark_begins, token_less, In_table, begins_table}
-use Rattle.ss_parse_expressions.proofs.ReaderLaws.{Reads, Item, nowise, item_of, taken_reads, seq_reads, before_mark_reads, opened_reads, apply_reads, said_reads, maybe_reads, too_deep_reads}
+use Rattle.ss_parse_expressions.proofs.ReaderLaws.{Reads, Item, continues_never, item_of, taken_reads, seq_reads, before_mark_reads, opened_reads, apply_reads, reshaped_reads, maybe_reads, too_deep_reads}
 use Rattle.ss_parse_expressions.proofs.Rows.{list_reads, Loop, loop_of, separated_item}
 use Rattle.ss_parse_expressions.proofs.ExpressionLaws.{In, in_begins, in_less, sum_in_reads, sum_no_and, continues_sum, designated_begins, word_designates}
 
@@ -47,20 +47,20 @@ plain_from designators.TimeV ts rest at = absurd at
 plain_from designators.TimeA ts rest at = absurd at
 
 abbrev pub continues_place : List Token → Bool
-continues_place ts = begins opening ts || nowise ts
+continues_place ts = begins opening ts || continues_never ts
 
--- ---- places, of what a table names
+-- ---- places whose names are those of a table
 
 -- one subscript in parentheses
 abbrev pub Subscript_is : ℕ → ExpressionTree → Shape
 Subscript_is n e = Symbol_is OpenParenthesis ▷ In n e ▷ Symbol_is CloseParenthesis
 
 module _ (n m : ℕ) (le : n ≤ m) where
-  subscript_reads : Reads (suc n) (subscript_with (sum_in n)) (subscript_with (sum_in m)) (Subscript_is n) nowise
+  subscript_reads : Reads (suc n) (subscript_with (sum_in n)) (subscript_with (sum_in m)) (Subscript_is n) continues_never
   unfolding subscript_with
   subscript_reads = opened_reads opening refl (before_mark_reads closing (sum_in_reads n m le) (λ span line ts. refl))
 
-  subscript_item : Item (suc n) (begins opening) (subscript_with (sum_in n)) (subscript_with (sum_in m)) (Subscript_is n) nowise
+  subscript_item : Item (suc n) (begins opening) (subscript_with (sum_in n)) (subscript_with (sum_in m)) (Subscript_is n) continues_never
   subscript_item =
       item_of (begins opening) subscript_reads (λ ts e rest s. mark_begins opening ts s.0 s.1)
       (λ ts e rest s. omega (arith, token_less (kinds.Symbol OpenParenthesis) ts s.0 s.1, in_less n s.0 e s.2.0 s.2.1, token_less (kinds.Symbol CloseParenthesis) s.2.0 rest s.2.2))
@@ -71,7 +71,7 @@ subscript_from n (and_expression e no_expression) ts rest s = (Some e, refl, s)
 subscript_from n (and_expression e (and_expression f fs)) ts rest s = absurd s
 
 module _ (table : TokenKind → Option Designator) (D : Designator → Shape) (to : (d : Designator) (ts rest : List Token) → In_table table d ts rest → D d ts rest) (from : (d : Designator) (ts rest : List Token) → D d ts rest → In_table table d ts rest) where
-  -- what the table names, with a subscript or without
+  -- a name that the table knows, with a subscript or without
   abbrev pub Place_is : ℕ → NamedTree → Shape
   Place_is levels t = D t.designator ▷ Subscript t.subscripts levels
 
@@ -91,7 +91,7 @@ module _ (table : TokenKind → Option Designator) (D : Designator → Shape) (t
       omega (arith, token_less k.0 ts p.2.0 k.2, (maybe_reads (subscript_item n n (omega arith))).shorter p.2.0 p.0.1 rest p.2.2)
 
   place_with_reads : (n m : ℕ) → n ≤ m → Reads (suc n) (apply named_tree (seq (taken table) (maybe (begins opening) (subscript_with (sum_in n))))) (apply named_tree (seq (taken table) (maybe (begins opening) (subscript_with (sum_in m))))) (Place_is n) continues_place
-  place_with_reads n m le = apply_reads (seq_reads (said_reads (taken_reads (suc n) table) D to from) (maybe_reads (subscript_item n m le)) (λ x ts rest s stop. refl)) named_tree (Place_is n) (place_to n) (place_from n)
+  place_with_reads n m le = apply_reads (seq_reads (reshaped_reads (taken_reads (suc n) table) D to from) (maybe_reads (subscript_item n m le)) (λ x ts rest s stop. refl)) named_tree (Place_is n) (place_to n) (place_from n)
 
   -- within one level more
   abbrev pub In_place : ℕ → NamedTree → Shape

@@ -1,11 +1,11 @@
--- What a reader keeps: it reads what is spelled, and where the tokens after it can't continue it, all of it.
+-- The laws of a reader: it reads what is spelled, and all of it where the next tokens can't continue it.
 use Rattle.std.proofs.Common.{◌≡◌, ℕ, suc, ◌+◌, ◌<◌, ◌≤◌, Bool, true, false, ◌||◌, List, [], ◌∷◌, length, Option, Some, None, Ok, refl, sym, ap, ◌∙◌, arith, inl, inr, ◌⊎◌}
 use Rattle.ss_lex.specs.declared.token.TokenKind.{TokenKind}
 use Rattle.ss_lex.specs.declared.token.Token.{Token}
 use Rattle.ss_lex.specs.declared.token.Span.{Span}
 use Rattle.ss_base.specs.declared.line.Line.{Line}
 use Rattle.ss_parse_expressions.specs.Openers.{opens, openers}
-use Rattle.ss_parse_expressions.specs.Reading.{Reader, ◌>>=◌, Mark, kind_of, is, begins, skip, expect, taken, found_then, seq, behind, closed, apply, lined, maybe, maybe_list, flag, choose, too_deep, comma, skip_comma}
+use Rattle.ss_parse_expressions.specs.Reading.{Reader, ◌>>=◌, Mark, kind_of, is, begins, skip, expect, taken, found_then, seq, following, closed, apply, lined, maybe, maybe_list, flag, choose, too_deep, comma, skip_comma}
 use Rattle.ss_parse_expressions.specs.Shapes.{Shape, ◌▷◌, never, optional, noise, perhaps, flagged, first_line}
 use Rattle.ss_parse_expressions.proofs.Tools.{bind_ok, which, chosen, carry, or_false}
 use Rattle.ss_parse_expressions.proofs.Marks.{token, Mark_is, is_true, mark_begins, expect_sound, expect_complete, token_less, begins_mark, no_skip, mark_skips, skip_openers, In_table, taken_sound, taken_complete}
@@ -19,13 +19,13 @@ pub record Reads {A : Type 0} (k : ℕ) (read read' : Reader A) (S : A → Shape
   pub under : (ts : List Token) → Upto (read ts) (read' ts)
   pub opening : (ts : List Token) → Bounded k (openers ts) (read ts)
 
--- what is continued by nothing
-abbrev pub nowise : List Token → Bool
-nowise ts = false
+-- no token continues this
+abbrev pub continues_never : List Token → Bool
+continues_never ts = false
 
 -- ---- single tokens
 
-pub expect_reads : (k : ℕ) (m : Mark) → Reads k (expect m) (expect m) (λ u. Mark_is m) nowise
+pub expect_reads : (k : ℕ) (m : Mark) → Reads k (expect m) (expect m) (λ u. Mark_is m) continues_never
 expect_reads k m = record {
   sound = λ ts u rest e. expect_sound m ts rest u e;
   complete = λ ts u rest s stop. expect_complete m ts rest u s;
@@ -38,7 +38,7 @@ expect_reads k m = record {
     opening [] = tt
     opening (t ∷ ts) = elim (which (is m t.kind)) [ inl p ↦ rw p (omega arith) | inr p ↦ rw p tt ]
 
-pub taken_reads : {A : Type 0} (k : ℕ) (table : TokenKind → Option A) → Reads k (taken table) (taken table) (In_table table) nowise
+pub taken_reads : {A : Type 0} (k : ℕ) (table : TokenKind → Option A) → Reads k (taken table) (taken table) (In_table table) continues_never
 taken_reads {A = A} k table = record {
   sound = λ ts x rest e. taken_sound table ts rest x e;
   complete = λ ts x rest s stop. taken_complete table ts rest x s;
@@ -74,8 +74,8 @@ module _ {A B : Type 0} {k : ℕ} {r r' : Reader A} {q q' : Reader B} {S : A →
   }
 
 module _ {A : Type 0} {k : ℕ} {r r' : Reader (Unit {0})} {q q' : Reader A} {P : Shape} {S : A → Shape} {c d : List Token → Bool} (first : Reads k r r' (λ u. P) c) (second : Reads k q q' S d) (stops : (x : A) (ts rest : List Token) → S x ts rest → d rest ≡ false → c ts ≡ false) where
-  pub behind_reads : Reads k (behind r q) (behind r' q') (λ x. P ▷ S x) d
-  behind_reads = record {
+  pub following_reads : Reads k (following r q) (following r' q') (λ x. P ▷ S x) d
+  following_reads = record {
     sound = λ ts y rest e.
         let x = bind_ok (r ts) _ _ e in
         (x.0.1, first.sound ts x.0.0 x.0.1 x.1, second.sound x.0.1 y rest x.2);
@@ -103,17 +103,17 @@ module _ {A : Type 0} {k : ℕ} {r r' : Reader A} {q q' : Reader (Unit {0})} {S 
     opening = λ ts. bounded_bind k (openers ts) (r ts) _ (first.opening ts) (λ x. bounded_bind k (openers x.1) (q x.1) _ (second.opening x.1) (λ y. omega arith));
   }
 
--- a mark, and then
-pub marked_reads : {A : Type 0} {k : ℕ} {q q' : Reader A} {S : A → Shape} {d : List Token → Bool} (m : Mark) → Reads k q q' S d → Reads k (behind (expect m) q) (behind (expect m) q') (λ x. Mark_is m ▷ S x) d
-marked_reads {k = k} m second = behind_reads (expect_reads k m) second (λ x ts rest s stop. refl)
+-- a mark, and then what the reader reads
+pub marked_reads : {A : Type 0} {k : ℕ} {q q' : Reader A} {S : A → Shape} {d : List Token → Bool} (m : Mark) → Reads k q q' S d → Reads k (following (expect m) q) (following (expect m) q') (λ x. Mark_is m ▷ S x) d
+marked_reads {k = k} m second = following_reads (expect_reads k m) second (λ x ts rest s stop. refl)
 
--- and then a mark
-pub before_mark_reads : {A : Type 0} {k : ℕ} {r r' : Reader A} {S : A → Shape} {c : List Token → Bool} (m : Mark) → Reads k r r' S c → ((span : Span) (line : Line) (ts : List Token) → c (token (kind_of m) span line ∷ ts) ≡ false) → Reads k (closed r (expect m)) (closed r' (expect m)) (λ x. S x ▷ Mark_is m) nowise
+-- what the reader reads, and then a mark
+pub before_mark_reads : {A : Type 0} {k : ℕ} {r r' : Reader A} {S : A → Shape} {c : List Token → Bool} (m : Mark) → Reads k r r' S c → ((span : Span) (line : Line) (ts : List Token) → c (token (kind_of m) span line ∷ ts) ≡ false) → Reads k (closed r (expect m)) (closed r' (expect m)) (λ x. S x ▷ Mark_is m) continues_never
 before_mark_reads {k = k} {c = c} m first stops = closed_reads first (expect_reads k m) (λ ts rest s stop. ap c s.2 ∙ stops s.0 s.1 rest)
 
 -- a mark that opens a level, and what is read with one level less
 module _ {A : Type 0} {k : ℕ} {q q' : Reader A} {S : A → Shape} {d : List Token → Bool} (m : Mark) (opener : opens (kind_of m) ≡ 1) (inside : Reads k q q' S d) where
-  opened_bounded : (ts : List Token) → Bounded (suc k) (openers ts) (behind (expect m) q ts)
+  opened_bounded : (ts : List Token) → Bounded (suc k) (openers ts) (following (expect m) q ts)
   opened_bounded [] = tt
   opened_bounded (t ∷ ts) =
       elim (which (is m t.kind)) [
@@ -123,12 +123,12 @@ module _ {A : Type 0} {k : ℕ} {q q' : Reader A} {S : A → Shape} {d : List To
         | inr p ↦ rw p tt
       ]
 
-  pub opened_reads : Reads (suc k) (behind (expect m) q) (behind (expect m) q') (λ x. Mark_is m ▷ S x) d
+  pub opened_reads : Reads (suc k) (following (expect m) q) (following (expect m) q') (λ x. Mark_is m ▷ S x) d
   opened_reads =
       let law = marked_reads m inside in
       record { sound = law.sound; complete = law.complete; shorter = law.shorter; under = law.under; opening = opened_bounded }
 
--- ---- what is read, as something else
+-- ---- a function of what was read
 
 module _ {A B : Type 0} {k : ℕ} {r r' : Reader A} {S : A → Shape} {c : List Token → Bool} (law : Reads k r r' S c) (f : A → B) (T : B → Shape) where
   pub apply_reads : ((x : A) (ts rest : List Token) → S x ts rest → T (f x) ts rest) → ((y : B) (ts rest : List Token) → T y ts rest → (x : A) × (f x ≡ y) × S x ts rest) → Reads k (apply f r) (apply f r') T c
@@ -145,14 +145,14 @@ module _ {A B : Type 0} {k : ℕ} {r r' : Reader A} {S : A → Shape} {c : List 
     opening = λ ts. bounded_bind k (openers ts) (r ts) _ (law.opening ts) (λ x. omega arith);
   }
 
--- what is made of what is spelled so
+-- a value that f makes of one with this shape
 abbrev pub Made : {A B : Type 0} → (A → B) → (A → Shape) → B → Shape
 Made make P y ts rest = (x : _) × (make x ≡ y) × P x ts rest
 
 pub made_reads : {A B : Type 0} {k : ℕ} {r r' : Reader A} {S : A → Shape} {c : List Token → Bool} → Reads k r r' S c → (f : A → B) → Reads k (apply f r) (apply f r') (Made f S) c
 made_reads {S = S} law f = apply_reads law f (Made f S) (λ x ts rest s. (x, refl, s)) (λ y ts rest s. s)
 
--- ---- what is read by what was read before
+-- ---- a reader that depends on what was read before
 
 module _ {A B : Type 0} {k : ℕ} {r r' : Reader A} {q q' : A → Reader B} {S : A → Shape} {T : A → B → Shape} {c d : List Token → Bool} (first : Reads k r r' S c) (second : (x : A) → Reads k (q x) (q' x) (T x) d) (stops : (x : A) (y : B) (ts rest : List Token) → T x y ts rest → d rest ≡ false → c ts ≡ false) where
   pub bind_reads : Reads k (λ ts. r ts >>= λ x. q x.0 x.1) (λ ts. r' ts >>= λ x. q' x.0 x.1) (λ y ts rest. (x : A) × (S x ▷ T x y) ts rest) d
@@ -168,10 +168,10 @@ module _ {A B : Type 0} {k : ℕ} {r r' : Reader A} {q q' : A → Reader B} {S :
     opening = λ ts. bounded_bind k (openers ts) (r ts) _ (first.opening ts) (λ x. (second x.0).opening x.1);
   }
 
--- ---- the same, said otherwise
+-- ---- a reader of a shape reads each equivalent shape
 
-pub said_reads : {A : Type 0} {k : ℕ} {r r' : Reader A} {S : A → Shape} {c : List Token → Bool} → Reads k r r' S c → (T : A → Shape) → ((x : A) (ts rest : List Token) → S x ts rest → T x ts rest) → ((x : A) (ts rest : List Token) → T x ts rest → S x ts rest) → Reads k r r' T c
-said_reads law T to from = record {
+pub reshaped_reads : {A : Type 0} {k : ℕ} {r r' : Reader A} {S : A → Shape} {c : List Token → Bool} → Reads k r r' S c → (T : A → Shape) → ((x : A) (ts rest : List Token) → S x ts rest → T x ts rest) → ((x : A) (ts rest : List Token) → T x ts rest → S x ts rest) → Reads k r r' T c
+reshaped_reads law T to from = record {
   sound = λ ts x rest e. to x ts rest (law.sound ts x rest e);
   complete = λ ts x rest s stop. law.complete ts x rest (from x ts rest s) stop;
   shorter = λ ts x rest s. law.shorter ts x rest (from x ts rest s);
@@ -179,11 +179,11 @@ said_reads law T to from = record {
   opening = law.opening;
 }
 
--- less may follow
+-- a law for more tokens that may follow holds for fewer
 pub fewer_reads : {A : Type 0} {k : ℕ} {r r' : Reader A} {S : A → Shape} {c : List Token → Bool} → Reads k r r' S c → (d : List Token → Bool) → ((ts : List Token) → d ts ≡ false → c ts ≡ false) → Reads k r r' S d
 fewer_reads law d fewer = record { sound = law.sound; complete = λ ts x rest s stop. law.complete ts x rest s (fewer rest stop); shorter = law.shorter; under = law.under; opening = law.opening }
 
--- ---- what may stand in front and says nothing
+-- ---- words in front that may be left out
 
 module _ {A : Type 0} {k : ℕ} {q q' : Reader A} {S : A → Shape} {d : List Token → Bool} (law : Reads k q q' S d) (m : Mark) where
   pub optional_reads : ((x : A) (ts rest : List Token) → S x ts rest → begins m ts ≡ false) → Reads k (λ ts. q (skip m ts)) (λ ts. q' (skip m ts)) (λ x. optional (Mark_is m) ▷ S x) d
@@ -209,9 +209,9 @@ module _ {A : Type 0} {k : ℕ} {q q' : Reader A} {S : A → Shape} {d : List To
       less ts a (inl e) = omega (arith, ap length e)
       less ts a (inr w) = omega (arith, token_less (kind_of m) ts a w)
 
--- ---- what may be there
+-- ---- optional parts
 
--- The same, where it is asked only of what starts so, which is not nothing, and doesn't continue what stands before.
+-- The laws of a reader that is called only where `starts` holds. What it reads starts so and is not empty.
 pub record Item {A : Type 0} (k : ℕ) (starts : List Token → Bool) (read read' : Reader A) (S : A → Shape) (continues : List Token → Bool) : Type 0 where
   pub sound : (ts : List Token) (x : A) (rest : List Token) → starts ts ≡ true → read ts ≡ Ok (x, rest) → S x ts rest
   pub complete : (ts : List Token) (x : A) (rest : List Token) → S x ts rest → continues rest ≡ false → read ts ≡ Ok (x, rest)
@@ -221,22 +221,22 @@ pub record Item {A : Type 0} (k : ℕ) (starts : List Token → Bool) (read read
   pub opening : (ts : List Token) → Bounded k (openers ts) (read ts)
 
 pub item_of : {A : Type 0} {k : ℕ} {r r' : Reader A} {S : A → Shape} {c : List Token → Bool} (starts : List Token → Bool) → Reads k r r' S c → ((ts : List Token) (x : A) (rest : List Token) → S x ts rest → starts ts ≡ true) → ((ts : List Token) (x : A) (rest : List Token) → S x ts rest → length rest < length ts) → Item k starts r r' S c
-item_of starts law begins less = record { sound = λ ts x rest stands e. law.sound ts x rest e; complete = law.complete; begins = begins; less = less; under = law.under; opening = law.opening }
+item_of starts law begins less = record { sound = λ ts x rest started e. law.sound ts x rest e; complete = law.complete; begins = begins; less = less; under = law.under; opening = law.opening }
 
--- what begins with a mark
-pub item_marked : {A : Type 0} {k : ℕ} {q q' : Reader A} {S : A → Shape} {d : List Token → Bool} (m : Mark) → Reads k q q' S d → Item k (begins m) (behind (expect m) q) (behind (expect m) q') (λ x. Mark_is m ▷ S x) d
+-- an item that begins with a mark
+pub item_marked : {A : Type 0} {k : ℕ} {q q' : Reader A} {S : A → Shape} {d : List Token → Bool} (m : Mark) → Reads k q q' S d → Item k (begins m) (following (expect m) q) (following (expect m) q') (λ x. Mark_is m ▷ S x) d
 item_marked {S = S} m second =
     item_of (begins m) (marked_reads m second) (λ ts x rest s. mark_begins m ts s.0 s.1)
     (λ ts x rest s. omega (arith, token_less (kind_of m) ts s.0 s.1, second.shorter s.0 x rest s.2))
 
--- what may have a comma before it
+-- an item that may have a comma before it
 module _ {A : Type 0} {k : ℕ} {q q' : Reader A} {S : A → Shape} {d : List Token → Bool} (law : Reads k q q' S d) (starts : List Token → Bool) (first : (ts : List Token) (x : A) (rest : List Token) → S x ts rest → starts ts ≡ true) (no_comma : (ts : List Token) → starts ts ≡ true → begins comma ts ≡ false) (less : (ts : List Token) (x : A) (rest : List Token) → S x ts rest → length rest < length ts) where
   noisy_reads : Reads k (λ ts. q (skip_comma ts)) (λ ts. q' (skip_comma ts)) (λ x. noise ▷ S x) d
   noisy_reads = optional_reads law comma (λ x ts rest s. no_comma ts (first ts x rest s))
 
   noisy_skips : (ts a : List Token) → noise ts a → starts a ≡ true → skip_comma ts ≡ a
-  noisy_skips ts a (inl e) stands = ap skip_comma e ∙ no_skip comma a (no_comma a stands)
-  noisy_skips ts a (inr w) stands = mark_skips comma ts a w
+  noisy_skips ts a (inl e) started = ap skip_comma e ∙ no_skip comma a (no_comma a started)
+  noisy_skips ts a (inr w) started = mark_skips comma ts a w
 
   noisy_less : (ts a : List Token) → noise ts a → length a ≤ length ts
   noisy_less ts a (inl e) = omega (arith, ap length e)
@@ -247,10 +247,10 @@ module _ {A : Type 0} {k : ℕ} {q q' : Reader A} {S : A → Shape} {d : List To
       (λ ts x rest s. ap starts (noisy_skips ts s.0 s.1 (first s.0 x rest s.2)) ∙ first s.0 x rest s.2)
       (λ ts x rest s. omega (arith, noisy_less ts s.0 s.1, less s.0 x rest s.2))
 
--- what stands behind a mark that was looked for
+-- an item whose mark is skipped before the reader is called
 pub item_skipped : {A : Type 0} {k : ℕ} {q q' : Reader A} {S : A → Shape} {d : List Token → Bool} (m : Mark) → Reads k q q' S d → Item k (begins m) (λ r. q (skip m r)) (λ r. q' (skip m r)) (λ x. Mark_is m ▷ S x) d
 item_skipped {k = k} {q = q} m law = record {
-  sound = λ ts x rest stands e. (skip m ts, begins_mark m ts stands, law.sound (skip m ts) x rest e);
+  sound = λ ts x rest started e. (skip m ts, begins_mark m ts started, law.sound (skip m ts) x rest e);
   complete = λ ts x rest s stop. ap q (mark_skips m ts s.0 s.1) ∙ law.complete s.0 x rest s.2 stop;
   begins = λ ts x rest s. mark_begins m ts s.0 s.1;
   less = λ ts x rest s. omega (arith, token_less (kind_of m) ts s.0 s.1, law.shorter s.0 x rest s.2);
@@ -290,7 +290,7 @@ module _ {A : Type 0} {k : ℕ} {starts : List Token → Bool} {r r' : Reader A}
       opening : (ts : List Token) → Bounded k (openers ts) (maybe starts r ts)
       opening ts = bounded_if k (openers ts) (starts ts) _ _ (bounded_bind k (openers ts) (r ts) _ (item.opening ts) (λ x. omega arith)) (omega arith)
 
--- a list that may be there: no shape is that of the empty list where it is there
+-- an optional list: where it is not there, it is empty and takes no token
 module _ {A : Type 0} {k : ℕ} {starts : List Token → Bool} {r r' : Reader (List A)} {S T : List A → Shape} {c : List Token → Bool} (item : Item k starts r r' S c) (to : (xs : List A) (ts rest : List Token) → S xs ts rest → T xs ts rest) (from : (xs : List A) (ts rest : List Token) → T xs ts rest → ((xs ≡ []) × (ts ≡ rest)) ⊎ S xs ts rest) (empty : (ts : List Token) → T [] ts ts) where
   pub maybe_list_reads : Reads k (maybe_list starts r) (maybe_list starts r') T (λ ts. starts ts || c ts)
   maybe_list_reads = record { sound = sound; complete = complete; shorter = shorter; under = under; opening = opening }
@@ -324,7 +324,7 @@ module _ {A : Type 0} {k : ℕ} {starts : List Token → Bool} {r r' : Reader (L
       opening : (ts : List Token) → Bounded k (openers ts) (maybe_list starts r ts)
       opening ts = bounded_if k (openers ts) (starts ts) _ _ (item.opening ts) (omega arith)
 
--- words that may be there
+-- optional words
 module _ {k : ℕ} {starts : List Token → Bool} {r r' : Reader (Unit {0})} {P : Shape} {c : List Token → Bool} (item : Item k starts r r' (λ u. P) c) where
   pub flag_reads : Reads k (flag starts r) (flag starts r') (flagged P) (λ ts. starts ts || c ts)
   flag_reads = record { sound = sound; complete = complete; shorter = shorter; under = under; opening = opening }
@@ -359,7 +359,7 @@ module _ {k : ℕ} {starts : List Token → Bool} {r r' : Reader (Unit {0})} {P 
 
 -- ---- one of two
 
--- the same, where the whole is asked of the first only where it starts so, and of the second only where not
+-- one of two readers, where the shapes of both mean U
 module _ {A : Type 0} {k : ℕ} {starts : List Token → Bool} {r r' q q' : Reader A} {S T U : A → Shape} {c d : List Token → Bool} (first : Item k starts r r' S c) (second : Reads k q q' T d) (to : (x : A) (ts rest : List Token) → S x ts rest → U x ts rest) (to' : (x : A) (ts rest : List Token) → T x ts rest → U x ts rest) (from : (x : A) (ts rest : List Token) → U x ts rest → S x ts rest ⊎ ((starts ts ≡ false) × T x ts rest)) where
   pub choose_reads : Reads k (choose starts r q) (choose starts r' q') U (λ ts. c ts || d ts)
   choose_reads = record {

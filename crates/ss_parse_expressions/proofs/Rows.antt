@@ -34,7 +34,7 @@ module _ {A : Type 0} {k : ℕ} {starts : List Token → Bool} {item item' : Rea
   each_shorter [] ts rest e = omega (arith, ap length e)
   each_shorter (x ∷ xs) ts rest (m, one, more) = omega (arith, law.less ts x m one, each_shorter xs m rest more)
 
-  -- no item is continued by the further ones
+  -- no further item continues the item before it
   each_stops : (xs : List A) (ts rest : List Token) → each S xs ts rest → continues rest ≡ false → continues ts ≡ false
   each_stops [] ts rest e stop = ap continues e ∙ stop
   each_stops (x ∷ xs) ts rest (m, one, more) stop = stops ts x m one
@@ -46,10 +46,10 @@ module _ {A : Type 0} {k : ℕ} {starts : List Token → Bool} {item item' : Rea
       let none : starts ts ≡ false = ap starts e ∙ over in
       rw none (ap (λ (r : List Token). Ok ([], r)) e)
   row_complete (suc n) (x ∷ xs) ts rest (m, one, more) long over stop =
-      let stands : starts ts ≡ true = law.begins ts x m one in
+      let started : starts ts ≡ true = law.begins ts x m one in
       let read : item ts ≡ Ok (x, m) = law.complete ts x m one (each_stops xs m rest more stop) in
       let others = row_complete n xs m rest more (omega (arith, law.less ts x m one)) over stop in
-      rw (stands, read, others) refl
+      rw (started, read, others) refl
 
   row_under : (n : ℕ) (ts : List Token) → Upto (row starts item n ts) (row starts item' n ts)
   row_under zero ts = upto_same _
@@ -117,7 +117,7 @@ module _ {A : Type 0} {k : ℕ} {r r' : Reader A} {S : A → Shape} {starts : Li
     opening = λ ts. bounded_bind k (openers ts) (r ts) _ (first.opening ts) (λ x. bounded_bind k (openers x.1) (rows starts item x.1) _ (others.opening x.1) (λ xs. omega arith));
   }
 
--- what can't continue the rest, and no item begins with, doesn't begin the row
+-- a token that can't continue the rest and begins no item doesn't begin the row
 pub each_first : {A : Type 0} {S : A → Shape} (c : List Token → Bool) → ((ts : List Token) (x : A) (rest : List Token) → S x ts rest → c ts ≡ false) → (xs : List A) (ts rest : List Token) → each S xs ts rest → c rest ≡ false → c ts ≡ false
 each_first c stops [] ts rest e stop = ap c e ∙ stop
 each_first c stops (x ∷ xs) ts rest (m, one, more) stop = stops ts x m one
@@ -146,16 +146,16 @@ separator_less ts a (inr (inr (m, w, v))) = omega (arith, token_less (kind_of co
 -- A list of items: none begins with a comma or AND, and neither continues one.
 module _ {A : Type 0} {k : ℕ} {item item' : Reader A} {S : A → Shape} {c : List Token → Bool} (law : Reads k item item' S c) (starts : List Token → Bool) (first : (ts : List Token) (x : A) (rest : List Token) → S x ts rest → starts ts ≡ true) (no_and : (ts : List Token) → starts ts ≡ true → begins (word words.And) ts ≡ false) where
   separator_complete : (ts a : List Token) → separator ts a → starts a ≡ true → (begins_more starts ts ≡ true) × (skip_separator ts ≡ a)
-  separator_complete ts a (inl (span, line, e)) stands =
-      let no : begins (word words.And) a ≡ false = no_and a stands in
+  separator_complete ts a (inl (span, line, e)) started =
+      let no : begins (word words.And) a ≡ false = no_and a started in
       let same : skip (word words.And) a ≡ a = no_skip (word words.And) a no in
-      (rw (e, same, stands) refl, rw e same)
-  separator_complete ts a (inr (inl (span, line, e))) stands = (rw (e, stands) refl, rw e refl)
-  separator_complete ts a (inr (inr (m, (span, line, e), (span', line', e')))) stands = (rw (e, e', stands) refl, rw (e, e') refl)
+      (rw (e, same, started) refl, rw e same)
+  separator_complete ts a (inr (inl (span, line, e))) started = (rw (e, started) refl, rw e refl)
+  separator_complete ts a (inr (inr (m, (span, line, e), (span', line', e')))) started = (rw (e, e', started) refl, rw (e, e') refl)
 
   pub separated_item : Item k (begins_more starts) (λ r. item (skip_separator r)) (λ r. item' (skip_separator r)) (λ x. separator ▷ S x) c
   separated_item = record {
-    sound = λ ts x rest stands e. (skip_separator ts, separator_sound ts (and_true (begins comma ts || begins (word words.And) ts) (starts (skip_separator ts)) stands).0, law.sound (skip_separator ts) x rest e);
+    sound = λ ts x rest started e. (skip_separator ts, separator_sound ts (and_true (begins comma ts || begins (word words.And) ts) (starts (skip_separator ts)) started).0, law.sound (skip_separator ts) x rest e);
     complete = λ ts x rest s stop. ap item (separator_complete ts s.0 s.1 (first s.0 x rest s.2)).1 ∙ law.complete s.0 x rest s.2 stop;
     begins = λ ts x rest s. (separator_complete ts s.0 s.1 (first s.0 x rest s.2)).0;
     less = λ ts x rest s. omega (arith, separator_less ts s.0 s.1, law.shorter s.0 x rest s.2);
@@ -185,7 +185,7 @@ with_front_more front x (Err e) = refl
 abbrev pub Shrinks : {A : Type 0} → (List Token → Bool) → Reader A → Type 0
 Shrinks {A = A} starts read = (ts : List Token) (x : A) (rest : List Token) → starts ts ≡ true → read ts ≡ Ok (x, rest) → length rest < length ts
 
--- A row whose items shrink what is left, and that ends where the tokens end.
+-- A row whose items take a token each, and that ends where the tokens end.
 module _ {A : Type 0} (starts : List Token → Bool) (item : Reader A) (at_end : starts [] ≡ false) (shrinks : Shrinks starts item) where
   row_enough : (n m : ℕ) (ts : List Token) → length ts ≤ n → length ts ≤ m → row starts item n ts ≡ row starts item m ts
   row_enough zero zero ts le le' = refl
@@ -209,36 +209,36 @@ module _ {A : Type 0} (starts : List Token → Bool) (item : Reader A) (at_end :
 
   pub rows_more : (ts rest : List Token) (x : A) → starts ts ≡ true → item ts ≡ Ok (x, rest) → rows starts item ts ≡ (rows starts item rest >>= λ xs. Ok (x ∷ xs.0, xs.1))
   unfolding rows
-  rows_more [] rest x stands e = absurd (let no_more = at_end in cc)
-  rows_more (t ∷ ts) rest x stands e =
-      let small : length rest < length (t ∷ ts) = shrinks (t ∷ ts) x rest stands e in
+  rows_more [] rest x started e = absurd (let no_more = at_end in cc)
+  rows_more (t ∷ ts) rest x started e =
+      let small : length rest < length (t ∷ ts) = shrinks (t ∷ ts) x rest started e in
       let same = row_enough (length ts) (length rest) rest (omega arith) (omega arith) in
-      rw (stands, e, same) refl
+      rw (started, e, same) refl
 
   pub rows_fail : (ts : List Token) (f : Fault) → starts ts ≡ true → item ts ≡ Err f → rows starts item ts ≡ Err f
   unfolding rows
-  rows_fail [] f stands e = absurd (let no_more = at_end in cc)
-  rows_fail (t ∷ ts) f stands e = rw (stands, e) refl
+  rows_fail [] f started e = absurd (let no_more = at_end in cc)
+  rows_fail (t ∷ ts) f started e = rw (started, e) refl
 
   pub rows_done : (ts : List Token) → starts ts ≡ false → rows starts item ts ≡ Ok ([], ts)
   unfolding rows
   rows_done [] e = refl
   rows_done (t ∷ ts) e = rw e refl
 
--- a row that a loop reads: its test, and the reader of an item behind it
+-- What a loop needs to read a row: its test is false at the end, and each item takes a token.
 pub record Loop {A : Type 0} (starts : List Token → Bool) (item : Reader A) : Type 0 where
   pub at_end : starts [] ≡ false
   pub shrinks : Shrinks starts item
 
 pub loop_of : {A : Type 0} {k : ℕ} {starts : List Token → Bool} {item item' : Reader A} {S : A → Shape} {c : List Token → Bool} → Item k starts item item' S c → starts [] ≡ false → Loop starts item
-loop_of law at_end = record { at_end = at_end; shrinks = λ ts x rest stands e. law.less ts x rest (law.sound ts x rest stands e) }
+loop_of law at_end = record { at_end = at_end; shrinks = λ ts x rest started e. law.less ts x rest (law.sound ts x rest started e) }
 
 module _ {A V : Type 0} (view : V → A) {starts : List Token → Bool} {item : Reader A} (loop : Loop starts item) where
   -- an item goes to the end of what was read
   pub grows : (old new : List V) (x : V) (ts rest : List Token) (total : Result (List A × List Token) Fault) → new ≡ old ++ x ∷ [] → starts ts ≡ true → item ts ≡ Ok (view x, rest) → with_front (map view old) (rows starts item ts) ≡ total → with_front (map view new) (rows starts item rest) ≡ total
-  grows old new x ts rest total pushed stands e so_far =
+  grows old new x ts rest total pushed started e so_far =
       let all : map view new ≡ map view old ++ view x ∷ [] = rw pushed (map_push view old x) in
-      rw all (with_front_more (map view old) (view x) (rows starts item rest)) ∙ ap (with_front (map view old)) (sym (rows_more starts item loop.at_end loop.shrinks ts rest (view x) stands e)) ∙ so_far
+      rw all (with_front_more (map view old) (view x) (rows starts item rest)) ∙ ap (with_front (map view old)) (sym (rows_more starts item loop.at_end loop.shrinks ts rest (view x) started e)) ∙ so_far
 
   -- no more follows
   pub is_done : (read : List V) (ts : List Token) (total : Result (List A × List Token) Fault) → starts ts ≡ false → with_front (map view read) (rows starts item ts) ≡ total → total ≡ Ok (map view read, ts)
@@ -246,22 +246,22 @@ module _ {A V : Type 0} (view : V → A) {starts : List Token → Bool} {item : 
 
   -- an item fails
   pub breaks : (read : List V) (ts : List Token) (e : Failure) (total : Result (List A × List Token) Fault) → starts ts ≡ true → Fails e (item ts) → with_front (map view read) (rows starts item ts) ≡ total → Fails e total
-  breaks read ts failures.Memory total stands f so_far = tt
-  breaks read ts (failures.Refused f left) total stands e so_far = sym so_far ∙ ap (with_front (map view read)) (rows_fail starts item loop.at_end loop.shrinks ts f stands e)
+  breaks read ts failures.Memory total started f so_far = tt
+  breaks read ts (failures.Refused f left) total started e so_far = sym so_far ∙ ap (with_front (map view read)) (rows_fail starts item loop.at_end loop.shrinks ts f started e)
 
--- the same, where the items are plain data
+-- the laws of a loop, where the items need no view
 module _ {A : Type 0} {starts : List Token → Bool} {item : Reader A} (loop : Loop starts item) where
   pub grows_plain : (old new : List A) (x : A) (ts rest : List Token) (total : Result (List A × List Token) Fault) → new ≡ old ++ x ∷ [] → starts ts ≡ true → item ts ≡ Ok (x, rest) → with_front old (rows starts item ts) ≡ total → with_front new (rows starts item rest) ≡ total
-  grows_plain old new x ts rest total pushed stands e so_far =
-      rw pushed (with_front_more old x (rows starts item rest)) ∙ ap (with_front old) (sym (rows_more starts item loop.at_end loop.shrinks ts rest x stands e)) ∙ so_far
+  grows_plain old new x ts rest total pushed started e so_far =
+      rw pushed (with_front_more old x (rows starts item rest)) ∙ ap (with_front old) (sym (rows_more starts item loop.at_end loop.shrinks ts rest x started e)) ∙ so_far
 
   pub is_done_plain : (read : List A) (ts : List Token) (total : Result (List A × List Token) Fault) → starts ts ≡ false → with_front read (rows starts item ts) ≡ total → total ≡ Ok (read, ts)
   is_done_plain read ts total over so_far = sym so_far ∙ ap (with_front read) (rows_done starts item loop.at_end loop.shrinks ts over) ∙ ap (λ ys. Ok (ys, ts)) (append-nil read)
 
   pub breaks_plain : (read : List A) (ts : List Token) (e : Failure) (total : Result (List A × List Token) Fault) → starts ts ≡ true → Fails e (item ts) → with_front read (rows starts item ts) ≡ total → Fails e total
-  breaks_plain read ts failures.Memory total stands f so_far = tt
-  breaks_plain read ts (failures.Refused f left) total stands e so_far = sym so_far ∙ ap (with_front read) (rows_fail starts item loop.at_end loop.shrinks ts f stands e)
+  breaks_plain read ts failures.Memory total started f so_far = tt
+  breaks_plain read ts (failures.Refused f left) total started e so_far = sym so_far ∙ ap (with_front read) (rows_fail starts item loop.at_end loop.shrinks ts f started e)
 
--- what stands behind the first token, under another name
+-- r leaves all tokens but the first, and these are all but the first
 pub first_taken : {A : Type 0} (r : Result (A × List Token) Fault) (x : A) (ts rest : List Token) → r ≡ Ok (x, drop 1 ts) → rest ≡ drop 1 ts → r ≡ Ok (x, rest)
 first_taken r x ts rest e f = e ∙ ap (λ (a : List Token). Ok (x, a)) (sym f)

@@ -10,27 +10,27 @@ use Rattle.ss_lex.specs.declared.token.Token.{Token}
 use Rattle.ss_parse_expressions.specs.declared.classes.Class.{Class}
 use Rattle.ss_parse_expressions.specs.declared.classes.Class.TheVariants as classes
 use Rattle.ss_parse_expressions.specs.Openers.{openers}
-use Rattle.ss_parse_expressions.specs.Shapes.{Shape, ◌▷◌, nothing, never, either, optional, provided, noise, Token_is, Name_is, Said, listed, flagged}
+use Rattle.ss_parse_expressions.specs.Shapes.{Shape, ◌▷◌, nothing, never, either, optional, provided, noise, Token_is, Name_is, Word_for, listed, flagged}
 use Rattle.ss_parse_expressions.specs.Words.{has_word, One_of, Item_is, perhaps_listed}
-use Rattle.ss_parse_expressions.specs.Reading.{Reader, Mark, word, kind_of, is, begins, skip, expect, in_table, taken, name_of, comma, skip_separator, behind, apply, choose, maybe_list, begins_more}
-use Rattle.ss_parse_expressions.specs.ReadWords.{in_class, begins_class, skip_class, expect_class, said, done, fail, begins_noisy, expect_noisy, begins_name, names, begins_item, item, items, among, begins_among}
+use Rattle.ss_parse_expressions.specs.Reading.{Reader, Mark, word, kind_of, is, begins, skip, expect, in_table, taken, name_of, comma, skip_separator, following, apply, choose, maybe_list, begins_more}
+use Rattle.ss_parse_expressions.specs.ReadWords.{in_class, begins_class, skip_class, expect_class, present, done, fail, begins_noisy, expect_noisy, begins_name, names, begins_item, item, items, among, begins_among}
 use Rattle.ss_parse_expressions.proofs.Tools.{which, chosen, carry}
 use Rattle.ss_parse_expressions.proofs.Marks.{token, Mark_is, is_true, token_of, mark_begins, mark_skips, begins_mark, no_skip, token_less, skip_openers, In_table, begins_table}
 use Rattle.ss_parse_expressions.proofs.Depth.{upto_same, upto_if, Bounded, bounded_more, bounded_if}
-use Rattle.ss_parse_expressions.proofs.ReaderLaws.{Reads, Item, nowise, Made, item_of, made_reads, marked_reads, expect_reads, taken_reads, said_reads, optional_reads, maybe_list_reads}
+use Rattle.ss_parse_expressions.proofs.ReaderLaws.{Reads, Item, continues_never, Made, item_of, made_reads, marked_reads, expect_reads, taken_reads, reshaped_reads, optional_reads, maybe_list_reads}
 use Rattle.ss_parse_expressions.proofs.Rows.{list_reads, Loop, loop_of, separated_item}
 
 -- ---- words of a table
 
-said_to : {A : Type 0} (table : Word → Option A) (x : A) (ts rest : List Token) → In_table (in_table table) x ts rest → Said table x ts rest
-said_to table x ts rest (k, takes, at) = go k takes at
+word_for_to : {A : Type 0} (table : Word → Option A) (x : A) (ts rest : List Token) → In_table (in_table table) x ts rest → Word_for table x ts rest
+word_for_to table x ts rest (k, takes, at) = go k takes at
   where
-    go : (k : TokenKind) → in_table table k ≡ Some x → Token_is k ts rest → Said table x ts rest
+    go : (k : TokenKind) → in_table table k ≡ Some x → Token_is k ts rest → Word_for table x ts rest
     go (kinds.Word w) e at = (w, e, at)
     go _ e at = absurd cc
 
-pub word_in_reads : {A : Type 0} (k : ℕ) (table : Word → Option A) → Reads k (taken (in_table table)) (taken (in_table table)) (Said table) nowise
-word_in_reads k table = said_reads (taken_reads k (in_table table)) (Said table) (said_to table) (λ x ts rest s. (kinds.Word s.0, s.1, s.2))
+pub word_in_reads : {A : Type 0} (k : ℕ) (table : Word → Option A) → Reads k (taken (in_table table)) (taken (in_table table)) (Word_for table) continues_never
+word_in_reads k table = reshaped_reads (taken_reads k (in_table table)) (Word_for table) (word_for_to table) (λ x ts rest s. (kinds.Word s.0, s.1, s.2))
 
 -- ---- words of a class
 
@@ -62,7 +62,7 @@ skip_class_openers : (c : Class) (ts : List Token) → openers (skip_class c ts)
 skip_class_openers c [] = omega arith
 skip_class_openers c (t ∷ ts) = elim (which (in_class c t.kind)) [ inl p ↦ rw p (omega arith) | inr p ↦ rw p (omega arith) ]
 
-pub expect_class_reads : (k : ℕ) (c : Class) → Reads k (expect_class c) (expect_class c) (λ u. One_of c) nowise
+pub expect_class_reads : (k : ℕ) (c : Class) → Reads k (expect_class c) (expect_class c) (λ u. One_of c) continues_never
 expect_class_reads k c = record {
   sound = sound;
   complete = λ ts u rest s stop. complete ts rest u s;
@@ -86,7 +86,7 @@ expect_class_reads k c = record {
     opening [] = tt
     opening (t ∷ ts) = elim (which (in_class c t.kind)) [ inl p ↦ rw p (omega arith) | inr p ↦ rw p tt ]
 
--- a word of the class that may stand in front and says nothing
+-- a word of the class that may be left out
 module _ {A : Type 0} {k : ℕ} {q q' : Reader A} {S : A → Shape} {d : List Token → Bool} (law : Reads k q q' S d) (c : Class) where
   pub optional_class_reads : ((x : A) (ts rest : List Token) → S x ts rest → begins_class c ts ≡ false) → Reads k (λ ts. q (skip_class c ts)) (λ ts. q' (skip_class c ts)) (λ x. optional (One_of c) ▷ S x) d
   optional_class_reads first = record {
@@ -111,9 +111,9 @@ module _ {A : Type 0} {k : ℕ} {q q' : Reader A} {S : A → Shape} {d : List To
       less ts a (inl e) = omega (arith, ap length e)
       less ts a (inr w) = omega (arith, one_less c ts a w)
 
--- ---- nothing, no reading at all, and a mark that may be there
+-- ---- readers that read nothing, that always fail, and that look for a mark
 
-pub done_reads : {A : Type 0} (k : ℕ) (x : A) → Reads k (done x) (done x) (λ y. provided (x ≡ y) nothing) nowise
+pub done_reads : {A : Type 0} (k : ℕ) (x : A) → Reads k (done x) (done x) (λ y. provided (x ≡ y) nothing) continues_never
 done_reads {A = A} k x = record {
   sound = λ ts y rest e. carry (λ (y : A) (r : List Token). (x ≡ y) × (ts ≡ r)) x y ts rest e (refl, refl);
   complete = λ ts y rest s stop. λ i. Ok (s.0 i, s.1 i);
@@ -122,7 +122,7 @@ done_reads {A = A} k x = record {
   opening = λ ts. omega arith;
 }
 
-pub fail_reads : {A : Type 0} (k : ℕ) → Reads k (fail {A = A}) (fail {A = A}) (λ x. never) nowise
+pub fail_reads : {A : Type 0} (k : ℕ) → Reads k (fail {A = A}) (fail {A = A}) (λ x. never) continues_never
 fail_reads k = record {
   sound = λ ts x rest e. absurd cc;
   complete = λ ts x rest s stop. absurd s;
@@ -131,8 +131,8 @@ fail_reads k = record {
   opening = λ ts. tt;
 }
 
-pub mark_said_reads : (k : ℕ) (m : Mark) → Reads k (said m) (said m) (flagged (Mark_is m)) (begins m)
-mark_said_reads k m = record {
+pub present_reads : (k : ℕ) (m : Mark) → Reads k (present m) (present m) (flagged (Mark_is m)) (begins m)
+present_reads k m = record {
   sound = λ ts x rest e. carry (λ (x : Bool) (r : List Token). flagged (Mark_is m) x ts r) (begins m ts) x (skip m ts) rest e (there ts);
   complete = complete;
   shorter = shorter;
@@ -143,7 +143,7 @@ mark_said_reads k m = record {
     there : (ts : List Token) → flagged (Mark_is m) (begins m ts) ts (skip m ts)
     there ts = elim (which (begins m ts)) [ inl p ↦ rw p (begins_mark m ts p) | inr p ↦ rw p (sym (no_skip m ts p)) ]
 
-    complete : (ts : List Token) (x : Bool) (rest : List Token) → flagged (Mark_is m) x ts rest → begins m rest ≡ false → said m ts ≡ Ok (x, rest)
+    complete : (ts : List Token) (x : Bool) (rest : List Token) → flagged (Mark_is m) x ts rest → begins m rest ≡ false → present m ts ≡ Ok (x, rest)
     complete ts true rest s stop =
         let a : begins m ts ≡ true = mark_begins m ts rest s in
         let b : skip m ts ≡ rest = mark_skips m ts rest s in
@@ -159,7 +159,7 @@ mark_said_reads k m = record {
 
 -- ---- a mark with a comma before it or not
 
-pub noisy_mark_reads : (k : ℕ) (m : Mark) → is comma (kind_of m) ≡ false → Reads k (expect_noisy m) (expect_noisy m) (λ u. noise ▷ Mark_is m) nowise
+pub noisy_mark_reads : (k : ℕ) (m : Mark) → is comma (kind_of m) ≡ false → Reads k (expect_noisy m) (expect_noisy m) (λ u. noise ▷ Mark_is m) continues_never
 noisy_mark_reads k m other = optional_reads (expect_reads k m) comma (λ u ts rest s. ap (begins comma) s.2 ∙ other)
 
 pub noisy_begins : (m : Mark) → is comma (kind_of m) ≡ false → (ts rest : List Token) → (noise ▷ Mark_is m) ts rest → begins_noisy m ts ≡ true
@@ -186,8 +186,8 @@ name_to n ts rest (k, takes, at) = go k takes at
     go (kinds.Name v) e at = let same : v ≡ n = cc in subst (λ n. Name_is n ts rest) same at
     go _ e at = absurd cc
 
-pub name_reads : (k : ℕ) → Reads k (taken name_of) (taken name_of) Name_is nowise
-name_reads k = said_reads (taken_reads k name_of) Name_is name_to (λ n ts rest s. (kinds.Name n, refl, s))
+pub name_reads : (k : ℕ) → Reads k (taken name_of) (taken name_of) Name_is continues_never
+name_reads k = reshaped_reads (taken_reads k name_of) Name_is name_to (λ n ts rest s. (kinds.Name n, refl, s))
 
 pub name_begins : (ts : List Token) (n : List ℕ) (rest : List Token) → Name_is n ts rest → begins_name ts ≡ true
 name_begins ts n rest s = begins_table name_of ts rest n (kinds.Name n, refl, s)
@@ -206,7 +206,7 @@ name_no_and (t ∷ ts) e = kind_no_and t.kind e
 abbrev pub continues_names : List Token → Bool
 continues_names ts = begins_more begins_name ts
 
-pub names_reads : (k : ℕ) → Reads k names names (listed Name_is) (λ ts. begins_more begins_name ts || (nowise ts || nowise ts))
+pub names_reads : (k : ℕ) → Reads k names names (listed Name_is) (λ ts. begins_more begins_name ts || (continues_never ts || continues_never ts))
 names_reads k = list_reads (name_reads k) begins_name name_begins name_no_and name_less (λ span line ts. refl) (λ span line ts. refl)
 
 pub names_loop : Loop (begins_more begins_name) (λ r. taken name_of (skip_separator r))
@@ -217,7 +217,7 @@ names_loop = loop_of (separated_item (name_reads 0) begins_name name_begins name
 name_no_article : (n : List ℕ) (ts rest : List Token) → Name_is n ts rest → begins_class classes.Article ts ≡ false
 name_no_article n ts rest (span, line, e) = rw e refl
 
-pub item_reads : (k : ℕ) → Reads k item item Item_is nowise
+pub item_reads : (k : ℕ) → Reads k item item Item_is continues_never
 item_reads k = optional_class_reads (name_reads k) classes.Article name_no_article
 
 pub item_begins : (ts : List Token) (n : List ℕ) (rest : List Token) → Item_is n ts rest → begins_item ts ≡ true
@@ -235,13 +235,13 @@ and_no_item (t ∷ ts) e = let kind : t.kind ≡ kinds.Word words.And = is_true 
 pub item_no_and : (ts : List Token) → begins_item ts ≡ true → begins (word words.And) ts ≡ false
 item_no_and ts e = elim (which (begins (word words.And) ts)) [ inl p ↦ absurd (let no = and_no_item ts p in cc) | inr p ↦ p ]
 
-pub items_reads : (k : ℕ) → Reads k items items (listed Item_is) (λ ts. begins_more begins_item ts || (nowise ts || nowise ts))
+pub items_reads : (k : ℕ) → Reads k items items (listed Item_is) (λ ts. begins_more begins_item ts || (continues_never ts || continues_never ts))
 items_reads k = list_reads (item_reads k) begins_item item_begins item_no_and item_less (λ span line ts. refl) (λ span line ts. refl)
 
 pub items_loop : Loop (begins_more begins_item) (λ r. item (skip_separator r))
 items_loop = loop_of (separated_item (item_reads 0) begins_item item_begins item_no_and) refl
 
--- ---- a list behind words, or neither
+-- ---- a list with a word before it, or neither
 
 pub perhaps_listed_reads : {X : Type 0} {k : ℕ} {starts : List Token → Bool} {r r' : Reader (List X)} {P : Shape} {S : X → Shape} {c : List Token → Bool} → Item k starts r r' (λ xs. P ▷ listed S xs) c → Reads k (maybe_list starts r) (maybe_list starts r') (perhaps_listed P S) (λ ts. starts ts || c ts)
 perhaps_listed_reads {X = X} {P = P} {S = S} item = maybe_list_reads item to from (λ ts. refl)
@@ -276,9 +276,9 @@ no_class p c held (t ∷ ts) e =
       | inr none ↦ none
     ]
 
--- ---- one of two, the second of which may be nothing
+-- ---- one of two readers, the second of which may read nothing
 
--- the second doesn't start as the first does, where what follows can't continue it
+-- The second doesn't start as the first does, where the tokens after it can't continue it.
 module _ {A : Type 0} {k : ℕ} {starts : List Token → Bool} {r r' q q' : Reader A} {S T : A → Shape} {c d : List Token → Bool} (first : Item k starts r r' S c) (second : Reads k q q' T d) (e : List Token → Bool) (fewer : (ts : List Token) → e ts ≡ false → (c ts ≡ false) × (d ts ≡ false)) (late : (x : A) (ts rest : List Token) → T x ts rest → e rest ≡ false → starts ts ≡ false) where
   pub either_reads : Reads k (choose starts r q) (choose starts r' q') (λ x. either (S x) (T x)) e
   either_reads = record {
@@ -301,8 +301,8 @@ module _ {A : Type 0} {k : ℕ} {starts : List Token → Bool} {r r' q q' : Read
     opening = λ ts. bounded_if k (openers ts) (starts ts) _ _ (first.opening ts) (second.opening ts);
   }
 
--- what is made of what begins with a mark
-pub item_made : {A B : Type 0} {k : ℕ} {q q' : Reader A} {S : A → Shape} {d : List Token → Bool} (m : Mark) (law : Reads k q q' S d) (f : A → B) → Item k (begins m) (apply f (behind (expect m) q)) (apply f (behind (expect m) q')) (Made f (λ x. Mark_is m ▷ S x)) d
+-- an item that is made of what begins with a mark
+pub item_made : {A B : Type 0} {k : ℕ} {q q' : Reader A} {S : A → Shape} {d : List Token → Bool} (m : Mark) (law : Reads k q q' S d) (f : A → B) → Item k (begins m) (apply f (following (expect m) q)) (apply f (following (expect m) q')) (Made f (λ x. Mark_is m ▷ S x)) d
 item_made m law f =
     item_of (begins m) (made_reads (marked_reads m law) f) (λ ts y rest s. mark_begins m ts s.2.0 s.2.1)
     (λ ts y rest s. omega (arith, token_less (kind_of m) ts s.2.0 s.2.1, law.shorter s.2.0 s.0 rest s.2.2))

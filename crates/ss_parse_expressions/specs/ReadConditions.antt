@@ -12,15 +12,15 @@ use Rattle.ss_tree.specs.declared.expression.Designator.TheVariants as designato
 use Rattle.ss_tree.specs.Tree.{ExpressionTree, named, ExpressionRow, no_expression, and_expression, NamedTree, TestTree, compare, empty, member, data_ended, ConditionTree}
 use Rattle.ss_parse_expressions.specs.declared.conditions.Verb.{Verb}
 use Rattle.ss_parse_expressions.specs.declared.conditions.Verb.TheVariants as verbs
-use Rattle.ss_parse_expressions.specs.declared.conditions.Told.{Told}
-use Rattle.ss_parse_expressions.specs.declared.conditions.Told.TheVariants as tolds
+use Rattle.ss_parse_expressions.specs.declared.conditions.TestWord.{TestWord}
+use Rattle.ss_parse_expressions.specs.declared.conditions.TestWord.TheVariants as test_words
 use Rattle.ss_parse_expressions.specs.WordTables.{relation_of}
-use Rattle.ss_parse_expressions.specs.Reading.{Reader, ◌>>=◌, word, begins, begins_by, skip, expect, in_table, taken, seq, behind, closed, apply, choose, too_deep, first_and}
-use Rattle.ss_parse_expressions.specs.ReadWords.{said, done, fail}
+use Rattle.ss_parse_expressions.specs.Reading.{Reader, ◌>>=◌, word, begins, begins_by, skip, expect, in_table, taken, seq, following, closed, apply, choose, too_deep, first_and}
+use Rattle.ss_parse_expressions.specs.ReadWords.{present, done, fail}
 use Rattle.ss_parse_expressions.specs.ReadExpressions.{sum_in}
 use Rattle.ss_parse_expressions.specs.ReadPlaces.{reference_in}
 
--- ---- what stands behind the first expression of a test
+-- ---- the verb of a test, after its first expression
 
 -- a relation that is one token
 abbrev pub relation_symbol : TokenKind → Option Relation
@@ -28,26 +28,26 @@ relation_symbol (kinds.Symbol Equals) = Some relations.Equal
 relation_symbol (kinds.Word w) = relation_of w
 relation_symbol _ = None
 
-abbrev pub told_of : Word → Option Told
-told_of words.Empty = Some tolds.Empty
-told_of words.In = Some tolds.In
-told_of words.Equal = Some tolds.Equal
-told_of words.Less = Some tolds.Less
-told_of words.Greater = Some tolds.Greater
-told_of _ = None
+abbrev pub test_word_of : Word → Option TestWord
+test_word_of words.Empty = Some test_words.Empty
+test_word_of words.In = Some test_words.In
+test_word_of words.Equal = Some test_words.Equal
+test_word_of words.Less = Some test_words.Less
+test_word_of words.Greater = Some test_words.Greater
+test_word_of _ = None
 
--- behind IS or not, NOT or not, and the word that says what is tested
-abbrev pub verb_end : Told → Bool → Bool → Reader Verb
-verb_end tolds.Empty true negated = done (verbs.IsEmpty negated)
-verb_end tolds.Empty false negated = fail
-verb_end tolds.In true negated = done (verbs.IsIn negated)
-verb_end tolds.In false negated = fail
-verb_end tolds.Equal is negated = apply (λ u. verbs.Compares (if negated then relations.NotEqual else relations.Equal)) (expect (word words.To))
-verb_end tolds.Less is negated = apply (λ u. verbs.Compares (if negated then relations.GreaterOrEqual else relations.Less)) (expect (word words.Than))
-verb_end tolds.Greater is negated = apply (λ u. verbs.Compares (if negated then relations.LessOrEqual else relations.Greater)) (expect (word words.Than))
+-- the rest of a verb, given whether IS and NOT were there and which word says what is tested
+abbrev pub verb_end : TestWord → Bool → Bool → Reader Verb
+verb_end test_words.Empty true negated = done (verbs.IsEmpty negated)
+verb_end test_words.Empty false negated = fail
+verb_end test_words.In true negated = done (verbs.IsIn negated)
+verb_end test_words.In false negated = fail
+verb_end test_words.Equal is negated = apply (λ u. verbs.Compares (if negated then relations.NotEqual else relations.Equal)) (expect (word words.To))
+verb_end test_words.Less is negated = apply (λ u. verbs.Compares (if negated then relations.GreaterOrEqual else relations.Less)) (expect (word words.Than))
+verb_end test_words.Greater is negated = apply (λ u. verbs.Compares (if negated then relations.LessOrEqual else relations.Greater)) (expect (word words.Than))
 
 unfoldable pub worded_verb : Reader Verb
-worded_verb ts = seq (said (word words.Is)) (seq (said (word words.Not)) (taken (in_table told_of))) ts >>= λ p. verb_end p.0.1.1 p.0.0 p.0.1.0 p.1
+worded_verb ts = seq (present (word words.Is)) (seq (present (word words.Not)) (taken (in_table test_word_of))) ts >>= λ p. verb_end p.0.1.1 p.0.0 p.0.1.0 p.1
 
 unfoldable pub verb : Reader Verb
 verb = choose (begins_by relation_symbol) (apply verbs.Compares (taken relation_symbol)) worded_verb
@@ -58,7 +58,7 @@ abbrev pub is_plain : Designator → Bool
 is_plain (designators.Name n) = true
 is_plain _ = false
 
--- one at most
+-- one expression at most
 abbrev pub is_short : ExpressionRow → Bool
 is_short no_expression = true
 is_short (and_expression e no_expression) = true
@@ -67,7 +67,7 @@ is_short (and_expression e (and_expression f fs)) = false
 abbrev pub is_reference : NamedTree → Bool
 is_reference t = is_plain t.designator && is_short t.subscripts
 
--- the set that an expression names
+-- the set that an expression names, if it can be one
 abbrev pub reference_of : ExpressionTree → Option NamedTree
 reference_of (named d row) = if is_reference (record { designator = d; subscripts = row }) then Some (record { designator = d; subscripts = row }) else None
 reference_of _ = None
@@ -78,9 +78,9 @@ empty_of None negated = fail
 
 -- DATA IS ENDED
 unfoldable pub data_test : Reader TestTree
-data_test = behind (expect (word words.Data)) (behind (expect (word words.Is)) (apply data_ended (closed (said (word words.Not)) (expect (word words.Ended)))))
+data_test = following (expect (word words.Data)) (following (expect (word words.Is)) (apply data_ended (closed (present (word words.Not)) (expect (word words.Ended)))))
 
--- behind the first expression and the verb
+-- the rest of a test, after its first expression and its verb
 unfoldable pub test_end : ℕ → ExpressionTree → Verb → Reader TestTree
 test_end room left (verbs.Compares r) = apply (compare left r) (sum_in room)
 test_end room left (verbs.IsIn negated) = apply (λ set. member left set negated) (λ ts. reference_in room (skip (word words.The) ts))

@@ -15,7 +15,7 @@ use Rattle.ss_tree.specs.declared.expression.Designator.{Designator}
 use Rattle.ss_tree.specs.declared.expression.Designator.TheVariants as designators
 use Rattle.ss_tree.specs.Tree.{ExpressionTree, number, text, named, call, parenthesised, product, signed, sum, expression_row, term_row}
 use Rattle.ss_parse_expressions.specs.WordTables.{function_of}
-use Rattle.ss_parse_expressions.specs.Reading.{Reader, Mark, symbol, begins, skip, expect, is_some, begins_by, taken, seq, behind, closed, apply, maybe_list, choose, too_deep, rows, list_of}
+use Rattle.ss_parse_expressions.specs.Reading.{Reader, Mark, symbol, begins, skip, expect, is_some, begins_by, taken, seq, following, closed, apply, maybe_list, choose, too_deep, rows, list_of}
 
 -- ---- single tokens
 
@@ -85,7 +85,7 @@ module _ (inner : Reader ExpressionTree) where
 
   -- expressions in parentheses
   unfoldable pub enclosed_with : Reader (List ExpressionTree)
-  enclosed_with = behind (expect opening) (closed arguments_with (expect closing))
+  enclosed_with = following (expect opening) (closed arguments_with (expect closing))
 
   -- subscripts, if there are any
   unfoldable pub subscripts_with : Reader (List ExpressionTree)
@@ -97,7 +97,7 @@ module _ (inner : Reader ExpressionTree) where
   abbrev pub call_with : Function → Reader ExpressionTree
   call_with f = apply (λ xs. call f (expression_row xs)) enclosed_with
 
-  -- behind an opening parenthesis
+  -- an expression in parentheses, after the opening one
   unfoldable pub parenthesised_with : Reader ExpressionTree
   parenthesised_with = apply parenthesised (closed inner (expect closing))
 
@@ -119,14 +119,14 @@ module _ (inner : Reader ExpressionTree) where
   factor_with [] = Err Syntax
   factor_with (t ∷ ts) = factor_at t.kind ts
 
-  -- further factors, each behind a star
+  -- further factors, each after a star
   abbrev pub further_factors_with : Reader (List ExpressionTree)
   further_factors_with = rows (begins star) (λ r. factor_with (skip star r))
 
   unfoldable pub term_with : Reader ExpressionTree
   term_with = apply (λ p. product_of p.0 p.1) (seq factor_with further_factors_with)
 
-  -- a term behind its sign
+  -- a sign and its term
   unfoldable pub signed_term_with : Reader (Sign × ExpressionTree)
   signed_term_with = seq (taken sign_of) term_with
 

@@ -1,4 +1,4 @@
--- Reading words of which any one may stand, names and lists of names.
+-- Reading interchangeable words, names and lists of names.
 use Rattle.std.specs.Prelude.{ℕ, List, [], ◌∷◌, Bool, false, Ok, Err, if◌then◌else◌}
 use Rattle.ss_lex.specs.declared.word.Word.{Word}
 use Rattle.ss_lex.specs.declared.token.TokenKind.{TokenKind}
@@ -20,7 +20,7 @@ abbrev pub begins_class : Class → List Token → Bool
 begins_class class [] = false
 begins_class class (t ∷ ts) = in_class class t.kind
 
--- the tokens behind a word of the class, where one is first
+-- the tokens after a word of the class, where one is first
 abbrev pub skip_class : Class → List Token → List Token
 skip_class class [] = []
 skip_class class (t ∷ ts) = if in_class class t.kind then ts else t ∷ ts
@@ -30,11 +30,11 @@ abbrev pub expect_class : Class → Reader (Unit {0})
 expect_class class [] = Err Syntax
 expect_class class (t ∷ ts) = if in_class class t.kind then Ok (tt, ts) else Err Syntax
 
--- whether the mark is first, and what stands behind it
-abbrev pub said : Mark → Reader Bool
-said m ts = Ok (begins m ts, skip m ts)
+-- whether the mark is first, and the tokens after it
+abbrev pub present : Mark → Reader Bool
+present m ts = Ok (begins m ts, skip m ts)
 
--- nothing at all, as this
+-- reads nothing, and gives this value
 abbrev pub done : {A : Type 0} → A → Reader A
 done x ts = Ok (x, ts)
 

@@ -16,7 +16,7 @@ use Rattle.ss_parse_expressions.specs.declared.failure.Fault.TheVariants.{Syntax
 use Rattle.ss_parse_expressions.specs.declared.failure.Failure.{Failure}
 use Rattle.ss_parse_expressions.specs.declared.failure.Failure.TheVariants as failures
 
--- what a reader answers: what it read and the tokens after it, or a fault
+-- A reader gives what it read and the tokens after it, or a fault.
 abbrev pub Reader : Type 0 → Type 0
 Reader T = List Token → Result (T × List Token) Fault
 
@@ -25,7 +25,7 @@ abbrev pub ◌>>=◌ : {A B : Type 0} → Result A Fault → (A → Result B Fau
 (Ok x) >>= f = f x
 (Err e) >>= f = Err e
 
--- What a function returned, seen by view, is what reading gives, unless memory ran out.
+-- What a function returned, seen through `view`, is what reading gives, unless memory ran out.
 abbrev pub Fails : {Y : Type 0} → Failure → Result Y Fault → Type 0
 Fails failures.Memory read = Unit {0}
 Fails (failures.Refused f left) read = read ≡ Err f
@@ -65,7 +65,7 @@ abbrev pub begins : Mark → List Token → Bool
 begins m [] = false
 begins m (t ∷ ts) = is m t.kind
 
--- the tokens behind the mark, where it is first
+-- the tokens after the mark, where it is first
 abbrev pub skip : Mark → List Token → List Token
 skip m [] = []
 skip m (t ∷ ts) = if is m t.kind then ts else t ∷ ts
@@ -75,7 +75,7 @@ abbrev pub expect : Mark → Reader (Unit {0})
 expect m [] = Err Syntax
 expect m (t ∷ ts) = if is m t.kind then Ok (tt, ts) else Err Syntax
 
--- a token that the word table takes for something
+-- what the word table maps the token to, if it is a word
 abbrev pub in_table : {A : Type 0} → (Word → Option A) → TokenKind → Option A
 in_table table (kinds.Word w) = table w
 in_table table _ = None
@@ -84,7 +84,7 @@ abbrev pub is_some : {A : Type 0} → Option A → Bool
 is_some None = false
 is_some (Some x) = true
 
--- what the table makes of the first token
+-- what the table maps the first token to
 abbrev pub first_by : {A : Type 0} → (TokenKind → Option A) → List Token → Option A
 first_by table [] = None
 first_by table (t ∷ ts) = table t.kind
@@ -97,7 +97,7 @@ abbrev pub found_then : {A : Type 0} → Option A → List Token → Result (A �
 found_then None ts = Err Syntax
 found_then (Some x) ts = Ok (x, ts)
 
--- a token of the table
+-- a token that the table maps to something, which is the result
 abbrev pub taken : {A : Type 0} → (TokenKind → Option A) → Reader A
 taken table [] = Err Syntax
 taken table (t ∷ ts) = found_then (table t.kind) ts
@@ -109,38 +109,38 @@ name_of _ = None
 
 -- ---- readers of several things
 
--- this, and then that
+-- the first reader and then the second, with both results
 abbrev pub seq : {A B : Type 0} → Reader A → Reader B → Reader (A × B)
 seq r q ts = r ts >>= λ x. q x.1 >>= λ y. Ok ((x.0, y.0), y.1)
 
--- that, behind words that say nothing
-abbrev pub behind : {A : Type 0} → Reader (Unit {0}) → Reader A → Reader A
-behind r q ts = r ts >>= λ x. q x.1
+-- the second reader, after tokens that the first one reads and drops
+abbrev pub following : {A : Type 0} → Reader (Unit {0}) → Reader A → Reader A
+following r q ts = r ts >>= λ x. q x.1
 
--- this, before words that say nothing
+-- the first reader, before tokens that the second one reads and drops
 abbrev pub closed : {A : Type 0} → Reader A → Reader (Unit {0}) → Reader A
 closed r q ts = r ts >>= λ x. q x.1 >>= λ y. Ok (x.0, y.1)
 
 abbrev pub apply : {A B : Type 0} → (A → B) → Reader A → Reader B
 apply f r ts = r ts >>= λ x. Ok (f x.0, x.1)
 
--- by the line of the first token
+-- a reader that depends on the line of the first token
 abbrev pub lined : {A : Type 0} → (Line → Reader A) → Reader A
 lined r ts = r (first_line ts) ts
 
--- what may be there, by how it starts
+-- an optional item, which is there where the tokens start so
 abbrev pub maybe : {A : Type 0} → (List Token → Bool) → Reader A → Reader (Option A)
 maybe starts item ts = if starts ts then (item ts >>= λ x. Ok (Some x.0, x.1)) else Ok (None, ts)
 
--- a list that may be there, by how it starts
+-- an optional list, which is there where the tokens start so
 abbrev pub maybe_list : {A : Type 0} → (List Token → Bool) → Reader (List A) → Reader (List A)
 maybe_list starts item ts = if starts ts then item ts else Ok ([], ts)
 
--- whether words are there, by how they start
+-- whether these words are there, which is so where the tokens start so
 abbrev pub flag : (List Token → Bool) → Reader (Unit {0}) → Reader Bool
 flag starts q ts = if starts ts then (q ts >>= λ x. Ok (true, x.1)) else Ok (false, ts)
 
--- one of two, by how the first starts
+-- the first reader where the tokens start so, and else the second
 abbrev pub choose : {A : Type 0} → (List Token → Bool) → Reader A → Reader A → Reader A
 choose starts r q ts = if starts ts then r ts else q ts
 
@@ -171,7 +171,7 @@ comma = symbol Comma
 abbrev pub skip_comma : List Token → List Token
 skip_comma = skip comma
 
--- behind a comma, AND, or both
+-- the tokens after a comma, AND, or both
 abbrev pub skip_separator : List Token → List Token
 skip_separator ts = skip (word words.And) (skip comma ts)
 

@@ -1,4 +1,4 @@
--- What may stand at the front of a list of tokens.
+-- Shapes: which tokens may be at the front of a list.
 use Rattle.std.specs.Prelude.{◌≡◌, ℕ, zero, suc, ◌⊎◌, List, [], ◌∷◌, Option, Some, None, Bool, true, false}
 use Rattle.ss_base.specs.declared.line.Line.{Line}
 use Rattle.ss_lex.specs.declared.token.Token.{Token}
@@ -10,7 +10,7 @@ use Rattle.ss_lex.specs.declared.token.TokenKind.TheVariants as kinds
 use Rattle.ss_lex.specs.declared.word.Word.{Word}
 use Rattle.ss_lex.specs.declared.word.Word.TheVariants as words
 
--- A shape says of tokens what stands first, and which tokens follow it.
+-- A shape relates tokens to the rest of them, after what the shape describes.
 abbrev pub Shape : Type 1
 Shape = List Token → List Token → Type 0
 
@@ -48,11 +48,11 @@ Symbol_is s = Token_is (kinds.Symbol s)
 abbrev pub Name_is : List ℕ → Shape
 Name_is n = Token_is (kinds.Name n)
 
--- a word that the table takes for x
-abbrev pub Said : {X : Type 0} → (Word → Option X) → X → Shape
-Said table x ts rest = (w : Word) × (table w ≡ Some x) × Word_is w ts rest
+-- a word that the table maps to x
+abbrev pub Word_for : {X : Type 0} → (Word → Option X) → X → Shape
+Word_for table x ts rest = (w : Word) × (table w ≡ Some x) × Word_is w ts rest
 
--- a comma that may stand here and means nothing
+-- a comma that may be left out
 abbrev pub noise : Shape
 noise = optional (Symbol_is symbols.Comma)
 

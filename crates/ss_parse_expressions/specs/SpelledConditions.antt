@@ -8,7 +8,7 @@ use Rattle.ss_tree.specs.declared.condition.Relation.TheVariants as relations
 use Rattle.ss_tree.specs.declared.head.GuardKind.{GuardKind}
 use Rattle.ss_tree.specs.declared.head.GuardKind.TheVariants as guards
 use Rattle.ss_tree.specs.Tree.{TestTree, compare, empty, member, data_ended, ConditionTree, PhraseTree, GuardTree, StartTree, from_end, from_member, after_member, HeadTree, over_range, over_members, over_class, LoopHeadTree, for_head, guarded}
-use Rattle.ss_parse_expressions.specs.Shapes.{Shape, ◌▷◌, nothing, never, either, optional, provided, Word_is, Symbol_is, Name_is, Said, noise, each, first_and, perhaps, flagged}
+use Rattle.ss_parse_expressions.specs.Shapes.{Shape, ◌▷◌, nothing, never, either, optional, provided, Word_is, Symbol_is, Name_is, Word_for, noise, each, first_and, perhaps, flagged}
 use Rattle.ss_parse_expressions.specs.declared.classes.Class.TheVariants as classes
 use Rattle.ss_parse_expressions.specs.Words.{One_of, the}
 use Rattle.ss_parse_expressions.specs.SpelledExpressions.{Sum_is, Reference_is}
@@ -16,7 +16,7 @@ use Rattle.ss_parse_expressions.specs.WordTables.{relation_of, phrase_of, guard_
 
 -- ---- relations
 
--- a relation in words, behind IS or not
+-- a relation in words, with IS before it or not
 abbrev pub In_words : Relation → Shape
 In_words relations.Equal = Word_is words.Equal ▷ Word_is words.To
 In_words relations.NotEqual = Word_is words.Not ▷ Word_is words.Equal ▷ Word_is words.To
@@ -26,7 +26,7 @@ In_words relations.LessOrEqual = Word_is words.Not ▷ Word_is words.Greater ▷
 In_words relations.GreaterOrEqual = Word_is words.Not ▷ Word_is words.Less ▷ Word_is words.Than
 
 abbrev pub Relation_is : Relation → Shape
-Relation_is r = either (provided (r ≡ relations.Equal) (Symbol_is Equals)) (either (Said relation_of r) (optional (Word_is words.Is) ▷ In_words r))
+Relation_is r = either (provided (r ≡ relations.Equal) (Symbol_is Equals)) (either (Word_for relation_of r) (optional (Word_is words.Is) ▷ In_words r))
 
 -- ---- conditions
 
@@ -47,10 +47,10 @@ Condition_is levels = joined words.Or (joined words.And (Test_is levels))
 -- ---- heads of loops
 
 abbrev pub Phrase_is : ℕ → PhraseTree → Shape
-Phrase_is levels p = noise ▷ Said phrase_of p.kind ▷ Condition_is levels p.condition
+Phrase_is levels p = noise ▷ Word_for phrase_of p.kind ▷ Condition_is levels p.condition
 
 abbrev pub Guard_is : ℕ → GuardTree → Shape
-Guard_is levels g = Said guard_of g.kind ▷ Condition_is levels g.condition
+Guard_is levels g = Word_for guard_of g.kind ▷ Condition_is levels g.condition
 
 abbrev pub Start_is : ℕ → StartTree → Shape
 Start_is levels from_end = nothing
@@ -66,23 +66,23 @@ abbrev pub head_word : LoopHeadTree → Word
 head_word (guarded (g ∷ gs)) = guard_word g.kind
 head_word _ = words.For
 
--- the head of a FOR behind its first word
-abbrev pub Head_behind : ℕ → HeadTree → Shape
-Head_behind levels (over_range variable from to step phrases) =
+-- the head of a FOR after its first word
+abbrev pub Head_rest : ℕ → HeadTree → Shape
+Head_rest levels (over_range variable from to step phrases) =
     Name_is variable ▷ Symbol_is Equals ▷ Sum_is levels from ▷ Word_is words.To ▷ Sum_is levels to
     ▷ perhaps (λ e. Word_is words.By ▷ Sum_is levels e) step ▷ each (Phrase_is levels) phrases
-Head_behind levels (over_members variable set start reverse phrases) =
+Head_rest levels (over_members variable set start reverse phrases) =
     One_of classes.Each ▷ Name_is variable ▷ Word_is words.In ▷ the ▷ Reference_is levels set
     ▷ Start_is levels start ▷ flagged (Word_is words.In ▷ Word_is words.Reverse ▷ Word_is words.Order) reverse ▷ each (Phrase_is levels) phrases
-Head_behind levels (over_class class variable phrases) =
+Head_rest levels (over_class class variable phrases) =
     One_of classes.Each ▷ Name_is class ▷ perhaps (λ v. Word_is words.Called ▷ Name_is v) variable ▷ each (Phrase_is levels) phrases
 
--- the head of a loop behind its first word
-abbrev pub Loop_behind : ℕ → LoopHeadTree → Shape
-Loop_behind levels (for_head head) = Head_behind levels head
+-- the head of a loop after its first word
+abbrev pub Loop_head_rest : ℕ → LoopHeadTree → Shape
+Loop_head_rest levels (for_head head) = Head_rest levels head
 -- WHILE and UNTIL, of which the first has no comma before it
-Loop_behind levels (guarded []) = never
-Loop_behind levels (guarded (g ∷ gs)) = Condition_is levels g.condition ▷ each (λ h. noise ▷ Guard_is levels h) gs
+Loop_head_rest levels (guarded []) = never
+Loop_head_rest levels (guarded (g ∷ gs)) = Condition_is levels g.condition ▷ each (λ h. noise ▷ Guard_is levels h) gs
 
 -- begins with FOR
 abbrev pub Begins_with_for : LoopHeadTree → Type 0

@@ -8,10 +8,10 @@ use Rattle.ss_tree.specs.declared.expression.Sign.TheVariants as signs
 use Rattle.ss_tree.specs.declared.expression.Designator.{Designator}
 use Rattle.ss_tree.specs.declared.expression.Designator.TheVariants as designators
 use Rattle.ss_tree.specs.Tree.{ExpressionTree, number, text, named, call, parenthesised, product, signed, sum, ExpressionRow, no_expression, and_expression, TermRow, no_term, and_term, NamedTree}
-use Rattle.ss_parse_expressions.specs.Shapes.{Shape, ◌▷◌, nothing, never, provided, Token_is, Word_is, Symbol_is, Name_is, Said, separator, within}
+use Rattle.ss_parse_expressions.specs.Shapes.{Shape, ◌▷◌, nothing, never, provided, Token_is, Word_is, Symbol_is, Name_is, Word_for, separator, within}
 use Rattle.ss_parse_expressions.specs.WordTables.{function_of}
 
--- Where an expression stands, by what may stand there without parentheses.
+-- The places of an expression, by which expressions need no parentheses there.
 pub data Place : Type 0 where
   -- any expression
   sum_place : Place
@@ -22,18 +22,18 @@ pub data Place : Type 0 where
   -- a factor
   factor_place : Place
 
--- where a product may stand
+-- where a product needs no parentheses
 abbrev pub Takes_product : Place → Type 0
 Takes_product factor_place = ⊥
 Takes_product _ = Unit {0}
 
--- where a term with a sign may stand
+-- where a term with a sign needs no parentheses
 abbrev pub Takes_sign : Place → Type 0
 Takes_sign sum_place = Unit {0}
 Takes_sign first_place = Unit {0}
 Takes_sign _ = ⊥
 
--- where a sum may stand
+-- where a sum needs no parentheses
 abbrev pub Takes_sum : Place → Type 0
 Takes_sum sum_place = Unit {0}
 Takes_sum _ = ⊥
@@ -58,7 +58,7 @@ abbrev mutual
       Designated d ▷ Symbol_is OpenParenthesis ▷ within (λ l. Spelled e sum_place l ▷ Further_arguments es l) levels ▷ Symbol_is CloseParenthesis
   Spelled (call f no_expression) place levels = never
   Spelled (call f (and_expression e es)) place levels =
-      Said function_of f ▷ Symbol_is OpenParenthesis ▷ within (λ l. Spelled e sum_place l ▷ Further_arguments es l) levels ▷ Symbol_is CloseParenthesis
+      Word_for function_of f ▷ Symbol_is OpenParenthesis ▷ within (λ l. Spelled e sum_place l ▷ Further_arguments es l) levels ▷ Symbol_is CloseParenthesis
   Spelled (parenthesised e) place levels =
       Symbol_is OpenParenthesis ▷ within (λ l. Spelled e sum_place l) levels ▷ Symbol_is CloseParenthesis
   Spelled (product e no_expression) place levels = never

@@ -2,7 +2,7 @@
 use Rattle.std.specs.Prelude.{◌≡◌, Result, Ok, Err}
 use Rattle.ss_parse_expressions.specs.declared.failure.Failure.{Failure}
 
--- what was read first, beside what was read next, unless that failed
+-- what was read first together with what was read next, unless that failed
 abbrev pub Beside : {A B : Type 0} → A → Result B Failure → Result (A × B) Failure → Type 0
 Beside first next (Ok p) = (p.0 ≡ first) × (next ≡ Ok p.1)
 Beside first next (Err e) = next ≡ Err e

@@ -1,4 +1,4 @@
--- What a word stands for, in the place where it is looked for.
+-- What each word means, in the place where it is looked for.
 use Rattle.std.specs.Prelude.{Bool, true, false, Option, Some, None}
 use Rattle.ss_lex.specs.declared.word.Word.{Word}
 use Rattle.ss_lex.specs.declared.word.Word.TheVariants as words

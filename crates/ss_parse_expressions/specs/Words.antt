@@ -1,4 +1,4 @@
--- Which tokens spell a word of which any one may stand, names and lists of names.
+-- Which tokens spell interchangeable words, names and lists of names.
 use Rattle.std.specs.Prelude.{◌≡◌, ℕ, List, [], ◌∷◌, Bool, true, false}
 use Rattle.ss_lex.specs.declared.word.Word.{Word}
 use Rattle.ss_lex.specs.declared.word.Word.TheVariants as words
@@ -6,7 +6,7 @@ use Rattle.ss_parse_expressions.specs.declared.classes.Class.{Class}
 use Rattle.ss_parse_expressions.specs.declared.classes.Class.TheVariants as classes
 use Rattle.ss_parse_expressions.specs.Shapes.{Shape, ◌▷◌, nothing, optional, Word_is, Name_is, listed}
 
--- which words mean the same in a place
+-- which words are interchangeable in a place
 abbrev pub has_word : Class → Word → Bool
 has_word classes.Article words.A = true
 has_word classes.Article words.An = true
@@ -34,7 +34,7 @@ the = optional (Word_is words.The)
 abbrev pub Item_is : List ℕ → Shape
 Item_is n = optional (One_of classes.Article) ▷ Name_is n
 
--- the word and what stands behind it, or neither where the list is empty
+-- the word and a list after it, or neither where the list is empty
 abbrev pub perhaps_listed : {X : Type 0} → Shape → (X → Shape) → List X → Shape
 perhaps_listed P S [] = nothing
 perhaps_listed P S (x ∷ xs) = P ▷ listed S (x ∷ xs)

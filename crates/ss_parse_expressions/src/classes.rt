@@ -1,4 +1,4 @@
-//! Words of which any one may stand in a place.
+//! Classes of words that are interchangeable in a place.
 
 ghost use Rattle.std.specs.Prelude.{◌≡◌};
 ghost use Rattle.ss_parse_expressions.specs.Words.{has_word};
@@ -9,7 +9,7 @@ use crate::failure::Failure;
 use crate::tokens::syntax;
 use ss_lex::{Token, TokenKind, Word};
 
-/// Words that mean the same in a place.
+/// A class of words that are interchangeable in a place.
 #[derive(Clone, Copy)]
 pub enum Class {
     /// A, AN or THE.
@@ -50,7 +50,7 @@ pub fn begins_class(tokens: &[Token], class: Class) -> bool
     }
 }
 
-/// The tokens behind a word of the class, where one is first.
+/// The tokens after a word of the class, where one is first.
 pub fn skip_class(tokens: &[Token], class: Class) -> &[Token]
     ensures { result.now ≡ skip_class class tokens.now }
 {

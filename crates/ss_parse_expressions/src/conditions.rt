@@ -5,7 +5,7 @@ ghost use Rattle.ss_tree.specs.Tree.{expression_row};
 ghost use Rattle.ss_tree.specs.View.{view_expression, view_option, view_named, view_test, view_conjunction, view_condition};
 ghost use Rattle.ss_parse_expressions.specs.Reading.{Gives, begins_by, taken, in_table, word, expect, apply};
 ghost use Rattle.ss_parse_expressions.specs.declared.conditions.Verb.TheVariants.{Compares};
-ghost use Rattle.ss_parse_expressions.specs.ReadConditions.{relation_symbol, told_of, verb_end, worded_verb, verb, is_short, is_reference, reference_of, data_test, test_end, sum_test, test_in, conjunction_in, condition_in};
+ghost use Rattle.ss_parse_expressions.specs.ReadConditions.{relation_symbol, test_word_of, verb_end, worded_verb, verb, is_short, is_reference, reference_of, data_test, test_end, sum_test, test_in, conjunction_in, condition_in};
 
 use crate::expressions::sum;
 use crate::failure::Failure;
@@ -18,7 +18,7 @@ use ss_tree::condition::{Condition, Conjunction, Relation, Test};
 use ss_tree::expression::{Designator, Expression, Named};
 use std::alloc::Global;
 
-/// What stands behind the first expression of a test.
+/// The verb of a test, after its first expression: what is tested of it.
 #[derive(Clone, Copy)]
 pub enum Verb {
     Compares(Relation),
@@ -30,7 +30,7 @@ pub enum Verb {
 
 /// The word of a test in words that says what is tested.
 #[derive(Clone, Copy)]
-pub enum Told {
+pub enum TestWord {
     Empty,
     In,
     Equal,
@@ -49,28 +49,28 @@ fn relation_symbol(kind: &TokenKind) -> Option<Relation>
     }
 }
 
-fn told_of(word: Word) -> Option<Told>
-    ensures { result ≡ told_of word }
+fn test_word_of(word: Word) -> Option<TestWord>
+    ensures { result ≡ test_word_of word }
 {
     match word {
-        Word::Empty => Some(Told::Empty),
-        Word::In => Some(Told::In),
-        Word::Equal => Some(Told::Equal),
-        Word::Less => Some(Told::Less),
-        Word::Greater => Some(Told::Greater),
+        Word::Empty => Some(TestWord::Empty),
+        Word::In => Some(TestWord::In),
+        Word::Equal => Some(TestWord::Equal),
+        Word::Less => Some(TestWord::Less),
+        Word::Greater => Some(TestWord::Greater),
         _ => None,
     }
 }
 
-/// What is tested, by a word.
-fn told_word(tokens: &[Token]) -> Result<(Told, &[Token]), Failure>
-    ensures { Gives (λ x. (x.0, x.1.now)) result (taken (in_table told_of) tokens.now) }
+/// The word that says what is tested.
+fn test_word(tokens: &[Token]) -> Result<(TestWord, &[Token]), Failure>
+    ensures { Gives (λ x. (x.0, x.1.now)) result (taken (in_table test_word_of) tokens.now) }
 {
     match tokens {
         [] => Err(syntax(tokens)),
         [first, rest @ ..] => match &first.kind {
-            TokenKind::Word(found) => match told_of(*found) {
-                Some(told) => Ok((told, rest)),
+            TokenKind::Word(found) => match test_word_of(*found) {
+                Some(tested) => Ok((tested, rest)),
                 None => Err(syntax(tokens)),
             },
             _ => Err(syntax(tokens)),
@@ -86,25 +86,25 @@ fn compares(relation: Relation, tokens: &[Token], last: Word) -> Result<(Verb, &
     Ok((Verb::Compares(relation), rest))
 }
 
-/// What stands behind IS, NOT and the word that says what is tested.
+/// The rest of a verb, given whether IS and NOT were there and which word says what is tested.
 fn verb_end(
     is: bool,
     negated: bool,
-    told: Told,
+    tested: TestWord,
     tokens: &[Token],
 ) -> Result<(Verb, &[Token]), Failure>
-    ensures { Gives (λ x. (x.0, x.1.now)) result (verb_end told is negated tokens.now) }
+    ensures { Gives (λ x. (x.0, x.1.now)) result (verb_end tested is negated tokens.now) }
 {
-    match told {
-        Told::Empty if is => Ok((Verb::IsEmpty(negated), tokens)),
-        Told::In if is => Ok((Verb::IsIn(negated), tokens)),
-        Told::Empty | Told::In => Err(syntax(tokens)),
-        Told::Equal if negated => compares(Relation::NotEqual, tokens, Word::To),
-        Told::Equal => compares(Relation::Equal, tokens, Word::To),
-        Told::Less if negated => compares(Relation::GreaterOrEqual, tokens, Word::Than),
-        Told::Less => compares(Relation::Less, tokens, Word::Than),
-        Told::Greater if negated => compares(Relation::LessOrEqual, tokens, Word::Than),
-        Told::Greater => compares(Relation::Greater, tokens, Word::Than),
+    match tested {
+        TestWord::Empty if is => Ok((Verb::IsEmpty(negated), tokens)),
+        TestWord::In if is => Ok((Verb::IsIn(negated), tokens)),
+        TestWord::Empty | TestWord::In => Err(syntax(tokens)),
+        TestWord::Equal if negated => compares(Relation::NotEqual, tokens, Word::To),
+        TestWord::Equal => compares(Relation::Equal, tokens, Word::To),
+        TestWord::Less if negated => compares(Relation::GreaterOrEqual, tokens, Word::Than),
+        TestWord::Less => compares(Relation::Less, tokens, Word::Than),
+        TestWord::Greater if negated => compares(Relation::LessOrEqual, tokens, Word::Than),
+        TestWord::Greater => compares(Relation::Greater, tokens, Word::Than),
     }
 }
 
@@ -116,8 +116,8 @@ fn worded_verb(tokens: &[Token]) -> Result<(Verb, &[Token]), Failure>
     let is = begins_word(tokens, Word::Is);
     let rest = skip_word(tokens, Word::Is);
     let negated = begins_word(rest, Word::Not);
-    let (told, rest) = told_word(skip_word(rest, Word::Not))?;
-    verb_end(is, negated, told, rest)
+    let (tested, rest) = test_word(skip_word(rest, Word::Not))?;
+    verb_end(is, negated, tested, rest)
 }
 
 /// A test's verb.
@@ -180,7 +180,7 @@ fn reference_of(expression: Expression) -> Option<Named>
     }
 }
 
-/// A test behind its first expression and its verb.
+/// The rest of a test, after its first expression and its verb.
 #[tactic(auto, unfolding(crate::specs::ReadConditions::test_end))]
 fn test_end(
     alloc: Global,

@@ -101,7 +101,7 @@ fn product_of(
     Ok(Expression::Product { first, further })
 }
 
-/// A term behind its sign.
+/// A term with its sign, as an expression.
 #[tactic(auto, using(ss_tree::specs::Views::view_signed_made))]
 fn signed(alloc: Global, term: Term) -> Result<Expression, AllocError>
     ensures { IfOk result (λ e. view_expression e ≡ signed term.sign (view_expression term.value)) }
@@ -238,7 +238,7 @@ fn factor_in_words(
     }
 }
 
-/// What stands behind a name.
+/// An expression that begins with a name, after this name.
 #[cycle(expressions)]
 #[tactic(auto, using(ss_tree::specs::Views::view_named_made))]
 fn named(
@@ -257,7 +257,7 @@ fn named(
     Ok((Expression::Named(place), rest))
 }
 
-/// What stands behind a function.
+/// A call of a function, after the function's name.
 #[cycle(expressions)]
 #[tactic(auto, using(ss_tree::specs::Views::view_call_made))]
 fn call(
@@ -276,7 +276,7 @@ fn call(
     Ok((call, rest))
 }
 
-/// What stands behind an opening parenthesis.
+/// An expression in parentheses, after the opening one.
 #[cycle(expressions)]
 #[tactic(auto, unfolding(crate::specs::ReadExpressions::parenthesised_with, ss_tree::specs::View::view_expression))]
 fn parenthesised(

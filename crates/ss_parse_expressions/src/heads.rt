@@ -4,7 +4,7 @@ ghost use Rattle.std.specs.Prelude.{◌≡◌, map};
 ghost use Rattle.ss_tree.specs.View.{view_expression, view_option, view_phrase, view_guard, view_start, view_head, view_loop_head};
 ghost use Rattle.ss_parse_expressions.specs.WordTables.{phrase_of, guard_of};
 ghost use Rattle.ss_parse_expressions.specs.Reading.{Gives, taken, in_table, apply, skip_comma};
-ghost use Rattle.ss_parse_expressions.specs.ReadHeads.{begins_phrase, begins_guard, phrase_in, guard_in, phrases_in, guards_behind, step_in, range_in, start_in, reverse, members_in, class_in, class_tree, each_named, each_in, for_in, guarded_in};
+ghost use Rattle.ss_parse_expressions.specs.ReadHeads.{begins_phrase, begins_guard, phrase_in, guard_in, phrases_in, further_guards, step_in, range_in, start_in, reverse, members_in, class_in, class_tree, each_named, each_in, for_in, guarded_in};
 
 use crate::classes::{Class, begins_class, expect_class};
 use crate::conditions::condition;
@@ -14,7 +14,7 @@ use crate::names::name;
 use crate::places::reference;
 use crate::steps::{alone, beside};
 use crate::tokens::{
-    begins_word, behind_first, expect_symbol, expect_word, skip_symbol, skip_word, syntax,
+    after_first, begins_word, expect_symbol, expect_word, skip_symbol, skip_word, syntax,
 };
 use crate::words::{guard_of, phrase_of};
 use ss_base::Name;
@@ -122,14 +122,14 @@ fn guard(alloc: Global, tokens: &[Token], room: u8) -> Result<(Guard, &[Token]),
     Ok((Guard { kind, condition }, rest))
 }
 
-/// A first condition, and further ones behind it, each with a comma before it or not.
+/// This condition and further ones, each with a comma before it or not.
 fn guards(
     alloc: Global,
     first: Guard,
     tokens: &[Token],
     room: u8,
 ) -> Result<(Vec<Guard>, &[Token]), Failure>
-    ensures { Gives (λ x. (map view_guard x.0.items, x.1.now)) result (guards_behind room (view_guard first) tokens.now) }
+    ensures { Gives (λ x. (map view_guard x.0.items, x.1.now)) result (further_guards room (view_guard first) tokens.now) }
 {
     let mut all = alone(alloc, first)?;
     let mut rest = tokens;
@@ -156,13 +156,13 @@ fn step(
     Ok((Some(step), rest))
 }
 
-/// The head of a FOR over numbers, behind FOR.
+/// The head of a FOR over numbers, after FOR.
 #[tactic(auto, unfolding(crate::specs::ReadHeads::range_in))]
 fn range(alloc: Global, tokens: &[Token], room: u8) -> Result<(Head, &[Token]), Failure>
     ensures { Gives (λ x. (view_head x.0, x.1.now)) result (range_in room tokens.now) }
 {
     let variable = name(tokens)?;
-    let rest = expect_symbol(behind_first(tokens), Symbol::Equals)?;
+    let rest = expect_symbol(after_first(tokens), Symbol::Equals)?;
     let (from, rest) = sum(alloc, rest, room)?;
     let (from, rest) = beside(from, expect_word(rest, Word::To))?;
     let (from, (to, rest)) = beside(from, sum(alloc, rest, room))?;
@@ -208,7 +208,7 @@ fn reverse(tokens: &[Token]) -> Result<(bool, &[Token]), Failure>
     Ok((true, rest))
 }
 
-/// The head of a FOR over a set, behind its variable.
+/// The head of a FOR over a set, after its variable.
 #[tactic(auto, unfolding(crate::specs::ReadHeads::members_in))]
 fn members(
     alloc: Global,
@@ -233,7 +233,7 @@ fn members(
     Ok((head, rest))
 }
 
-/// The head of a FOR over a class, behind its variable.
+/// The head of a FOR over a class, after its variable.
 fn class_phrases(
     alloc: Global,
     class: Name,
@@ -252,7 +252,7 @@ fn class_phrases(
     Ok((head, rest))
 }
 
-/// The head of a FOR over a class, behind the class.
+/// The head of a FOR over a class, after the class.
 #[tactic(auto, unfolding(crate::specs::ReadHeads::class_in))]
 fn class(
     alloc: Global,
@@ -267,10 +267,10 @@ fn class(
     }
     let rest = skip_word(tokens, Word::Called);
     let called = name(rest)?;
-    class_phrases(alloc, class, Some(called), behind_first(rest), room)
+    class_phrases(alloc, class, Some(called), after_first(rest), room)
 }
 
-/// The head of a FOR over a set or a class, behind its name.
+/// The head of a FOR over a set or a class, after the name of its variable or its class.
 fn each_named(
     alloc: Global,
     name: Name,
@@ -286,17 +286,17 @@ fn each_named(
     }
 }
 
-/// The head of a FOR over a set or a class, behind FOR.
+/// The head of a FOR over a set or a class, after FOR.
 #[tactic(auto, unfolding(crate::specs::ReadHeads::each_in))]
 fn each(alloc: Global, tokens: &[Token], room: u8) -> Result<(Head, &[Token]), Failure>
     ensures { Gives (λ x. (view_head x.0, x.1.now)) result (each_in room tokens.now) }
 {
     let rest = expect_class(tokens, Class::Each)?;
     let variable = name(rest)?;
-    each_named(alloc, variable, behind_first(rest), room)
+    each_named(alloc, variable, after_first(rest), room)
 }
 
-/// The head of a FOR, behind its first word.
+/// The head of a FOR, after its first word.
 #[tactic(auto, unfolding(crate::specs::ReadHeads::for_in))]
 pub fn for_head(alloc: Global, tokens: &[Token], room: u8) -> Result<(Head, &[Token]), Failure>
     ensures { Gives (λ x. (view_head x.0, x.1.now)) result (for_in room tokens.now) }
@@ -308,7 +308,7 @@ pub fn for_head(alloc: Global, tokens: &[Token], room: u8) -> Result<(Head, &[To
     }
 }
 
-/// The head of a loop that begins with WHILE or UNTIL, behind its first word.
+/// The head of a loop that begins with WHILE or UNTIL, after its first word.
 #[tactic(auto, unfolding(crate::specs::ReadHeads::guarded_in))]
 pub fn guarded_head(
     alloc: Global,

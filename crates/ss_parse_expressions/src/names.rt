@@ -7,7 +7,7 @@ ghost use Rattle.ss_parse_expressions.specs.ReadWords.{begins_name, names, begin
 use crate::classes::{Class, skip_class};
 use crate::failure::Failure;
 use crate::steps::alone;
-use crate::tokens::{begins_symbol, begins_word, behind_first, skip_separator, syntax};
+use crate::tokens::{after_first, begins_symbol, begins_word, skip_separator, syntax};
 use ss_base::Name;
 use ss_lex::{Symbol, Token, TokenKind, Word};
 use std::alloc::Global;
@@ -25,7 +25,7 @@ pub fn begins_name(tokens: &[Token]) -> bool
     }
 }
 
-/// The name that stands first.
+/// The first token, which must be a name.
 pub fn name(tokens: &[Token]) -> Result<Name, Failure>
     ensures { Gives (λ x. (x, drop 1 tokens.now)) result (taken name_of tokens.now) }
 {
@@ -52,12 +52,12 @@ pub fn names(alloc: Global, tokens: &[Token]) -> Result<(Vec<Name>, &[Token]), F
 {
     let first = name(tokens)?;
     let mut all = alone(alloc, first)?;
-    let mut rest = behind_first(tokens);
+    let mut rest = after_first(tokens);
     'more: while begins_more_names(rest) {
         let from = skip_separator(rest);
         let next = name(from)?;
         all.push(next)?;
-        rest = behind_first(from);
+        rest = after_first(from);
     }
     Ok((all, rest))
 }
@@ -83,12 +83,12 @@ pub fn items(alloc: Global, tokens: &[Token]) -> Result<(Vec<Name>, &[Token]), F
     let from = skip_class(tokens, Class::Article);
     let first = name(from)?;
     let mut all = alone(alloc, first)?;
-    let mut rest = behind_first(from);
+    let mut rest = after_first(from);
     'more: while begins_more_items(rest) {
         let from = skip_class(skip_separator(rest), Class::Article);
         let next = name(from)?;
         all.push(next)?;
-        rest = behind_first(from);
+        rest = after_first(from);
     }
     Ok((all, rest))
 }

@@ -11,14 +11,14 @@ use crate::expressions::{designator_of_word, sum};
 use crate::failure::Failure;
 use crate::steps::{alone, beside};
 use crate::tokens::{
-    begins_symbol, begins_word, behind_first, expect_symbol, skip_separator, skip_symbol, syntax,
+    after_first, begins_symbol, begins_word, expect_symbol, skip_separator, skip_symbol, syntax,
     too_deep,
 };
 use ss_lex::{Symbol, Token, TokenKind, Word};
 use ss_tree::expression::{Designator, Expression, Named};
 use std::alloc::{AllocError, Global};
 
-/// What is named first, TIME.V and TIME.A included.
+/// The name at the front, or TIME.V or TIME.A.
 fn designator(tokens: &[Token]) -> Result<Designator, Failure>
     ensures { Gives (λ x. (x, drop 1 tokens.now)) result (taken designator_of tokens.now) }
 {
@@ -35,7 +35,7 @@ fn designator(tokens: &[Token]) -> Result<Designator, Failure>
     }
 }
 
-/// The name that stands first.
+/// The first token, which must be a name.
 fn plain_designator(tokens: &[Token]) -> Result<Designator, Failure>
     ensures { Gives (λ x. (x, drop 1 tokens.now)) result (taken plain_of tokens.now) }
 {
@@ -87,7 +87,7 @@ pub fn target(alloc: Global, tokens: &[Token], room: u8) -> Result<(Named, &[Tok
         return Err(too_deep(tokens));
     }
     let designator = designator(tokens)?;
-    let (subscript, rest) = subscript(alloc, behind_first(tokens), room - 1)?;
+    let (subscript, rest) = subscript(alloc, after_first(tokens), room - 1)?;
     let subscripts = subscripts_of(alloc, subscript)?;
     let target = Named {
         designator,
@@ -105,7 +105,7 @@ pub fn reference(alloc: Global, tokens: &[Token], room: u8) -> Result<(Named, &[
         return Err(too_deep(tokens));
     }
     let designator = plain_designator(tokens)?;
-    let (subscript, rest) = subscript(alloc, behind_first(tokens), room - 1)?;
+    let (subscript, rest) = subscript(alloc, after_first(tokens), room - 1)?;
     let subscripts = subscripts_of(alloc, subscript)?;
     let set = Named {
         designator,

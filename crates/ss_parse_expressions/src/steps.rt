@@ -6,7 +6,7 @@ ghost use Rattle.ss_parse_expressions.specs.Steps.{Beside};
 use crate::failure::Failure;
 use std::alloc::{AllocError, Global};
 
-/// What was read first, beside what was read next, unless that failed.
+/// What was read first together with what was read next, unless that failed.
 pub fn beside<A: Drop, B>(first: A, next: Result<B, Failure>) -> Result<(A, B), Failure>
     ensures { Beside first next result }
 {
@@ -16,7 +16,7 @@ pub fn beside<A: Drop, B>(first: A, next: Result<B, Failure>) -> Result<(A, B), 
     }
 }
 
-/// A list of this alone.
+/// A list with this one element.
 pub fn alone<T: Drop>(alloc: Global, only: T) -> Result<Vec<T>, AllocError>
     ensures { IfOk result (λ list. list.items ≡ only ∷ []) }
 {

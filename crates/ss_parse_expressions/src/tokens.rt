@@ -8,14 +8,14 @@ ghost use Rattle.ss_parse_expressions.specs.Reading.{Gives, word, symbol, same_s
 use crate::failure::{Failure, Fault};
 use ss_lex::{Symbol, Token, TokenKind, Word};
 
-/// What is answered where these tokens can't go on so.
+/// The failure where these tokens spell nothing that may be here.
 pub fn syntax(tokens: &[Token]) -> Failure
     ensures { result ≡ Refused Syntax (length tokens.now) }
 {
     Failure::Refused(Fault::Syntax, tokens.len())
 }
 
-/// What is answered where these tokens go deeper than is allowed.
+/// The failure where these tokens go deeper than is allowed.
 pub fn too_deep(tokens: &[Token]) -> Failure
     ensures { result ≡ Refused TooDeep (length tokens.now) }
 {
@@ -64,7 +64,7 @@ pub fn begins_symbol(tokens: &[Token], wanted: Symbol) -> bool
     }
 }
 
-/// The tokens behind this word, where it is first.
+/// The tokens after this word, where it is first.
 pub fn skip_word(tokens: &[Token], wanted: Word) -> &[Token]
     ensures { result.now ≡ skip (word wanted) tokens.now }
 {
@@ -75,7 +75,7 @@ pub fn skip_word(tokens: &[Token], wanted: Word) -> &[Token]
     }
 }
 
-/// The tokens behind this symbol, where it is first.
+/// The tokens after this symbol, where it is first.
 pub fn skip_symbol(tokens: &[Token], wanted: Symbol) -> &[Token]
     ensures { result.now ≡ skip (symbol wanted) tokens.now }
 {
@@ -108,8 +108,8 @@ pub fn expect_symbol(tokens: &[Token], wanted: Symbol) -> Result<&[Token], Failu
     }
 }
 
-/// The tokens behind the first.
-pub fn behind_first(tokens: &[Token]) -> &[Token]
+/// The tokens after the first.
+pub fn after_first(tokens: &[Token]) -> &[Token]
     ensures { result.now ≡ drop 1 tokens.now }
 {
     match tokens {
@@ -118,7 +118,7 @@ pub fn behind_first(tokens: &[Token]) -> &[Token]
     }
 }
 
-/// Behind a comma, AND, or both.
+/// The tokens after a comma, AND, or both.
 pub fn skip_separator(tokens: &[Token]) -> &[Token]
     ensures { result.now ≡ skip_separator tokens.now }
 {

@@ -1,4 +1,4 @@
-//! What a word stands for, in the place where it is looked for.
+//! What each word means, in the place where it is looked for.
 
 ghost use Rattle.std.specs.Prelude.{◌≡◌};
 ghost use Rattle.ss_parse_expressions.specs.WordTables.{relation_of, function_of, phrase_of, guard_of, outcome_of, mode_of, rank_of, statistic_of};
@@ -10,7 +10,7 @@ use ss_tree::head::{GuardKind, PhraseKind};
 use ss_tree::preamble::{Mode, StatisticKind};
 use ss_tree::statement::FindOutcome;
 
-/// The relation that the word stands for.
+/// The relation that the word names.
 pub fn relation_of(word: Word) -> Option<Relation>
     ensures { result ≡ relation_of word }
 {
@@ -25,7 +25,7 @@ pub fn relation_of(word: Word) -> Option<Relation>
     }
 }
 
-/// The function that the word stands for.
+/// The function that the word names.
 pub fn function_of(word: Word) -> Option<Function>
     ensures { result ≡ function_of word }
 {
@@ -97,7 +97,7 @@ pub fn rank_of(word: Word) -> Option<bool>
     }
 }
 
-/// What a statistic tells, by a word.
+/// The kind of statistic that the word names.
 pub fn statistic_of(word: Word) -> Option<StatisticKind>
     ensures { result ≡ statistic_of word }
 {

@@ -14,7 +14,7 @@ use Rattle.ss_parse_expressions.proofs.Depth.{Upto, upto_same, Bounded, bounded_
 use Rattle.ss_parse_expressions.proofs.ReaderLaws.{Reads}
 use Rattle.ss_parse_statements.specs.ReadStatements.{at_word, by_word}
 
--- What a reader behind the word keeps. The word may open a level.
+-- The laws of a reader that is called after the word w, which may open a level.
 pub record Form {A : Type 0} (k : ℕ) (w : Word) (read read' : Reader A) (S : A → Shape) (continues : List Token → Bool) : Type 0 where
   pub sound : (ts : List Token) (x : A) (rest : List Token) → read ts ≡ Ok (x, rest) → S x ts rest
   pub complete : (ts : List Token) (x : A) (rest : List Token) → S x ts rest → continues rest ≡ false → read ts ≡ Ok (x, rest)
@@ -55,8 +55,8 @@ module _ {A : Type 0} {k : ℕ} {form form' : Line → Word → Reader A} {S : L
       go : ((w : Word) × (m : List Token) × (Word_is w ts m) × S (first_line ts) w x m rest) → by_word form ts ≡ Ok (x, rest)
       go (w, m, (span, line, e), s) =
           let same : first_line ts ≡ line = ap first_line e in
-          let behind : S line w x m rest = subst (λ (l : Line). S l w x m rest) same s in
-          ap (by_word form) e ∙ (law line w).complete m x rest behind stop
+          let following : S line w x m rest = subst (λ (l : Line). S l w x m rest) same s in
+          ap (by_word form) e ∙ (law line w).complete m x rest following stop
 
   pub first_less : (ts : List Token) (x : A) (rest : List Token) → T x ts rest → length rest < length ts
   first_less ts x rest s =

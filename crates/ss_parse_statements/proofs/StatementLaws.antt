@@ -12,22 +12,22 @@ use Rattle.ss_tree.specs.declared.head.GuardKind.TheVariants as guards
 use Rattle.ss_tree.specs.declared.statement.FindOutcome.{FindOutcome}
 use Rattle.ss_tree.specs.Tree.{ConditionTree, HeadTree, LoopHeadTree, for_head, guarded, StatementTree, let_statement, add_statement, subtract_statement, call_statement, return_statement, stop_statement, read_statement, start_simulation, if_statement, loop_statement, find_statement, find_if_statement, create_statement, create_every, destroy_statement, file_statement, remove_end, remove_statement, schedule_new, schedule_statement, cancel_statement, reset_statement, print_statement, skip_statement, StatementRow, no_statement, and_statement, statement_row}
 use Rattle.ss_parse_expressions.specs.Openers.{opens, openers}
-use Rattle.ss_parse_expressions.specs.Shapes.{Shape, ◌▷◌, nothing, either, optional, provided, noise, Word_is, Said, at, first_line, each, within}
-use Rattle.ss_parse_expressions.specs.SpelledConditions.{guard_word, head_word, Head_behind, Loop_behind, Begins_with_for}
+use Rattle.ss_parse_expressions.specs.Shapes.{Shape, ◌▷◌, nothing, either, optional, provided, noise, Word_is, Word_for, at, first_line, each, within}
+use Rattle.ss_parse_expressions.specs.SpelledConditions.{guard_word, head_word, Head_rest, Loop_head_rest, Begins_with_for}
 use Rattle.ss_parse_expressions.specs.WordTables.{phrase_of, guard_of, function_of, outcome_of}
-use Rattle.ss_parse_expressions.specs.Reading.{word, kind_of, is, is_some, begins, in_table, behind, closed, choose, comma, skip_comma}
+use Rattle.ss_parse_expressions.specs.Reading.{word, kind_of, is, is_some, begins, in_table, following, closed, choose, comma, skip_comma}
 use Rattle.ss_parse_expressions.specs.ReadWords.{fail, begins_noisy, expect_noisy}
 use Rattle.ss_parse_expressions.specs.ReadExpressions.{designator_of_word, begins_value, begins_sum}
 use Rattle.ss_parse_expressions.specs.ReadHeads.{begins_guard, guard_tree}
 use Rattle.ss_parse_expressions.proofs.Tools.{which, chosen, or_false}
 use Rattle.ss_parse_expressions.proofs.Marks.{token, is_true, mark_skips, no_skip}
 use Rattle.ss_parse_expressions.proofs.Depth.{upto_if, upto_same, bounded_if}
-use Rattle.ss_parse_expressions.proofs.ReaderLaws.{Reads, Item, nowise, Made, item_of, seq_reads, behind_reads, marked_reads, closed_reads, expect_reads, bind_reads, apply_reads, made_reads, said_reads, fewer_reads, optional_reads, maybe_list_reads, noisy_item, too_deep_reads}
+use Rattle.ss_parse_expressions.proofs.ReaderLaws.{Reads, Item, continues_never, Made, item_of, seq_reads, following_reads, marked_reads, closed_reads, expect_reads, bind_reads, apply_reads, made_reads, reshaped_reads, fewer_reads, optional_reads, maybe_list_reads, noisy_item, too_deep_reads}
 use Rattle.ss_parse_expressions.proofs.Rows.{rows_reads, Loop, loop_of}
 use Rattle.ss_parse_expressions.proofs.WordLaws.{word_in_reads, done_reads, noisy_mark_reads, noisy_begins, noisy_less, noisy_stops, either_reads}
 use Rattle.ss_parse_expressions.proofs.ConditionLaws.{In_condition, continues_condition, condition_in_reads, condition_begins}
 use Rattle.ss_parse_expressions.proofs.HeadLaws.{head_more, continues_head, continues_for, continues_guarded, for_reads, Guarded_parts, guarded_reads}
-use Rattle.ss_parse_statements.specs.SpelledStatements.{noisy, Find_words, first_word, May_be_governed, Behind, Statement_from, Statements_are, Else_part, Branches, Governed}
+use Rattle.ss_parse_statements.specs.SpelledStatements.{noisy, Find_words, first_word, May_be_governed, Statement_rest, Statement_from, Statements_are, Else_part, Branches, Governed}
 use Rattle.ss_parse_statements.specs.ReadSimple.{simple_at}
 use Rattle.ss_parse_statements.specs.ReadStatements.{by_word, form_word, begins_form_kind, begins_form, begins_statement, begins_outcome, begins_find_if_form, begins_find_if, statements_with, else_with, branches_with, do_with, governed_with, body_with, find_words, if_with, loop_with, find_if_with, found_with, find_with, for_with, while_with, until_with, nested_word, nested_at, nested_in, form_in, statement_in, statements_in}
 use Rattle.ss_parse_statements.proofs.FirstWords.{Form, plain_form, opening_form, by_word_reads, first_less}
@@ -46,7 +46,7 @@ both_false a b e f = rw (e, f) refl
 
 -- ---- what statements begin with
 
--- nothing else begins so
+-- a word that begins a statement begins nothing else
 word_no_other : (w : Word) → form_word w ≡ true → (begins_value (kinds.Word w) ≡ false) × (is (word words.And) (kinds.Word w) ≡ false) × (is (word words.Or) (kinds.Word w) ≡ false) × (statement_more w ≡ false) × (head_more w ≡ false) × (is (word words.Do) (kinds.Word w) ≡ false) × (is (word words.Find) (kinds.Word w) ≡ false) × (is (word words.Else) (kinds.Word w) ≡ false)
 word_no_other words.Let e = (refl, refl, refl, refl, refl, refl, refl, refl)
 word_no_other words.Add e = (refl, refl, refl, refl, refl, refl, refl, refl)
@@ -83,14 +83,14 @@ form_no_comma [] e = absurd cc
 form_no_comma (t ∷ ts) e = kind_no_comma t.kind e
 
 -- what is false of a comma and of a word that begins a statement is false of a statement
-blank : (c : List Token → Bool) → ((span : Span) (line : Line) (ts : List Token) → c (token (kind_of comma) span line ∷ ts) ≡ false) → ((w : Word) (span : Span) (line : Line) (ts : List Token) → form_word w ≡ true → c (token (kinds.Word w) span line ∷ ts) ≡ false) → (n : ℕ) (x : StatementTree) (ts rest : List Token) → (noise ▷ Statement_from x n) ts rest → c ts ≡ false
-blank c on_comma on_word n x ts rest (a, inr (span, line, e), s) = ap c e ∙ on_comma span line a
-blank c on_comma on_word n x ts rest (a, inl e, (begins_at, (m, (span, line, f), s))) = ap c (e ∙ f) ∙ on_word (first_word x) span line m (form_first x)
+false_at_statement : (c : List Token → Bool) → ((span : Span) (line : Line) (ts : List Token) → c (token (kind_of comma) span line ∷ ts) ≡ false) → ((w : Word) (span : Span) (line : Line) (ts : List Token) → form_word w ≡ true → c (token (kinds.Word w) span line ∷ ts) ≡ false) → (n : ℕ) (x : StatementTree) (ts rest : List Token) → (noise ▷ Statement_from x n) ts rest → c ts ≡ false
+false_at_statement c on_comma on_word n x ts rest (a, inr (span, line, e), s) = ap c e ∙ on_comma span line a
+false_at_statement c on_comma on_word n x ts rest (a, inl e, (begins_at, (m, (span, line, f), s))) = ap c (e ∙ f) ∙ on_word (first_word x) span line m (form_first x)
 
--- the same, of what looks behind a comma
-pub blank_behind : (c : List Token → Bool) → ((span span' : Span) (line line' : Line) (w : Word) (ts : List Token) → form_word w ≡ true → c (token (kind_of comma) span line ∷ token (kinds.Word w) span' line' ∷ ts) ≡ false) → ((w : Word) (span : Span) (line : Line) (ts : List Token) → form_word w ≡ true → c (token (kinds.Word w) span line ∷ ts) ≡ false) → (n : ℕ) (x : StatementTree) (ts rest : List Token) → (noise ▷ Statement_from x n) ts rest → c ts ≡ false
-blank_behind c on_comma on_word n x ts rest (a, inr (span, line, e), (begins_at, (m, (span', line', f), s))) = ap c e ∙ ap (λ (r : List Token). c (token (kind_of comma) span line ∷ r)) f ∙ on_comma span span' line line' (first_word x) m (form_first x)
-blank_behind c on_comma on_word n x ts rest (a, inl e, (begins_at, (m, (span, line, f), s))) = ap c (e ∙ f) ∙ on_word (first_word x) span line m (form_first x)
+-- what is false of such a word, with a comma before it or not, is false of a statement
+pub false_past_comma : (c : List Token → Bool) → ((span span' : Span) (line line' : Line) (w : Word) (ts : List Token) → form_word w ≡ true → c (token (kind_of comma) span line ∷ token (kinds.Word w) span' line' ∷ ts) ≡ false) → ((w : Word) (span : Span) (line : Line) (ts : List Token) → form_word w ≡ true → c (token (kinds.Word w) span line ∷ ts) ≡ false) → (n : ℕ) (x : StatementTree) (ts rest : List Token) → (noise ▷ Statement_from x n) ts rest → c ts ≡ false
+false_past_comma c on_comma on_word n x ts rest (a, inr (span, line, e), (begins_at, (m, (span', line', f), s))) = ap c e ∙ ap (λ (r : List Token). c (token (kind_of comma) span line ∷ r)) f ∙ on_comma span span' line line' (first_word x) m (form_first x)
+false_past_comma c on_comma on_word n x ts rest (a, inl e, (begins_at, (m, (span, line, f), s))) = ap c (e ∙ f) ∙ on_word (first_word x) span line m (form_first x)
 
 word_no_condition : (w : Word) (span : Span) (line : Line) (ts : List Token) → form_word w ≡ true → continues_condition (token (kinds.Word w) span line ∷ ts) ≡ false
 word_no_condition w span line ts e =
@@ -141,7 +141,7 @@ condition_no_outcome (t ∷ ts) e = go t.kind e
     go (kinds.Word w) e = go_word w e
     go _ e = refl
 
-within_condition : (n : ℕ) (x : StatementTree) (ts rest : List Token) → first_word x ≡ words.If → Behind x n ts rest → begins_outcome ts ≡ false
+within_condition : (n : ℕ) (x : StatementTree) (ts rest : List Token) → first_word x ≡ words.If → Statement_rest x n ts rest → begins_outcome ts ≡ false
 within_condition zero (if_statement line c t e) ts rest is s = absurd s
 within_condition (suc n) (if_statement line c t e) ts rest is s = condition_no_outcome ts (condition_begins (suc n) c ts s.0 s.1)
 within_condition n (loop_statement line head body) ts rest is s = absurd (head_no_if head is)
@@ -160,7 +160,7 @@ statement_no_find_if n x ts rest (begins_at, (m, (span, line, e), s)) =
 
 pub statement_stops : (n : ℕ) (x : StatementTree) (ts rest : List Token) → (noise ▷ Statement_from x n) ts rest → continues_statement ts ≡ false
 statement_stops n x ts rest (a, c, s) =
-    let simple : continues_simple ts ≡ false = blank_behind continues_simple (λ span span' line line' w r e. comma_no_simple w span span' line line' r e) (λ w span line r e. word_no_simple w span line r e) n x ts rest (a, c, s) in
+    let simple : continues_simple ts ≡ false = false_past_comma continues_simple (λ span span' line line' w r e. comma_no_simple w span span' line line' r e) (λ w span line r e. word_no_simple w span line r e) n x ts rest (a, c, s) in
     let form : begins_find_if_form a ≡ false = statement_no_find_if n x a rest s in
     let same : skip_comma ts ≡ a = skipped c in
     both_false (begins_find_if ts) (continues_simple ts) (ap begins_find_if_form same ∙ form) simple
@@ -175,7 +175,7 @@ guard_first : (k : GuardKind) → is_some (guard_of (guard_word k)) ≡ true
 guard_first guards.While = refl
 guard_first guards.Until = refl
 
-head_guards : (h : LoopHeadTree) → is_some (guard_of (head_word h)) ≡ false → (n : ℕ) (ts rest : List Token) → Loop_behind n h ts rest → Begins_with_for h
+head_guards : (h : LoopHeadTree) → is_some (guard_of (head_word h)) ≡ false → (n : ℕ) (ts rest : List Token) → Loop_head_rest n h ts rest → Begins_with_for h
 head_guards (for_head head) e n ts rest s = tt
 head_guards (guarded []) e n ts rest s = absurd s
 head_guards (guarded (g ∷ gs)) e n ts rest s = absurd (let a = guard_first g.kind in cc)
@@ -184,12 +184,12 @@ head_for : (h : LoopHeadTree) → Begins_with_for h → head_word h ≡ words.Fo
 head_for (for_head head) b = refl
 head_for (guarded gs) b = absurd b
 
-may_govern : (n : ℕ) (x : StatementTree) (ts rest : List Token) → is_some (guard_of (first_word x)) ≡ false → Behind x n ts rest → May_be_governed x
+may_govern : (n : ℕ) (x : StatementTree) (ts rest : List Token) → is_some (guard_of (first_word x)) ≡ false → Statement_rest x n ts rest → May_be_governed x
 may_govern zero (loop_statement line head body) ts rest e s = absurd s
 may_govern (suc n) (loop_statement line head body) ts rest e s = head_guards head e n ts s.0 s.1
 may_govern n _ ts rest e s = tt
 
-governed_first : (n : ℕ) (x : StatementTree) (ts rest : List Token) → May_be_governed x → Behind x n ts rest → is_some (guard_of (first_word x)) ≡ false
+governed_first : (n : ℕ) (x : StatementTree) (ts rest : List Token) → May_be_governed x → Statement_rest x n ts rest → is_some (guard_of (first_word x)) ≡ false
 governed_first n (loop_statement line head body) ts rest may s = let is = head_for head may in ap (λ w. is_some (guard_of w)) is
 governed_first n _ ts rest may s = refl
 
@@ -202,7 +202,7 @@ guard_same guards.Until guards.While e = absurd cc
 no_guard_word : (v w : Word) → is_some (guard_of v) ≡ false → v ≡ w → is_some (guard_of w) ≡ true → ⊥
 no_guard_word v w none e there = let same : is_some (guard_of v) ≡ is_some (guard_of w) = ap (λ w. is_some (guard_of w)) e in absurd cc
 
--- a statement that a loop governs begins as no phrase
+-- a statement that a loop governs begins no phrase
 no_phrase : (w : Word) → form_word w ≡ true → is_some (guard_of w) ≡ false → is_some (phrase_of w) ≡ false
 no_phrase words.While e u = absurd cc
 no_phrase words.Until e u = absurd cc
@@ -223,7 +223,7 @@ statements_from n (and_statement x row) ts rest (a, one, more) =
     let found = statements_from n row a rest more in
     (x ∷ found.0, ap (and_statement x) found.1, (a, one, found.2))
 
--- ---- statements in statements, where their own law holds
+-- ---- statements in statements, given the law of the inner ones
 
 module _ (k j : ℕ) (le : k ≤ j) (inner : Reads (suc k) (statement_in (suc k)) (statement_in (suc j)) (λ x. Statement_from x k) continues_statement) (inner_less : (ts : List Token) (x : StatementTree) (rest : List Token) → Statement_from x k ts rest → length rest < length ts) where
   abbrev Noisy_statement : StatementTree → Shape
@@ -250,8 +250,8 @@ module _ (k j : ℕ) (le : k ≤ j) (inner : Reads (suc k) (statement_in (suc k)
   else_reads : Reads (suc k) (else_with (statement_in (suc k))) (else_with (statement_in (suc j))) Else_list (λ ts. begins_noisy (word words.Else) ts || continues_statements ts)
   else_reads = maybe_list_reads item to from (λ ts. inl refl)
     where
-      item : Item (suc k) (begins_noisy (word words.Else)) (behind (expect_noisy (word words.Else)) (statements_with (statement_in (suc k)))) (behind (expect_noisy (word words.Else)) (statements_with (statement_in (suc j)))) Else_words continues_statements
-      item = item_of (begins_noisy (word words.Else)) (behind_reads (noisy_mark_reads (suc k) (word words.Else) refl) statements_reads (λ xs ts rest s stop. refl)) (λ ts xs rest s. noisy_begins (word words.Else) refl ts s.0 s.1) (λ ts xs rest s. omega (arith, noisy_less (word words.Else) ts s.0 s.1, statements_reads.shorter s.0 xs rest s.2))
+      item : Item (suc k) (begins_noisy (word words.Else)) (following (expect_noisy (word words.Else)) (statements_with (statement_in (suc k)))) (following (expect_noisy (word words.Else)) (statements_with (statement_in (suc j)))) Else_words continues_statements
+      item = item_of (begins_noisy (word words.Else)) (following_reads (noisy_mark_reads (suc k) (word words.Else) refl) statements_reads (λ xs ts rest s stop. refl)) (λ ts xs rest s. noisy_begins (word words.Else) refl ts s.0 s.1) (λ ts xs rest s. omega (arith, noisy_less (word words.Else) ts s.0 s.1, statements_reads.shorter s.0 xs rest s.2))
 
       to : (xs : List StatementTree) (ts rest : List Token) → Else_words xs ts rest → Else_list xs ts rest
       to [] ts rest (a, w, e) = inr (subst (λ (r : List Token). noisy words.Else ts r) e w)
@@ -292,28 +292,28 @@ module _ (k j : ℕ) (le : k ≤ j) (inner : Reads (suc k) (statement_in (suc k)
       let ys = else_from otherwise a b t in
       ((xs.0, ys.0), (λ i. (xs.1 i, ys.1 i)), (b, (a, xs.2, ys.2), w))
 
-  branches_reads : Reads (suc k) (branches_with (statement_in (suc k))) (branches_with (statement_in (suc j))) Branches_are nowise
+  branches_reads : Reads (suc k) (branches_with (statement_in (suc k))) (branches_with (statement_in (suc j))) Branches_are continues_never
   unfolding branches_with
   branches_reads =
       apply_reads (closed_reads (seq_reads statements_reads else_reads else_stops) (noisy_mark_reads (suc k) (word words.Always) refl) (λ ts rest s stop. noisy_stops (λ (r : List Token). begins_noisy (word words.Else) r || continues_statements r) (word words.Always) (λ span line ts. refl) (λ span span' line line' ts. refl) ts rest s))
       (λ p. (statement_row p.0, statement_row p.1)) Branches_are branches_to branches_from
 
-  -- what is false of commas, words of statements, ELSE and ALWAYS is false of what stands behind a condition
-  branches_blank : (c : List Token → Bool) → ((span : Span) (line : Line) (ts : List Token) → c (token (kind_of comma) span line ∷ ts) ≡ false) → ((w : Word) (span : Span) (line : Line) (ts : List Token) → form_word w ≡ true → c (token (kinds.Word w) span line ∷ ts) ≡ false) → ((span : Span) (line : Line) (ts : List Token) → c (token (kinds.Word words.Else) span line ∷ ts) ≡ false) → ((span : Span) (line : Line) (ts : List Token) → c (token (kinds.Word words.Always) span line ∷ ts) ≡ false) → (p : StatementRow × StatementRow) (ts rest : List Token) → Branches_are p ts rest → c ts ≡ false
-  branches_blank c on_comma on_word on_else on_always (and_statement x row, e) ts rest (b, (a, (m, one, more), t), w) = blank c on_comma on_word k x ts m one
-  branches_blank c on_comma on_word on_else on_always (no_statement, and_statement y row) ts rest (b, (a, e, (m, w, more)), v) = ap c e ∙ noisy_stops c (word words.Else) on_else (λ span span' line line' ts. on_comma span line _) a m w
-  branches_blank c on_comma on_word on_else on_always (no_statement, no_statement) ts rest (b, (a, e, inr w), v) = ap c e ∙ noisy_stops c (word words.Else) on_else (λ span span' line line' ts. on_comma span line _) a b w
-  branches_blank c on_comma on_word on_else on_always (no_statement, no_statement) ts rest (b, (a, e, inl f), v) = ap c (e ∙ f) ∙ noisy_stops c (word words.Always) on_always (λ span span' line line' ts. on_comma span line _) b rest v
+  -- what is false of commas, words of statements, ELSE and ALWAYS is false of what follows a condition
+  false_at_branches : (c : List Token → Bool) → ((span : Span) (line : Line) (ts : List Token) → c (token (kind_of comma) span line ∷ ts) ≡ false) → ((w : Word) (span : Span) (line : Line) (ts : List Token) → form_word w ≡ true → c (token (kinds.Word w) span line ∷ ts) ≡ false) → ((span : Span) (line : Line) (ts : List Token) → c (token (kinds.Word words.Else) span line ∷ ts) ≡ false) → ((span : Span) (line : Line) (ts : List Token) → c (token (kinds.Word words.Always) span line ∷ ts) ≡ false) → (p : StatementRow × StatementRow) (ts rest : List Token) → Branches_are p ts rest → c ts ≡ false
+  false_at_branches c on_comma on_word on_else on_always (and_statement x row, e) ts rest (b, (a, (m, one, more), t), w) = false_at_statement c on_comma on_word k x ts m one
+  false_at_branches c on_comma on_word on_else on_always (no_statement, and_statement y row) ts rest (b, (a, e, (m, w, more)), v) = ap c e ∙ noisy_stops c (word words.Else) on_else (λ span span' line line' ts. on_comma span line _) a m w
+  false_at_branches c on_comma on_word on_else on_always (no_statement, no_statement) ts rest (b, (a, e, inr w), v) = ap c e ∙ noisy_stops c (word words.Else) on_else (λ span span' line line' ts. on_comma span line _) a b w
+  false_at_branches c on_comma on_word on_else on_always (no_statement, no_statement) ts rest (b, (a, e, inl f), v) = ap c (e ∙ f) ∙ noisy_stops c (word words.Always) on_always (λ span span' line line' ts. on_comma span line _) b rest v
 
   branches_no_condition : (p : StatementRow × StatementRow) (ts rest : List Token) → Branches_are p ts rest → continues_condition ts ≡ false
-  branches_no_condition p ts rest s = branches_blank continues_condition (λ span line ts. refl) word_no_condition (λ span line ts. refl) (λ span line ts. refl) p ts rest s
+  branches_no_condition p ts rest s = false_at_branches continues_condition (λ span line ts. refl) word_no_condition (λ span line ts. refl) (λ span line ts. refl) p ts rest s
 
   -- ---- IF
 
   abbrev If_parts : ConditionTree × (StatementRow × StatementRow) → Shape
   If_parts p = In_condition (suc k) p.0 ▷ Branches_are p.1
 
-  if_reads : (line : Line) → Reads (suc k) (if_with line (suc k) (statement_in (suc k))) (if_with line (suc j) (statement_in (suc j))) (Made (λ p. if_statement line p.0 p.1.0 p.1.1) If_parts) nowise
+  if_reads : (line : Line) → Reads (suc k) (if_with line (suc k) (statement_in (suc k))) (if_with line (suc j) (statement_in (suc j))) (Made (λ p. if_statement line p.0 p.1.0 p.1.1) If_parts) continues_never
   unfolding if_with
   if_reads line = made_reads (seq_reads (condition_in_reads (suc k) (suc j) (omega arith)) branches_reads (λ p ts rest s stop. branches_no_condition p ts rest s)) (λ p. if_statement line p.0 p.1.0 p.1.1)
 
@@ -330,13 +330,13 @@ module _ (k j : ℕ) (le : k ≤ j) (inner : Reads (suc k) (statement_in (suc k)
   abbrev Do_list : List StatementTree → Shape
   Do_list xs = noisy words.Do ▷ each Noisy_statement xs ▷ noisy words.Loop
 
-  do_item : Item (suc k) (begins_noisy (word words.Do)) (do_with (statement_in (suc k))) (do_with (statement_in (suc j))) Do_list nowise
+  do_item : Item (suc k) (begins_noisy (word words.Do)) (do_with (statement_in (suc k))) (do_with (statement_in (suc j))) Do_list continues_never
   unfolding do_with
   do_item =
-      item_of (begins_noisy (word words.Do)) (behind_reads (noisy_mark_reads (suc k) (word words.Do) refl) between (λ xs ts rest s stop. refl)) (λ ts xs rest s. noisy_begins (word words.Do) refl ts s.0 s.1)
+      item_of (begins_noisy (word words.Do)) (following_reads (noisy_mark_reads (suc k) (word words.Do) refl) between (λ xs ts rest s stop. refl)) (λ ts xs rest s. noisy_begins (word words.Do) refl ts s.0 s.1)
       (λ ts xs rest s. omega (arith, noisy_less (word words.Do) ts s.0 s.1, between.shorter s.0 xs rest s.2))
     where
-      between : Reads (suc k) (closed (statements_with (statement_in (suc k))) (expect_noisy (word words.Loop))) (closed (statements_with (statement_in (suc j))) (expect_noisy (word words.Loop))) (λ xs. each Noisy_statement xs ▷ noisy words.Loop) nowise
+      between : Reads (suc k) (closed (statements_with (statement_in (suc k))) (expect_noisy (word words.Loop))) (closed (statements_with (statement_in (suc j))) (expect_noisy (word words.Loop))) (λ xs. each Noisy_statement xs ▷ noisy words.Loop) continues_never
       between = closed_reads statements_reads (noisy_mark_reads (suc k) (word words.Loop) refl) (λ ts rest s stop. noisy_stops continues_statements (word words.Loop) (λ span line ts. refl) (λ span span' line line' ts. refl) ts rest s)
 
   abbrev Governed_one : StatementTree → Shape
@@ -370,12 +370,12 @@ module _ (k j : ℕ) (le : k ≤ j) (inner : Reads (suc k) (statement_in (suc k)
   abbrev Body_list : List StatementTree → Shape
   Body_list xs = either (Do_list xs) (Governed_list xs)
 
-  governed_blank : (c : List Token → Bool) → ((span span' : Span) (line line' : Line) (w : Word) (ts : List Token) → form_word w ≡ true → is_some (guard_of w) ≡ false → c (token (kind_of comma) span line ∷ token (kinds.Word w) span' line' ∷ ts) ≡ false) → ((w : Word) (span : Span) (line : Line) (ts : List Token) → form_word w ≡ true → is_some (guard_of w) ≡ false → c (token (kinds.Word w) span line ∷ ts) ≡ false) → (x : StatementTree) (ts rest : List Token) → (noise ▷ Governed_one x) ts rest → c ts ≡ false
-  governed_blank c on_comma on_word x ts rest (a, inr (span, line, e), (may, (begins_at, (m, (span', line', f), s)))) = ap c e ∙ ap (λ (r : List Token). c (token (kind_of comma) span line ∷ r)) f ∙ on_comma span span' line line' (first_word x) m (form_first x) (governed_first k x m rest may s)
-  governed_blank c on_comma on_word x ts rest (a, inl e, (may, (begins_at, (m, (span, line, f), s)))) = ap c (e ∙ f) ∙ on_word (first_word x) span line m (form_first x) (governed_first k x m rest may s)
+  false_at_governed : (c : List Token → Bool) → ((span span' : Span) (line line' : Line) (w : Word) (ts : List Token) → form_word w ≡ true → is_some (guard_of w) ≡ false → c (token (kind_of comma) span line ∷ token (kinds.Word w) span' line' ∷ ts) ≡ false) → ((w : Word) (span : Span) (line : Line) (ts : List Token) → form_word w ≡ true → is_some (guard_of w) ≡ false → c (token (kinds.Word w) span line ∷ ts) ≡ false) → (x : StatementTree) (ts rest : List Token) → (noise ▷ Governed_one x) ts rest → c ts ≡ false
+  false_at_governed c on_comma on_word x ts rest (a, inr (span, line, e), (may, (begins_at, (m, (span', line', f), s)))) = ap c e ∙ ap (λ (r : List Token). c (token (kind_of comma) span line ∷ r)) f ∙ on_comma span span' line line' (first_word x) m (form_first x) (governed_first k x m rest may s)
+  false_at_governed c on_comma on_word x ts rest (a, inl e, (may, (begins_at, (m, (span, line, f), s)))) = ap c (e ∙ f) ∙ on_word (first_word x) span line m (form_first x) (governed_first k x m rest may s)
 
   governed_no_do : (xs : List StatementTree) (ts rest : List Token) → Governed_list xs ts rest → begins_noisy (word words.Do) ts ≡ false
-  governed_no_do xs ts rest (x, is, s) = governed_blank (begins_noisy (word words.Do)) (λ span span' line line' w r e u. (word_no_other w e).5) (λ w span line r e u. (word_no_other w e).5) x ts rest s
+  governed_no_do xs ts rest (x, is, s) = false_at_governed (begins_noisy (word words.Do)) (λ span span' line line' w r e u. (word_no_other w e).5) (λ w span line r e u. (word_no_other w e).5) x ts rest s
 
   abbrev Body_is : StatementRow → Shape
   Body_is row = either (noisy words.Do ▷ Statements_are row k ▷ noisy words.Loop) (Governed row k)
@@ -400,23 +400,23 @@ module _ (k j : ℕ) (le : k ≤ j) (inner : Reads (suc k) (statement_in (suc k)
   loop_reads : (line : Line) (h : LoopHeadTree) → Reads (suc k) (loop_with line (suc k) (statement_in (suc k)) h) (loop_with line (suc j) (statement_in (suc j)) h) (Made (loop_statement line h) Body_is) continues_statement
   loop_reads line h = made_reads body_reads (loop_statement line h)
 
-  -- what is false of what a loop repeats
-  body_blank : (c : List Token → Bool) → ((span : Span) (line : Line) (ts : List Token) → c (token (kinds.Word words.Do) span line ∷ ts) ≡ false) → ((span span' : Span) (line line' : Line) (ts : List Token) → c (token (kind_of comma) span line ∷ token (kinds.Word words.Do) span' line' ∷ ts) ≡ false) → ((span span' : Span) (line line' : Line) (w : Word) (ts : List Token) → form_word w ≡ true → is_some (guard_of w) ≡ false → c (token (kind_of comma) span line ∷ token (kinds.Word w) span' line' ∷ ts) ≡ false) → ((w : Word) (span : Span) (line : Line) (ts : List Token) → form_word w ≡ true → is_some (guard_of w) ≡ false → c (token (kinds.Word w) span line ∷ ts) ≡ false) → (row : StatementRow) (ts rest : List Token) → Body_is row ts rest → c ts ≡ false
-  body_blank c on_do on_comma_do on_comma on_word row ts rest (inl (a, w, s)) = noisy_stops c (word words.Do) on_do on_comma_do ts a w
-  body_blank c on_do on_comma_do on_comma on_word no_statement ts rest (inr s) = absurd s
-  body_blank c on_do on_comma_do on_comma on_word (and_statement x no_statement) ts rest (inr (may, (a, n, s))) = governed_blank c on_comma on_word x ts rest (a, n, (may, s))
-  body_blank c on_do on_comma_do on_comma on_word (and_statement x (and_statement y row)) ts rest (inr s) = absurd s
+  -- what is false of DO, commas and words of statements is false of what a loop repeats
+  false_at_body : (c : List Token → Bool) → ((span : Span) (line : Line) (ts : List Token) → c (token (kinds.Word words.Do) span line ∷ ts) ≡ false) → ((span span' : Span) (line line' : Line) (ts : List Token) → c (token (kind_of comma) span line ∷ token (kinds.Word words.Do) span' line' ∷ ts) ≡ false) → ((span span' : Span) (line line' : Line) (w : Word) (ts : List Token) → form_word w ≡ true → is_some (guard_of w) ≡ false → c (token (kind_of comma) span line ∷ token (kinds.Word w) span' line' ∷ ts) ≡ false) → ((w : Word) (span : Span) (line : Line) (ts : List Token) → form_word w ≡ true → is_some (guard_of w) ≡ false → c (token (kinds.Word w) span line ∷ ts) ≡ false) → (row : StatementRow) (ts rest : List Token) → Body_is row ts rest → c ts ≡ false
+  false_at_body c on_do on_comma_do on_comma on_word row ts rest (inl (a, w, s)) = noisy_stops c (word words.Do) on_do on_comma_do ts a w
+  false_at_body c on_do on_comma_do on_comma on_word no_statement ts rest (inr s) = absurd s
+  false_at_body c on_do on_comma_do on_comma on_word (and_statement x no_statement) ts rest (inr (may, (a, n, s))) = false_at_governed c on_comma on_word x ts rest (a, n, (may, s))
+  false_at_body c on_do on_comma_do on_comma on_word (and_statement x (and_statement y row)) ts rest (inr s) = absurd s
 
   -- ---- FIND
 
-  find_words_reads : Reads (suc k) find_words find_words (λ u. Find_words) nowise
+  find_words_reads : Reads (suc k) find_words find_words (λ u. Find_words) continues_never
   unfolding find_words
-  find_words_reads = behind_reads (noisy_mark_reads (suc k) (word words.Find) refl) (optional_reads (marked_reads (word words.First) (expect_reads (suc k) (word words.Case))) (word words.The) (λ u ts rest s. ap (begins (word words.The)) s.1.2)) (λ u ts rest s stop. refl)
+  find_words_reads = following_reads (noisy_mark_reads (suc k) (word words.Find) refl) (optional_reads (marked_reads (word words.First) (expect_reads (suc k) (word words.Case))) (word words.The) (λ u ts rest s. ap (begins (word words.The)) s.1.2)) (λ u ts rest s stop. refl)
 
   abbrev Find_if_parts : FindOutcome × (StatementRow × StatementRow) → Shape
-  Find_if_parts p = noisy words.If ▷ Said outcome_of p.0 ▷ Branches_are p.1
+  Find_if_parts p = noisy words.If ▷ Word_for outcome_of p.0 ▷ Branches_are p.1
 
-  find_if_starts : (ts a : List Token) (outcome : FindOutcome) (m : List Token) → noisy words.If ts a → Said outcome_of outcome a m → begins_find_if ts ≡ true
+  find_if_starts : (ts a : List Token) (outcome : FindOutcome) (m : List Token) → noisy words.If ts a → Word_for outcome_of outcome a m → begins_find_if ts ≡ true
   find_if_starts ts a outcome m (b, c, (span, line, e)) (w, means, (span', line', f)) =
       let same : skip_comma ts ≡ b = skipped c in
       let some : is_some (outcome_of w) ≡ true = rw means refl in
@@ -426,11 +426,11 @@ module _ (k j : ℕ) (le : k ≤ j) (inner : Reads (suc k) (statement_in (suc k)
       skipped (inl g) = ap skip_comma (g ∙ e) ∙ sym e
       skipped (inr v) = mark_skips comma ts b v
 
-  find_if_reads : (line : Line) (h : HeadTree) → Reads (suc k) (find_if_with line (suc k) (statement_in (suc k)) h) (find_if_with line (suc j) (statement_in (suc j)) h) (Made (λ p. find_if_statement line h p.0 p.1.0 p.1.1) Find_if_parts) nowise
+  find_if_reads : (line : Line) (h : HeadTree) → Reads (suc k) (find_if_with line (suc k) (statement_in (suc k)) h) (find_if_with line (suc j) (statement_in (suc j)) h) (Made (λ p. find_if_statement line h p.0 p.1.0 p.1.1) Find_if_parts) continues_never
   unfolding find_if_with
-  find_if_reads line h = made_reads (behind_reads (noisy_mark_reads (suc k) (word words.If) refl) (seq_reads (word_in_reads (suc k) outcome_of) branches_reads (λ p ts rest s stop. refl)) (λ p ts rest s stop. refl)) (λ p. find_if_statement line h p.0 p.1.0 p.1.1)
+  find_if_reads line h = made_reads (following_reads (noisy_mark_reads (suc k) (word words.If) refl) (seq_reads (word_in_reads (suc k) outcome_of) branches_reads (λ p ts rest s stop. refl)) (λ p ts rest s stop. refl)) (λ p. find_if_statement line h p.0 p.1.0 p.1.1)
 
-  find_if_item : (line : Line) (h : HeadTree) → Item (suc k) begins_find_if (find_if_with line (suc k) (statement_in (suc k)) h) (find_if_with line (suc j) (statement_in (suc j)) h) (Made (λ p. find_if_statement line h p.0 p.1.0 p.1.1) Find_if_parts) nowise
+  find_if_item : (line : Line) (h : HeadTree) → Item (suc k) begins_find_if (find_if_with line (suc k) (statement_in (suc k)) h) (find_if_with line (suc j) (statement_in (suc j)) h) (Made (λ p. find_if_statement line h p.0 p.1.0 p.1.1) Find_if_parts) continues_never
   find_if_item line h =
       item_of begins_find_if (find_if_reads line h) (λ ts x rest s. find_if_starts ts s.2.0 s.0.0 s.2.2.0 s.2.1 s.2.2.1)
       (λ ts x rest s. omega (arith, noisy_less (word words.If) ts s.2.0 s.2.1, (seq_reads (word_in_reads (suc k) outcome_of) branches_reads (λ p ts rest s stop. refl)).shorter s.2.0 s.0 rest s.2.2))
@@ -444,7 +444,7 @@ module _ (k j : ℕ) (le : k ≤ j) (inner : Reads (suc k) (statement_in (suc k)
   find_item : (line : Line) (h : HeadTree) → Item (suc k) (begins_noisy (word words.Find)) (find_with line (suc k) (statement_in (suc k)) h) (find_with line (suc j) (statement_in (suc j)) h) (λ x. Find_words ▷ Found_parts line h x) continues_statement
   unfolding find_with
   find_item line h =
-      item_of (begins_noisy (word words.Find)) (behind_reads find_words_reads (found_reads line h) (λ x ts rest s stop. refl)) (λ ts x rest s. noisy_begins (word words.Find) refl ts s.1.0 s.1.1)
+      item_of (begins_noisy (word words.Find)) (following_reads find_words_reads (found_reads line h) (λ x ts rest s stop. refl)) (λ ts x rest s. noisy_begins (word words.Find) refl ts s.1.0 s.1.1)
       (λ ts x rest s. omega (arith, words_less ts s.0 s.1, (found_reads line h).shorter s.0 x rest s.2))
     where
       words_less : (ts a : List Token) → Find_words ts a → length a < length ts
@@ -456,7 +456,7 @@ module _ (k j : ℕ) (le : k ≤ j) (inner : Reads (suc k) (statement_in (suc k)
   For_tail line h x = either ((Find_words ▷ Found_parts line h x)) (Made (loop_statement line (for_head h)) Body_is x)
 
   loop_no_find : (line : Line) (h : LoopHeadTree) (x : StatementTree) (ts rest : List Token) → Made (loop_statement line h) Body_is x ts rest → begins_noisy (word words.Find) ts ≡ false
-  loop_no_find line h x ts rest (row, is, s) = body_blank (begins_noisy (word words.Find)) (λ span line ts. refl) (λ span span' line line' ts. refl) (λ span span' line line' w r e u. (word_no_other w e).6) (λ w span line r e u. (word_no_other w e).6) row ts rest s
+  loop_no_find line h x ts rest (row, is, s) = false_at_body (begins_noisy (word words.Find)) (λ span line ts. refl) (λ span span' line line' ts. refl) (λ span span' line line' w r e u. (word_no_other w e).6) (λ w span line r e u. (word_no_other w e).6) row ts rest s
 
   tail_reads : (line : Line) (h : HeadTree) → Reads (suc k) (choose (begins_noisy (word words.Find)) (find_with line (suc k) (statement_in (suc k)) h) (loop_with line (suc k) (statement_in (suc k)) (for_head h))) (choose (begins_noisy (word words.Find)) (find_with line (suc j) (statement_in (suc j)) h) (loop_with line (suc j) (statement_in (suc j)) (for_head h))) (For_tail line h) continues_statement
   tail_reads line h = either_reads (find_item line h) (loop_reads line (for_head h)) continues_statement (λ ts stop. (stop, stop)) (λ x ts rest s stop. loop_no_find line (for_head h) x ts rest s)
@@ -472,21 +472,21 @@ module _ (k j : ℕ) (le : k ≤ j) (inner : Reads (suc k) (statement_in (suc k)
   tail_no_for : (line : Line) (h : HeadTree) (x : StatementTree) (ts rest : List Token) → For_tail line h x ts rest → continues_statement rest ≡ false → continues_for ts ≡ false
   tail_no_for line h x ts rest (inl (a, (b, w, s), t)) stop = noisy_stops continues_for (word words.Find) (λ span line ts. refl) (λ span span' line line' ts. refl) ts b w
   tail_no_for line h x ts rest (inr (row, is, s)) stop =
-      body_blank continues_for (λ span line ts. refl) (λ span span' line line' ts. refl)
+      false_at_body continues_for (λ span line ts. refl) (λ span span' line line' ts. refl)
       (λ span span' line line' w r e u. let p = no_phrase w e u in rw p refl)
       (λ w span line' r e u. both_false _ _ (no_phrase w e u) (word_no_head w span line' r e))
       row ts rest s
 
-  for_law : (line : Line) → Reads (suc k) (for_with line (suc k) (statement_in (suc k))) (for_with line (suc j) (statement_in (suc j))) (λ x ts rest. (h : HeadTree) × (Head_behind k h ▷ For_tail line h x) ts rest) continues_statement
+  for_law : (line : Line) → Reads (suc k) (for_with line (suc k) (statement_in (suc k))) (for_with line (suc j) (statement_in (suc j))) (λ x ts rest. (h : HeadTree) × (Head_rest k h ▷ For_tail line h x) ts rest) continues_statement
   unfolding for_with
   for_law line = bind_reads (for_reads k j le) (tail_reads line) (tail_no_for line)
 
-  for_to : (line : Line) (x : StatementTree) (ts rest : List Token) → ((h : HeadTree) × (Head_behind k h ▷ For_tail line h x) ts rest) → Form_is (suc k) line words.For x ts rest
+  for_to : (line : Line) (x : StatementTree) (ts rest : List Token) → ((h : HeadTree) × (Head_rest k h ▷ For_tail line h x) ts rest) → Form_is (suc k) line words.For x ts rest
   for_to line x ts rest (h, (a, s, inl (c, f, inl (p, is, t)))) = subst (λ x. Form_is (suc k) line words.For x ts rest) is (refl, refl, (a, s, (c, f, t)))
   for_to line x ts rest (h, (a, s, inl (c, f, inr (is, e)))) = subst (λ x. Form_is (suc k) line words.For x ts rest) is (refl, refl, (a, s, subst (λ (r : List Token). Find_words a r) e f))
   for_to line x ts rest (h, (a, s, inr (row, is, t))) = subst (λ x. Form_is (suc k) line words.For x ts rest) is (refl, refl, (a, s, t))
 
-  for_from : (line : Line) (x : StatementTree) (ts rest : List Token) → Form_is (suc k) line words.For x ts rest → (h : HeadTree) × (Head_behind k h ▷ For_tail line h x) ts rest
+  for_from : (line : Line) (x : StatementTree) (ts rest : List Token) → Form_is (suc k) line words.For x ts rest → (h : HeadTree) × (Head_rest k h ▷ For_tail line h x) ts rest
   for_from line (loop_statement l (for_head head) body) ts rest (at, w, (a, s, t)) = (head, (a, s, inr (body, ap (λ (l : Line). loop_statement l (for_head head) body) (sym at), t)))
   for_from line (loop_statement l (guarded gs) body) ts rest (at, w, (a, s, t)) = absurd (head_guards (guarded gs) (ap (λ w. is_some (guard_of w)) w) k ts a s)
   for_from line (find_statement l head) ts rest (at, w, (a, s, f)) = (head, (a, s, inl (rest, f, inr (ap (λ (l : Line). find_statement l head) (sym at), refl))))
@@ -500,7 +500,7 @@ module _ (k j : ℕ) (le : k ≤ j) (inner : Reads (suc k) (statement_in (suc k)
 
   body_no_guarded : (line : Line) (h : LoopHeadTree) (x : StatementTree) (ts rest : List Token) → Made (loop_statement line h) Body_is x ts rest → continues_statement rest ≡ false → continues_guarded k j le ts ≡ false
   body_no_guarded line h x ts rest (row, is, s) stop =
-      body_blank (continues_guarded k j le) (λ span line ts. refl) (λ span span' line line' ts. refl)
+      false_at_body (continues_guarded k j le) (λ span line ts. refl) (λ span span' line line' ts. refl)
       (λ span span' line line' w r e u. rw u refl)
       (λ w span line' r e u. both_false _ _ u (word_no_head w span line' r e))
       row ts rest s
@@ -542,23 +542,23 @@ module _ (k j : ℕ) (le : k ≤ j) (inner : Reads (suc k) (statement_in (suc k)
 
   while_law : (line : Line) → Reads (suc k) (while_with line (suc k) (statement_in (suc k))) (while_with line (suc j) (statement_in (suc j))) (Form_is (suc k) line words.While) continues_statement
   unfolding while_with
-  while_law line = said_reads (bind_reads (guarded_reads k j le guards.While) (loop_reads line) (body_no_guarded line)) (Form_is (suc k) line words.While) (guarded_to guards.While words.While refl line) (guarded_from guards.While words.While refl refl line)
+  while_law line = reshaped_reads (bind_reads (guarded_reads k j le guards.While) (loop_reads line) (body_no_guarded line)) (Form_is (suc k) line words.While) (guarded_to guards.While words.While refl line) (guarded_from guards.While words.While refl refl line)
 
   until_law : (line : Line) → Reads (suc k) (until_with line (suc k) (statement_in (suc k))) (until_with line (suc j) (statement_in (suc j))) (Form_is (suc k) line words.Until) continues_statement
   unfolding until_with
-  until_law line = said_reads (bind_reads (guarded_reads k j le guards.Until) (loop_reads line) (body_no_guarded line)) (Form_is (suc k) line words.Until) (guarded_to guards.Until words.Until refl line) (guarded_from guards.Until words.Until refl refl line)
+  until_law line = reshaped_reads (bind_reads (guarded_reads k j le guards.Until) (loop_reads line) (body_no_guarded line)) (Form_is (suc k) line words.Until) (guarded_to guards.Until words.Until refl line) (guarded_from guards.Until words.Until refl refl line)
 
   -- ---- by the first word
 
   nested_law : (line : Line) (w : Word) → nested_word w ≡ true → Reads (suc k) (nested_at line (suc k) (statement_in (suc k)) w) (nested_at line (suc j) (statement_in (suc j)) w) (Form_is (suc k) line w) continues_statement
-  nested_law line words.If e = fewer_reads (said_reads (if_reads line) (Form_is (suc k) line words.If) (if_to line) (if_from line)) continues_statement (λ ts stop. refl)
-  nested_law line words.For e = said_reads (for_law line) (Form_is (suc k) line words.For) (for_to line) (for_from line)
+  nested_law line words.If e = fewer_reads (reshaped_reads (if_reads line) (Form_is (suc k) line words.If) (if_to line) (if_from line)) continues_statement (λ ts stop. refl)
+  nested_law line words.For e = reshaped_reads (for_law line) (Form_is (suc k) line words.For) (for_to line) (for_from line)
   nested_law line words.While e = while_law line
   nested_law line words.Until e = until_law line
   nested_law line _ e = absurd cc
 
 -- where no level may be opened, no statement with others in it is spelled
-nested_never : (x : StatementTree) (ts rest : List Token) → is_nested x ≡ true → Behind x 0 ts rest → ⊥
+nested_never : (x : StatementTree) (ts rest : List Token) → is_nested x ≡ true → Statement_rest x 0 ts rest → ⊥
 nested_never (if_statement line c t e) ts rest n s = s
 nested_never (loop_statement line head body) ts rest n s = s
 nested_never (find_statement line head) ts rest n s = s
@@ -622,9 +622,9 @@ module _ (n m : ℕ) (le : n ≤ m) (nested : (line : Line) (w : Word) → neste
   from_less : (ts : List Token) (x : StatementTree) (rest : List Token) → Statement_from x n ts rest → length rest < length ts
   from_less ts x rest s = first_less form_law (λ x. Statement_from x n) form_to form_from ts x rest s
 
--- behind the first word, where the law of statements holds
+-- the law of a statement after its first word, given the law of the statements in it
 nested_from : (n m : ℕ) → n ≤ m → Reads n (statement_in n) (statement_in m) (In_statement n) continues_statement → ((ts : List Token) (x : StatementTree) (rest : List Token) → In_statement n x ts rest → length rest < length ts) → (line : Line) (w : Word) → nested_word w ≡ true → Reads n (nested_in n (statement_in n) line w) (nested_in m (statement_in m) line w) (Form_is n line w) continues_statement
-nested_from zero m le inner less line w e = said_reads too_deep_reads (Form_is 0 line w) (λ x ts rest s. absurd s) (λ x ts rest s. nested_never x ts rest (sym (nested_first x) ∙ ap nested_word s.1 ∙ e) s.2)
+nested_from zero m le inner less line w e = reshaped_reads too_deep_reads (Form_is 0 line w) (λ x ts rest s. absurd s) (λ x ts rest s. nested_never x ts rest (sym (nested_first x) ∙ ap nested_word s.1 ∙ e) s.2)
 nested_from (suc k) zero le inner less line w e = absurd (omega arith)
 nested_from (suc k) (suc j) le inner less line w e = nested_law k j (omega arith) inner less line w e
 

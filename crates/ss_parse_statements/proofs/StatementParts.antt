@@ -20,7 +20,7 @@ use Rattle.ss_parse_expressions.specs.ReadPlaces.{target_in, begins_target}
 use Rattle.ss_parse_expressions.proofs.Tools.{bind_ok, carry, or_false}
 use Rattle.ss_parse_expressions.proofs.Marks.{token, mark_begins, token_less, In_table}
 use Rattle.ss_parse_expressions.proofs.Depth.{upto_same, Bounded, bounded_bind}
-use Rattle.ss_parse_expressions.proofs.ReaderLaws.{Reads, Item, nowise, Made, item_of, item_marked, expect_reads, taken_reads, seq_reads, marked_reads, closed_reads, made_reads, behind_reads, said_reads, before_mark_reads, maybe_reads, choose_reads}
+use Rattle.ss_parse_expressions.proofs.ReaderLaws.{Reads, Item, continues_never, Made, item_of, item_marked, expect_reads, taken_reads, seq_reads, marked_reads, closed_reads, made_reads, following_reads, reshaped_reads, before_mark_reads, maybe_reads, choose_reads}
 use Rattle.ss_parse_expressions.proofs.WordLaws.{expect_class_reads, one_begins, one_less, done_reads, perhaps_listed_reads, either_reads, item_made, no_word, no_class}
 use Rattle.ss_parse_expressions.proofs.ExpressionLaws.{In, sum_in_reads, continues_sum}
 use Rattle.ss_parse_expressions.proofs.PlaceLaws.{target_in_reads, targets_in_reads, sums_in_reads, continues_place, continues_targets, continues_sums}
@@ -33,7 +33,7 @@ use Rattle.ss_parse_statements.specs.ReadSimple.{called, positive, positive_of, 
 pub items_in_reads : (n m : ℕ) → n ≤ m → Reads n (items_in n) (items_in m) (perhaps_listed (Word_is words.With) (In n)) (λ ts. begins (word words.With) ts || continues_sums ts)
 items_in_reads n m le = perhaps_listed_reads (item_marked (word words.With) (sums_in_reads n m le))
 
-pub trigger_reads : (k : ℕ) → Reads k trigger trigger (λ u. Trigger) nowise
+pub trigger_reads : (k : ℕ) → Reads k trigger trigger (λ u. Trigger) continues_never
 unfolding trigger
 trigger_reads k =
     choose_reads (item_of (begins (word words.Thus)) (expect_reads k (word words.Thus)) (λ ts u rest s. mark_begins (word words.Thus) ts rest s) (λ ts u rest s. omega (arith, token_less (kinds.Word words.Thus) ts rest s)))
@@ -70,21 +70,21 @@ positive_from : (n : ℕ) (ts rest : List Token) → Positive_is n ts rest → I
 positive_from zero ts rest (some, at) = absurd (omega arith)
 positive_from (suc n) ts rest (some, at) = (kinds.Number (pos (suc n)), refl, at)
 
-pub positive_reads : (k : ℕ) → Reads k (taken positive_of) (taken positive_of) Positive_is nowise
-positive_reads k = said_reads (taken_reads k positive_of) Positive_is positive_to positive_from
+pub positive_reads : (k : ℕ) → Reads k (taken positive_of) (taken positive_of) Positive_is continues_never
+positive_reads k = reshaped_reads (taken_reads k positive_of) Positive_is positive_to positive_from
 
 -- the number of pictures and the items
 abbrev pub Print_head_is : ℕ → ℕ × List ExpressionTree → Shape
 Print_head_is n h = Positive_is h.0 ▷ Word_is words.Line ▷ perhaps_listed (Word_is words.With) (In n) h.1 ▷ Trigger
 
-pub print_head_reads : (n m : ℕ) → n ≤ m → Reads n (print_head n) (print_head m) (Print_head_is n) nowise
+pub print_head_reads : (n m : ℕ) → n ≤ m → Reads n (print_head n) (print_head m) (Print_head_is n) continues_never
 unfolding print_head
 print_head_reads n m le =
     seq_reads (positive_reads n)
     (marked_reads (word words.Line) (closed_reads (items_in_reads n m le) (trigger_reads n) stops))
     (λ xs ts rest s stop. refl)
   where
-    stops : (ts rest : List Token) → Trigger ts rest → nowise rest ≡ false → (begins (word words.With) ts || continues_sums ts) ≡ false
+    stops : (ts rest : List Token) → Trigger ts rest → continues_never rest ≡ false → (begins (word words.With) ts || continues_sums ts) ≡ false
     stops ts rest (inl (span, line, e)) stop = rw e refl
     stops ts rest (inr (inl (m, (span, line, e), s))) stop = rw e refl
     stops ts rest (inr (inr (m, (span, line, e), s))) stop = rw e refl
@@ -96,14 +96,14 @@ pictures_to bytes ts rest (k, takes, at) = go k takes at
     go (kinds.Picture b) e at = let same : b ≡ bytes = cc in subst (λ b. Picture_is b ts rest) same at
     go _ e at = absurd cc
 
-picture_reads : (k : ℕ) → Reads k (taken picture_of) (taken picture_of) Picture_is nowise
-picture_reads k = said_reads (taken_reads k picture_of) Picture_is pictures_to (λ bytes ts rest s. (kinds.Picture bytes, refl, s))
+picture_reads : (k : ℕ) → Reads k (taken picture_of) (taken picture_of) Picture_is continues_never
+picture_reads k = reshaped_reads (taken_reads k picture_of) Picture_is pictures_to (λ bytes ts rest s. (kinds.Picture bytes, refl, s))
 
 -- so many pictures
 abbrev pub Pictures_are : ℕ → List (List ℕ) → Shape
 Pictures_are n ps = provided (length ps ≡ n) (each Picture_is ps)
 
-pub pictures_reads : (k n : ℕ) → Reads k (pictures_at n) (pictures_at n) (Pictures_are n) nowise
+pub pictures_reads : (k n : ℕ) → Reads k (pictures_at n) (pictures_at n) (Pictures_are n) continues_never
 unfolding pictures_at
 pictures_reads k n = record { sound = sound n; complete = λ ts ps rest s stop. complete n ps ts rest s.0 s.1; shorter = λ ts ps rest s. shorter ps ts rest s.1; under = λ ts. upto_same _; opening = opening n }
   where
@@ -133,7 +133,7 @@ pictures_reads k n = record { sound = sound n; complete = λ ts ps rest s stop. 
     opening zero ts = omega arith
     opening (suc n) ts = bounded_bind k (openers ts) (taken picture_of ts) _ ((picture_reads k).opening ts) (λ p. bounded_bind k (openers p.1) (pictures_at n p.1) _ (opening n p.1) (λ ps. omega arith))
 
--- ---- words that may follow a statement and go on with it
+-- ---- words that may follow a statement and continue it
 
 abbrev pub statement_more : Word → Bool
 statement_more words.Called = true
@@ -196,7 +196,7 @@ module _ (ts : List Token) (over : Ended ts) where
   pub over_called_place : (begins (word words.Called) ts || continues_place ts) ≡ false
   over_called_place = let a : begins (word words.Called) ts ≡ false = over_word words.Called refl in let b : continues_place ts ≡ false = over_place in rw (a, b) refl
 
--- ---- parts, where so many levels may be opened behind the first word
+-- ---- parts of a statement, where so many levels may be opened after its first word
 
 module _ (n m : ℕ) (le : n ≤ m) where
   pub sum_reads : Reads (suc n) (sum_in (suc n)) (sum_in (suc m)) (λ e. Sum_is n e) continues_sum
@@ -209,7 +209,7 @@ module _ (n m : ℕ) (le : n ≤ m) where
   set_reads = the_set_reads n m le
 
   pub given_reads : Reads (suc n) (given_in (suc n)) (given_in (suc m)) (perhaps_listed (One_of classes.Given) (Sum_is n)) (λ ts. begins_class classes.Given ts || continues_sums ts)
-  given_reads = perhaps_listed_reads (item_of (begins_class classes.Given) (behind_reads (expect_class_reads (suc n) classes.Given) (sums_in_reads (suc n) (suc m) (omega arith)) (λ xs ts rest s stop. refl)) (λ ts xs rest s. one_begins classes.Given ts s.0 s.1)
+  given_reads = perhaps_listed_reads (item_of (begins_class classes.Given) (following_reads (expect_class_reads (suc n) classes.Given) (sums_in_reads (suc n) (suc m) (omega arith)) (λ xs ts rest s stop. refl)) (λ ts xs rest s. one_begins classes.Given ts s.0 s.1)
       (λ ts xs rest s. omega (arith, one_less classes.Given ts s.0 s.1, (sums_in_reads (suc n) (suc m) (omega arith)).shorter s.0 xs rest s.2)))
 
   pub yielding_reads : Reads (suc n) (yielding_in (suc n)) (yielding_in (suc m)) (perhaps_listed (Word_is words.Yielding) (Target_is n)) (λ ts. begins (word words.Yielding) ts || continues_targets ts)
@@ -226,7 +226,7 @@ module _ (n m : ℕ) (le : n ≤ m) where
   abbrev pub Position_then : PositionTree × NamedTree → Shape
   Position_then p = Position_is n p.0 ▷ Word_is words.In ▷ (the ▷ Reference_is n p.1)
 
-  word_item : {A : Type 0} (w : Word) (f : Unit {0} → A) → Item (suc n) (begins (word w)) (apply f (expect (word w))) (apply f (expect (word w))) (Made f (λ u. Word_is w)) nowise
+  word_item : {A : Type 0} (w : Word) (f : Unit {0} → A) → Item (suc n) (begins (word w)) (apply f (expect (word w))) (apply f (expect (word w))) (Made f (λ u. Word_is w)) continues_never
   word_item w f = item_of (begins (word w)) (made_reads (expect_reads (suc n) (word w)) f) (λ ts x rest s. mark_begins (word w) ts rest s.2) (λ ts x rest s. omega (arith, token_less (kinds.Word w) ts rest s.2))
 
   -- what continues the place where a member is filed
@@ -289,7 +289,7 @@ module _ (n m : ℕ) (le : n ≤ m) where
   position_from (after e) ts rest s = inr (inr (inr (inl (e, refl, s))))
 
   pub position_reads : Reads (suc n) (position_in (suc n)) (position_in (suc m)) (Position_is n) continues_position
-  position_reads = said_reads position_any_reads (Position_is n) position_to position_from
+  position_reads = reshaped_reads position_any_reads (Position_is n) position_to position_from
 
   -- it doesn't continue the member
   pub position_stops : (x : PositionTree) (ts a : List Token) → Position_is n x ts a → continues_sum a ≡ false → continues_sum ts ≡ false
@@ -314,7 +314,7 @@ module _ (n m : ℕ) (le : n ≤ m) where
   pub when_reads : Reads (suc n) (when_in (suc n)) (when_in (suc m)) (When_is n) continues_sum
   unfolding when_in
   when_reads =
-      said_reads (either_reads (item_made (word words.At) sum_reads at_time)
+      reshaped_reads (either_reads (item_made (word words.At) sum_reads at_time)
       (either_reads (item_made (word words.In) (before_mark_reads (word words.Unit) sum_reads (λ span line ts. refl)) in_units) (made_reads (expect_reads (suc n) (word words.Now)) (λ u. now)) continues_sum (λ ts stop. (refl, refl)) (λ x ts rest s stop. now_late x ts rest s))
       continues_sum (λ ts stop. (stop, stop)) (λ x ts rest s stop. in_late x ts rest s))
       (When_is n) to from
@@ -348,7 +348,7 @@ module _ (n m : ℕ) (le : n ≤ m) where
       go words.Giving e (span, line, f) = ap c f ∙ on_giving span line a
       go _ e at = absurd cc
 
-  -- what is given, and when, continues nothing behind CALLED
+  -- what is given, and when, doesn't continue a CALLED and its expression
   pub due_stops : (p : List ExpressionTree × WhenTree) (ts rest : List Token) → Due_is p ts rest → (begins (word words.Called) ts || continues_sum ts) ≡ false
   due_stops ([], at_time x) ts rest (a, e, (b, (span, line, f), s)) = rw (e, f) refl
   due_stops ([], in_units x) ts rest (a, e, (b, (span, line, f), s)) = rw (e, f) refl

@@ -9,16 +9,16 @@ use Rattle.ss_lex.specs.declared.token.Token.{Token}
 use Rattle.ss_tree.specs.declared.head.GuardKind.TheVariants as guards
 use Rattle.ss_tree.specs.Tree.{HeadTree, LoopHeadTree, for_head, StatementTree, if_statement, loop_statement, find_statement, find_if_statement, StatementRow, statement_row}
 use Rattle.ss_parse_expressions.specs.declared.failure.Fault.TheVariants.{Syntax}
-use Rattle.ss_parse_expressions.specs.Reading.{Reader, ◌>>=◌, word, begins, begins_by, skip, expect, in_table, taken, seq, behind, closed, apply, maybe_list, choose, too_deep, rows, skip_comma}
+use Rattle.ss_parse_expressions.specs.Reading.{Reader, ◌>>=◌, word, begins, begins_by, skip, expect, in_table, taken, seq, following, closed, apply, maybe_list, choose, too_deep, rows, skip_comma}
 use Rattle.ss_parse_expressions.specs.ReadWords.{done, fail, begins_noisy, expect_noisy}
 use Rattle.ss_parse_expressions.specs.ReadConditions.{condition_in}
 use Rattle.ss_parse_expressions.specs.ReadHeads.{begins_guard, for_in, guarded_in}
 use Rattle.ss_parse_expressions.specs.WordTables.{outcome_of}
-use Rattle.ss_parse_statements.specs.ReadSimple.{behind_the, simple_at}
+use Rattle.ss_parse_statements.specs.ReadSimple.{after_the, simple_at}
 
 -- ---- by the first word
 
--- what is read behind the first word, by it and its line
+-- a reader that depends on the first word and its line, and reads what follows it
 abbrev pub at_word : {A : Type 0} → (Line → Word → Reader A) → Line → TokenKind → Reader A
 at_word form line (kinds.Word w) = form line w
 at_word form line _ = fail
@@ -83,14 +83,14 @@ module _ (statement : Reader StatementTree) where
   statements_with = rows begins_statement (λ r. statement (skip_comma r))
 
   abbrev pub else_with : Reader (List StatementTree)
-  else_with = maybe_list (begins_noisy (word words.Else)) (behind (expect_noisy (word words.Else)) statements_with)
+  else_with = maybe_list (begins_noisy (word words.Else)) (following (expect_noisy (word words.Else)) statements_with)
 
-  -- behind a condition: the statements where it holds, and those where it doesn't
+  -- what follows a condition: the statements where it holds, and those where it doesn't
   unfoldable pub branches_with : Reader (StatementRow × StatementRow)
   branches_with = apply (λ p. (statement_row p.0, statement_row p.1)) (closed (seq statements_with else_with) (expect_noisy (word words.Always)))
 
   unfoldable pub do_with : Reader (List StatementTree)
-  do_with = behind (expect_noisy (word words.Do)) (closed statements_with (expect_noisy (word words.Loop)))
+  do_with = following (expect_noisy (word words.Do)) (closed statements_with (expect_noisy (word words.Loop)))
 
   -- one statement, that begins with neither WHILE nor UNTIL
   unfoldable pub governed_with : Reader (List StatementTree)
@@ -100,10 +100,10 @@ module _ (statement : Reader StatementTree) where
   body_with = apply statement_row (choose (begins_noisy (word words.Do)) do_with governed_with)
 
 unfoldable pub find_words : Reader (Unit {0})
-find_words = behind (expect_noisy (word words.Find)) (behind_the (behind (expect (word words.First)) (expect (word words.Case))))
+find_words = following (expect_noisy (word words.Find)) (after_the (following (expect (word words.First)) (expect (word words.Case))))
 
 module _ (line : Line) (room : ℕ) (statement : Reader StatementTree) where
-  -- behind IF
+  -- an IF, after IF
   unfoldable pub if_with : Reader StatementTree
   if_with = apply (λ p. if_statement line p.0 p.1.0 p.1.1) (seq (condition_in room) (branches_with statement))
 
@@ -112,20 +112,20 @@ module _ (line : Line) (room : ℕ) (statement : Reader StatementTree) where
 
   -- the IF of a FIND
   unfoldable pub find_if_with : HeadTree → Reader StatementTree
-  find_if_with head = apply (λ p. find_if_statement line head p.0 p.1.0 p.1.1) (behind (expect_noisy (word words.If)) (seq (taken (in_table outcome_of)) (branches_with statement)))
+  find_if_with head = apply (λ p. find_if_statement line head p.0 p.1.0 p.1.1) (following (expect_noisy (word words.If)) (seq (taken (in_table outcome_of)) (branches_with statement)))
 
   abbrev pub found_with : HeadTree → Reader StatementTree
   found_with head = choose begins_find_if (find_if_with head) (done (find_statement line head))
 
-  -- behind FIND THE FIRST CASE too
+  -- a FIND, after the head of its loop
   unfoldable pub find_with : HeadTree → Reader StatementTree
-  find_with head = behind find_words (found_with head)
+  find_with head = following find_words (found_with head)
 
-  -- behind FOR
+  -- a loop or a FIND, after FOR
   unfoldable pub for_with : Reader StatementTree
   for_with ts = for_in room ts >>= λ h. choose (begins_noisy (word words.Find)) (find_with h.0) (loop_with (for_head h.0)) h.1
 
-  -- behind WHILE and UNTIL
+  -- a loop, after WHILE or UNTIL
   unfoldable pub while_with : Reader StatementTree
   while_with ts = guarded_in room guards.While ts >>= λ h. loop_with h.0 h.1
 
@@ -134,7 +134,7 @@ module _ (line : Line) (room : ℕ) (statement : Reader StatementTree) where
 
 -- ---- statements
 
--- the others, where a level may still be opened
+-- a statement that has others in it, after this first word, where a level may still be opened
 abbrev pub nested_at : Line → ℕ → Reader StatementTree → Word → Reader StatementTree
 nested_at line room statement words.If = if_with line room statement
 nested_at line room statement words.For = for_with line room statement
@@ -149,7 +149,7 @@ nested_word words.While = true
 nested_word words.Until = true
 nested_word _ = false
 
--- where so many levels may be opened behind the first word
+-- the same statement, which is too deep where no level may be opened
 abbrev pub nested_in : ℕ → Reader StatementTree → Line → Word → Reader StatementTree
 nested_in zero statement line w = too_deep
 nested_in (suc room) statement line w = nested_at line (suc room) statement w

@@ -11,14 +11,14 @@ use Rattle.ss_parse_expressions.specs.Shapes.{Shape, ◌▷◌, nothing, either,
 use Rattle.ss_parse_expressions.specs.Words.{One_of, perhaps_listed}
 use Rattle.ss_parse_expressions.specs.SpelledExpressions.{Sum_is}
 
--- the words before the pictures
+-- the words of a PRINT before its pictures
 abbrev pub Trigger : Shape
 Trigger = either (Word_is words.Thus) (either (Word_is words.As ▷ Word_is words.Follows) (Word_is words.Like ▷ Word_is words.This))
 
 abbrev pub Picture_is : List ℕ → Shape
 Picture_is bytes = Token_is (kinds.Picture bytes)
 
--- what the class is made or taken for
+-- CALLED and what follows it, if CALLED is there
 abbrev pub Called : {X : Type 0} → (X → Shape) → Option X → Shape
 Called S = perhaps (λ x. Word_is words.Called ▷ S x)
 

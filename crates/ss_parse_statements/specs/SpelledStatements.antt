@@ -7,10 +7,10 @@ use Rattle.ss_lex.specs.declared.word.Word.{Word}
 use Rattle.ss_lex.specs.declared.word.Word.TheVariants as words
 use Rattle.ss_tree.specs.Tree.{StatementTree, let_statement, add_statement, subtract_statement, call_statement, return_statement, stop_statement, read_statement, start_simulation, if_statement, loop_statement, find_statement, find_if_statement, create_statement, create_every, destroy_statement, file_statement, remove_end, remove_statement, schedule_new, schedule_statement, cancel_statement, reset_statement, print_statement, skip_statement, StatementRow, no_statement, and_statement}
 use Rattle.ss_parse_expressions.specs.declared.classes.Class.TheVariants as classes
-use Rattle.ss_parse_expressions.specs.Shapes.{Shape, ◌▷◌, nothing, never, either, optional, provided, Token_is, Word_is, Symbol_is, Name_is, Said, noise, each, listed, at, within}
+use Rattle.ss_parse_expressions.specs.Shapes.{Shape, ◌▷◌, nothing, never, either, optional, provided, Token_is, Word_is, Symbol_is, Name_is, Word_for, noise, each, listed, at, within}
 use Rattle.ss_parse_expressions.specs.Words.{One_of, the, perhaps_listed}
 use Rattle.ss_parse_expressions.specs.SpelledExpressions.{Sum_is, Target_is, Reference_is}
-use Rattle.ss_parse_expressions.specs.SpelledConditions.{Condition_is, head_word, Head_behind, Loop_behind, Begins_with_for}
+use Rattle.ss_parse_expressions.specs.SpelledConditions.{Condition_is, head_word, Head_rest, Loop_head_rest, Begins_with_for}
 use Rattle.ss_parse_statements.specs.SpelledParts.{Trigger, Picture_is, Called, end_of, Position_is, Given_and_when}
 use Rattle.ss_parse_expressions.specs.WordTables.{outcome_of}
 
@@ -84,66 +84,66 @@ abbrev pub May_be_governed : StatementTree → Type 0
 May_be_governed (loop_statement line head body) = Begins_with_for head
 May_be_governed _ = Unit {0}
 
--- from its first word on, with this behind it
+-- a statement from its first word on, with this shape after that word
 abbrev pub Begun : StatementTree → Shape → Shape
 Begun s P = at (line_of s) (Word_is (first_word s) ▷ P)
 
--- what stands behind a condition, ALWAYS included
+-- what follows a condition: two branches and ALWAYS
 abbrev pub Branching : Shape → Shape → Shape
 Branching P Q = (P ▷ Q) ▷ noisy words.Always
 
 abbrev mutual
-  -- What stands behind its first word, where so many levels of nesting may still be opened.
-  pub Behind : StatementTree → ℕ → Shape
-  Behind (let_statement line target value) levels = Target_is levels target ▷ Symbol_is Equals ▷ Sum_is levels value
-  Behind (add_statement line amount target) levels = Sum_is levels amount ▷ Word_is words.To ▷ Target_is levels target
-  Behind (subtract_statement line amount target) levels = Sum_is levels amount ▷ Word_is words.From ▷ Target_is levels target
-  Behind (call_statement line routine given yielding) levels =
+  -- What follows the first word of a statement, where so many levels of nesting may still be opened.
+  pub Statement_rest : StatementTree → ℕ → Shape
+  Statement_rest (let_statement line target value) levels = Target_is levels target ▷ Symbol_is Equals ▷ Sum_is levels value
+  Statement_rest (add_statement line amount target) levels = Sum_is levels amount ▷ Word_is words.To ▷ Target_is levels target
+  Statement_rest (subtract_statement line amount target) levels = Sum_is levels amount ▷ Word_is words.From ▷ Target_is levels target
+  Statement_rest (call_statement line routine given yielding) levels =
       Name_is routine ▷ perhaps_listed (One_of classes.Given) (Sum_is levels) given ▷ perhaps_listed (Word_is words.Yielding) (Target_is levels) yielding
-  Behind (return_statement line) levels = nothing
-  Behind (stop_statement line) levels = nothing
-  Behind (read_statement line targets) levels = listed (Target_is levels) targets
-  Behind (start_simulation line) levels = Word_is words.Simulation
-  Behind (if_statement line condition then otherwise) levels = within (λ l. Condition_is l condition ▷ Branching (Statements_are then l) (Else_part otherwise l)) levels
-  Behind (loop_statement line head body) levels = within (λ l. Loop_behind l head ▷ either (noisy words.Do ▷ Statements_are body l ▷ noisy words.Loop) (Governed body l)) levels
-  Behind (find_statement line head) levels = within (λ l. Head_behind l head ▷ Find_words) levels
+  Statement_rest (return_statement line) levels = nothing
+  Statement_rest (stop_statement line) levels = nothing
+  Statement_rest (read_statement line targets) levels = listed (Target_is levels) targets
+  Statement_rest (start_simulation line) levels = Word_is words.Simulation
+  Statement_rest (if_statement line condition then otherwise) levels = within (λ l. Condition_is l condition ▷ Branching (Statements_are then l) (Else_part otherwise l)) levels
+  Statement_rest (loop_statement line head body) levels = within (λ l. Loop_head_rest l head ▷ either (noisy words.Do ▷ Statements_are body l ▷ noisy words.Loop) (Governed body l)) levels
+  Statement_rest (find_statement line head) levels = within (λ l. Head_rest l head ▷ Find_words) levels
   -- the loop is closed before the IF
-  Behind (find_if_statement line head outcome then otherwise) levels =
-      within (λ l. Head_behind l head ▷ Find_words ▷ noisy words.If ▷ Said outcome_of outcome ▷ Branching (Statements_are then l) (Else_part otherwise l)) levels
-  Behind (create_statement line class called) levels = optional (One_of classes.Indefinite) ▷ Name_is class ▷ Called (Target_is levels) called
-  Behind (create_every line classes) levels = Word_is words.Every ▷ listed Name_is classes
-  Behind (destroy_statement line class called) levels = the ▷ Name_is class ▷ Called (Sum_is levels) called
-  Behind (file_statement line x position set) levels = the ▷ Sum_is levels x ▷ Position_is levels position ▷ Word_is words.In ▷ the ▷ Reference_is levels set
-  Behind (remove_end line end target set) levels = the ▷ Said end_of end ▷ Target_is levels target ▷ Word_is words.From ▷ the ▷ Reference_is levels set
-  Behind (remove_statement line x set) levels = the ▷ Sum_is levels x ▷ Word_is words.From ▷ the ▷ Reference_is levels set
-  Behind (schedule_new line class called given when) levels = One_of classes.Indefinite ▷ Name_is class ▷ Called (Target_is levels) called ▷ Given_and_when levels given when
-  Behind (schedule_statement line class called given when) levels = Word_is words.The ▷ Name_is class ▷ Called (Sum_is levels) called ▷ Given_and_when levels given when
-  Behind (cancel_statement line class called) levels = the ▷ Name_is class ▷ Called (Sum_is levels) called
-  Behind (reset_statement line targets) levels = the ▷ Word_is words.Totals ▷ Word_is words.Of ▷ listed (Target_is levels) targets
-  Behind (print_statement line items pictures) levels =
+  Statement_rest (find_if_statement line head outcome then otherwise) levels =
+      within (λ l. Head_rest l head ▷ Find_words ▷ noisy words.If ▷ Word_for outcome_of outcome ▷ Branching (Statements_are then l) (Else_part otherwise l)) levels
+  Statement_rest (create_statement line class called) levels = optional (One_of classes.Indefinite) ▷ Name_is class ▷ Called (Target_is levels) called
+  Statement_rest (create_every line classes) levels = Word_is words.Every ▷ listed Name_is classes
+  Statement_rest (destroy_statement line class called) levels = the ▷ Name_is class ▷ Called (Sum_is levels) called
+  Statement_rest (file_statement line x position set) levels = the ▷ Sum_is levels x ▷ Position_is levels position ▷ Word_is words.In ▷ the ▷ Reference_is levels set
+  Statement_rest (remove_end line end target set) levels = the ▷ Word_for end_of end ▷ Target_is levels target ▷ Word_is words.From ▷ the ▷ Reference_is levels set
+  Statement_rest (remove_statement line x set) levels = the ▷ Sum_is levels x ▷ Word_is words.From ▷ the ▷ Reference_is levels set
+  Statement_rest (schedule_new line class called given when) levels = One_of classes.Indefinite ▷ Name_is class ▷ Called (Target_is levels) called ▷ Given_and_when levels given when
+  Statement_rest (schedule_statement line class called given when) levels = Word_is words.The ▷ Name_is class ▷ Called (Sum_is levels) called ▷ Given_and_when levels given when
+  Statement_rest (cancel_statement line class called) levels = the ▷ Name_is class ▷ Called (Sum_is levels) called
+  Statement_rest (reset_statement line targets) levels = the ▷ Word_is words.Totals ▷ Word_is words.Of ▷ listed (Target_is levels) targets
+  Statement_rest (print_statement line items pictures) levels =
       provided (0 < length pictures) (Token_is (kinds.Number (pos (length pictures))) ▷ Word_is words.Line
       ▷ perhaps_listed (Word_is words.With) (Sum_is levels) items ▷ Trigger ▷ each Picture_is pictures)
-  Behind (skip_statement line count) levels = Sum_is levels count ▷ optional (Word_is words.Output) ▷ Word_is words.Line
+  Statement_rest (skip_statement line count) levels = Sum_is levels count ▷ optional (Word_is words.Output) ▷ Word_is words.Line
 
   -- statements, each with a comma before it or not
   pub Statements_are : StatementRow → ℕ → Shape
   Statements_are no_statement levels = nothing
-  Statements_are (and_statement s ss) levels = (noise ▷ Begun s (Behind s levels)) ▷ Statements_are ss levels
+  Statements_are (and_statement s ss) levels = (noise ▷ Begun s (Statement_rest s levels)) ▷ Statements_are ss levels
 
-  -- ELSE, which may be left out where no statement stands behind it
+  -- ELSE and its statements; it may be left out where there are none
   pub Else_part : StatementRow → ℕ → Shape
   Else_part no_statement levels = optional (noisy words.Else)
-  Else_part (and_statement s ss) levels = noisy words.Else ▷ (noise ▷ Begun s (Behind s levels)) ▷ Statements_are ss levels
+  Else_part (and_statement s ss) levels = noisy words.Else ▷ (noise ▷ Begun s (Statement_rest s levels)) ▷ Statements_are ss levels
 
   -- the one statement that a loop governs without DO
   pub Governed : StatementRow → ℕ → Shape
   Governed no_statement levels = never
-  Governed (and_statement s no_statement) levels = provided (May_be_governed s) (noise ▷ Begun s (Behind s levels))
+  Governed (and_statement s no_statement) levels = provided (May_be_governed s) (noise ▷ Begun s (Statement_rest s levels))
   Governed (and_statement s (and_statement t ts)) levels = never
 
 -- the tokens from its first word on
 abbrev pub Statement_from : StatementTree → ℕ → Shape
-Statement_from s levels = Begun s (Behind s levels)
+Statement_from s levels = Begun s (Statement_rest s levels)
 
 -- the statements where a condition holds, and those where it doesn't
 abbrev pub Branches : StatementRow → StatementRow → ℕ → Shape

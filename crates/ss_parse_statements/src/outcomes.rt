@@ -1,4 +1,4 @@
-//! What the IF of a FIND asks.
+//! The word that the IF of a FIND asks for.
 
 ghost use Rattle.std.specs.Prelude.{◌≡◌};
 ghost use Rattle.ss_parse_expressions.specs.Reading.{Gives, taken, in_table};

@@ -2,7 +2,7 @@
 
 ghost use Rattle.std.specs.Prelude.{◌≡◌, map};
 ghost use Rattle.ss_tree.specs.View.{view_expression, view_option, view_named, view_position, view_when};
-ghost use Rattle.ss_parse_expressions.specs.Reading.{Gives, word, expect, behind, begins_by, taken, in_table};
+ghost use Rattle.ss_parse_expressions.specs.Reading.{Gives, word, expect, following, begins_by, taken, in_table};
 ghost use Rattle.ss_parse_expressions.specs.ReadExpressions.{sum_in};
 ghost use Rattle.ss_parse_expressions.specs.ReadPlaces.{target_in};
 ghost use Rattle.ss_parse_statements.specs.SpelledParts.{end_of};
@@ -93,7 +93,7 @@ pub fn items(
     sums(alloc, skip_word(tokens, Word::With), room)
 }
 
-/// The words before the pictures.
+/// The words of a PRINT before its pictures.
 #[tactic(auto, unfolding(crate::specs::ReadSimple::trigger))]
 pub fn trigger(tokens: &[Token]) -> Result<&[Token], Failure>
     ensures { Gives (λ rest. (tt, rest.now)) result (trigger tokens.now) }
@@ -121,7 +121,7 @@ fn picture(alloc: Global, tokens: &[Token]) -> Result<(PictureLine, &[Token]), F
     }
 }
 
-/// So many pictures.
+/// The pictures of a PRINT, `count` of them.
 pub fn pictures(
     alloc: Global,
     tokens: &[Token],
@@ -167,7 +167,7 @@ pub fn yielding(
     targets(alloc, skip_word(tokens, Word::Yielding), room)
 }
 
-/// What stands behind CALLED, if it is there, as a value.
+/// The value after CALLED, if CALLED is there.
 pub fn called_value(
     alloc: Global,
     tokens: &[Token],
@@ -182,7 +182,7 @@ pub fn called_value(
     Ok((Some(value), rest))
 }
 
-/// What stands behind CALLED, if it is there, as a target.
+/// The target after CALLED, if CALLED is there.
 pub fn called_target(
     alloc: Global,
     tokens: &[Token],
@@ -248,39 +248,39 @@ pub fn given_and_due(
     Ok((given, when, rest))
 }
 
-/// An equals sign, and the value behind it.
+/// An equals sign, and the value after it.
 pub fn value_set(
     alloc: Global,
     tokens: &[Token],
     room: u8,
 ) -> Result<(Expression, &[Token]), Failure>
-    ensures { Gives (λ x. (view_expression x.0, x.1.now)) result (behind (expect equals) (sum_in room) tokens.now) }
+    ensures { Gives (λ x. (view_expression x.0, x.1.now)) result (following (expect equals) (sum_in room) tokens.now) }
 {
     let rest = expect_symbol(tokens, Symbol::Equals)?;
     sum(alloc, rest, room)
 }
 
-/// This word, and the target behind it.
-pub fn target_behind(
+/// This word, and the target after it.
+pub fn target_after(
     alloc: Global,
     wanted: Word,
     tokens: &[Token],
     room: u8,
 ) -> Result<(Named, &[Token]), Failure>
-    ensures { Gives (λ x. (view_named x.0, x.1.now)) result (behind (expect (word wanted)) (target_in room) tokens.now) }
+    ensures { Gives (λ x. (view_named x.0, x.1.now)) result (following (expect (word wanted)) (target_in room) tokens.now) }
 {
     let rest = expect_word(tokens, wanted)?;
     target(alloc, rest, room)
 }
 
-/// This word, and the set behind it.
-pub fn set_behind(
+/// This word, and the set after it.
+pub fn set_after(
     alloc: Global,
     wanted: Word,
     tokens: &[Token],
     room: u8,
 ) -> Result<(Named, &[Token]), Failure>
-    ensures { Gives (λ x. (view_named x.0, x.1.now)) result (behind (expect (word wanted)) (set_in room) tokens.now) }
+    ensures { Gives (λ x. (view_named x.0, x.1.now)) result (following (expect (word wanted)) (set_in room) tokens.now) }
 {
     let rest = expect_word(tokens, wanted)?;
     reference(alloc, skip_word(rest, Word::The), room)

@@ -7,7 +7,7 @@ ghost use Rattle.ss_parse_statements.specs.ReadSimple.{let_at, add_at, subtract_
 
 use crate::parts::{
     begins_end, called_target, called_value, given, given_and_due, items, pictures, place,
-    positive, set_behind, set_end, target_behind, trigger, value_set, yielding,
+    positive, set_after, set_end, target_after, trigger, value_set, yielding,
 };
 use ss_base::Line;
 use ss_lex::{Token, Word};
@@ -17,12 +17,12 @@ use ss_parse_expressions::failure::Failure;
 use ss_parse_expressions::names::{name, names};
 use ss_parse_expressions::places::{target, targets};
 use ss_parse_expressions::steps::beside;
-use ss_parse_expressions::tokens::{begins_word, behind_first, expect_word, skip_word, syntax};
+use ss_parse_expressions::tokens::{after_first, begins_word, expect_word, skip_word, syntax};
 use ss_tree::expression::Expression;
 use ss_tree::statement::Statement;
 use std::alloc::Global;
 
-/// A LET behind its first word.
+/// The rest of a LET, after its first word.
 #[tactic(auto, unfolding(crate::specs::ReadSimple::let_at, ss_tree::specs::View::view_statement))]
 fn let_form(
     alloc: Global,
@@ -42,7 +42,7 @@ fn let_form(
     Ok((form, rest))
 }
 
-/// An ADD behind its first word.
+/// The rest of an ADD, after its first word.
 #[tactic(auto, unfolding(crate::specs::ReadSimple::add_at, ss_tree::specs::View::view_statement))]
 fn add_form(
     alloc: Global,
@@ -53,7 +53,7 @@ fn add_form(
     ensures { Gives (λ x. (view_statement x.0, x.1.now)) result (add_at line room tokens.now) }
 {
     let (amount, rest) = sum(alloc, tokens, room)?;
-    let (amount, (target, rest)) = beside(amount, target_behind(alloc, Word::To, rest, room))?;
+    let (amount, (target, rest)) = beside(amount, target_after(alloc, Word::To, rest, room))?;
     let form = Statement::Add {
         line,
         amount,
@@ -62,7 +62,7 @@ fn add_form(
     Ok((form, rest))
 }
 
-/// A SUBTRACT behind its first word.
+/// The rest of a SUBTRACT, after its first word.
 #[tactic(auto, unfolding(crate::specs::ReadSimple::subtract_at, ss_tree::specs::View::view_statement))]
 fn subtract_form(
     alloc: Global,
@@ -73,7 +73,7 @@ fn subtract_form(
     ensures { Gives (λ x. (view_statement x.0, x.1.now)) result (subtract_at line room tokens.now) }
 {
     let (amount, rest) = sum(alloc, tokens, room)?;
-    let (amount, (target, rest)) = beside(amount, target_behind(alloc, Word::From, rest, room))?;
+    let (amount, (target, rest)) = beside(amount, target_after(alloc, Word::From, rest, room))?;
     let form = Statement::Subtract {
         line,
         amount,
@@ -82,7 +82,7 @@ fn subtract_form(
     Ok((form, rest))
 }
 
-/// A CALL behind its first word.
+/// The rest of a CALL, after its first word.
 #[tactic(auto, unfolding(crate::specs::ReadSimple::call_at, ss_tree::specs::View::view_statement))]
 fn call_form(
     alloc: Global,
@@ -93,7 +93,7 @@ fn call_form(
     ensures { Gives (λ x. (view_statement x.0, x.1.now)) result (call_at line room tokens.now) }
 {
     let routine = name(tokens)?;
-    let (given, rest) = given(alloc, behind_first(tokens), room)?;
+    let (given, rest) = given(alloc, after_first(tokens), room)?;
     let (given, (yielding, rest)) = beside(given, yielding(alloc, rest, room))?;
     let form = Statement::Call {
         line,
@@ -104,7 +104,7 @@ fn call_form(
     Ok((form, rest))
 }
 
-/// A READ behind its first word.
+/// The rest of a READ, after its first word.
 #[tactic(auto, unfolding(crate::specs::ReadSimple::read_at, ss_tree::specs::View::view_statement))]
 fn read_form(
     alloc: Global,
@@ -118,7 +118,7 @@ fn read_form(
     Ok((Statement::Read { line, targets }, rest))
 }
 
-/// A START SIMULATION behind its first word.
+/// The rest of a START SIMULATION, after its first word.
 #[tactic(auto, unfolding(crate::specs::ReadSimple::start_at, ss_tree::specs::View::view_statement))]
 fn start_form(line: Line, tokens: &[Token]) -> Result<(Statement, &[Token]), Failure>
     ensures { Gives (λ x. (view_statement x.0, x.1.now)) result (start_at line tokens.now) }
@@ -127,7 +127,7 @@ fn start_form(line: Line, tokens: &[Token]) -> Result<(Statement, &[Token]), Fai
     Ok((Statement::StartSimulation { line }, rest))
 }
 
-/// A CREATE A behind its first word.
+/// The rest of a CREATE A, after its first word.
 #[tactic(auto, unfolding(crate::specs::ReadSimple::new_at, ss_tree::specs::View::view_statement))]
 fn new_form(
     alloc: Global,
@@ -139,7 +139,7 @@ fn new_form(
 {
     let rest = skip_class(tokens, Class::Indefinite);
     let class = name(rest)?;
-    let (called, rest) = called_target(alloc, behind_first(rest), room)?;
+    let (called, rest) = called_target(alloc, after_first(rest), room)?;
     let form = Statement::Create {
         line,
         class,
@@ -148,7 +148,7 @@ fn new_form(
     Ok((form, rest))
 }
 
-/// A CREATE behind its first word.
+/// The rest of a CREATE, after its first word.
 #[tactic(auto, unfolding(crate::specs::ReadSimple::create_at, ss_tree::specs::View::view_statement))]
 fn create_form(
     alloc: Global,
@@ -165,7 +165,7 @@ fn create_form(
     Ok((Statement::CreateEvery { line, classes }, rest))
 }
 
-/// A DESTROY behind its first word.
+/// The rest of a DESTROY, after its first word.
 #[tactic(auto, unfolding(crate::specs::ReadSimple::destroy_at, ss_tree::specs::View::view_statement))]
 fn destroy_form(
     alloc: Global,
@@ -177,7 +177,7 @@ fn destroy_form(
 {
     let rest = skip_word(tokens, Word::The);
     let class = name(rest)?;
-    let (called, rest) = called_value(alloc, behind_first(rest), room)?;
+    let (called, rest) = called_value(alloc, after_first(rest), room)?;
     let form = Statement::Destroy {
         line,
         class,
@@ -186,7 +186,7 @@ fn destroy_form(
     Ok((form, rest))
 }
 
-/// A CANCEL behind its first word.
+/// The rest of a CANCEL, after its first word.
 #[tactic(auto, unfolding(crate::specs::ReadSimple::cancel_at, ss_tree::specs::View::view_statement))]
 fn cancel_form(
     alloc: Global,
@@ -198,7 +198,7 @@ fn cancel_form(
 {
     let rest = skip_word(tokens, Word::The);
     let class = name(rest)?;
-    let (called, rest) = called_value(alloc, behind_first(rest), room)?;
+    let (called, rest) = called_value(alloc, after_first(rest), room)?;
     let form = Statement::Cancel {
         line,
         class,
@@ -207,7 +207,7 @@ fn cancel_form(
     Ok((form, rest))
 }
 
-/// A FILE behind its first word.
+/// The rest of a FILE, after its first word.
 #[tactic(auto, unfolding(crate::specs::ReadSimple::file_at, ss_tree::specs::View::view_statement))]
 fn file_form(
     alloc: Global,
@@ -219,7 +219,7 @@ fn file_form(
 {
     let (member, rest) = sum(alloc, skip_word(tokens, Word::The), room)?;
     let (member, (position, rest)) = beside(member, place(alloc, rest, room))?;
-    let set = set_behind(alloc, Word::In, rest, room);
+    let set = set_after(alloc, Word::In, rest, room);
     let ((member, position), (set, rest)) = beside((member, position), set)?;
     let form = Statement::File {
         line,
@@ -230,7 +230,7 @@ fn file_form(
     Ok((form, rest))
 }
 
-/// A REMOVE FIRST or LAST behind THE.
+/// The rest of a REMOVE FIRST or LAST, after THE.
 #[tactic(auto, unfolding(crate::specs::ReadSimple::remove_end_at, ss_tree::specs::View::view_statement))]
 fn remove_end_form(
     alloc: Global,
@@ -242,7 +242,7 @@ fn remove_end_form(
 {
     let (end, rest) = set_end(tokens)?;
     let (target, rest) = target(alloc, rest, room)?;
-    let (target, (set, rest)) = beside(target, set_behind(alloc, Word::From, rest, room))?;
+    let (target, (set, rest)) = beside(target, set_after(alloc, Word::From, rest, room))?;
     let form = Statement::RemoveEnd {
         line,
         end,
@@ -252,7 +252,7 @@ fn remove_end_form(
     Ok((form, rest))
 }
 
-/// A REMOVE of a given member behind THE.
+/// The rest of a REMOVE of a given member, after THE.
 #[tactic(auto, unfolding(crate::specs::ReadSimple::remove_this_at, ss_tree::specs::View::view_statement))]
 fn remove_this_form(
     alloc: Global,
@@ -263,11 +263,11 @@ fn remove_this_form(
     ensures { Gives (λ x. (view_statement x.0, x.1.now)) result (remove_this_at line room tokens.now) }
 {
     let (member, rest) = sum(alloc, tokens, room)?;
-    let (member, (set, rest)) = beside(member, set_behind(alloc, Word::From, rest, room))?;
+    let (member, (set, rest)) = beside(member, set_after(alloc, Word::From, rest, room))?;
     Ok((Statement::Remove { line, member, set }, rest))
 }
 
-/// A REMOVE behind its first word.
+/// The rest of a REMOVE, after its first word.
 #[tactic(auto, unfolding(crate::specs::ReadSimple::remove_at, ss_tree::specs::View::view_statement))]
 fn remove_form(
     alloc: Global,
@@ -285,7 +285,7 @@ fn remove_form(
     }
 }
 
-/// A SCHEDULE THE behind its first word.
+/// The rest of a SCHEDULE THE, after its first word.
 #[tactic(auto, unfolding(crate::specs::ReadSimple::schedule_the_at, ss_tree::specs::View::view_statement))]
 fn schedule_the_form(
     alloc: Global,
@@ -297,7 +297,7 @@ fn schedule_the_form(
 {
     let rest = expect_word(tokens, Word::The)?;
     let class = name(rest)?;
-    let (called, rest) = called_value(alloc, behind_first(rest), room)?;
+    let (called, rest) = called_value(alloc, after_first(rest), room)?;
     let (called, (given, when, rest)) = beside(called, given_and_due(alloc, rest, room))?;
     let form = Statement::Schedule {
         line,
@@ -309,7 +309,7 @@ fn schedule_the_form(
     Ok((form, rest))
 }
 
-/// A SCHEDULE A behind its first word.
+/// The rest of a SCHEDULE A, after its first word.
 #[tactic(auto, unfolding(crate::specs::ReadSimple::schedule_a_at, ss_tree::specs::View::view_statement))]
 fn schedule_a_form(
     alloc: Global,
@@ -321,7 +321,7 @@ fn schedule_a_form(
 {
     let rest = expect_class(tokens, Class::Indefinite)?;
     let class = name(rest)?;
-    let (called, rest) = called_target(alloc, behind_first(rest), room)?;
+    let (called, rest) = called_target(alloc, after_first(rest), room)?;
     let (called, (given, when, rest)) = beside(called, given_and_due(alloc, rest, room))?;
     let form = Statement::ScheduleNew {
         line,
@@ -333,7 +333,7 @@ fn schedule_a_form(
     Ok((form, rest))
 }
 
-/// A SCHEDULE behind its first word.
+/// The rest of a SCHEDULE, after its first word.
 #[tactic(auto, unfolding(crate::specs::ReadSimple::schedule_at, ss_tree::specs::View::view_statement))]
 fn schedule_form(
     alloc: Global,
@@ -350,7 +350,7 @@ fn schedule_form(
     }
 }
 
-/// A RESET behind its first word.
+/// The rest of a RESET, after its first word.
 #[tactic(auto, unfolding(crate::specs::ReadSimple::reset_at, ss_tree::specs::View::view_statement))]
 fn reset_form(
     alloc: Global,
@@ -382,7 +382,7 @@ fn print_head(
     Ok((count, items, rest))
 }
 
-/// A PRINT behind its first word.
+/// The rest of a PRINT, after its first word.
 #[tactic(auto, unfolding(crate::specs::ReadSimple::print_at, ss_tree::specs::View::view_statement))]
 fn print_form(
     alloc: Global,
@@ -402,7 +402,7 @@ fn print_form(
     Ok((form, rest))
 }
 
-/// A SKIP behind its first word.
+/// The rest of a SKIP, after its first word.
 #[tactic(auto, unfolding(crate::specs::ReadSimple::skip_at, ss_tree::specs::View::view_statement))]
 fn skip_form(
     alloc: Global,
@@ -418,7 +418,7 @@ fn skip_form(
     Ok((Statement::Skip { line, count }, rest))
 }
 
-/// A statement that has no others in it, behind its first word.
+/// The rest of a statement that has no others in it, after its first word.
 #[tactic(auto, unfolding(crate::specs::ReadSimple::simple_at, ss_tree::specs::View::view_statement))]
 pub fn simple_form(
     alloc: Global,

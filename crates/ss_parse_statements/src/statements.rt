@@ -5,7 +5,7 @@ ghost use Rattle.ss_tree.specs.Tree.{statement_row};
 ghost use Rattle.ss_tree.specs.View.{view_statement, view_head, view_loop_head};
 ghost use Rattle.ss_parse_expressions.specs.WordTables.{outcome_of};
 ghost use Rattle.ss_lex.specs.declared.word.Word.TheVariants.{If};
-ghost use Rattle.ss_parse_expressions.specs.Reading.{Gives, word, skip, skip_comma, behind, seq, taken, in_table};
+ghost use Rattle.ss_parse_expressions.specs.Reading.{Gives, word, skip, skip_comma, following, seq, taken, in_table};
 ghost use Rattle.ss_parse_expressions.specs.ReadWords.{begins_noisy, expect_noisy};
 ghost use Rattle.ss_parse_statements.specs.ReadStatements.{nested_word, begins_form, begins_statement, begins_find_if, statements_with, else_with, branches_with, do_with, governed_with, body_with, find_words, if_with, loop_with, find_if_with, found_with, find_with, for_with, while_with, until_with, nested_in, statement_in, statements_in};
 
@@ -38,7 +38,7 @@ pub fn expect_noisy(tokens: &[Token], wanted: Word) -> Result<&[Token], Failure>
     expect_word(skip_symbol(tokens, Symbol::Comma), wanted)
 }
 
-/// The tokens behind this word, which is first but for a comma.
+/// The tokens after this word, which is first but for a comma.
 fn skip_noisy(tokens: &[Token], wanted: Word) -> &[Token]
     ensures { result.now ≡ skip (word wanted) (skip_comma tokens.now) }
 {
@@ -52,7 +52,7 @@ fn nested_word(word: Word) -> bool
     matches!(word, Word::If | Word::For | Word::While | Word::Until)
 }
 
-/// Whether a statement begins so, with no comma before it.
+/// Whether a statement begins here, with no comma before it.
 fn begins_form(tokens: &[Token]) -> bool
     ensures { result ≡ begins_form tokens.now }
 {
@@ -88,14 +88,14 @@ fn begins_form(tokens: &[Token]) -> bool
     }
 }
 
-/// Whether a statement begins so, with a comma before it or not.
+/// Whether a statement begins here, with a comma before it or not.
 fn begins_statement(tokens: &[Token]) -> bool
     ensures { result ≡ begins_statement tokens.now }
 {
     begins_form(skip_symbol(tokens, Symbol::Comma))
 }
 
-/// Whether the IF of a FIND begins so, with a comma before it or not.
+/// Whether the IF of a FIND begins here, with a comma before it or not.
 fn begins_find_if(tokens: &[Token]) -> bool
     ensures { result ≡ begins_find_if tokens.now }
 {
@@ -132,7 +132,7 @@ pub fn statements(
     Ok((all, rest))
 }
 
-/// ELSE and the statements behind it, if it is there.
+/// The statements after ELSE, if ELSE is there.
 #[cycle(statements)]
 #[tactic(auto)]
 fn otherwise(
@@ -148,7 +148,7 @@ fn otherwise(
     statements(alloc, skip_noisy(tokens, Word::Else), room)
 }
 
-/// The statements of an IF, and those behind its ELSE.
+/// The statements of an IF, those after its ELSE, and ALWAYS.
 #[cycle(statements)]
 #[tactic(auto, unfolding(crate::specs::ReadStatements::branches_with))]
 fn branches(
@@ -207,7 +207,7 @@ fn body(alloc: Global, tokens: &[Token], room: u8) -> Result<(Vec<Statement>, &[
     }
 }
 
-/// An IF behind its first word.
+/// The rest of an IF, after its first word.
 #[cycle(statements)]
 #[tactic(auto, unfolding(crate::specs::ReadStatements::if_with), using(ss_tree::specs::Views::view_if_made))]
 fn if_form(
@@ -230,7 +230,7 @@ fn if_form(
     Ok((form, rest))
 }
 
-/// A loop behind its head.
+/// The rest of a loop, after its head.
 #[cycle(statements)]
 #[tactic(auto, using(ss_tree::specs::Views::view_loop_made))]
 fn loop_form(
@@ -246,15 +246,15 @@ fn loop_form(
     Ok((Statement::Loop { line, head, body }, rest))
 }
 
-/// What the IF of a FIND asks, and its branches.
+/// The IF of a FIND: FOUND or NONE, and the branches.
 #[cycle(statements)]
 #[tactic(auto)]
-fn asked(
+fn outcome_and_branches(
     alloc: Global,
     tokens: &[Token],
     room: u8,
 ) -> Result<(FindOutcome, (Vec<Statement>, Vec<Statement>), &[Token]), Failure>
-    ensures { Gives (λ x. ((x.0, (statement_row (map view_statement x.1.0.items), statement_row (map view_statement x.1.1.items))), x.2.now)) result (behind (expect_noisy (word If)) (seq (taken (in_table outcome_of)) (branches_with (statement_in room))) tokens.now) }
+    ensures { Gives (λ x. ((x.0, (statement_row (map view_statement x.1.0.items), statement_row (map view_statement x.1.1.items))), x.2.now)) result (following (expect_noisy (word If)) (seq (taken (in_table outcome_of)) (branches_with (statement_in room))) tokens.now) }
 {
     let rest = expect_noisy(tokens, Word::If)?;
     let (outcome, rest) = outcome(rest)?;
@@ -274,7 +274,10 @@ fn find_if_form(
 ) -> Result<(Statement, &[Token]), Failure>
     ensures { Gives (λ x. (view_statement x.0, x.1.now)) result (find_if_with line room (statement_in room) (view_head head) tokens.now) }
 {
-    let (head, (outcome, (then, otherwise), rest)) = beside(head, asked(alloc, tokens, room))?;
+    let (head, (outcome, (then, otherwise), rest)) = beside(
+        head,
+        outcome_and_branches(alloc, tokens, room),
+    )?;
     let form = Statement::FindIf {
         line,
         head,
@@ -285,7 +288,7 @@ fn find_if_form(
     Ok((form, rest))
 }
 
-/// A FIND behind the head of its loop.
+/// The rest of a FIND, after the head of its loop.
 #[cycle(statements)]
 #[tactic(auto, unfolding(crate::specs::ReadStatements::find_with, ss_tree::specs::View::view_statement))]
 fn find_form(
@@ -305,7 +308,7 @@ fn find_form(
     }
 }
 
-/// A loop or a FIND behind FOR.
+/// The rest of a loop or a FIND, after FOR.
 #[cycle(statements)]
 #[tactic(auto, unfolding(crate::specs::ReadStatements::for_with))]
 fn for_form(
@@ -324,7 +327,7 @@ fn for_form(
     }
 }
 
-/// A loop behind WHILE.
+/// The rest of a loop, after WHILE.
 #[cycle(statements)]
 #[tactic(auto, unfolding(crate::specs::ReadStatements::while_with))]
 fn while_form(
@@ -339,7 +342,7 @@ fn while_form(
     loop_form(alloc, line, head, rest, room)
 }
 
-/// A loop behind UNTIL.
+/// The rest of a loop, after UNTIL.
 #[cycle(statements)]
 #[tactic(auto, unfolding(crate::specs::ReadStatements::until_with))]
 fn until_form(
@@ -354,7 +357,8 @@ fn until_form(
     loop_form(alloc, line, head, rest, room)
 }
 
-/// A statement that may have others in it, behind its first word, where this many levels of nesting may be opened.
+/// The rest of a statement that may have others in it, after its first word, where this many levels of nesting may be
+/// opened.
 #[cycle(statements)]
 #[tactic(auto)]
 fn nested_form(

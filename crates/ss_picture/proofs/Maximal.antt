@@ -1,13 +1,13 @@
--- The pieces of a picture are its only cut into fields and what stands between them.
+-- The pieces of a picture are its only cut into fields and the bytes between them.
 use Rattle.std.proofs.Common.{◌≡◌, ◌≢◌, ℕ, zero, suc, ◌+◌, ◌-◌, ◌<◌, eqb, cond, List, [], ◌∷◌, ◌++◌, length, drop, replicate, refl, sym, ap, ◌∙◌, subst, arith, length-append}
 use Rattle.std.specs.Bool.{⊤}
 use Rattle.std.proofs.lemmas.Bool.{cond_both, eqb-false, ne_eqb}
 use Rattle.std.proofs.lemmas.List.{append_assoc, drop_at, length-replicate}
 use Rattle.ss_picture.specs.declared.field.Field.{Field}
-use Rattle.ss_picture.specs.Pictures.{Piece, Literal, Slot, stars, decimals_at, field_of, field_at, characters_of, characters, byte_before, pieces_behind, pieces_of, joined}
+use Rattle.ss_picture.specs.Pictures.{Piece, Literal, Slot, stars, decimals_at, field_of, field_at, characters_of, characters, byte_before, pieces_after, pieces_of, joined}
 use Rattle.ss_picture.specs.MaximalRuns.{HasNoAsterisk, HasRoom, EndsBefore, AreMaximalRuns, PiecesCut, OnlyPiecesCut}
-use Rattle.ss_picture.proofs.Stars.{stars_more, stars_none, stars-replicate, field_some, behind_field, behind_plain_field}
-use Rattle.ss_picture.proofs.Pieces.{pieces_behind-drop, drop_less, pieces_of_other, pieces_of_field, joined-pieces_of}
+use Rattle.ss_picture.proofs.Stars.{stars_more, stars_none, stars-replicate, field_some, after_field, after_plain_field}
+use Rattle.ss_picture.proofs.Pieces.{pieces_after-drop, drop_less, pieces_of_other, pieces_of_field, joined-pieces_of}
 
 -- ---- the pieces are maximal runs
 
@@ -28,9 +28,9 @@ starred [] field rest = λ is. absurd (nothing is)
     nothing : [] ≡ Slot field ∷ rest → ⊥
     nothing e = cc
 starred (byte ∷ bytes) field rest =
-    cond_both (eqb byte 42) (Slot (field_at (byte ∷ bytes)) ∷ pieces_behind ((field_at (byte ∷ bytes)).width - 1) bytes) (byte_before byte (pieces_behind 0 bytes)) (λ front. front ≡ Slot field ∷ rest → 0 < stars (byte ∷ bytes))
+    cond_both (eqb byte 42) (Slot (field_at (byte ∷ bytes)) ∷ pieces_after ((field_at (byte ∷ bytes)).width - 1) bytes) (byte_before byte (pieces_after 0 bytes)) (λ front. front ≡ Slot field ∷ rest → 0 < stars (byte ∷ bytes))
     (λ same is. subst (λ test. 0 < cond test (suc (stars bytes)) 0) (sym same) (omega arith))
-    (λ other is. absurd (not_byte byte (pieces_behind 0 bytes) rest field is))
+    (λ other is. absurd (not_byte byte (pieces_after 0 bytes) rest field is))
 
 -- another byte before maximal runs
 maximal-byte_before : (byte : ℕ) (pieces : List Piece) → byte ≢ 42 → AreMaximalRuns pieces → AreMaximalRuns (byte_before byte pieces)
@@ -53,15 +53,15 @@ full-byte_before byte [] = tt
 full-byte_before byte (Literal bytes ∷ rest) = tt
 full-byte_before byte (Slot field ∷ rest) = tt
 
-full : (behind : ℕ) (bytes : List ℕ) → IsFull (pieces_behind behind bytes)
-full behind [] = tt
+full : (skipped : ℕ) (bytes : List ℕ) → IsFull (pieces_after skipped bytes)
+full skipped [] = tt
 full zero (byte ∷ bytes) =
-    cond_both (eqb byte 42) (Slot (field_at (byte ∷ bytes)) ∷ pieces_behind ((field_at (byte ∷ bytes)).width - 1) bytes) (byte_before byte (pieces_behind 0 bytes)) IsFull
+    cond_both (eqb byte 42) (Slot (field_at (byte ∷ bytes)) ∷ pieces_after ((field_at (byte ∷ bytes)).width - 1) bytes) (byte_before byte (pieces_after 0 bytes)) IsFull
     (λ same. tt)
-    (λ other. full-byte_before byte (pieces_behind 0 bytes))
-full (suc behind) (byte ∷ bytes) = full behind bytes
+    (λ other. full-byte_before byte (pieces_after 0 bytes))
+full (suc skipped) (byte ∷ bytes) = full skipped bytes
 
--- where a byte stands before pieces, a field ends before it, unless it is a period directly before a field
+-- where a byte comes before pieces, a field ends before it, unless it is a period directly before a field
 two_bytes : (byte first : ℕ) (bytes : List ℕ) → byte ∷ first ∷ bytes ≡ 46 ∷ [] → ⊥
 two_bytes byte first bytes is = cc
 
@@ -93,23 +93,23 @@ ends_before field (byte ∷ bytes) none plain_none =
     subst (λ (pieces : List Piece). EndsBefore (Slot field) pieces) (sym (pieces_of_other byte bytes (no_asterisk byte bytes none)))
     (ends_before_byte field byte (pieces_of bytes) (full 0 bytes) (λ plain next rest pieces is. no_decimals_possible bytes next rest byte (plain_none plain) pieces is))
 
-maximal-pieces_behind : (behind : ℕ) (bytes : List ℕ) → AreMaximalRuns (pieces_behind behind bytes)
-maximal-pieces_behind behind [] = tt
-maximal-pieces_behind zero (byte ∷ bytes) =
+maximal-pieces_after : (skipped : ℕ) (bytes : List ℕ) → AreMaximalRuns (pieces_after skipped bytes)
+maximal-pieces_after skipped [] = tt
+maximal-pieces_after zero (byte ∷ bytes) =
     let field : Field = field_at (byte ∷ bytes) in
     let after : List ℕ = drop field.width (byte ∷ bytes) in
-    cond_both (eqb byte 42) (Slot field ∷ pieces_behind (field.width - 1) bytes) (byte_before byte (pieces_behind 0 bytes)) AreMaximalRuns
+    cond_both (eqb byte 42) (Slot field ∷ pieces_after (field.width - 1) bytes) (byte_before byte (pieces_after 0 bytes)) AreMaximalRuns
     (λ same.
     let some : 0 < stars (byte ∷ bytes) = subst (λ test. 0 < cond test (suc (stars bytes)) 0) (sym same) (omega arith) in
-    let behind_is : pieces_behind (field.width - 1) bytes ≡ pieces_of after =
-    pieces_behind-drop (field.width - 1) bytes ∙ ap pieces_of (drop_less field.width byte bytes (field_some (byte ∷ bytes) some))
+    let after_is : pieces_after (field.width - 1) bytes ≡ pieces_of after =
+    pieces_after-drop (field.width - 1) bytes ∙ ap pieces_of (drop_less field.width byte bytes (field_some (byte ∷ bytes) some))
     in
-    let ends : EndsBefore (Slot field) (pieces_behind (field.width - 1) bytes) =
-    subst (λ (pieces : List Piece). EndsBefore (Slot field) pieces) (sym behind_is) (ends_before field after (behind_field (byte ∷ bytes)) (behind_plain_field (byte ∷ bytes)))
+    let ends : EndsBefore (Slot field) (pieces_after (field.width - 1) bytes) =
+    subst (λ (pieces : List Piece). EndsBefore (Slot field) pieces) (sym after_is) (ends_before field after (after_field (byte ∷ bytes)) (after_plain_field (byte ∷ bytes)))
     in
-    (room_of (stars (byte ∷ bytes)) (decimals_at (drop (stars (byte ∷ bytes)) (byte ∷ bytes))) some, ends, maximal-pieces_behind (field.width - 1) bytes))
-    (λ other. maximal-byte_before byte (pieces_behind 0 bytes) (eqb-false byte 42 other) (maximal-pieces_behind 0 bytes))
-maximal-pieces_behind (suc behind) (byte ∷ bytes) = maximal-pieces_behind behind bytes
+    (room_of (stars (byte ∷ bytes)) (decimals_at (drop (stars (byte ∷ bytes)) (byte ∷ bytes))) some, ends, maximal-pieces_after (field.width - 1) bytes))
+    (λ other. maximal-byte_before byte (pieces_after 0 bytes) (eqb-false byte 42 other) (maximal-pieces_after 0 bytes))
+maximal-pieces_after (suc skipped) (byte ∷ bytes) = maximal-pieces_after skipped bytes
 
 -- ---- maximal runs are found again
 
@@ -132,7 +132,7 @@ pieces_of-bytes byte (next ∷ bytes) rest after plain is ends =
 abbrev pub shape : ℕ → ℕ → Field
 shape width decimals = record { width = width; decimals = decimals }
 
--- the bytes of a field, and what stands behind it, begin with asterisks
+-- the bytes of a field, with those after it, begin with asterisks
 record Again (width decimals : ℕ) (bytes : List ℕ) : Type 0 where
   some : 0 < stars bytes
   found : field_at bytes ≡ shape width decimals
@@ -153,17 +153,17 @@ found_again width (suc more) after room none plain =
     let whole : ℕ = width - suc (suc more) in
     let front : List ℕ = replicate whole 42 in
     let decimals : List ℕ = replicate (suc more) 42 in
-    let behind : List ℕ = 46 ∷ (decimals ++ after) in
-    let regrouped : (front ++ 46 ∷ decimals) ++ after ≡ front ++ behind = append_assoc front (46 ∷ decimals) after in
-    let run : stars (front ++ behind) ≡ whole = stars-replicate whole behind refl in
+    let skipped : List ℕ = 46 ∷ (decimals ++ after) in
+    let regrouped : (front ++ 46 ∷ decimals) ++ after ≡ front ++ skipped = append_assoc front (46 ∷ decimals) after in
+    let run : stars (front ++ skipped) ≡ whole = stars-replicate whole skipped refl in
     let run_before : stars ((front ++ 46 ∷ decimals) ++ after) ≡ whole = ap stars regrouped ∙ run in
     let as_wide : whole + suc (suc more) ≡ width = omega arith in
     record {
       some = omega arith;
       found =
           ap field_at regrouped
-          ∙ ap (λ (n : ℕ). field_of n (decimals_at (drop n (front ++ behind)))) run
-          ∙ ap (λ (rest : List ℕ). field_of whole (decimals_at rest)) (drop_at front behind whole (length-replicate whole 42))
+          ∙ ap (λ (n : ℕ). field_of n (decimals_at (drop n (front ++ skipped)))) run
+          ∙ ap (λ (rest : List ℕ). field_of whole (decimals_at rest)) (drop_at front skipped whole (length-replicate whole 42))
           ∙ ap (field_of whole) (stars-replicate (suc more) after none)
           ∙ ap (λ (n : ℕ). shape n (suc more)) as_wide;
     }
@@ -184,24 +184,24 @@ pieces_of-slot field after room none plain =
     ∙ ap (λ (f : Field). Slot f ∷ pieces_of (drop f.width bytes)) is
     ∙ ap (λ (rest : List ℕ). Slot field ∷ pieces_of rest) (drop_at (characters field) after field.width (length-characters field.width field.decimals room))
 
--- what stands behind a field begins with no asterisk, and behind one without decimals with no period and asterisk
-no_star_behind : (field : Field) (rest : List Piece) → EndsBefore (Slot field) rest → AreMaximalRuns rest → stars (joined rest []) ≡ 0
-no_star_behind field [] ends runs = refl
-no_star_behind field (Literal [] ∷ more) ends runs = absurd runs.0
-no_star_behind field (Literal (byte ∷ bytes) ∷ more) ends runs = stars_none byte (bytes ++ joined more []) runs.0.0
-no_star_behind field (Slot next ∷ more) ends runs = absurd ends
+-- after a field no asterisk follows, and after one without decimals no period and asterisk
+no_star_after : (field : Field) (rest : List Piece) → EndsBefore (Slot field) rest → AreMaximalRuns rest → stars (joined rest []) ≡ 0
+no_star_after field [] ends runs = refl
+no_star_after field (Literal [] ∷ more) ends runs = absurd runs.0
+no_star_after field (Literal (byte ∷ bytes) ∷ more) ends runs = stars_none byte (bytes ++ joined more []) runs.0.0
+no_star_after field (Slot next ∷ more) ends runs = absurd ends
 
-no_decimals_behind : (field : Field) (rest : List Piece) → EndsBefore (Slot field) rest → AreMaximalRuns rest → field.decimals ≡ 0 → decimals_at (joined rest []) ≡ 0
-no_decimals_behind field [] ends runs plain = refl
-no_decimals_behind field (Literal [] ∷ more) ends runs plain = absurd runs.0
-no_decimals_behind field (Literal (byte ∷ []) ∷ []) ends runs plain =
+no_decimals_after : (field : Field) (rest : List Piece) → EndsBefore (Slot field) rest → AreMaximalRuns rest → field.decimals ≡ 0 → decimals_at (joined rest []) ≡ 0
+no_decimals_after field [] ends runs plain = refl
+no_decimals_after field (Literal [] ∷ more) ends runs plain = absurd runs.0
+no_decimals_after field (Literal (byte ∷ []) ∷ []) ends runs plain =
     cond_both (eqb byte 46) 0 0 (λ n. n ≡ 0) (λ _. refl) (λ _. refl)
-no_decimals_behind field (Literal (byte ∷ []) ∷ Literal bytes ∷ more) ends runs plain = absurd runs.1
-no_decimals_behind field (Literal (byte ∷ []) ∷ Slot next ∷ more) ends runs plain =
+no_decimals_after field (Literal (byte ∷ []) ∷ Literal bytes ∷ more) ends runs plain = absurd runs.1
+no_decimals_after field (Literal (byte ∷ []) ∷ Slot next ∷ more) ends runs plain =
     ap (λ test. cond test (stars (joined (Slot next ∷ more) [])) 0) (ne_eqb byte 46 (λ is. ends plain (ap (λ first. first ∷ []) is)))
-no_decimals_behind field (Literal (byte ∷ next ∷ bytes) ∷ more) ends runs plain =
+no_decimals_after field (Literal (byte ∷ next ∷ bytes) ∷ more) ends runs plain =
     cond_both (eqb byte 46) (stars (next ∷ (bytes ++ joined more []))) 0 (λ n. n ≡ 0) (λ _. stars_none next (bytes ++ joined more []) runs.0.1.0) (λ _. refl)
-no_decimals_behind field (Slot next ∷ more) ends runs plain = absurd ends
+no_decimals_after field (Slot next ∷ more) ends runs plain = absurd ends
 
 -- maximal runs are found again
 pieces_of-joined : (pieces : List Piece) → AreMaximalRuns pieces → pieces_of (joined pieces []) ≡ pieces
@@ -210,11 +210,11 @@ pieces_of-joined (Literal [] ∷ rest) runs = absurd runs.0
 pieces_of-joined (Literal (byte ∷ bytes) ∷ rest) runs =
     pieces_of-bytes byte bytes rest (joined rest []) runs.0 (pieces_of-joined rest runs.2) runs.1
 pieces_of-joined (Slot field ∷ rest) runs =
-    pieces_of-slot field (joined rest []) runs.0 (no_star_behind field rest runs.1 runs.2) (no_decimals_behind field rest runs.1 runs.2)
+    pieces_of-slot field (joined rest []) runs.0 (no_star_after field rest runs.1 runs.2) (no_decimals_after field rest runs.1 runs.2)
     ∙ ap (λ (more : List Piece). Slot field ∷ more) (pieces_of-joined rest runs.2)
 
 pub pieces_cut : PiecesCut
-pieces_cut picture = record { whole = joined-pieces_of picture; maximal = maximal-pieces_behind 0 picture }
+pieces_cut picture = record { whole = joined-pieces_of picture; maximal = maximal-pieces_after 0 picture }
 
 pub only_pieces_cut : OnlyPiecesCut
 only_pieces_cut picture pieces cuts = sym (ap pieces_of (sym cuts.whole) ∙ pieces_of-joined pieces cuts.maximal)

@@ -9,19 +9,19 @@ use Rattle.ss_picture.specs.declared.field.Field.{Field}
 use Rattle.ss_picture.specs.declared.items.Item.{Item}
 use Rattle.ss_picture.specs.declared.items.Item.TheVariants.{Is, Mean}
 use Rattle.ss_picture.specs.Numerals.{whole_text, mean_text}
-use Rattle.ss_picture.specs.Pictures.{Piece, Literal, Slot, stars, field_at, decimals_at, characters, byte_before, pieces_behind, pieces_of, fields_among, picture_fields, at_right, at_left, shown, joined, filled}
+use Rattle.ss_picture.specs.Pictures.{Piece, Literal, Slot, stars, field_at, decimals_at, characters, byte_before, pieces_after, pieces_of, fields_among, picture_fields, at_right, at_left, shown, joined, filled}
 use Rattle.ss_picture.specs.Suited.{Suits, EachSuits}
 use Rattle.ss_picture.specs.Fields.{starts_among, starts}
 use Rattle.ss_picture.proofs.Stars.{chosen_some, field_some, length-characters_of, characters_at}
 
 -- ---- the first piece
 
--- the pieces behind a field are those of what follows it
-pub pieces_behind-drop : (behind : ℕ) (bytes : List ℕ) → pieces_behind behind bytes ≡ pieces_of (drop behind bytes)
-pieces_behind-drop zero [] = refl
-pieces_behind-drop zero (byte ∷ bytes) = refl
-pieces_behind-drop (suc behind) [] = refl
-pieces_behind-drop (suc behind) (byte ∷ bytes) = pieces_behind-drop behind bytes
+-- the pieces after a field are those of what follows it
+pub pieces_after-drop : (skipped : ℕ) (bytes : List ℕ) → pieces_after skipped bytes ≡ pieces_of (drop skipped bytes)
+pieces_after-drop zero [] = refl
+pieces_after-drop zero (byte ∷ bytes) = refl
+pieces_after-drop (suc skipped) [] = refl
+pieces_after-drop (suc skipped) (byte ∷ bytes) = pieces_after-drop skipped bytes
 
 -- one byte less to drop
 pub drop_less : {X : Type 0} → (n : ℕ) (x : X) (xs : List X) → 0 < n → drop (n - 1) xs ≡ drop n (x ∷ xs)
@@ -31,7 +31,7 @@ drop_less (suc n) x xs some = let less : suc n - 1 ≡ n = omega arith in ap (λ
 -- a byte that is no asterisk is put before the pieces of what follows it
 pub pieces_of_other : (byte : ℕ) (bytes : List ℕ) → byte ≢ 42 → pieces_of (byte ∷ bytes) ≡ byte_before byte (pieces_of bytes)
 pieces_of_other byte bytes other =
-    ap (λ test. cond test (Slot (field_at (byte ∷ bytes)) ∷ pieces_behind ((field_at (byte ∷ bytes)).width - 1) bytes) (byte_before byte (pieces_behind 0 bytes))) (ne_eqb byte 42 other)
+    ap (λ test. cond test (Slot (field_at (byte ∷ bytes)) ∷ pieces_after ((field_at (byte ∷ bytes)).width - 1) bytes) (byte_before byte (pieces_after 0 bytes))) (ne_eqb byte 42 other)
 
 -- an asterisk begins a field
 pub pieces_of_field : (bytes : List ℕ) → 0 < stars bytes → pieces_of bytes ≡ Slot (field_at bytes) ∷ pieces_of (drop (field_at bytes).width bytes)
@@ -39,8 +39,8 @@ pieces_of_field [] some = absurd (omega arith)
 pieces_of_field (byte ∷ bytes) some =
     let field : Field = field_at (byte ∷ bytes) in
     let same = chosen_some (eqb byte 42) (suc (stars bytes)) some in
-    ap (λ test. cond test (Slot field ∷ pieces_behind (field.width - 1) bytes) (byte_before byte (pieces_behind 0 bytes))) same
-    ∙ ap (λ (rest : List Piece). Slot field ∷ rest) (pieces_behind-drop (field.width - 1) bytes)
+    ap (λ test. cond test (Slot field ∷ pieces_after (field.width - 1) bytes) (byte_before byte (pieces_after 0 bytes))) same
+    ∙ ap (λ (rest : List Piece). Slot field ∷ rest) (pieces_after-drop (field.width - 1) bytes)
     ∙ ap (λ (rest : List ℕ). Slot field ∷ pieces_of rest) (drop_less field.width byte bytes (field_some (byte ∷ bytes) some))
 
 -- another byte in front adds no field
@@ -73,21 +73,21 @@ drop_none : (n : ℕ) → drop {A = ℕ} n [] ≡ []
 drop_none zero = refl
 drop_none (suc n) = refl
 
-pub joined-pieces_behind : (behind : ℕ) (bytes : List ℕ) → joined (pieces_behind behind bytes) [] ≡ drop behind bytes
-joined-pieces_behind behind [] = sym (drop_none behind)
-joined-pieces_behind zero (byte ∷ bytes) =
+pub joined-pieces_after : (skipped : ℕ) (bytes : List ℕ) → joined (pieces_after skipped bytes) [] ≡ drop skipped bytes
+joined-pieces_after skipped [] = sym (drop_none skipped)
+joined-pieces_after zero (byte ∷ bytes) =
     let field : Field = field_at (byte ∷ bytes) in
-    cond_both (eqb byte 42) (Slot field ∷ pieces_behind (field.width - 1) bytes) (byte_before byte (pieces_behind 0 bytes)) (λ front. joined front [] ≡ byte ∷ bytes)
+    cond_both (eqb byte 42) (Slot field ∷ pieces_after (field.width - 1) bytes) (byte_before byte (pieces_after 0 bytes)) (λ front. joined front [] ≡ byte ∷ bytes)
     (λ same.
     let some : 0 < stars (byte ∷ bytes) = subst (λ test. 0 < cond test (suc (stars bytes)) 0) (sym same) (omega arith) in
-    ap (λ rest. characters field ++ rest) (joined-pieces_behind (field.width - 1) bytes ∙ drop_less field.width byte bytes (field_some (byte ∷ bytes) some))
+    ap (λ rest. characters field ++ rest) (joined-pieces_after (field.width - 1) bytes ∙ drop_less field.width byte bytes (field_some (byte ∷ bytes) some))
     ∙ characters_at (byte ∷ bytes))
-    (λ other. joined-byte_before byte (pieces_behind 0 bytes) ∙ ap (λ rest. byte ∷ rest) (joined-pieces_behind 0 bytes))
-joined-pieces_behind (suc behind) (byte ∷ bytes) = joined-pieces_behind behind bytes
+    (λ other. joined-byte_before byte (pieces_after 0 bytes) ∙ ap (λ rest. byte ∷ rest) (joined-pieces_after 0 bytes))
+joined-pieces_after (suc skipped) (byte ∷ bytes) = joined-pieces_after skipped bytes
 
 -- the pieces of a picture without items are the picture
 pub joined-pieces_of : (picture : List ℕ) → joined (pieces_of picture) [] ≡ picture
-joined-pieces_of picture = joined-pieces_behind 0 picture
+joined-pieces_of picture = joined-pieces_after 0 picture
 
 -- ---- what a field shows is as wide as the field
 
@@ -102,14 +102,14 @@ wide-byte_before byte [] wide = tt
 wide-byte_before byte (Literal bytes ∷ rest) wide = wide
 wide-byte_before byte (Slot field ∷ rest) wide = wide
 
-pub wide-pieces_behind : (behind : ℕ) (bytes : List ℕ) → AreWide (pieces_behind behind bytes)
-wide-pieces_behind behind [] = tt
-wide-pieces_behind zero (byte ∷ bytes) =
+pub wide-pieces_after : (skipped : ℕ) (bytes : List ℕ) → AreWide (pieces_after skipped bytes)
+wide-pieces_after skipped [] = tt
+wide-pieces_after zero (byte ∷ bytes) =
     let field : Field = field_at (byte ∷ bytes) in
-    cond_both (eqb byte 42) (Slot field ∷ pieces_behind (field.width - 1) bytes) (byte_before byte (pieces_behind 0 bytes)) AreWide
-    (λ same. (length-characters_of (stars (byte ∷ bytes)) (decimals_at (drop (stars (byte ∷ bytes)) (byte ∷ bytes))), wide-pieces_behind (field.width - 1) bytes))
-    (λ other. wide-byte_before byte (pieces_behind 0 bytes) (wide-pieces_behind 0 bytes))
-wide-pieces_behind (suc behind) (byte ∷ bytes) = wide-pieces_behind behind bytes
+    cond_both (eqb byte 42) (Slot field ∷ pieces_after (field.width - 1) bytes) (byte_before byte (pieces_after 0 bytes)) AreWide
+    (λ same. (length-characters_of (stars (byte ∷ bytes)) (decimals_at (drop (stars (byte ∷ bytes)) (byte ∷ bytes))), wide-pieces_after (field.width - 1) bytes))
+    (λ other. wide-byte_before byte (pieces_after 0 bytes) (wide-pieces_after 0 bytes))
+wide-pieces_after (suc skipped) (byte ∷ bytes) = wide-pieces_after skipped bytes
 
 length-at_right : (own text : List ℕ) → length (at_right own text) ≡ length own
 length-at_right own text =
@@ -143,7 +143,7 @@ fields_within place (Slot field ∷ rest) (suc k) d wide inside =
     let within = fields_within (place + field.width) rest k d wide.1 (omega arith) in
     omega (arith, wide.0, length-append (characters field) (joined rest []))
 
--- a part between what stands before it and after it
+-- a part of a list, between what comes before it and after it
 part_between : (before part after : List ℕ) (place width : ℕ) → length before ≡ place → length part ≡ width
     → take width (drop place (before ++ (part ++ after))) ≡ part
 part_between before part after place width at wide =
@@ -212,7 +212,7 @@ joined_with_one_more before place (Slot field ∷ rest) (first ∷ items) (suc k
     ap (λ line. put_mid start next.width line (shown_in next item)) (sym (append_assoc before own (joined rest (take k items))))
     ∙ step ∙ append_assoc before own (joined rest (take (suc k) items))
 
--- ---- the same laws of a whole picture
+-- ---- these laws for a whole picture
 
 pub filled-no_items : (picture : List ℕ) → filled picture [] ≡ picture
 unfolding filled
@@ -227,7 +227,7 @@ pub field_within : (picture : List ℕ) (k : ℕ) (d : Field) → k < length (pi
 unfolding starts picture_fields
 field_within picture k d inside =
     let same = ap length (joined-pieces_of picture) in
-    let within = fields_within 0 (pieces_of picture) k d (wide-pieces_behind 0 picture) inside in
+    let within = fields_within 0 (pieces_of picture) k d (wide-pieces_after 0 picture) inside in
     omega arith
 
 pub own_in_filled : (picture : List ℕ) (items : List Item) (k : ℕ) (d : Field) → k < length (picture_fields picture) → k < length items
@@ -235,7 +235,7 @@ pub own_in_filled : (picture : List ℕ) (items : List Item) (k : ℕ) (d : Fiel
     ≡ characters (get_or (picture_fields picture) k d)
 unfolding filled starts picture_fields
 own_in_filled picture items k d inside given =
-    next_has_its_own [] 0 (pieces_of picture) items k d (wide-pieces_behind 0 picture) refl inside given
+    next_has_its_own [] 0 (pieces_of picture) items k d (wide-pieces_after 0 picture) refl inside given
 
 pub filled_with_one_more : (picture : List ℕ) (items : List Item) (k : ℕ) (item : Item) (d : Field)
     → k < length (picture_fields picture) → k < length items → item ≡ get_or items k item
@@ -244,7 +244,7 @@ pub filled_with_one_more : (picture : List ℕ) (items : List Item) (k : ℕ) (i
     ≡ filled picture (take (suc k) items)
 unfolding filled starts picture_fields
 filled_with_one_more picture items k item d inside given is =
-    joined_with_one_more [] 0 (pieces_of picture) items k item d (wide-pieces_behind 0 picture) refl inside given is
+    joined_with_one_more [] 0 (pieces_of picture) items k item d (wide-pieces_after 0 picture) refl inside given is
 
 -- what is read at the place of a field
 pub read_known : {X : Type 0} → (items known : List X) (k : ℕ) (read d : X) → items ≡ known → k < length known → read ≡ get_or items k read → read ≡ get_or known k d

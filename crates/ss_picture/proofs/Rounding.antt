@@ -1,4 +1,4 @@
--- A mean that is divided first and scaled then is the same, and its parts are small.
+-- A mean may be divided first and then scaled: the result is equal, and its parts are small.
 use Rattle.std.proofs.Common.{◌≡◌, ◌≢◌, ℕ, zero, suc, ◌+◌, ◌*◌, ◌/◌, ◌%◌, ◌^◌, ◌<◌, ◌≤◌, ℤ, pos, negsuc, ◌≤ℤ◌, refl, sym, ap, ◌∙◌, arith, lit<}
 use Rattle.std.specs.Prelude.{unsigned_abs}
 use Rattle.std.proofs.Math.Nat.{mul_comm, mul_assoc, mul_right_comm, mul_left_comm, mul-add, add-mul, mul-add-div_right, div-le_of_le-mul, div-le_self, pow-le-pow_right}

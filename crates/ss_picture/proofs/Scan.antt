@@ -57,7 +57,7 @@ step_in_text found_starts found place picture inside other scan =
     scan_text found_starts found place (get_or picture place 0) (drop (place + 1) picture) picture other
     (subst (λ (ahead : List ℕ). Scan found_starts found place ahead picture) (drop_more picture place 0 inside) scan)
 
--- an asterisk stands there
+-- there is an asterisk
 pub field_begins : (place : ℕ) (picture : List ℕ) → place < length picture → get_or picture place 0 ≡ 42 → 0 < stars (drop place picture)
 field_begins place picture inside is = let more = stars_more_at picture place inside is in omega arith
 

@@ -50,7 +50,7 @@ stars_first (byte ∷ bytes) =
     (λ same. ap (λ first. first ∷ (replicate (stars bytes) 42 ++ drop (stars bytes) bytes)) (sym (eqb-true byte 42 same)) ∙ ap (λ rest. byte ∷ rest) (stars_first bytes))
     (λ other. refl)
 
--- no asterisk stands behind them
+-- no asterisk follows them
 pub stars_last : (bytes : List ℕ) → stars (drop (stars bytes) bytes) ≡ 0
 stars_last [] = refl
 stars_last (byte ∷ bytes) =
@@ -82,7 +82,7 @@ decimals_first (byte ∷ bytes) more is =
     in
     ap (λ first. first ∷ bytes) (eqb-true byte 46 found.0) ∙ ap (λ rest. 46 ∷ rest) (sym run)
 
--- no asterisk stands behind them
+-- no asterisk follows them
 pub decimals_last : (bytes : List ℕ) (more : ℕ) → suc more ≡ decimals_at bytes → stars (drop (suc (suc more)) bytes) ≡ 0
 decimals_last [] more is = refl
 decimals_last (byte ∷ bytes) more is =
@@ -115,8 +115,8 @@ pub length-characters_of : (whole decimals : ℕ) → length (characters (field_
 length-characters_of whole zero = length-replicate whole 42
 length-characters_of whole (suc more) =
     let before : List ℕ = replicate (whole + suc (suc more) - suc (suc more)) 42 in
-    let behind : List ℕ = replicate (suc more) 42 in
-    omega (arith, length-append before (46 ∷ behind), length-replicate {A = ℕ} (whole + suc (suc more) - suc (suc more)) 42, length-replicate {A = ℕ} (suc more) 42)
+    let following : List ℕ = replicate (suc more) 42 in
+    omega (arith, length-append before (46 ∷ following), length-replicate {A = ℕ} (whole + suc (suc more) - suc (suc more)) 42, length-replicate {A = ℕ} (suc more) 42)
 
 -- a field's characters are the bytes that it is found at
 characters_first : (whole decimals : ℕ) (rest : List ℕ) → decimals ≡ decimals_at rest
@@ -128,11 +128,11 @@ characters_first whole (suc more) rest is =
     let decimals : List ℕ = replicate (suc more) 42 in
     let after : List ℕ = drop (suc (suc more)) rest in
     let front : whole + suc (suc more) - suc (suc more) ≡ whole = omega arith in
-    let behind : drop (whole + suc (suc more)) (stars_only ++ rest) ≡ after =
+    let following : drop (whole + suc (suc more)) (stars_only ++ rest) ≡ after =
     sym (drop-drop (suc (suc more)) whole (stars_only ++ rest)) ∙ ap (drop (suc (suc more))) (drop_at stars_only rest whole (length-replicate whole 42))
     in
     ap (λ (n : ℕ). (replicate n 42 ++ 46 ∷ decimals) ++ drop (whole + suc (suc more)) (stars_only ++ rest)) front
-    ∙ ap (λ (end : List ℕ). (stars_only ++ 46 ∷ decimals) ++ end) behind
+    ∙ ap (λ (end : List ℕ). (stars_only ++ 46 ∷ decimals) ++ end) following
     ∙ append_assoc stars_only (46 ∷ decimals) after
     ∙ ap (λ (end : List ℕ). stars_only ++ end) (sym (decimals_first rest more is))
 
@@ -142,18 +142,18 @@ characters_at bytes =
     subst (λ (all : List ℕ). characters (field_at bytes) ++ drop (field_at bytes).width all ≡ all) (stars_first bytes)
     (characters_first (stars bytes) (decimals_at rest) rest refl)
 
--- no asterisk stands behind a field, and behind one without decimals none can be had
-behind_width : (bytes : List ℕ) (decimals : ℕ) → decimals ≡ decimals_at (drop (stars bytes) bytes) → stars (drop (field_of (stars bytes) decimals).width bytes) ≡ 0
-behind_width bytes zero is = stars_last bytes
-behind_width bytes (suc more) is =
+-- after a field no asterisk follows, and after one without decimals no period and asterisk
+after_width : (bytes : List ℕ) (decimals : ℕ) → decimals ≡ decimals_at (drop (stars bytes) bytes) → stars (drop (field_of (stars bytes) decimals).width bytes) ≡ 0
+after_width bytes zero is = stars_last bytes
+after_width bytes (suc more) is =
     ap stars (sym (drop-drop (suc (suc more)) (stars bytes) bytes)) ∙ decimals_last (drop (stars bytes) bytes) more is
 
-pub behind_field : (bytes : List ℕ) → stars (drop (field_at bytes).width bytes) ≡ 0
-behind_field bytes = behind_width bytes (decimals_at (drop (stars bytes) bytes)) refl
+pub after_field : (bytes : List ℕ) → stars (drop (field_at bytes).width bytes) ≡ 0
+after_field bytes = after_width bytes (decimals_at (drop (stars bytes) bytes)) refl
 
 plain_width : (bytes : List ℕ) (decimals : ℕ) → decimals ≡ decimals_at (drop (stars bytes) bytes) → (field_of (stars bytes) decimals).decimals ≡ 0 → decimals_at (drop (field_of (stars bytes) decimals).width bytes) ≡ 0
 plain_width bytes zero is plain = sym is
 plain_width bytes (suc more) is plain = absurd (omega arith)
 
-pub behind_plain_field : (bytes : List ℕ) → (field_at bytes).decimals ≡ 0 → decimals_at (drop (field_at bytes).width bytes) ≡ 0
-behind_plain_field bytes plain = plain_width bytes (decimals_at (drop (stars bytes) bytes)) refl plain
+pub after_plain_field : (bytes : List ℕ) → (field_at bytes).decimals ≡ 0 → decimals_at (drop (field_at bytes).width bytes) ≡ 0
+after_plain_field bytes plain = plain_width bytes (decimals_at (drop (stars bytes) bytes)) refl plain

@@ -105,7 +105,7 @@ pub no_field : picture_fields (codes "BEFORE") ≡ []
 unfolding picture_fields
 no_field = refl
 
--- a period and an asterisk behind a field belong to it
+-- a period and an asterisk after a field belong to it
 pub two_decimals : pieces_of (codes "[***.**]") ≡ Literal (codes "[") ∷ Slot (decimal 6 2) ∷ Literal (codes "]") ∷ []
 two_decimals = refl
 
@@ -113,12 +113,12 @@ two_decimals = refl
 pub found_from_the_left : pieces_of (codes "*.*.**") ≡ Slot (decimal 3 1) ∷ Literal (codes ".") ∷ Slot (plain 2) ∷ []
 found_from_the_left = refl
 
--- not with nothing before the period or behind it, and not with two periods
+-- not with nothing before the period or after it, and not with two periods
 pub no_asterisk_before : pieces_of (codes ".*") ≡ Literal (codes ".") ∷ Slot (plain 1) ∷ []
 no_asterisk_before = refl
 
-pub no_asterisk_behind : pieces_of (codes "*.") ≡ Slot (plain 1) ∷ Literal (codes ".") ∷ []
-no_asterisk_behind = refl
+pub no_asterisk_after : pieces_of (codes "*.") ≡ Slot (plain 1) ∷ Literal (codes ".") ∷ []
+no_asterisk_after = refl
 
 pub two_periods : pieces_of (codes "**..**") ≡ Slot (plain 2) ∷ Literal (codes "..") ∷ Slot (plain 2) ∷ []
 two_periods = refl
@@ -129,7 +129,7 @@ two_periods = refl
 abbrev pub number : ℤ → Item
 number z = Is (Whole z)
 
--- a number stands at the right
+-- a number is put at the right
 pub seven : filled (codes "A**") (number (pos 7) ∷ []) ≡ codes "A 7"
 unfolding filled numeral
 seven = refl
@@ -147,7 +147,7 @@ pub hundred : filled (codes "**") (number (pos 100) ∷ []) ≡ codes "**"
 unfolding filled numeral
 hundred = refl
 
--- a text stands at the left
+-- a text is put at the left
 pub box : filled (codes "[*****]") (Is (Text (codes "BOX")) ∷ []) ≡ codes "[BOX  ]"
 unfolding filled
 box = refl
@@ -166,7 +166,7 @@ pub in_turn : filled (codes "** ** ** **") (number (pos 3) ∷ number (pos 9) �
 unfolding filled numeral
 in_turn = refl
 
--- a mean stands at the right with the decimals of its field, and without any in a plain one
+-- a mean is put at the right with the decimals of its field, and without any in a plain one
 pub nothing : filled (codes "[***.**]") (Mean (pos 0) (pos 0) ∷ []) ≡ codes "[  0.00]"
 unfolding filled numeral
 nothing = refl

@@ -1,5 +1,5 @@
--- That a picture is cut into its fields, each as long as it can be from the left, and what stands between them, and can be
--- cut in no other way.
+-- That a picture is cut into its fields, each as long as it can be from the left, and the bytes between them, and that there
+-- is no other such cut.
 use Rattle.std.specs.Prelude.{◌≡◌, ◌≢◌, ℕ, zero, suc, ◌<◌, List, [], ◌∷◌, ⊤}
 use Rattle.std.specs.List.{AllByRecursion}
 use Rattle.ss_picture.specs.Numerals.{period}
@@ -9,7 +9,7 @@ use Rattle.ss_picture.specs.Pictures.{asterisk, Piece, Literal, Slot, pieces_of,
 abbrev pub HasNoAsterisk : List ℕ → Type 0
 HasNoAsterisk bytes = AllByRecursion (λ byte. byte ≢ asterisk) bytes
 
--- a width has room for an asterisk, and a period and so many asterisks behind it where they are any
+-- a width has room for an asterisk, and, where there are decimals, for a period and so many asterisks after it
 abbrev pub HasRoom : ℕ → ℕ → Type 0
 HasRoom width zero = 0 < width
 HasRoom width (suc more) = suc (suc more) < width
@@ -20,7 +20,7 @@ IsRun (Literal []) = ⊥
 IsRun (Literal (byte ∷ bytes)) = HasNoAsterisk (byte ∷ bytes)
 IsRun (Slot field) = HasRoom field.width field.decimals
 
--- these bytes are a period alone, and a field stands directly behind it
+-- these bytes are a period alone, and a field follows it directly
 abbrev pub IsPoint : List ℕ → List Piece → Type 0
 IsPoint bytes [] = ⊥
 IsPoint bytes (Literal _ ∷ _) = ⊥

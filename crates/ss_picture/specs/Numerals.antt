@@ -5,7 +5,7 @@ use Rattle.std.specs.Prelude.{ℕ, zero, suc, ◌+◌, ◌*◌, ◌/◌, ◌%◌
 abbrev pub digit : ℕ → ℕ
 digit n = 48 + n
 
--- the decimal digits of a number, but no more than so many: those of its tenth, and behind them its last
+-- the decimal digits of a number, but no more than so many: those of its tenth, and after them its last
 abbrev pub digits_up_to : ℕ → ℕ → List ℕ
 digits_up_to zero n = []
 digits_up_to (suc most) n =
@@ -30,26 +30,26 @@ whole_text (negsuc n) = minus ∷ numeral (suc n)
 abbrev pub period : ℕ
 period = 46
 
--- the last digits of a number, just so many of them: zeros stand first where it has fewer
+-- the last digits of a number, just so many of them: zeros come first where it has fewer
 abbrev pub last_digits : ℕ → ℕ → List ℕ
 last_digits zero n = []
 last_digits (suc more) n = last_digits more (n / 10) ++ digit (n % 10) ∷ []
 
 -- a period and so many digits of a number; nothing for no digits
-abbrev pub behind_period : ℕ → ℕ → List ℕ
-behind_period zero n = []
-behind_period (suc more) n = period ∷ last_digits (suc more) n
+abbrev pub fraction_text : ℕ → ℕ → List ℕ
+fraction_text zero n = []
+fraction_text (suc more) n = period ∷ last_digits (suc more) n
 
 -- how a number with decimals is written, given in units of its last decimal: 10 ^ decimals of them are one
 abbrev pub decimal_text : ℕ → ℕ → List ℕ
-decimal_text decimals units = numeral (units / 10 ^ decimals) ++ behind_period decimals (units % 10 ^ decimals)
+decimal_text decimals units = numeral (units / 10 ^ decimals) ++ fraction_text decimals (units % 10 ^ decimals)
 
 -- the sign of a number: a minus where it is below zero
 abbrev pub sign_of : ℤ → List ℕ
 sign_of (pos _) = []
 sign_of (negsuc _) = minus ∷ []
 
--- the same for a number that may be below zero: its sign stands first
+-- how a number with decimals is written that may be below zero: its sign comes first
 abbrev pub signed_text : ℕ → ℤ → List ℕ
 signed_text decimals units = sign_of units ++ decimal_text decimals (unsigned_abs units)
 

@@ -21,18 +21,18 @@ abbrev pub stars : List ℕ → ℕ
 stars [] = 0
 stars (byte ∷ bytes) = if byte == asterisk then suc (stars bytes) else 0
 
--- how many asterisks stand behind a period that these bytes begin with
+-- how many asterisks follow a period that these bytes begin with
 abbrev pub decimals_at : List ℕ → ℕ
 decimals_at [] = 0
 decimals_at (byte ∷ bytes) = if byte == period then stars bytes else 0
 
--- the field of so many asterisks, and of so many behind a period: its width counts the period, where it has one
+-- the field of so many asterisks, and of so many after a period: its width counts the period, where it has one
 abbrev pub field_of : ℕ → ℕ → Field
 field_of whole zero = record { width = whole; decimals = 0 }
 field_of whole (suc more) = record { width = whole + suc (suc more); decimals = suc more }
 
 -- the field that these bytes begin with: a maximal run of asterisks, and where a period and then an asterisk follow it
--- directly, the period and the run behind it too
+-- directly, the period and the run after it too
 abbrev pub field_at : List ℕ → Field
 field_at bytes = field_of (stars bytes) (decimals_at (drop (stars bytes) bytes))
 
@@ -47,7 +47,7 @@ characters field = characters_of field.width field.decimals
 
 -- ---- pieces
 
--- a piece of a picture: bytes that are printed as they stand, or a field
+-- a piece of a picture: bytes that are printed as they are, or a field
 pub data Piece : Type 0 where
   Literal : List ℕ → Piece
   Slot : Field → Piece
@@ -58,18 +58,18 @@ byte_before byte [] = Literal (byte ∷ []) ∷ []
 byte_before byte (Literal bytes ∷ rest) = Literal (byte ∷ bytes) ∷ rest
 byte_before byte (Slot field ∷ rest) = Literal (byte ∷ []) ∷ Slot field ∷ rest
 
--- the pieces of bytes of which so many still belong to the field before them: an asterisk behind these begins a field
-abbrev pub pieces_behind : ℕ → List ℕ → List Piece
-pieces_behind _ [] = []
-pieces_behind zero (byte ∷ bytes) =
+-- the pieces of bytes of which so many still belong to the field before them: an asterisk after these begins a field
+abbrev pub pieces_after : ℕ → List ℕ → List Piece
+pieces_after _ [] = []
+pieces_after zero (byte ∷ bytes) =
     if byte == asterisk
-    then Slot (field_at (byte ∷ bytes)) ∷ pieces_behind ((field_at (byte ∷ bytes)).width - 1) bytes
-    else byte_before byte (pieces_behind 0 bytes)
-pieces_behind (suc more) (byte ∷ bytes) = pieces_behind more bytes
+    then Slot (field_at (byte ∷ bytes)) ∷ pieces_after ((field_at (byte ∷ bytes)).width - 1) bytes
+    else byte_before byte (pieces_after 0 bytes)
+pieces_after (suc more) (byte ∷ bytes) = pieces_after more bytes
 
--- a picture cut, from the left, into its fields and what stands between them
+-- a picture cut, from the left, into its fields and the bytes between them
 abbrev pub pieces_of : List ℕ → List Piece
-pieces_of picture = pieces_behind 0 picture
+pieces_of picture = pieces_after 0 picture
 
 -- the fields among these pieces, from the left
 abbrev pub fields_among : List Piece → List Field

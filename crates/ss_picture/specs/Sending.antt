@@ -5,7 +5,7 @@ use Rattle.std.specs.Coded.{Coded, code_by, coded×, coded_ℕ}
 use Rattle.std.specs.Io.KnownBytes.{Appends}
 use Rattle.ss_base.specs.Failures.{raised}
 
--- a sink: its writer as it stands, and how many bytes went out to it
+-- a sink: its writer as it is now, and how many bytes went out to it
 pub record SinkState (W : Type 0) : Type 0 where
   pub writer : W
   pub sent : ℕ
@@ -34,9 +34,9 @@ pub record SendsFirst {W : Type 0} (contents : W → Option (List ℕ)) (old new
 abbrev pub stall_limit : ℕ
 stall_limit = 1000
 
--- a count, so many higher where it is told
-abbrev pub told_more : ℕ → Option ℕ → Option ℕ
-told_more more told = option_map (λ count. raised count more) told
+-- a count, so many higher where it is known
+abbrev pub counted_more : ℕ → Option ℕ → Option ℕ
+counted_more more known = option_map (λ count. raised count more) known
 
 -- of the writes in a row that took no byte before a call, those that still count once it has sent so many bytes
 abbrev pub idle_before : ℕ → ℕ → ℕ
@@ -47,4 +47,4 @@ idle_before (suc sent) idle = 0
 pub record Stalls {W : Type 0} (contents : W → Option (List ℕ)) (idle : W → Option ℕ) (old new : SinkState W) (bytes : List ℕ) : Type 0 where
   pub count : ℕ
   pub sends : Sends contents old new (take count bytes)
-  pub in_a_row : idle new.writer ≡ told_more stall_limit (option_map (idle_before count) (idle old.writer))
+  pub in_a_row : idle new.writer ≡ counted_more stall_limit (option_map (idle_before count) (idle old.writer))

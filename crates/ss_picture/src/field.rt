@@ -2,12 +2,12 @@ ghost use Rattle.std.specs.Prelude.{◌≡◌};
 ghost use Rattle.ss_picture.specs.Pictures.{decimals_at as decimals_of, field_at, stars as stars_of};
 
 /// A field of a picture: a maximal run of asterisks, and where a period and then an asterisk follow
-/// it directly, the period and the run behind it too. Fields are found from the left.
+/// it directly, the period and the run after it too. Fields are found from the left.
 #[derive(Clone, Copy, Debug, PartialEq, Eq)]
 pub struct Field {
     /// Its length in bytes, the period among them.
     pub width: usize,
-    /// How many asterisks stand behind its period; 0 where it has none.
+    /// How many asterisks follow its period; 0 where it has none.
     pub decimals: usize,
 }
 
@@ -23,7 +23,7 @@ fn stars(bytes: &[u8]) -> usize
     bytes.len()
 }
 
-// How many asterisks stand behind a period that these bytes begin with.
+// How many asterisks follow a period that these bytes begin with.
 fn decimals_at(bytes: &[u8]) -> usize
     ensures { result ≡ decimals_of bytes.now }
 {

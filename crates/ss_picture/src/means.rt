@@ -1,5 +1,5 @@
 ghost use Rattle.std.specs.Prelude.{◌≡◌, ℕ, ◌+◌, ◌*◌, ◌/◌, ◌^◌, ◌<◌, ◌≤◌, ◌++◌, length, unsigned_abs};
-ghost use Rattle.ss_picture.specs.Numerals.{behind_period, last_digits, mean_text, mean_units, sign_of, with_sign};
+ghost use Rattle.ss_picture.specs.Numerals.{fraction_text, last_digits, mean_text, mean_units, sign_of, with_sign};
 ghost use Rattle.ss_picture.specs.Pictures.{at_right};
 ghost use Rattle.ss_picture.specs.Suited.{IsMean};
 
@@ -15,8 +15,8 @@ pub(crate) fn fill_mean(field: &mut [u8], decimals: usize, sum: i128, number: i6
     let scale = scale_of(decimals);
     let mut buffer = Buffer::new();
     let whole = buffer.format(units / scale).as_bytes();
-    let behind = (units % scale) as u64;
-    fill_decimal(field, sign(sum, units), whole, decimals, behind);
+    let fraction = (units % scale) as u64;
+    fill_decimal(field, sign(sum, units), whole, decimals, fraction);
 }
 
 // The sign of a mean that is so many units from zero, by its sum.
@@ -64,62 +64,62 @@ fn divided(size: u128, number: u128, scale: u128) -> u128
     whole * scale + rounded
 }
 
-// Writes a number with decimals to the right end of a field: its sign, the digits before the period, and behind it so many
-// of this number. Where it doesn't fit, the field stays as it is.
-fn fill_decimal(field: &mut [u8], sign: &[u8], whole: &[u8], decimals: usize, behind: u64)
+// Writes a number with decimals to the right end of a field: its sign, the digits before the period, and after it so many
+// digits of `fraction`. Where it doesn't fit, the field stays as it is.
+fn fill_decimal(field: &mut [u8], sign: &[u8], whole: &[u8], decimals: usize, fraction: u64)
     requires sign { length sign.now ≤ 1 }
     requires whole { length whole.now ≤ 40 }
     requires decimals { decimals ≤ 9 }
-    ensures { field.new ≡ at_right field.old (sign.now ++ (whole.now ++ behind_period decimals behind)) }
+    ensures { field.new ≡ at_right field.old (sign.now ++ (whole.now ++ fraction_text decimals fraction)) }
 {
-    let width = sign.len() + whole.len() + width_behind(decimals);
+    let width = sign.len() + whole.len() + fraction_width(decimals);
     if field.len() < width {
         return;
     }
     let blanks = field.len() - width;
     field[..blanks].fill(b' ');
-    write_signed(&mut field[blanks..], sign, whole, decimals, behind);
+    write_signed(&mut field[blanks..], sign, whole, decimals, fraction);
 }
 
 // How wide a period and so many decimals are; no decimals have no period.
-fn width_behind(decimals: usize) -> usize
+fn fraction_width(decimals: usize) -> usize
     requires { decimals ≤ 9 }
-    ensures value { (n : ℕ) → result ≡ length (behind_period decimals n) }
+    ensures value { (n : ℕ) → result ≡ length (fraction_text decimals n) }
     ensures small { result ≤ 10 }
 {
     if decimals == 0 { 0 } else { decimals + 1 }
 }
 
 // Writes a sign, digits, and a period and decimals, to a place that they fill.
-fn write_signed(place: &mut [u8], sign: &[u8], whole: &[u8], decimals: usize, behind: u64)
-    requires { length place.old ≡ length (sign.now ++ (whole.now ++ behind_period decimals behind)) }
-    ensures { place.new ≡ sign.now ++ (whole.now ++ behind_period decimals behind) }
+fn write_signed(place: &mut [u8], sign: &[u8], whole: &[u8], decimals: usize, fraction: u64)
+    requires { length place.old ≡ length (sign.now ++ (whole.now ++ fraction_text decimals fraction)) }
+    ensures { place.new ≡ sign.now ++ (whole.now ++ fraction_text decimals fraction) }
 {
     let end = sign.len();
     place[..end].copy_from_slice(sign);
-    write_decimal(&mut place[end..], whole, decimals, behind);
+    write_decimal(&mut place[end..], whole, decimals, fraction);
 }
 
 // Writes digits, and a period and decimals, to a place that they fill.
-fn write_decimal(place: &mut [u8], whole: &[u8], decimals: usize, behind: u64)
-    requires { length place.old ≡ length (whole.now ++ behind_period decimals behind) }
-    ensures { place.new ≡ whole.now ++ behind_period decimals behind }
+fn write_decimal(place: &mut [u8], whole: &[u8], decimals: usize, fraction: u64)
+    requires { length place.old ≡ length (whole.now ++ fraction_text decimals fraction) }
+    ensures { place.new ≡ whole.now ++ fraction_text decimals fraction }
 {
     let end = whole.len();
     place[..end].copy_from_slice(whole);
-    write_behind(&mut place[end..], decimals, behind);
+    write_fraction(&mut place[end..], decimals, fraction);
 }
 
 // Writes a period and decimals to a place that they fill.
-fn write_behind(place: &mut [u8], decimals: usize, behind: u64)
-    requires { length place.old ≡ length (behind_period decimals behind) }
-    ensures { place.new ≡ behind_period decimals behind }
+fn write_fraction(place: &mut [u8], decimals: usize, fraction: u64)
+    requires { length place.old ≡ length (fraction_text decimals fraction) }
+    ensures { place.new ≡ fraction_text decimals fraction }
 {
     if decimals == 0 {
         return;
     }
     place[0] = b'.';
-    write_digits(&mut place[1..], behind);
+    write_digits(&mut place[1..], fraction);
 }
 
 // Fills a place with the last digits of a number.

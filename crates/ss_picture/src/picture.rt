@@ -53,7 +53,7 @@ impl Picture {
     }
 
     /// The line with these items in its fields, from the left, without a line end. A whole number
-    /// and a mean stand at the right end of their field, a text at the left; where an item is longer
+    /// and a mean are put at the right end of their field, a text at the left; where an item is longer
     /// than its field, the field's own characters stay.
     ///
     /// A value goes into a field without decimals. A mean goes into any field of at most 9 decimals,

@@ -1,6 +1,6 @@
 ghost use Rattle.std.specs.Prelude.{◌≡◌, ◌<◌, ◌≤◌, length, take, [], IsOk, IfOk, OnOk, OnErr, IsErrOf, option_map};
 ghost use Rattle.std.specs.Io.KnownBytes.{Appends, Keeps};
-ghost use Rattle.ss_picture.specs.Sending.{Sends, SendsFirst, Stalls, stall_limit, told_more};
+ghost use Rattle.ss_picture.specs.Sending.{Sends, SendsFirst, Stalls, stall_limit, counted_more};
 ghost use Rattle.ss_base.specs.Failures.{HasRisen, HasRisenBy};
 
 use ss_base::FaultyWrite;
@@ -21,9 +21,9 @@ pub enum SinkError {
     Stalled,
 }
 
-/// The way out for printed bytes: it sends them to a writer, and counts them. It never flushes.
+/// Sends printed bytes to a writer, and counts them. It never flushes.
 ///
-/// A contract sees a sink as its writer, as it stands, and the number of bytes sent.
+/// A contract sees a sink as its writer, as it is now, and the number of bytes sent.
 #[derive(Debug, Drop)]
 pub struct Sink<W> {
     writer: W,
@@ -66,7 +66,7 @@ impl<W: FaultyWrite> Sink<W> {
             → HasRisenBy stall_limit (W.faults self.old.writer) (W.faults self.new.writer) }
         ensures unfailed { OnOk result (W.errors self.new.writer ≡ W.errors self.old.writer) }
         ensures once { IsErrOf result SinkError.Failed
-            → W.errors self.new.writer ≡ told_more 1 (W.errors self.old.writer) }
+            → W.errors self.new.writer ≡ counted_more 1 (W.errors self.old.writer) }
         ensures no_error { IsErrOf result SinkError.Stalled → W.errors self.new.writer ≡ W.errors self.old.writer }
         ensures in_a_row { IsErrOf result SinkError.Stalled → Stalls W.contents W.idle self.old self.new bytes.now }
         ensures never_falls { HasRisenBy 0 (W.faults self.old.writer) (W.faults self.new.writer) }
@@ -88,7 +88,7 @@ impl<W: FaultyWrite> Sink<W> {
         self.sent
     }
 
-    /// The writer, as it stands.
+    /// The writer, after all that was sent to it.
     pub fn into_inner(self) -> W
         ensures { result ≡ self.writer }
     {
@@ -107,11 +107,11 @@ fn send_some<W: FaultyWrite>(writer: &mut W, bytes: &[u8]) -> Result<usize, Sink
     ensures stalled { IsErrOf result SinkError.Stalled
         → HasRisenBy stall_limit (W.faults writer.old) (W.faults writer.new) }
     ensures unfailed { OnOk result (W.errors writer.new ≡ W.errors writer.old) }
-    ensures once { IsErrOf result SinkError.Failed → W.errors writer.new ≡ told_more 1 (W.errors writer.old) }
+    ensures once { IsErrOf result SinkError.Failed → W.errors writer.new ≡ counted_more 1 (W.errors writer.old) }
     ensures no_error { IsErrOf result SinkError.Stalled → W.errors writer.new ≡ W.errors writer.old }
     ensures taken { OnOk result (W.idle writer.new ≡ option_map (λ _. 0) (W.idle writer.old)) }
     ensures in_a_row { IsErrOf result SinkError.Stalled
-        → W.idle writer.new ≡ told_more stall_limit (W.idle writer.old) }
+        → W.idle writer.new ≡ counted_more stall_limit (W.idle writer.old) }
     ensures never_falls { HasRisenBy 0 (W.faults writer.old) (W.faults writer.new) }
 {
     for attempt in 0..STALL_LIMIT {

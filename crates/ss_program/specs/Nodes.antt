@@ -13,7 +13,7 @@ abbrev pub option_nodes : {A : Type 0} → (A → ℕ) → Option A → ℕ
 option_nodes nodes None = 0
 option_nodes nodes (Some x) = nodes x
 
--- a variable as a subscript counts as none, since it may be meant without being written
+-- a variable as a subscript counts as none, since the text may leave it implicit
 abbrev pub unless_plain : Expression → ℕ → ℕ
 unless_plain (Fetch x) n = 0
 unless_plain e n = n
@@ -33,7 +33,7 @@ expression_nodes (Signed sign e) = 1 + expression_nodes e
 expression_nodes (Absolute e) = 1 + expression_nodes e
 expression_nodes (Calculate operator a b) = expression_nodes a + 1 + expression_nodes b
 
--- what a name is followed by
+-- what follows a name
 abbrev pub subscript_nodes : Expression → ℕ
 subscript_nodes e = unless_plain e (expression_nodes e)
 

@@ -1,4 +1,4 @@
--- The resolved program as plain data: each name is replaced by the number of what it stands for, and what is meant without being written is written out.
+-- The resolved program as plain data: each name is replaced by the number of what it names, and what the text leaves implicit is written out.
 use Rattle.std.specs.Prelude.{ℕ, Bool, List, Option}
 use Rattle.ss_base.specs.declared.line.Line.{Line}
 use Rattle.ss_base.specs.declared.value.Value.{Value}
@@ -42,14 +42,14 @@ pub data Expression : Type 0 where
   Figure : Fold → (statistic : ℕ) → Expression
   -- a statistic of an attribute of an entity, or of N. of the set of an owner
   FigureOf : Fold → (statistic : ℕ) → (entity : Expression) → Expression
-  -- a term behind a sign
+  -- a term after a sign
   Signed : Sign → Expression → Expression
   -- ABS.F
   Absolute : Expression → Expression
   -- an operation on two numbers
   Calculate : Operator → Expression → Expression → Expression
 
--- whose set of a name is meant
+-- the owner of a set, where several sets have its name
 pub data SetOwner : Type 0 where
   TheSystem : SetOwner
   Entity : Expression → SetOwner
@@ -136,7 +136,7 @@ pub data Item : Type 0 where
   AMeanOf : (statistic : ℕ) → (entity : Expression) → Item
 
 mutual
-  -- a statement; the line of its first word stands first in those that may fault
+  -- a statement; the line of its first word comes first in those that may fault
   pub data Statement : Type 0 where
     Let : Line → Place → Expression → Statement
     -- ADD and SUBTRACT
@@ -148,7 +148,7 @@ mutual
     Read : Line → List Target → Statement
     -- START SIMULATION
     Simulate : Statement
-    -- the statements before ELSE, and those behind it
+    -- the statements before ELSE, and those after it
     If : Line → Condition → Block → Block → Statement
     -- a loop that begins with WHILE or UNTIL
     Loop : Line → List Guard → Block → Statement

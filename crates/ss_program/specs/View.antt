@@ -79,7 +79,7 @@ view_start starts.AtEnd = AtEnd
 view_start (starts.From e) = From (view_expression e)
 view_start (starts.After e) = After (view_expression e)
 
--- what a view makes of what may be there
+-- the view of an optional value
 abbrev pub view_option : {A B : Type 0} → (A → B) → Option A → Option B
 view_option view None = None
 view_option view (Some x) = Some (view x)
@@ -147,7 +147,7 @@ unfoldable mutual
   view_block end_of-Statement = Done
   view_block (more_of-Statement s rest) = Then (view_statement s) (view_block rest)
 
--- statements in a list, as they stand in a body
+-- statements in a list, as a body
 abbrev pub block_of : List Statement → Block
 block_of [] = Done
 block_of (s ∷ ss) = Then s (block_of ss)

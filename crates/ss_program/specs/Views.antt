@@ -20,7 +20,7 @@ use Rattle.ss_program.specs.declared.statement.Statement.TheBlock.{hidden-the_ro
 use Rattle.ss_program.specs.Program.{Expression, Calculate, If, Loop, For, Find, Then}
 use Rattle.ss_program.specs.View.{view_expression, view_operations, view_condition, view_guard, view_phrase, view_head, view_statement, view_block, view_body}
 
--- an operation done on what stands left of it
+-- an operation, done on what is left of it
 abbrev pub with_operation : Expression → Operation → Expression
 with_operation left o = Calculate o.operator left (view_expression o.operand)
 

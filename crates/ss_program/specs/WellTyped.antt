@@ -23,7 +23,7 @@ use Rattle.ss_program.specs.declared.sections.Subject.TheVariants.{OfVariable, O
 use Rattle.ss_program.specs.declared.sections.Statistic.{Statistic}
 use Rattle.ss_program.specs.Program.{Expression, Constant, Fetch, Attribute, OfSystemSet, OfSet, OfMember, Clock, TimeOf, Figure, FigureOf, Signed, Absolute, Calculate, SetOwner, TheSystem, Entity, Test, Compare, DataEnded, Empty, Member, Condition, Start, AtEnd, From, After, Head, Numbers, Members, Each, Phrase, Place, ToVariable, ToAttribute, ToCount, Position, ByDiscipline, AsFirst, AsLast, BeforeMember, AfterMember, When, At, In, Now, Item, AValue, AMean, AMeanOf, Statement, Let, Change, Call, Return, Stop, Read, Simulate, If, Loop, For, Find, Create, CreateEvery, Destroy, File, RemoveEnd, Remove, ScheduleNew, Schedule, Cancel, Reset, Print, Skip, Block, Done, Then, Routine, Event, Program}
 
--- ---- what numbers stand for
+-- ---- what is numbered
 
 abbrev pub kind_of : Program → (class : ℕ) → Option ClassKind
 kind_of p class = option_map (λ c. c.kind) (slice_get p.layout.classes class)
@@ -47,11 +47,11 @@ abbrev pub IsSet : Program → (set : ℕ) → Type 0
 IsSet p k = (set : SetLayout) × (slice_get p.layout.sets k ≡ Some set)
 
 -- entities of such a class are created one by one
-abbrev pub comes_alone : Option ClassKind → Bool
-comes_alone None = false
-comes_alone (Some Permanent) = false
-comes_alone (Some Temporary) = true
-comes_alone (Some Notice) = true
+abbrev pub is_created_singly : Option ClassKind → Bool
+is_created_singly None = false
+is_created_singly (Some Permanent) = false
+is_created_singly (Some Temporary) = true
+is_created_singly (Some Notice) = true
 
 -- the subject of a statistic is one thing, without an entity
 abbrev pub IsAlone : Program → Subject → Type 0
@@ -69,7 +69,7 @@ IsOfEntities p (OfCount set) = IsOwned p set
 abbrev pub HasSubject : Program → (Program → Subject → Type 0) → (statistic : ℕ) → Type 0
 HasSubject p Fits k = (s : Statistic) × (slice_get p.statistics k ≡ Some s) × Fits p s.subject
 
--- what a statement stands in: the program, the local variables of its section, and whether that is MAIN
+-- where a statement is: the program, the local variables of its section, and whether that is MAIN
 pub record Scope : Type 0 where
   pub program : Program
   pub locals : List Mode
@@ -194,9 +194,9 @@ abbrev mutual
   Good s (Loop l guards body) = Every (λ guard. GoodCondition s guard.condition) guards × GoodBlock s body
   Good s (For l head phrases body) = GoodHead s head × Every (GoodPhrase s) phrases × GoodBlock s body
   Good s (Find l head phrases found none) = GoodHead s head × Every (GoodPhrase s) phrases × GoodBlock s found × GoodBlock s none
-  Good s (Create l class x) = (comes_alone (kind_of s.program class) ≡ true) × TakesMode s x Integer
+  Good s (Create l class x) = (is_created_singly (kind_of s.program class) ≡ true) × TakesMode s x Integer
   Good s (CreateEvery l counts) = Every (Contains s.program.counts) counts
-  Good s (Destroy l class e) = (comes_alone (kind_of s.program class) ≡ true) × HasMode s e Integer
+  Good s (Destroy l class e) = (is_created_singly (kind_of s.program class) ≡ true) × HasMode s e Integer
   Good s (File l set e position owner) = HasMode s e Integer × GoodPosition s position × OwnerFits s set owner
   Good s (RemoveEnd l end set x owner) = TakesMode s x Integer × OwnerFits s set owner
   Good s (Remove l set e owner) = HasMode s e Integer × OwnerFits s set owner

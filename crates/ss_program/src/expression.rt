@@ -1,4 +1,4 @@
-//! Expressions, and what is asked in them.
+//! Expressions, and the questions in them.
 
 use ss_base::Value;
 
@@ -33,7 +33,7 @@ pub enum Operator {
     Greatest,
 }
 
-/// What is asked of a set.
+/// A question about a set.
 #[derive(Clone, Copy, Debug, PartialEq, Eq)]
 pub enum SetQuery {
     /// F.: the first member; 0 where there is none.
@@ -44,18 +44,18 @@ pub enum SetQuery {
     MemberCount,
 }
 
-/// What is asked of a member about the set of a name that it is in.
+/// A question about a member: its neighbours in the set of a name, or whether it is in one.
 #[derive(Clone, Copy, Debug, PartialEq, Eq)]
 pub enum MemberQuery {
     /// P.: the member before this one; 0 where there is none.
     Predecessor,
-    /// S.: the member behind this one; 0 where there is none.
+    /// S.: the member after this one; 0 where there is none.
     Successor,
     /// M.: 1 for a member of any set of the name, and 0 for none.
     Membership,
 }
 
-/// What is asked of a statistic.
+/// A question about a statistic.
 #[derive(Clone, Copy, Debug, PartialEq, Eq)]
 pub enum Fold {
     Number,
@@ -89,18 +89,18 @@ pub enum Expression {
         field: usize,
         of: Box<Expression>,
     },
-    /// What is asked of THE SYSTEM's set.
+    /// The answer to a question about THE SYSTEM's set.
     OfSystemSet {
         query: SetQuery,
         set: usize,
     },
-    /// What is asked of the set of an owner.
+    /// The answer to a question about the set of an owner.
     OfSet {
         query: SetQuery,
         set: usize,
         owner: Box<Expression>,
     },
-    /// What is asked of a member.
+    /// The answer to a question about a member.
     OfMember {
         query: MemberQuery,
         set: usize,
@@ -123,7 +123,7 @@ pub enum Expression {
         statistic: usize,
         entity: Box<Expression>,
     },
-    /// A term behind a sign.
+    /// A term after a sign.
     Signed {
         sign: Sign,
         term: Box<Expression>,
@@ -140,7 +140,7 @@ pub enum Expression {
     },
 }
 
-/// Whose set of a name is meant.
+/// The owner of a set, where several sets have its name.
 #[derive(Drop)]
 pub enum SetOwner {
     TheSystem,

@@ -1,4 +1,4 @@
-//! The resolved program: each name is replaced by what it stands for, and nothing is implied.
+//! The resolved program: each name is replaced by the number of what it names, and nothing is implied.
 //!
 //! Every sequence is a `Vec`. Contracts see a program as the plain data of `specs/Program.antt`.
 #![tactic(auto)]

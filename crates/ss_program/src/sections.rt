@@ -3,7 +3,7 @@
 use crate::statement::{Counted, Statement};
 use ss_base::{Discipline, Layout, Line, Mode, RankKeys};
 
-/// What a statistic is kept of.
+/// What a statistic is of.
 #[derive(Clone, Copy, Debug, PartialEq, Eq)]
 pub enum Subject {
     /// A global variable.
@@ -14,14 +14,14 @@ pub enum Subject {
     OfCount { set: usize },
 }
 
-/// Whether each value of a statistic's subject counts once, or by the time for which it stood.
+/// Whether each value of a statistic's subject counts once, or by the time for which it lasted.
 #[derive(Clone, Copy, Debug, PartialEq, Eq)]
 pub enum Weighting {
     Tally,
     Accumulate,
 }
 
-/// A statistic: what it is kept of, and how.
+/// A statistic: what it is of, and how it weighs values.
 #[derive(Clone, Copy, Debug, PartialEq, Eq)]
 pub struct Statistic {
     pub subject: Subject,

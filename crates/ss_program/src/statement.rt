@@ -54,7 +54,7 @@ pub enum Position {
     AsLast,
     /// Directly before a member.
     BeforeMember { member: Expression },
-    /// Directly behind a member.
+    /// Directly after a member.
     AfterMember { member: Expression },
 }
 
@@ -94,7 +94,7 @@ pub enum Item {
     },
 }
 
-/// A statement. The line of its first word stands in those that may fault.
+/// A statement. Those that may fault have the line of their first word.
 #[derive(Drop)]
 pub enum Statement {
     /// LET: the value is assigned to the target.
@@ -127,7 +127,7 @@ pub enum Statement {
     },
     /// START SIMULATION: the events that are pending, one after the other, until none is.
     Simulate,
-    /// IF: the statements before ELSE, or those behind it.
+    /// IF: the statements before ELSE, or those after it.
     If {
         line: Line,
         condition: Condition,

@@ -21,8 +21,8 @@ use std::marker::Model;
 ///
 /// A contract sees its state (`specs/State.antt`): a record for each creation number, the permanent
 /// entities of each class by index, and the members of each set. Classes, attributes and sets are named by
-/// their numbers in the layout, entities by creation number or index. After a fault or a refusal for want of
-/// memory the state is as it was.
+/// their numbers in the layout, entities by creation number or index. After a fault or where memory was refused,
+/// the state is as it was.
 pub struct Heap {
     alloc: Global,
     records: Records,
@@ -183,7 +183,7 @@ impl Heap {
     }
 
     /// A new entity of a temporary class or a class of notices, with first values, in no set: its creation
-    /// number. Faults: 14 after the last creation number. Want of memory is answered only where no fault is due.
+    /// number. Faults: 14 after the last creation number. `Memory` is answered only where no fault is due.
     #[inline(always)]
     pub fn create(&mut self, class: usize) -> Result<i64, Refused>
         requires class { class < length self.old.state.layout.classes }
@@ -196,8 +196,8 @@ impl Heap {
     }
 
     /// All n entities of a permanent class, with first values, in no set; they are known by their indices from 1 to n.
-    /// Faults: 18 where this was done before, then 22 where n is below 0 or above 1,048,576. Want of memory is answered only
-    /// where no fault is due.
+    /// Faults: 18 where this was done before, then 22 where n is below 0 or above 1,048,576. `Memory` is answered only where no
+    /// fault is due.
     pub fn create_all(&mut self, class: usize, n: i64) -> Result<(), Refused>
         requires class { class < length self.old.state.layout.classes }
         requires kind { IsPermanent (kind_of self.old.state.layout class) }
@@ -279,7 +279,7 @@ impl Heap {
         self.records.member(set, field, x)
     }
 
-    /// The same of an attribute that is a whole number. Faults: 1 to 5.
+    /// The value of an attribute of whole numbers of x, and the next member, as `member` gives them. Faults: 1 to 5.
     pub fn whole_member(
         &mut self,
         set: usize,
@@ -341,9 +341,9 @@ impl Heap {
         self.records.onward(set, o, x, reverse)
     }
 
-    /// Walks along the set of an owner from the member x on, or in reverse, past members that a filter passes over, and at most `most`
-    /// of all, the one that it comes to among them: an `onward` and a `value` for each, with one look for x. None where x is not in that
-    /// set or not of the class of the filter, or there is a fault, and it may give up elsewhere too.
+    /// Walks along the set of an owner from the member x on, or in reverse, past members that a filter passes over. It looks at
+    /// `most` members at most, the one where it stops among them: an `onward` and a `value` for each, with one search for x. None
+    /// where x is not in that set or not of the class of the filter, or there is a fault, and it may give up elsewhere too.
     #[inline(always)]
     pub fn skim(
         &mut self,

@@ -93,7 +93,7 @@ pub head_filled : (cs : Cells) (p : Ptr) (c n : ℕ) → 2 ≤ length (words_at 
 head_filled cs p c n room =
     filled_put cs (put_word cs p 0 (number c)) p 0 1 2 (head_word c n) (number n) (filled_put cs cs p 0 0 1 (head_word c n) (number c) (filled_none cs p 0 (head_word c n)) (omega arith) (omega (arith, room)) refl (omega arith)) (omega arith) (omega (arith, room)) refl (omega arith)
 
--- one word first, and then those behind it
+-- one word first, and then those after it
 module _ (cs : Cells) (p : Ptr) (from to : ℕ) (w : Word) where
   pub first_room : to ≤ length (words_at cs p) → to ≤ length (words_at (put_word cs p from w) p)
   first_room room = omega (arith, room, length_put cs p from w p)

@@ -40,7 +40,7 @@ put_same (c ∷ cs) p k = elim (same_ptr c.0 p) as (λ y. cond y ((c.0, with_wor
   | false ↦ ap (λ ds. c ∷ ds) (put_same cs p k)
 ]
 
--- a word that can be read stands in the block
+-- a word that can be read is in the block
 pub number_inside : (ws : List Word) (k : ℕ) → IsNumber (word_of ws k) → k < length ws
 number_inside [] k h = absurd h
 number_inside (w ∷ ws) zero h = omega arith

@@ -120,7 +120,7 @@ slot_other (x ∷ xs) (suc k) v (suc j) n = slot_other xs k v j (λ e. n (ap suc
 pub slot_is : (p : Page) (k : ℕ) → k < length p → slice_get p k ≡ Some (slot (Some p) k)
 slot_is p k h = let y = get_there p k h in y.1 ∙ ap Some (sym (ap in_page y.1))
 
--- ## Where a number stands
+-- ## The place of a number
 
 pub is_at_same : (q : ℕ) → is_at (nat_cmp q) q ≡ true
 is_at_same q = ap is_eq (sym (nat_cmp_is q q Equal refl))
@@ -151,7 +151,7 @@ by_part {P} start i here earlier = by_less (ltb i start) refl where
   by_less true e = earlier (ltb-true i start e)
   by_less false e = here (ltb-false i start e)
 
--- ## A page behind the others
+-- ## A page after the others
 
 last_passes : (test : ℕ → Bool) (es : Pages) (q : ℕ) (cur : Page) → lookup test es ≡ None → test q ≡ true → lookup test (es ++ (q, cur) ∷ []) ≡ Some cur
 last_passes test [] q cur h t = ap (λ b. cond b (Some cur) None) t
@@ -254,7 +254,7 @@ module _ (ps : Pages) (cur : Page) (start issued : ℕ) (P : Paged ps cur start 
     pub below_here : (q : ℕ) (p : Page) → page_of ps q ≡ Some p → q < here
     below_here q p e = let k = (P.pages q p e).2 in omega (arith, k, start_is)
 
-    -- it goes behind the others, and a new one serves the next
+    -- it goes after the others, and a new one serves the next
     module _ (some : 1 ≤ living cur) where
       abbrev es : Pages
       es = ps ++ (here, cur) ∷ []
@@ -404,7 +404,7 @@ module _ (ps : Pages) (cur : Page) (start issued : ℕ) (P : Paged ps cur start 
     pub read_none : i < start → page_of ps (i / 256) ≡ None → slice_get (upto (entry ps cur start) issued) i ≡ Some None
     read_none a w = upto_get (entry ps cur start) issued i inside_of ∙ ap Some (at_earlier ps cur start i a ∙ ap (λ o. slot o (i % 256)) w)
 
-  -- the same of any number, where its page was found
+  -- reading any number, where its page was found
   module _ (i : ℕ) (e : Option Address) where
     long : i < issued → i < length (upto (entry ps cur start) issued)
     long h = omega (arith, h, upto_length (entry ps cur start) issued)

@@ -90,8 +90,8 @@ module _ {A : Type 0} (ps : List (ℕ × A)) (r : Rises ps) (q : ℕ) where
   ended blank (Ok k) inside here =
       let d : ℕ × A = (0, blank) in let same : (get_or ps k d).0 ≡ q = ranked (get_or ps k d).0 q Equal (sym (here d)) in
       ((get_or ps k d).1, slice_get-get_or ps k d inside ∙ ap (λ n. Some (n, (get_or ps k d).1)) same)
-  ended blank (Err i) inside parted =
-      let p = parted rise in
+  ended blank (Err i) inside at_or_after =
+      let p = at_or_after rise in
       lookup_at_gap nat_cmp_total q ps i r
       (λ j e h g. sym (nat_cmp_is q e.0 Greater (subst (λ (z : ℕ × A). z.0 < q) (get_or_from_slice_get ps j e e g) (less_is (get_or ps j e).0 q (p.0 j e (omega arith) h)))))
       (λ e g. sym (nat_cmp_is q e.0 Less (subst (λ (z : ℕ × A). q < z.0) (get_or_from_slice_get ps i e e g) (ranked (get_or ps i e).0 q Greater (sym (p.1 i e (omega arith) (within e g)))))))

@@ -98,7 +98,7 @@ module _ {M : Type 1} {𝓤 : Ura M} {𝓛 : Logic 𝓤} {K : Type 0} {Γ : List
       let φ : Type 0 = length (words_at cs p) * 8 < 2 ^ 63 in
       use1 𝓛 (given φ (‵ (store_lent cs κ))) (fact_use 𝓤 φ (store_lent_bound 𝓛 κ cs p) (λ x. guard_i 𝓤 φ (sem 𝓛 (store_lent cs κ)) x)) $ learn t k
 
-  -- a number behind a `&` is opened, and shut
+  -- a number that a `&` leads to is opened, and shut
   pub peer_in : K → Soaks G → {κ : Lft} {q : Share} (n b at : ℕ)
       → ((part : Share) → n < 2 ^ 64 → Seq K 𝓛 (‵ (fat part (ty_int w64) b at (vint w64 n)) ∷ Shut 𝓛 κ q (part_at u64 part n b at) ∷ Γ) G) → Seq K 𝓛 (‵ (hidden_shr u64 κ n b at) ∷ ‵ (flft κ q) ∷ Γ) G
   peer_in t z n b at k =

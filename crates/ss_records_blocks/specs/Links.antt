@@ -1,9 +1,9 @@
--- The links of a set: where they stand in a block, what linking in and out writes, and where one leads.
+-- The links of a set: where they are in a block, what linking in and out writes, and where one leads.
 use Rattle.std.specs.Prelude.{◌≡◌, ℕ, ◌+◌, ◌-◌, Bool, cond}
 use denote.RawPtr.{Ptr}
 use Rattle.ss_records_blocks.specs.Cells.{number, counter, link, Cells, word_at, put_word}
 
--- where the words of one name stand: three in a member's block, three in an owner's
+-- where the words of one name are: three in a member's block, three in an owner's
 pub record Slots : Type 0 where
   pub next : ℕ
   pub prev : ℕ

@@ -37,7 +37,7 @@ owned_word end (suc zero) = link end
 owned_word end (suc (suc zero)) = counter 0
 owned_word end (suc (suc (suc k))) = owned_word end k
 
--- the same where those words begin at `from`
+-- what is written where those words begin at `from`
 abbrev pub owned_from : Ptr → ℕ → ℕ → Word
 owned_from end from k = owned_word end (k - from)
 

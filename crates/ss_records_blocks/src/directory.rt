@@ -167,7 +167,7 @@ impl Directory {
         Ok(())
     }
 
-    /// Lets go of the entry i, which stays a number that was issued.
+    /// Removes the entry i. Its number still counts as issued.
     #[inline(always)]
     pub fn clear(&mut self, i: usize)
         requires { (p : Address) × (slice_get self.old.places i ≡ Some (Some p)) }

@@ -21,7 +21,7 @@ pub fn fill_numbers(blocks: &mut Blocks, place: Address, from: usize, to: usize)
     }
 }
 
-// The same from the second word on.
+// Writes the words from the second on.
 #[inline(always)]
 fn fill_second(blocks: &mut Blocks, place: Address, from: usize, to: usize)
     requires order { from ≤ to }
@@ -36,7 +36,7 @@ fn fill_second(blocks: &mut Blocks, place: Address, from: usize, to: usize)
     }
 }
 
-// The same from the third word on.
+// Writes the words from the third on.
 #[inline(always)]
 fn fill_third(blocks: &mut Blocks, place: Address, from: usize, to: usize)
     requires order { from ≤ to }
@@ -51,7 +51,7 @@ fn fill_third(blocks: &mut Blocks, place: Address, from: usize, to: usize)
     }
 }
 
-// The same from the fourth word on.
+// Writes the words from the fourth on.
 #[inline(always)]
 fn fill_fourth(blocks: &mut Blocks, place: Address, from: usize, to: usize)
     requires order { from ≤ to }
@@ -66,7 +66,7 @@ fn fill_fourth(blocks: &mut Blocks, place: Address, from: usize, to: usize)
     }
 }
 
-// The same from the fifth word on.
+// Writes the words from the fifth on.
 #[inline(always)]
 fn fill_on(blocks: &mut Blocks, place: Address, from: usize, to: usize)
     requires order { from ≤ to }
@@ -80,7 +80,7 @@ fn fill_on(blocks: &mut Blocks, place: Address, from: usize, to: usize)
     }
 }
 
-// The same of many words.
+// Writes many words.
 #[inline(never)]
 fn fill_rest(blocks: &mut Blocks, place: Address, from: usize, to: usize)
     requires order { from ≤ to }
@@ -94,7 +94,7 @@ fn fill_rest(blocks: &mut Blocks, place: Address, from: usize, to: usize)
     }
 }
 
-/// Links of so many sets that lead to one place, three words each: three touches each, which are counted beside it.
+/// Links of so many sets that lead to one place, three words each: three touches each, which the caller counts.
 #[inline(always)]
 pub fn fill_links(blocks: &mut Blocks, place: Address, from: usize, count: usize, target: Address)
     requires room { from + 3 * count ≤ length (words_at blocks.old.cells place.at) }
@@ -111,7 +111,7 @@ pub fn fill_links(blocks: &mut Blocks, place: Address, from: usize, count: usize
     }
 }
 
-/// Sets without a member, three words each: three touches each, which are counted beside it.
+/// Sets without a member, three words each: three touches each, which the caller counts.
 #[inline(always)]
 pub fn fill_owned(blocks: &mut Blocks, place: Address, from: usize, count: usize, end: Address)
     requires room { from + 3 * count ≤ length (words_at blocks.old.cells place.at) }

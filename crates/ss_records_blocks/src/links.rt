@@ -33,7 +33,7 @@ impl Blocks {
         }
     }
 
-    /// The same where the touch is counted beside it.
+    /// As `follow`, but the caller counts the touch.
     #[inline(always)]
     pub fn look(&mut self, place: Address, k: usize) -> Entry
         requires leads { Leads self.old.cells place.at k }
@@ -49,7 +49,7 @@ impl Blocks {
         }
     }
 
-    // Lets a link lead elsewhere: a touch, which is counted beside it. Words keep their kinds.
+    // Sets where a link leads: a touch, which the caller counts. Words keep their kinds.
     fn relink(&mut self, place: Address, k: usize, to: Address)
         requires word { IsLink (word_at self.old.cells place.at k) }
         ensures cells { self.new.cells ≡ put_word self.old.cells place.at k (link to.at) }
@@ -60,8 +60,8 @@ impl Blocks {
         self.set_link(place, k, to);
     }
 
-    // Lets the word k of the owner lead elsewhere where the neighbour is the end, else the word j of the
-    // neighbour: a touch, which is counted beside it.
+    // Sets where the word k of the owner leads, if the neighbour is the end, and else where the word j of the
+    // neighbour leads: a touch, which the caller counts.
     fn hook(
         &mut self,
         ends: bool,
@@ -86,7 +86,7 @@ impl Blocks {
     }
 
     /// Links x in between two neighbours, of which each may be the end: six touches. The words of the set
-    /// stand at `member` in a member's block and at `set` in the owner's.
+    /// begin at `member` in a member's block and at `set` in the owner's.
     pub fn link_between(
         &mut self,
         member: usize,
@@ -118,7 +118,7 @@ impl Blocks {
         self.set_count(owner, set + 2, count + 1);
     }
 
-    /// Links x out from between its neighbours, of which each may be the end: six touches. Then its links
+    /// Unlinks x from between its neighbours, of which each may be the end: six touches. Then its links
     /// lead to itself.
     pub fn unlink(
         &mut self,

@@ -57,7 +57,7 @@ impl Page {
         self.count += 1;
     }
 
-    /// Lets go of the place of a number.
+    /// Removes the place of a number.
     pub(crate) fn clear(&mut self, k: usize)
         requires { (p : Address) × (slice_get self.old k ≡ Some (Some p)) }
         ensures { self.new ≡ slice_set self.old k None }

@@ -34,7 +34,7 @@ impl Model for PageMap {
 }
 
 impl PageMap {
-    /// No page.
+    /// A map without a page.
     pub(crate) fn new(alloc: Global) -> PageMap
         ensures { result ≡ [] }
     {
@@ -95,7 +95,7 @@ impl PageMap {
         Ok(())
     }
 
-    /// Lets go of the entry k of a page, and says whether the page is empty then.
+    /// Removes the entry k of a page, and says whether the page is empty then.
     #[inline(always)]
     pub(crate) fn clear(&mut self, number: usize, k: usize) -> bool
         requires there { (page : List (Option Address)) × (p : Address) × (page_of self.old number ≡ Some page) × (slice_get page k ≡ Some (Some p)) }
@@ -122,7 +122,7 @@ impl PageMap {
     }
 }
 
-// Lets go of the entry k of the page of a spot, and says whether the page is empty then.
+// Removes the entry k of the page of a spot, and says whether the page is empty then.
 #[inline(always)]
 fn clear_in(page: &mut Option<Page>, k: usize) -> bool
     requires { (p : List (Option Address)) × (a : Address) × (page.old ≡ Some p) × (slice_get p k ≡ Some (Some a)) }
@@ -151,7 +151,8 @@ fn spot(spots: &[(usize, Option<Page>)], missing: usize, number: usize) -> Optio
     }
 }
 
-// Where the spot of a number is, if no number is missing from it on, or none up to it. `missing` is how many are before the last.
+// Where the spot of a number is, if no number is missing from it on, or none up to it. `missing` is how many are missing before
+// the last.
 #[inline(always)]
 fn guessed(spots: &[(usize, Option<Page>)], missing: usize, number: usize) -> Option<usize>
     ensures { IfSome result (λ k. (page : Option (List (Option Address))) × (slice_get spots.now k ≡ Some (number, page))) }

@@ -33,7 +33,7 @@ impl Model for Register {
 }
 
 impl Register {
-    /// No number.
+    /// A directory without a number.
     pub(crate) fn new(alloc: Global) -> Result<Register, AllocError>
         ensures { MatchResult result (λ d. d.places ≡ []) (λ _. ⊤) }
     {
@@ -174,7 +174,7 @@ impl Register {
         Ok(())
     }
 
-    /// Lets go of the entry i.
+    /// Removes the entry i.
     #[inline(always)]
     pub(crate) fn clear(&mut self, i: usize)
         requires { (p : Address) × (slice_get self.old.places i ≡ Some (Some p)) }
@@ -187,7 +187,7 @@ impl Register {
         }
     }
 
-    // Lets go of an entry in the current page.
+    // Removes an entry of the current page.
     #[inline(always)]
     fn clear_current(&mut self, i: usize)
         requires there { (p : Address) × (slice_get self.old.places i ≡ Some (Some p)) }
@@ -198,7 +198,7 @@ impl Register {
         self.current.clear(k);
     }
 
-    // Lets go of an entry in an earlier page, and of the page where none of its numbers is living.
+    // Removes an entry of an earlier page, and gives the page back where none of its numbers is living.
     #[inline(always)]
     fn clear_earlier(&mut self, i: usize)
         requires there { (p : Address) × (slice_get self.old.places i ≡ Some (Some p)) }

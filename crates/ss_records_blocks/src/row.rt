@@ -26,7 +26,7 @@ impl Model for Row {
 }
 
 impl Row {
-    /// That of a class whose entities are not made.
+    /// The row of a class whose entities are not made.
     pub fn not_made(alloc: Global) -> Row
         ensures { result ≡ None }
     {
@@ -36,7 +36,7 @@ impl Row {
         }
     }
 
-    /// That of the entities at these places.
+    /// The row of the entities at these places.
     pub fn of(places: Vec<Address>) -> Row
         ensures { result ≡ Some places.items }
     {

@@ -182,7 +182,7 @@ impl Blocks {
         }
     }
 
-    /// Lets go of the store once no block is left.
+    /// Gives up the store once no block is left.
     pub fn close(self)
         requires { self.cells ≡ [] }
     {
@@ -208,7 +208,7 @@ impl Blocks {
         self.touches
     }
 
-    /// Counts the touches from nothing.
+    /// Counts the touches from 0 on.
     pub fn start(&mut self)
         ensures cells { self.new.cells ≡ self.old.cells }
         ensures touches { (self.new.touches ≡ 0) × (self.new.total ≡ self.old.total) }
@@ -216,7 +216,7 @@ impl Blocks {
         self.touches = 0;
     }
 
-    /// Counts the touches from so many on: those that a call made by then, which are counted beside it.
+    /// Counts the touches from so many on: those that a call has made so far and counts itself.
     pub fn start_at(&mut self, count: u64)
         ensures cells { self.new.cells ≡ self.old.cells }
         ensures touches { (self.new.touches ≡ count) × (self.new.total ≡ self.old.total) }
@@ -224,7 +224,7 @@ impl Blocks {
         self.touches = count;
     }
 
-    /// Counts so many touches: those of the writes beside it.
+    /// Counts so many touches, for writes that don't count their own.
     pub fn expect(&mut self, count: u64)
         requires { self.old.touches + count < 2 ^ 64 }
         ensures cells { self.new.cells ≡ self.old.cells }
@@ -289,7 +289,7 @@ impl Blocks {
         self.store.count(place, k)
     }
 
-    /// Writes a count of members: one touch, which is counted beside it.
+    /// Writes a count of members: one touch, which the caller counts.
     #[tactic(auto, using(crate::proofs::Count::blocks_put))]
     pub(crate) fn set_count(&mut self, place: Address, k: usize, value: u64)
         requires { (k < length (words_at self.old.cells place.at)) × MayBeCounter (word_at self.old.cells place.at k) }
@@ -311,7 +311,7 @@ impl Blocks {
         self.store.link(place, k)
     }
 
-    /// Where a link leads: one touch, which is counted beside it.
+    /// Where a link leads: one touch, which the caller counts.
     pub(crate) fn peek_link(&mut self, place: Address, k: usize) -> Address
         requires word { IsLink (word_at self.old.cells place.at k) }
         ensures word { word_at self.old.cells place.at k ≡ link result.at }
@@ -322,7 +322,7 @@ impl Blocks {
         store.link(place, k)
     }
 
-    /// The count of members in the word k of a block: one touch, which is counted beside it.
+    /// The count of members in the word k of a block: one touch, which the caller counts.
     pub fn peek_count(&mut self, place: Address, k: usize) -> u64
         requires word { IsCounter (word_at self.old.cells place.at k) }
         ensures word { word_at self.old.cells place.at k ≡ counter result }
@@ -332,7 +332,7 @@ impl Blocks {
         self.store.count(place, k)
     }
 
-    /// Lets a link lead elsewhere: one touch, which is counted beside it.
+    /// Sets where a link leads: one touch, which the caller counts.
     #[tactic(auto, using(crate::proofs::Count::blocks_put))]
     pub(crate) fn set_link(&mut self, place: Address, k: usize, to: Address)
         requires { (k < length (words_at self.old.cells place.at)) × MayBeLink (word_at self.old.cells place.at k) }

@@ -130,7 +130,7 @@ module _ (l : Layout) (cs : Cells) (sys : Ptr) (d : Directory) (ms : List Member
       links = λ j x. two_other (words_at cs p.at) k a b j (λ z. absurd (omega (arith, x, high, z))) (λ z. absurd (omega (arith, x, high, z)));
     }
 
-  -- the attribute f, whose words stand from k on
+  -- the attribute f, whose words begin at k
   module _ (c : ℕ) (is : class_at cs p ≡ c) (x : ℤ) (at : x ≡ pos (suc i)) (found : entity (state_of l cs d ms) c x ≡ Ok (record_of l (words_at cs p.at))) (f k : ℕ) (start : k ≡ 2 + 2 * f) where
     module _ (m : Mode) (mode : slice_get (modes_of l c) f ≡ Some m) where
       field_in : k + 1 < links_start l (class_at cs p)

@@ -1,4 +1,4 @@
--- The first member of a set, and what stands behind it.
+-- The first member of a set, and those after it.
 use Rattle.std.proofs.Common.{◌≡◌, ℕ, ◌<◌, List, [], ◌∷◌, length, slice_get, Some, refl, sym, ap, subst, ◌∙◌}
 use Rattle.ss_base.specs.declared.layout.SetLayout.{SetLayout}
 use Rattle.ss_records_entities.specs.declared.records.Records.{Records}
@@ -15,24 +15,24 @@ use Rattle.ss_records_entities.proofs.Listed.{less_cut}
 use Rattle.ss_records_entities.proofs.Leading.{next_to}
 use Rattle.ss_records_entities.proofs.Cuts.{lies_there}
 
-behind_head : (n : ℕ) (l : List ℕ) → n ≡ head0 l → In n l → (ys : List ℕ) × (l ≡ n ∷ ys)
-behind_head n [] e i = absurd i
-behind_head n (y ∷ ys) e i = (ys, ap (λ m. m ∷ ys) (sym e))
+after_head : (n : ℕ) (l : List ℕ) → n ≡ head0 l → In n l → (ys : List ℕ) × (l ≡ n ∷ ys)
+after_head n [] e i = absurd i
+after_head n (y ∷ ys) e i = (ys, ap (λ m. m ∷ ys) (sym e))
 
 module _ (r : Records) (K : IsKept r) (s : ℕ) (inside : s < length r.layout.sets) (o : ℕ) (q : Entry) (j : Joins r s q) (inn : In q.number (members_of r.notes.lists s o)) (first : q.number ≡ head0 (members_of r.notes.lists s o)) where
-  pub behind : (ys : List ℕ) × (members_of r.notes.lists s o ≡ q.number ∷ ys)
-  behind = behind_head q.number (members_of r.notes.lists s o) first inn
+  pub following : (ys : List ℕ) × (members_of r.notes.lists s o ≡ q.number ∷ ys)
+  following = after_head q.number (members_of r.notes.lists s o) first inn
 
   some : 0 ≡ q.number → ⊥
   some = let y = get_there r.layout.sets s inside in ((K.names s y.0 y.1).members o q.number inn).1
 
-  apart : Distinct (q.number ∷ behind.0)
-  apart = let k = get_there r.layout.sets s inside in subst Distinct behind.1 ((K.names s k.0 k.1).distinct o)
+  apart : Distinct (q.number ∷ following.0)
+  apart = let k = get_there r.layout.sets s inside in subst Distinct following.1 ((K.names s k.0 k.1).distinct o)
 
-  pub less_is : behind.0 ≡ less q.number (members_of r.notes.lists s o)
-  less_is = sym (ap (less q.number) behind.1 ∙ less_cut [] q.number behind.0 tt)
+  pub less_is : following.0 ≡ less q.number (members_of r.notes.lists s o)
+  less_is = sym (ap (less q.number) following.1 ∙ less_cut [] q.number following.0 tt)
 
-  pub around_first : (b : ℕ) → ((u : SetLayout) → slice_get r.layout.sets s ≡ Some u → b ≡ member_base r.layout s u) → (z : Entry) → word_at r.blocks.cells q.place.at b ≡ link z.place.at → word_at r.blocks.cells z.place.at 1 ≡ number z.number → Around r s o q.number (record { place = r.system; number = 0 }) z [] behind.0
+  pub around_first : (b : ℕ) → ((u : SetLayout) → slice_get r.layout.sets s ≡ Some u → b ≡ member_base r.layout s u) → (z : Entry) → word_at r.blocks.cells q.place.at b ≡ link z.place.at → word_at r.blocks.cells z.place.at 1 ≡ number z.number → Around r s o q.number (record { place = r.system; number = 0 }) z [] following.0
   around_first b base z w v =
       let l = lies_there r K s inside q.place.at b _ (next_to r.layout r.blocks.cells r.system.at (places r) r.notes.lists K s inside q.place.at q.number j.lies j.is b base o inn) z w v in
-      record { list = behind.1; before = refl; last = refl; after = l.0; first = l.1 ∙ ap (succ q.number) behind.1 ∙ succ_cut [] q.number behind.0 some apart }
+      record { list = following.1; before = refl; last = refl; after = l.0; first = l.1 ∙ ap (succ q.number) following.1 ∙ succ_cut [] q.number following.0 some apart }

@@ -29,7 +29,7 @@ unmoved r q h e = ap held h ∙ (λ i. record r { blocks = record { cells = e i;
 pub looked : (r p : Records) (b : Memory) → p ≡ record r { blocks = p.blocks } → p.blocks.cells ≡ r.blocks.cells → b.cells ≡ p.blocks.cells → held (record p { blocks = b }) ≡ held r
 looked r p b h e k = (λ i. record p { blocks = record { cells = k i; touches = 0; total = 0 } }) ∙ unmoved r p h e
 
--- what stands between two neighbours, and around a member, still does
+-- what lies between two neighbours, and around a member, still does
 pub still_between : (r q : Records) (s o : ℕ) (a b : Entry) (xs ys : List ℕ) → held q ≡ held r → Between r s o a b xs ys → Between q s o a b xs ys
 still_between r q s o a b xs ys h w =
     let v : Between (held r) s o a b xs ys = record { list = w.list; before = w.before; last = w.last; after = w.after; first = w.first } in

@@ -77,7 +77,7 @@ module _ (l : Layout) (cs : Cells) (sys : Ptr) (d : Directory) (ms : List Member
   pub its_owner : owner_kind l s ≡ t.owner
   its_owner = ap owner_in g
 
-  -- where a word of the name stands
+  -- where a word of the name is
   abbrev InMember : ℕ → Type 0
   InMember b = (u : SetLayout) → slice_get l.sets s ≡ Some u → b ≡ member_base l s u
 

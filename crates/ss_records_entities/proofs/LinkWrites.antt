@@ -8,7 +8,7 @@ use Rattle.ss_records_blocks.proofs.Numbers.{same_ptr_refl}
 use Rattle.ss_records_blocks.proofs.Same.{same, differs, by_same}
 use Rattle.ss_records_blocks.proofs.Puts.{words_put, ptr_differs, length_put, word_with, put_other}
 
--- a word that is written, at places that are told apart by numbers
+-- a word that is written, at places that are distinguished by numbers
 pub put_here : (at : ℕ → Ptr) (cs : Cells) (x y k : ℕ) (v : Word) → (at x ≡ at y → x ≡ y) → k < length (words_at cs (at y))
     → word_at (put_word cs (at x) k v) (at y) k ≡ cond (x == y) v (word_at cs (at y) k)
 put_here at cs x y k v apart room = by_same x y

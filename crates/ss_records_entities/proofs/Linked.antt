@@ -100,4 +100,4 @@ module _ (l : Layout) (c x : ℕ) (ms : List Members) where
 
   -- the touches so far are few
   pub few_touched : (k t i : ℕ) → length l.sets ≤ 1048576 → k ≤ owned_start l (Class c) → 3 * t + links_start l c ≡ 3 * i + k → t ≤ i + 1048576
-  few_touched k t i small within told = omega (arith, small, within, told, few_sets (joins c) l.sets)
+  few_touched k t i small within touches_known = omega (arith, small, within, touches_known, few_sets (joins c) l.sets)

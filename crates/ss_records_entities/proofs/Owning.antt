@@ -16,7 +16,7 @@ use Rattle.ss_records_words.specs.Places.{listing, place_in, entity_at, owner_at
 use Rattle.ss_records_words.specs.Slotted.{IsOf, MayOwn}
 use Rattle.ss_records_words.specs.Plans.{is_system}
 use Rattle.ss_records_entities.specs.Parts.{IsKept, state, places, Found, Owns, Joins}
-use Rattle.ss_records_words.proofs.Listing.{stands}
+use Rattle.ss_records_words.proofs.Listing.{lists_place}
 use Rattle.ss_records_words.proofs.Disjoint.{is_of}
 use Rattle.ss_records_blocks.proofs.Entries.{get_there}
 
@@ -29,7 +29,7 @@ module _ (r : Records) (K : IsKept r) (c : ℕ) (x : ℤ) (p : Address) (f : Fou
     number_of = ap plain (sym w ∙ (K.formed f.index p f.entry).number)
 
     its_place : slice_get (listing (places r) c) f.index ≡ Some (Some p)
-    its_place = subst (λ b. slice_get (listing (places r) b) f.index ≡ Some (Some p)) f.class (stands r.layout r.blocks.cells r.system.at (places r) r.notes.lists K f.index p f.entry)
+    its_place = subst (λ b. slice_get (listing (places r) b) f.index ≡ Some (Some p)) f.class (lists_place r.layout r.blocks.cells r.system.at (places r) r.notes.lists K f.index p f.entry)
 
     lies_at : p.at ≡ entity_at r.system.at (places r) c n
     lies_at = sym (ap (entity_at r.system.at (places r) c) number_of ∙ ap place_in its_place)

@@ -75,8 +75,8 @@ module _ (r : Records) (K : IsKept r) (s : ℕ) (q : Entry) (j : Joins r s q) (f
   pub test_is : (its own : ℤ) (high : Bool) → Whole its ≡ value_at Integer r.blocks.cells q.place.at k → match_ordering (int_cmp its own) high false (not high) ≡ ranks_past (state r) class f high (Whole own) q.number
   test_is its own high h = ap (λ (w : Value). match_ordering (value_cmp w (Whole own)) high false (not high)) (h ∙ sym (ap value_or_zero its_value))
 
--- where a walk along the set s of o stands: it has passed the members xs, and is at the first of ys, or at the end
-pub record Stands (r : Records) (s o : ℕ) (t : ℕ → Bool) (q : Entry) (touches : ℕ) : Type 0 where
+-- how far a walk along the set s of o has come: it has passed the members xs, and is at the first of ys, or at the end
+pub record WalkState (r : Records) (s o : ℕ) (t : ℕ → Bool) (q : Entry) (touches : ℕ) : Type 0 where
   pub xs : List ℕ
   pub ys : List ℕ
   pub list : members_of r.notes.lists s o ≡ xs ++ ys
@@ -87,10 +87,10 @@ pub record Stands (r : Records) (s o : ℕ) (t : ℕ → Bool) (q : Entry) (touc
   pub passed : length xs + before_where t ys ≡ before_where t (members_of r.notes.lists s o)
   pub touched : touches ≡ length xs + 1
 
-pub at_start : (r : Records) (s o : ℕ) (t : ℕ → Bool) (a q : Entry) (touches : ℕ) → Between r s o a q [] (members_of r.notes.lists s o) → touches ≡ 1 → Stands r s o t q touches
+pub at_start : (r : Records) (s o : ℕ) (t : ℕ → Bool) (a q : Entry) (touches : ℕ) → Between r s o a q [] (members_of r.notes.lists s o) → touches ≡ 1 → WalkState r s o t q touches
 at_start r s o t a q touches w e = record { xs = []; ys = members_of r.notes.lists s o; list = refl; size = omega arith; lies = w.after; first = w.first; found = refl; passed = omega arith; touched = omega (arith, e) }
 
-module _ (r : Records) (K : IsKept r) (s : ℕ) (inside : s < length r.layout.sets) (o : ℕ) (t : ℕ → Bool) (q : Entry) (touches : ℕ) (S : Stands r s o t q touches) where
+module _ (r : Records) (K : IsKept r) (s : ℕ) (inside : s < length r.layout.sets) (o : ℕ) (t : ℕ → Bool) (q : Entry) (touches : ℕ) (S : WalkState r s o t q touches) where
   abbrev f : List ℕ
   f = members_of r.notes.lists s o
 
@@ -156,8 +156,8 @@ module _ (r : Records) (K : IsKept r) (s : ℕ) (inside : s < length r.layout.se
       pub next_leads : Leads r.blocks.cells q.place.at b
       next_leads = leads r.blocks.cells at q.place.at b _ next_there
 
-      pub next_stands : (e : t q.number ≡ false) (z : Entry) (more : ℕ) → word_at r.blocks.cells q.place.at b ≡ link z.place.at → word_at r.blocks.cells z.place.at 1 ≡ number z.number → more ≡ touches + 1 → Stands r s o t z more
-      next_stands e z more w v m =
+      pub next_walk : (e : t q.number ≡ false) (z : Entry) (more : ℕ) → word_at r.blocks.cells q.place.at b ≡ link z.place.at → word_at r.blocks.cells z.place.at 1 ≡ number z.number → more ≡ touches + 1 → WalkState r s o t z more
+      next_walk e z more w v m =
           let l = lies_there r K s inside q.place.at b _ next_there z w v in
           let y = get_there r.layout.sets s inside in
           let p = passes t q.number shape.0 e in

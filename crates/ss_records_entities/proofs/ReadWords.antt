@@ -93,7 +93,7 @@ record_time l c ws w t n e h =
     let time : time_of (is_notice (kind_of l c)) (with_word ws (values_end l c) (number w)) (values_end l c) ≡ t = rw n (ap (λ u. cast_signed w64 (plain u)) (word_here ws (values_end l c) (number w) h) ∙ e) in
     λ i. record { class = c; values = values i; time = time i }
 
--- the value that stands at the attribute f
+-- the value of the attribute f
 pub value_read : (ms : List Mode) (ws : List Word) (k f : ℕ) (m : Mode) (v : Value) → slice_get ms f ≡ Some m → slice_index_or (values_from ms ws k) f v ≡ value_of m (plain (word_of ws (k + 2 * f))) (plain (word_of ws (k + 2 * f + 1)))
 value_read [] ws k f m v g = cc
 value_read (n ∷ ms) ws k zero m v g = let same : n ≡ m = cc in let q : k ≡ k + 2 * 0 = omega arith in λ i. value_of (same i) (plain (word_of ws (q i))) (plain (word_of ws (q i + 1)))

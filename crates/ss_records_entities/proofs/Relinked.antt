@@ -62,8 +62,8 @@ module _ (l : Layout) (cs : Cells) (sys : Ptr) (d : Directory) (ms : List Member
       (subst (λ z. Shows (words_of w ds at home) at home (IsOf ds d t.member) (MayOwn ds d t.owner) z) (sym e) (with_classes l cs sys d ms K s t g ds h s t (words_of w ds at home) (with_list f o us) n))
       (λ r p n. members_other ms s o us r p n)
 
-  told : (ds : Cells) (us : List ℕ) → Spares Of cs ds → state_of l ds d (with_members ms s o us) ≡ with_list_of (state_of l cs d ms) s o us
-  told ds us h =
+  relisted : (ds : Cells) (us : List ℕ) → Spares Of cs ds → state_of l ds d (with_members ms s o us) ≡ with_list_of (state_of l cs d ms) s o us
+  relisted ds us h =
       let one = records_spared l cs sys d ms K s t g ds h in let two = permanents_spared l cs sys d ms K s t g ds h in
       λ i. record (state_of l cs d ms) { records = one i; permanents = two i; lists = with_members ms s o us }
 
@@ -101,7 +101,7 @@ module _ (l : Layout) (cs : Cells) (sys : Ptr) (d : Directory) (ms : List Member
         (any_linked_is w cs at home (IsOf cs d t.member) (MayOwn cs d t.owner) (grounds l cs sys d ms K s t g) o a x b (length (f o)) lo lx la lb))
 
     pub state_linked : state_of l ds d (with_members ms s o (xs ++ x ∷ ys)) ≡ with_list_of (state_of l cs d ms) s o (xs ++ x ∷ ys)
-    state_linked = told ds (xs ++ x ∷ ys) spares
+    state_linked = relisted ds (xs ++ x ∷ ys) spares
 
     pub count_linked : length ds ≡ length cs
     count_linked = spares.count
@@ -143,7 +143,7 @@ module _ (l : Layout) (cs : Cells) (sys : Ptr) (d : Directory) (ms : List Member
         (any_unlinked_is w cs at home (IsOf cs d t.member) (MayOwn cs d t.owner) (grounds l cs sys d ms K s t g) o a x b (length (f o)) lo lx' la' lb'))
 
     pub state_unlinked : state_of l es d (with_members ms s o (xs ++ ys)) ≡ with_list_of (state_of l cs d ms) s o (xs ++ ys)
-    state_unlinked = told es (xs ++ ys) spares'
+    state_unlinked = relisted es (xs ++ ys) spares'
 
     pub count_unlinked : length es ≡ length cs
     count_unlinked = spares'.count

@@ -28,7 +28,7 @@ use Rattle.ss_records_entities.proofs.Leading.{next_to, prev_to}
 use Rattle.ss_records_words.proofs.Listing.{listed}
 use Rattle.ss_records_words.proofs.Splice.{succ_is, pred_is}
 
--- where it stands, by the word of its number
+-- where it is, by the word of its number
 pub numbered_at : (ps : Numbers) → length ps < 2 ^ 62 → (x : ℤ) → FitsSigned w64 x → (i : ℕ) → i ≡ of_z w64 x → (p : Address) → slice_get ps ((i + 18446744073709551615) % 18446744073709551616) ≡ Some (Some p) → numbered_place ps x ≡ Ok p
 numbered_at ps few (pos zero) fits i is p h = absurd (omega (arith, ints, few, is, slice_get_within ps _ (Some p) h))
 numbered_at ps few (pos (suc k)) fits i is p h =
@@ -36,7 +36,7 @@ numbered_at ps few (pos (suc k)) fits i is p h =
     ap (λ j. issued_place (slice_get ps j)) (sym e) ∙ ap issued_place h
 numbered_at ps few (negsuc k) fits i is p h = absurd (omega (arith, ints, few, fits, is, slice_get_within ps _ (Some p) h))
 
--- whatever the kind of its class is, since one that stands under a creation number is of no permanent class
+-- whatever the kind of its class is, since one that has a creation number is of no permanent class
 pub found_numbered : (r : Records) (K : IsKept r) (c : ℕ) (x : ℤ) (p : Address) → numbered_place r.directory.places x ≡ Ok p → class_at r.blocks.cells p ≡ c → Found r c x p
 found_numbered r K c x p h k =
     let t = there r.directory.places x p h in
@@ -54,7 +54,7 @@ same_place p q e = λ i. record { at = e i }
 pub some_number : (r : Records) (s : ℕ) (e : Entry) → Joins r s e → e.number ≡ 0 → ⊥
 some_number r s e h z = let a = entry_of r.blocks.cells (places r) (member_class r.layout s) e.number h.is in absurd (omega (arith, z, a.2))
 
--- one of a class of numbers that may be in a set stands under its number
+-- where its class isn't permanent, one that may be in a set is found by its creation number
 pub numbered_entry : (r : Records) (K : IsKept r) (s : ℕ) (e : Entry) → Joins r s e → (IsPermanent (kind_of r.layout (member_class r.layout s)) → ⊥) → slice_get r.directory.places (e.number - 1) ≡ Some (Some e.place)
 numbered_entry r K s e h kind =
     let a = entry_of r.blocks.cells (places r) (member_class r.layout s) e.number h.is in

@@ -1,4 +1,4 @@
--- What a call that only looks leaves for the calls behind it, and how many touches there are.
+-- What a call that only reads leaves for the calls after it, and how many touches there are.
 use Rattle.std.proofs.Common.{◌≡◌, ℕ, ◌+◌, ◌≤◌, ◌<◌, ◌^◌, true, false, Fits, w64, length, slice_get, Some, sym, subst, arith}
 use Rattle.std.proofs.lemmas.Option.{slice_get_within}
 use Rattle.ss_base.specs.declared.layout.Layout.{Layout}

@@ -15,7 +15,7 @@ abbrev pub first_where : (ℕ → Bool) → List ℕ → ℕ
 first_where t [] = 0
 first_where t (y ∷ ys) = cond (t y) y (first_where t ys)
 
--- how many numbers stand before it
+-- how many numbers come before it
 abbrev pub before_where : (ℕ → Bool) → List ℕ → ℕ
 before_where t [] = 0
 before_where t (y ∷ ys) = cond (t y) 0 (suc (before_where t ys))

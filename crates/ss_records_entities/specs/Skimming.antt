@@ -30,7 +30,7 @@ module _ (st : State) (s : ℕ) (o : ℤ) (reverse : Bool) (f : Filter) where
     pub member : IsMember x y v
     pub over : is_passed f v ≡ true
 
-  -- where a walk from the member x on has come to
+  -- how far a walk from the member x on has come
   pub record IsSkimmed (x : ℤ) (k : Skimmed) : Type 0 where
     pub steps : Steps PassesOver k.passed x k.member
     pub member : IsMember k.member k.next k.value

@@ -26,7 +26,7 @@ struct Triple {
 }
 
 impl Records {
-    // What x and then o mean.
+    // The entities that x and then o refer to.
     #[inline(always)]
     fn pair(&self, s: usize, o: i64, x: i64) -> Result<Pair, FaultKind>
         requires kept { IsKept self.now }
@@ -39,7 +39,7 @@ impl Records {
         }
     }
 
-    // The same where it may take a search.
+    // Does the work of `pair` where it may take a search.
     #[cold]
     #[inline(never)]
     fn pair_apart(&self, s: usize, o: i64, x: i64) -> Result<Pair, FaultKind>
@@ -56,7 +56,7 @@ impl Records {
         }
     }
 
-    // What x and then o mean, where both are found without a search.
+    // The entities that x and then o refer to, where both are found without a search.
     #[inline(always)]
     fn near_pair(&self, s: usize, o: i64, x: i64) -> Option<Pair>
         requires kept { IsKept self.now }
@@ -72,7 +72,7 @@ impl Records {
         }
     }
 
-    // The same where the set is one of the system.
+    // Does the work of `near_pair` where the set is one of the system.
     #[inline(always)]
     fn system_pair(&self, s: usize, o: i64, x: i64) -> Option<Pair>
         requires kept { IsKept self.now }
@@ -88,7 +88,7 @@ impl Records {
         }
     }
 
-    // What x, then y and then o mean.
+    // The entities that x, then y and then o refer to.
     fn triple(&self, s: usize, o: i64, x: i64, y: i64) -> Result<Triple, FaultKind>
         requires kept { IsKept self.now }
         requires set { s < length self.now.layout.sets }
@@ -160,7 +160,7 @@ impl Records {
             .put_before(s, owner.number, x.number, after.number);
     }
 
-    // Links x out of the set of an owner, from between its neighbours: seven touches.
+    // Unlinks x from the set of an owner, from between its neighbours: seven touches.
     fn link_out(&mut self, s: usize, owner: Entry, before: Entry, x: Entry, after: Entry)
         requires kept { IsKept self.old }
         requires set { s < length self.old.layout.sets }
@@ -337,7 +337,7 @@ impl Records {
         self.cut_out(s, owner, x);
     }
 
-    // The same without remembering it.
+    // Takes a member out of the set that it is in, without remembering it.
     fn cut_out(&mut self, s: usize, owner: Entry, x: Entry)
         requires kept { IsKept self.old }
         requires set { s < length self.old.layout.sets }
@@ -421,7 +421,7 @@ impl Records {
         }
     }
 
-    // Links x in behind the last member of the set of an owner, and says whether it did: not where it is in some set of the name.
+    // Links x in after the last member of the set of an owner, and says whether it did: not where it is in some set of the name.
     // The touches are counted at once.
     #[inline(always)]
     fn put_last(&mut self, s: usize, owner: Entry, x: Entry) -> bool

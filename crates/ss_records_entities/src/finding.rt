@@ -26,7 +26,7 @@ impl Records {
         }
     }
 
-    // The same where it may take a search, or there is a fault.
+    // Does the work of `numbered` where it may take a search, or there is a fault.
     #[cold]
     #[inline(never)]
     fn numbered_apart(&self, r: i64) -> Result<Address, FaultKind>
@@ -119,7 +119,7 @@ impl Records {
         }
     }
 
-    // The same of one that was not met last.
+    // The block of an entity that was not met last, where it is found without a search.
     #[inline(always)]
     fn near_by_kind(&self, class: usize, r: i64) -> Option<Address>
         requires kept { IsKept self.now }
@@ -259,7 +259,7 @@ impl Records {
         }
     }
 
-    /// The same, where it is found without a search.
+    /// The block of a notice of any class, where it is found without a search.
     #[inline(always)]
     pub fn near_notice(&self, r: i64) -> Option<Address>
         requires kept { IsKept self.now }

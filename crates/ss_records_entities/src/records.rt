@@ -59,7 +59,7 @@ impl Records {
         })
     }
 
-    /// Counts the touches from nothing.
+    /// Counts the touches from 0 on.
     pub fn start(&mut self)
         ensures { self.new ≡ record self.old { blocks = record { cells = self.old.blocks.cells; touches = 0; total = self.old.blocks.total } } }
     {
@@ -176,7 +176,7 @@ impl Records {
         }
     }
 
-    // The same where it may take a search. The call comes last, so that what needs none keeps nothing aside.
+    // Does the work of `whole` where it may take a search. The call comes last, so that a call without a search saves no registers.
     #[cold]
     #[inline(never)]
     fn whole_apart(&self, class: usize, field: usize, r: i64) -> Option<i64>
@@ -216,7 +216,7 @@ impl Records {
         }
     }
 
-    // The same where it may take a search.
+    // Does the work of `set_whole` where it may take a search.
     #[cold]
     #[inline(never)]
     fn set_whole_apart(&mut self, class: usize, field: usize, r: i64, n: i64) -> bool
@@ -277,7 +277,7 @@ impl Records {
         }
     }
 
-    // Where the time of a notice stands.
+    // The word of a notice's block that has its time.
     fn time_word(&self, place: Address) -> usize
         requires kept { IsKept self.now }
         requires entry { (i : ℕ) × (slice_get self.now.directory.places i ≡ Some (Some place)) }
@@ -306,7 +306,7 @@ impl Records {
         }
     }
 
-    // The same where it may take a search, or there is a fault.
+    // Does the work of `set_time` where it may take a search, or there is a fault.
     #[cold]
     #[inline(never)]
     fn set_time_apart(&mut self, r: i64, t: i64) -> Result<(), FaultKind>

@@ -40,7 +40,7 @@ impl Records {
         ensures { Apart (state self.now) }
     {}
 
-    /// What o means as an owner of a set: the system where the set is one of its own.
+    /// The owner of a set that o refers to: the system where the set is one of its own.
     #[inline(always)]
     pub fn owner(&self, s: usize, o: i64) -> Result<Entry, FaultKind>
         requires kept { IsKept self.now }
@@ -62,7 +62,7 @@ impl Records {
         }
     }
 
-    /// What o means as an owner of a set, where it is found without a search.
+    /// The owner of a set that o refers to, where it is found without a search.
     #[inline(always)]
     pub fn near_owner(&self, s: usize, o: i64) -> Option<Entry>
         requires kept { IsKept self.now }
@@ -84,7 +84,7 @@ impl Records {
         }
     }
 
-    /// The same where the set is one of the system: none where it is entities'.
+    /// Does the work of `near_owner` for a set of the system; none for any other set.
     #[inline(always)]
     pub fn system_owner(&self, s: usize, _o: i64) -> Option<Entry>
         requires kept { IsKept self.now }
@@ -101,7 +101,7 @@ impl Records {
         }
     }
 
-    /// What x means as one that may be in a set.
+    /// The entity that x refers to, which may be in a set.
     #[inline(always)]
     pub fn joiner(&self, s: usize, x: i64) -> Result<Entry, FaultKind>
         requires kept { IsKept self.now }
@@ -266,7 +266,7 @@ impl Records {
         }
     }
 
-    /// The same of an attribute that is a whole number: a touch.
+    /// The value of an attribute of whole numbers of x, and the member that follows x, as `member` gives them: a touch.
     pub fn whole_member(&mut self, s: usize, field: usize, x: i64) -> Result<WholeMember, FaultKind>
         requires kept { IsKept self.old }
         requires set { s < length self.old.layout.sets }
@@ -319,7 +319,7 @@ impl Records {
         }
     }
 
-    // The same for an owner that is there.
+    // Does the work of `first_past` for an owner that is there.
     fn past(&mut self, s: usize, owner: Entry, field: usize, own: i64, high: bool) -> u64
         requires kept { IsKept self.old }
         requires set { s < length self.old.layout.sets }
@@ -395,7 +395,7 @@ impl Records {
         }
     }
 
-    // The same where it may take a search for x.
+    // Does the work of `onward` where it may take a search for x.
     #[inline(never)]
     fn onward_apart(&mut self, s: usize, o: i64, x: i64, reverse: bool) -> Option<i64>
         requires kept { IsKept self.old }
@@ -412,7 +412,7 @@ impl Records {
         }
     }
 
-    // What x means as one that may be in a set, where it is likely to come next.
+    // The entity that x refers to, which may be in a set, where it is likely to come next.
     #[inline(always)]
     pub fn expected_joiner(&self, s: usize, x: i64) -> Option<Entry>
         requires kept { IsKept self.now }
@@ -428,7 +428,7 @@ impl Records {
         }
     }
 
-    /// What x means as one that may be in a set, where it is found without a search.
+    /// The entity that x refers to, which may be in a set, where it is found without a search.
     #[inline(always)]
     pub fn near_joiner(&self, s: usize, x: i64) -> Option<Entry>
         requires kept { IsKept self.now }
@@ -539,7 +539,7 @@ fn is_after(its: i64, own: i64, high: bool) -> bool
     false
 }
 
-// Where the link to the member that follows stands, or in reverse that to the one that precedes.
+// The word that links to the member that follows, or in reverse to the one that precedes.
 #[inline(always)]
 pub fn beside(base: usize, reverse: bool) -> usize
     requires { base ≤ 5242883 }

@@ -5,4 +5,4 @@ pub mod Changed
 pub mod OtherSets
 pub mod Running
 pub mod SameLayout
-pub mod Telling
+pub mod Outcomes

@@ -34,8 +34,8 @@ on_err (Ok a) p = tt
 on_err (Err e) p = p
 
 module _ (xs : List Command) (i : ℕ) (x : Command) (h : i < length xs) (e : x ≡ get_or xs i x) (s : State) where
-  pub told_next : (told : List Answer) → (told ++ answer_of x s ∷ []) ++ answers_of (drop (i + 1) xs) (after_command x s) ≡ told ++ answers_of (drop i xs) s
-  told_next told = joined told (answer_of x s) (answers_of (drop (i + 1) xs) (after_command x s)) ∙ ap (λ zs. told ++ answers_of zs s) (sym (drop_next xs i x h e))
+  pub given_next : (given : List Answer) → (given ++ answer_of x s ∷ []) ++ answers_of (drop (i + 1) xs) (after_command x s) ≡ given ++ answers_of (drop i xs) s
+  given_next given = joined given (answer_of x s) (answers_of (drop (i + 1) xs) (after_command x s)) ∙ ap (λ zs. given ++ answers_of zs s) (sym (drop_next xs i x h e))
 
   pub rest_next : after_commands (drop (i + 1) xs) (after_command x s) ≡ after_commands (drop i xs) s
   rest_next = ap (λ zs. after_commands zs s) (sym (drop_next xs i x h e))

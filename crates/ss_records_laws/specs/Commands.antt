@@ -24,7 +24,7 @@ abbrev pub Changes : (ℕ → List ℕ → List ℕ) → (State → ℕ → ℤ 
 Changes put call =
     (st t : State) (s : ℕ) (o x : ℤ) → call st s o x ≡ Ok t → (n : ℕ) × (m : ℕ) × (joiner st s x ≡ Ok n) × (owner st s o ≡ Ok m) × (members_of t.lists s m ≡ put n (members_of st.lists s m))
 
--- the same where x is put beside y, which means the entity k
+-- what changes where x is put beside y, which is the entity k
 abbrev pub ChangesBeside : (ℕ → ℕ → List ℕ → List ℕ) → (State → ℕ → ℤ → ℤ → ℤ → Result State FaultKind) → Type 0
 ChangesBeside put call =
     (y : ℤ) (st t : State) (s : ℕ) (o x : ℤ) → call st s o x y ≡ Ok t → (k : ℕ) × (n : ℕ) × (m : ℕ) × (joiner st s y ≡ Ok k) × (joiner st s x ≡ Ok n) × (owner st s o ≡ Ok m) × (members_of t.lists s m ≡ put k n (members_of st.lists s m))
@@ -65,9 +65,9 @@ FitsCommand l (FileAfter set o member beside) = set < length l.sets
 FitsCommand l (Remove set o member) = set < length l.sets
 
 -- what a call answers that gives no value
-abbrev pub told : Result (Unit {0}) FaultKind → Answer
-told (Ok u) = Done
-told (Err kind) = Faulted kind
+abbrev pub outcome_of : Result (Unit {0}) FaultKind → Answer
+outcome_of (Ok u) = Done
+outcome_of (Err kind) = Faulted kind
 
 -- done, with the state that a call makes
 abbrev pub done : Result State FaultKind → Result (Answer × State) FaultKind

@@ -128,7 +128,7 @@ module _ (l : Layout) (cs : Cells) (sys : Ptr) (d : Directory) (ms : List Member
       }
     ]
 
--- the set that stands at a place of the layout
+-- the set at a place of the layout
 pub drop_at : {A : Type 0} (xs : List A) (s : ℕ) (t : A) → slice_get xs s ≡ Some t → drop s xs ≡ t ∷ drop (s + 1) xs
 drop_at [] s t g = cc
 drop_at (x ∷ xs) zero t g = let e : x ≡ t = cc in ap (λ y. y ∷ xs) e

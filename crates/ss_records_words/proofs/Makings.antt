@@ -1,4 +1,4 @@
--- The blocks of the permanent entities of a class, which are laid together.
+-- The blocks of the permanent entities of a class, which lie together.
 use Rattle.std.proofs.Common.{◌≡◌, ℕ, suc, ◌+◌, ◌≤◌, List, length, slice_get, Some, refl, sym, ap, subst, ◌∙◌, arith}
 use denote.RawPtr.{Ptr}
 use Rattle.ss_base.specs.declared.layout.Layout.{Layout}

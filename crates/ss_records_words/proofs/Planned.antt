@@ -6,7 +6,7 @@ use Rattle.ss_records_words.specs.declared.plan.Extent.{Extent}
 use Rattle.ss_records_words.specs.declared.plan.Bases.{Bases}
 use Rattle.ss_records_words.specs.Plans.{extent_of, bases_of}
 use Rattle.ss_records_blocks.proofs.Same.{by_same}
-use Rattle.ss_records_words.proofs.Planning.{get_front, get_behind}
+use Rattle.ss_records_words.proofs.Planning.{get_front, get_last_pushed}
 
 pub one_longer : {A : Type 0} (xs ys : List A) (x : A) (n : ℕ) → ys ≡ xs ++ x ∷ [] → length xs ≡ n → length ys ≡ n + 1
 one_longer xs ys x n e h = omega (arith, ap length e, length-append xs (x ∷ []), h)
@@ -19,7 +19,7 @@ bases_more l xs ys s x e n before is k small t g =
     ap (λ zs. slice_get zs k) e ∙ by_same k s
     (λ z i.
     let f : slice_get l.sets s ≡ Some t = subst (λ j. slice_get l.sets j ≡ Some t) i g in
-    get_behind xs x k (i ∙ sym n) ∙ ap Some (is t f ∙ ap (λ j. bases_of l j t) (sym i)))
+    get_last_pushed xs x k (i ∙ sym n) ∙ ap Some (is t f ∙ ap (λ j. bases_of l j t) (sym i)))
     (λ z i. let h : k < s = omega (arith, small, i) in get_front xs x k (omega (arith, h, n)) ∙ before k h t g)
 
 pub extents_more : (l : Layout) (xs ys : List Extent) (s : ℕ) (x : Extent) → ys ≡ xs ++ x ∷ [] → length xs ≡ s
@@ -27,5 +27,5 @@ pub extents_more : (l : Layout) (xs ys : List Extent) (s : ℕ) (x : Extent) →
     → (c : ℕ) → c < s + 1 → slice_get ys c ≡ Some (extent_of l c)
 extents_more l xs ys s x e n before is c small =
     ap (λ zs. slice_get zs c) e ∙ by_same c s
-    (λ z i. get_behind xs x c (i ∙ sym n) ∙ ap Some (is ∙ ap (extent_of l) (sym i)))
+    (λ z i. get_last_pushed xs x c (i ∙ sym n) ∙ ap Some (is ∙ ap (extent_of l) (sym i)))
     (λ z i. let h : c < s = omega (arith, small, i) in get_front xs x c (omega (arith, h, n)) ∙ before c h)

@@ -82,11 +82,11 @@ get_front [] x k h = absurd (omega (arith, h))
 get_front (y ∷ ys) x zero h = refl
 get_front (y ∷ ys) x (suc k) h = get_front ys x k (omega (arith, h))
 
-pub get_behind : {A : Type 0} (xs : List A) (x : A) (k : ℕ) → k ≡ length xs → slice_get (xs ++ x ∷ []) k ≡ Some x
-get_behind [] x zero h = refl
-get_behind [] x (suc k) h = absurd (omega (arith, h))
-get_behind (y ∷ ys) x zero h = absurd (omega (arith, h))
-get_behind (y ∷ ys) x (suc k) h = get_behind ys x k (omega (arith, h))
+pub get_last_pushed : {A : Type 0} (xs : List A) (x : A) (k : ℕ) → k ≡ length xs → slice_get (xs ++ x ∷ []) k ≡ Some x
+get_last_pushed [] x zero h = refl
+get_last_pushed [] x (suc k) h = absurd (omega (arith, h))
+get_last_pushed (y ∷ ys) x zero h = absurd (omega (arith, h))
+get_last_pushed (y ∷ ys) x (suc k) h = get_last_pushed ys x k (omega (arith, h))
 
 module _ (l : Layout) (cs : List Extent) (ss : List Bases) (n : ℕ) (P : IsPlan l cs ss n) where
   pub class_within : (c : ℕ) → c < length l.classes → c < length cs

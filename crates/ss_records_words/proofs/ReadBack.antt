@@ -44,14 +44,14 @@ small_before (suc n) [] h i = lit< tt
 small_before (suc n) (x ∷ xs) h zero = h zero
 small_before (suc n) (x ∷ xs) h (suc i) = small_before n xs (λ j. h (suc j)) i
 
-small_behind : (n : ℕ) (xs : List ℕ) → ((i : ℕ) → get_or xs i 0 < 256) → (i : ℕ) → get_or (drop n xs) i 0 < 256
-small_behind n xs h i = subst (λ b. b < 256) (sym (get_or-drop n xs i 0)) (h (n + i))
+small_after : (n : ℕ) (xs : List ℕ) → ((i : ℕ) → get_or xs i 0 < 256) → (i : ℕ) → get_or (drop n xs) i 0 < 256
+small_after n xs h i = subst (λ b. b < 256) (sym (get_or-drop n xs i 0)) (h (n + i))
 
 -- sixteen bytes come out of the words of their halves
 halves_again : (bs : List ℕ) (a b : ℕ) → length bs ≡ 16 → ((i : ℕ) → get_or bs i 0 < 256) → a ≡ from_be_bytes w64 (take 8 bs) → b ≡ from_be_bytes w64 (drop 8 bs) → to_be_bytes w64 a ++ to_be_bytes w64 b ≡ bs
 halves_again bs a b l small e f =
     let front : to_be_bytes w64 a ≡ take 8 bs = be_bytes_8 (take 8 bs) a (length-take-le 8 bs (omega (arith, l))) (small_before 8 bs small) e in
-    let back : to_be_bytes w64 b ≡ drop 8 bs = be_bytes_8 (drop 8 bs) b (omega (arith, l, length-drop 8 bs)) (small_behind 8 bs small) f in
+    let back : to_be_bytes w64 b ≡ drop 8 bs = be_bytes_8 (drop 8 bs) b (omega (arith, l, length-drop 8 bs)) (small_after 8 bs small) f in
     (λ i. front i ++ back i) ∙ take-append-drop 8 bs
 
 read_back : (t : List ℕ) (a b : ℕ) → IsText t → length (padded t) ≡ 16 → a ≡ from_be_bytes w64 (take 8 (padded t)) → b ≡ from_be_bytes w64 (drop 8 (padded t)) → value_of Alpha a b ≡ Text t

@@ -23,7 +23,7 @@ pub not_head : (y : ℕ) (ys : List ℕ) → (0 ≡ y → ⊥) → NotIn y ys �
 not_head y [] h n = h
 not_head y (z ∷ zs) h n = n.0
 
--- what follows y once x stands between xs and ys
+-- what follows y once x is between xs and ys
 pub succ_splice : (y : ℕ) (xs : List ℕ) (x : ℕ) (ys : List ℕ) → (0 ≡ y → ⊥) → Distinct (xs ++ x ∷ ys)
     → succ y (xs ++ x ∷ ys) ≡ cond (x == y) (head0 ys) (cond (last_or 0 xs == y) x (succ y (xs ++ ys)))
 succ_splice y [] x ys h d = rw (differs 0 y h) refl

@@ -14,7 +14,7 @@ use Rattle.ss_records_words.specs.Places.{Directory, Lists, listing, place_in, e
 use Rattle.ss_records_words.specs.Kept.{Kept}
 use Rattle.ss_records_words.specs.Slotted.{member_base, owner_base, IsOf, MayOwn}
 use Rattle.ss_records_blocks.proofs.Same.{differs, by_same}
-use Rattle.ss_records_words.proofs.Listing.{stands}
+use Rattle.ss_records_words.proofs.Listing.{lists_place}
 use Rattle.ss_records_words.proofs.Disjoint.{is_of}
 use Rattle.ss_records_words.proofs.Filed.{Next, next_of}
 
@@ -42,7 +42,7 @@ module _ (l : Layout) (cs : Cells) (sys : Ptr) (d : Directory) (ms : List Member
 
   module _ (class : class_at cs p ≡ t.member) where
     its_place : slice_get (listing d t.member) i ≡ Some (Some p)
-    its_place = subst (λ c. slice_get (listing d c) i ≡ Some (Some p)) class (stands l cs sys d ms K i p e)
+    its_place = subst (λ c. slice_get (listing d c) i ≡ Some (Some p)) class (lists_place l cs sys d ms K i p e)
 
     here : at (suc i) ≡ p.at
     here = ap place_in its_place
@@ -71,10 +71,10 @@ module _ (l : Layout) (cs : Cells) (sys : Ptr) (d : Directory) (ms : List Member
 
   module _ (owns : t.owner ≡ Class (class_at cs p)) where
     owner : MayOwn cs d t.owner (suc i)
-    owner = subst (λ o. MayOwn cs d o (suc i)) (sym owns) (is_of cs d (class_at cs p) i p (stands l cs sys d ms K i p e) refl)
+    owner = subst (λ o. MayOwn cs d o (suc i)) (sym owns) (is_of cs d (class_at cs p) i p (lists_place l cs sys d ms K i p e) refl)
 
     home : owner_at sys d t.owner (suc i) ≡ p.at
-    home = ap (λ o. owner_at sys d o (suc i)) owns ∙ ap place_in (stands l cs sys d ms K i p e)
+    home = ap (λ o. owner_at sys d o (suc i)) owns ∙ ap place_in (lists_place l cs sys d ms K i p e)
 
     pub count_word : word_at cs p.at (owner_base l s t + 2) ≡ counter (length (members_of ms s (suc i)))
     count_word = (λ z. word_at cs (sym home z) (owner_base l s t + 2)) ∙ (K.names s t g).count (suc i) owner

@@ -13,7 +13,7 @@ use Rattle.ss_records_words.specs.Shape.{links_start, owned_start, block_words, 
 use Rattle.ss_records_words.specs.Kept.{Small}
 use Rattle.ss_records_words.specs.Slotted.{member_base, owner_base}
 
--- where the words of a class stand
+-- where the words of a class are
 abbrev pub extent_of : Layout → ℕ → Extent
 extent_of l c = record { links = links_start l c; owned = owned_start l (Class c); joined = count_sets (joins c) l.sets; sets = count_sets (owned_by (Class c)) l.sets; words = block_words l (Class c) }
 
@@ -28,7 +28,7 @@ abbrev pub is_system : Owner → Bool
 is_system System = true
 is_system (Class c) = false
 
--- where the words of a set stand, and what is so of its members and of its owner
+-- where the words of a set are, and the facts of its members and its owner
 abbrev pub bases_of : Layout → ℕ → SetLayout → Bases
 bases_of l s t = record { member = member_base l s t; owner = owner_base l s t; class = t.member; permanent = is_permanent (kind_of l t.member); system = is_system t.owner }
 

@@ -24,12 +24,12 @@ plain (number n) = n
 plain (counter n) = 0
 plain (link q) = 0
 
--- what two words say: a whole number is the 64 bits of the first, a text the bytes of both with zeros behind
+-- what two words mean: a whole number is the 64 bits of the first, a text the bytes of both without the zeros at the end
 abbrev pub value_of : Mode → ℕ → ℕ → Value
 value_of Integer a b = Whole (cast_signed w64 a)
 value_of Alpha a b = Text (unwrap_or (text_of (before_zero (to_be_bytes w64 a ++ to_be_bytes w64 b))) [])
 
--- the values that stand from the word k on, two words each
+-- the values from the word k on, two words each
 abbrev pub values_from : List Mode → List Word → ℕ → List Value
 values_from [] ws k = []
 values_from (m ∷ ms) ws k = value_of m (plain (word_of ws k)) (plain (word_of ws (k + 1))) ∷ values_from ms ws (k + 2)

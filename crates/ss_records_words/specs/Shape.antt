@@ -1,4 +1,4 @@
--- Where the words of a block stand: class, number, two for each value, the time of a notice, then three words
+-- Where the words of a block are: class, number, two for each value, the time of a notice, then three words
 -- for each set that the class may join, then three for each set that it owns.
 use Rattle.std.specs.Prelude.{ℕ, zero, suc, ◌+◌, ◌*◌, Bool, true, false, ◌==◌, cond, List, [], ◌∷◌, length}
 use Rattle.ss_base.specs.declared.layout.Owner.{Owner}

@@ -1,4 +1,4 @@
--- Where the words of each set name stand, and what its links show.
+-- Where the words of each set name are, and which lists its links make.
 use Rattle.std.specs.Prelude.{◌≡◌, ℕ, zero, suc, ◌+◌, ◌*◌, length, List, Option, Some, None, slice_get, ◌⊎◌}
 use denote.RawPtr.{Ptr}
 use Rattle.ss_base.specs.declared.layout.Owner.{Owner}

@@ -25,7 +25,7 @@ impl Notes {
         Notes {}
     }
 
-    /// Notes that x stands directly before y in the set s of the owner o, or last where y is no member.
+    /// Notes that x is directly before y in the set s of the owner o, or last where y is no member.
     pub fn put_before(&mut self, s: usize, o: u64, x: u64, y: u64)
         ensures { self.new.lists ≡ with_members self.old.lists s o (put_before y x (members_of self.old.lists s o)) }
     {}

@@ -1,4 +1,4 @@
-// The blocks of the permanent entities of a class, which are laid together.
+// The blocks of the permanent entities of a class, which lie together.
 ghost use Rattle.std.specs.Prelude.{◌≡◌, ℕ, ◌+◌, ◌^◌, ◌<◌, ◌≤◌, length, Some, slice_get};
 ghost use Rattle.ss_base.specs.declared.layout.Owner.TheVariants.{Class};
 ghost use Rattle.ss_records_blocks.specs.declared.store.Address.{Address};

@@ -1,4 +1,4 @@
-// Where the words of the blocks stand, worked out once.
+// Where the words of the blocks are, worked out once.
 ghost use Rattle.std.specs.Prelude.{◌≡◌, ℕ, ◌+◌, ◌*◌, ◌^◌, ◌<◌, ◌≤◌, length, slice_get, Some, MatchResult, ⊤};
 ghost use Rattle.ss_base.specs.declared.layout.SetLayout.{SetLayout};
 ghost use Rattle.ss_world.specs.State.{kind_of, modes_of, is_owner_class};
@@ -34,7 +34,7 @@ struct Extent {
     words: usize,
 }
 
-/// Where the words of a set stand in a member, and in an owner; the class of its members, and whether that is permanent; and whether
+/// Where the words of a set are in a member, and in an owner; the class of its members, and whether that is permanent; and whether
 /// the set is one of the system.
 #[derive(Clone, Copy)]
 struct Bases {
@@ -113,7 +113,7 @@ impl Plan {
         shape::mode(&self.layout, class, field)
     }
 
-    /// Where the values of a class end: there the time of a notice stands.
+    /// Where the values of a class end: there is the time of a notice.
     pub fn values_end(&self, class: usize) -> usize
         requires { class < length self.now.classes }
         ensures at { result ≡ values_end self.now class }
@@ -177,7 +177,7 @@ impl Plan {
         }
     }
 
-    /// Where the words of a set stand in a member.
+    /// Where the words of a set are in a member.
     pub fn member_base(&self, s: usize) -> usize
         requires { s < length self.now.sets }
         ensures at { (t : SetLayout) → slice_get self.now.sets s ≡ Some t → result ≡ member_base self.now s t }
@@ -186,7 +186,7 @@ impl Plan {
         self.sets[s].member
     }
 
-    /// Where the words of a set stand in an owner.
+    /// Where the words of a set are in an owner.
     pub fn owner_base(&self, s: usize) -> usize
         requires { s < length self.now.sets }
         ensures at { (t : SetLayout) → slice_get self.now.sets s ≡ Some t → result ≡ owner_base self.now s t }

@@ -1,4 +1,4 @@
-// Where the words of a block stand, as it follows from a layout.
+// Where the words of a block are, as it follows from a layout.
 ghost use Rattle.std.specs.Prelude.{◌≡◌, ℕ, ◌+◌, ◌*◌, ◌<◌, ◌≤◌, length, slice_get, Some};
 ghost use Rattle.ss_world.specs.State.{kind_of, modes_of};
 ghost use Rattle.ss_records_words.specs.Shape.{values_end, links_start, owned_start, joins, owned_by, count_sets};
@@ -11,7 +11,7 @@ use ss_base::{ClassKind, Layout, Mode, Owner, SetLayout};
 /// The first word of a block after those that name its class and its number.
 pub const VALUES: usize = 2;
 
-/// Where the two words of an attribute stand: here and next to it.
+/// Where the two words of an attribute are: this one and the next.
 #[inline(always)]
 pub fn value_start(field: usize) -> usize
     requires { field < 1048576 }
@@ -47,7 +47,7 @@ pub fn mode(layout: &Layout, class: usize, field: usize) -> Mode
     class.fields[field]
 }
 
-/// Where the values of a class end: there the time of a notice stands.
+/// Where the values of a class end: there is the time of a notice.
 pub fn values_end(layout: &Layout, class: usize) -> usize
     requires small { Small layout.now }
     requires class { class < length layout.now.classes }
@@ -131,7 +131,7 @@ fn owned(sets: &[SetLayout], owner: Owner) -> usize
     count
 }
 
-/// Where the words of a set stand in a member.
+/// Where the words of a set are in a member.
 pub fn member_base(layout: &Layout, s: usize) -> usize
     requires small { Small layout.now }
     requires set { s < length layout.now.sets }
@@ -142,7 +142,7 @@ pub fn member_base(layout: &Layout, s: usize) -> usize
     links_start(layout, class) + 3 * joining(&layout.sets[..s], class)
 }
 
-/// Where the words of a set stand in an owner.
+/// Where the words of a set are in an owner.
 pub fn owner_base(layout: &Layout, s: usize) -> usize
     requires small { Small layout.now }
     requires set { s < length layout.now.sets }

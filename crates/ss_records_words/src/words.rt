@@ -1,4 +1,4 @@
-// What the two words of a value say: a whole number is the 64 bits of the first, a text is its bytes with zeros behind.
+// What the two words of a value mean: a whole number is the 64 bits of the first, a text is its bytes with zeros after them.
 ghost use Rattle.std.specs.Prelude.{◌≡◌, ◌≤◌, ◌++◌, length, take};
 ghost use Rattle.std.specs.Int.{w64, cast_signed, from_be_bytes, to_be_bytes};
 ghost use Rattle.ss_base.specs.Room.{before_zero};
@@ -6,7 +6,7 @@ ghost use Rattle.ss_records_words.specs.Reading.{value_of};
 
 use ss_base::{Alpha, Mode, TEXT_LIMIT, Value};
 
-/// The words of a text: its first eight bytes, and the eight behind them.
+/// The words of a text: its first eight bytes, and the eight after them.
 #[derive(Clone, Copy)]
 pub struct TextWords {
     pub first: u64,
@@ -79,7 +79,7 @@ fn used(bytes: &[u8]) -> &[u8]
     &bytes[..end(bytes)]
 }
 
-// Where the first zero stands.
+// Where the first zero is.
 fn end(bytes: &[u8]) -> usize
     ensures within { result ≤ length bytes.now }
     ensures value { take result bytes.now ≡ before_zero bytes.now }

@@ -1,4 +1,4 @@
-//! Code of which each place lies in a section: there the variables of that section are at hand, and each keeps its mode.
+//! Code of which each place lies in a section: the current variables are those of that section, and each keeps its mode.
 #![tactic(auto)]
 
 pub mod laws;

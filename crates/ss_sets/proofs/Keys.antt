@@ -1,4 +1,4 @@
--- Which of two ranks after the other, by the key at hand and those behind it.
+-- Which of two ranks after the other, by one key and those after it.
 use Rattle.std.proofs.Common.{◌≡◌, ℕ, ◌+◌, ◌<◌, List, length, drop, not, ap, ◌∙◌, sym, ℤ, Ordering, suc, arith}
 use Rattle.std.specs.Prelude.{slice_index_or}
 use Rattle.std.specs.Ordering.{match_ordering}

@@ -1,4 +1,4 @@
--- What a look told, where another goes on from it.
+-- What a first call found, where another call goes on from it.
 use Rattle.std.proofs.Common.{◌≡◌, Ok, Err, refl, sym, ap}
 use Rattle.std.specs.Prelude.{Result}
 use Rattle.ss_base.specs.declared.fault.FaultKind.{FaultKind}

@@ -45,7 +45,7 @@ pub onward_all : (l : List ℕ) → onward (leader l) l ≡ l
 onward_all [] = refl
 onward_all (z ∷ zs) = rw (same z) refl
 
--- what stands from y on is in the list
+-- the members from y on are in the list
 from_in : (l : List ℕ) (y z : ℕ) (zs : List ℕ) → from_number y l ≡ z ∷ zs → (x : ℕ) → In x (z ∷ zs) → In x l
 from_in [] y z zs h x i = cc
 from_in (v ∷ vs) y z zs h x i = by_same v y
@@ -119,9 +119,9 @@ shape : (rest : List ℕ) (y : ℤ) → Some y ≡ leader rest → (z : ℕ) × 
 shape [] y h = cc
 shape (z ∷ zs) y h = let q : y ≡ pos z = cc in (z, zs, refl, q)
 
--- the member at hand, and those behind it
-pub at_hand : (all : List ℕ) (member : Option ℤ) (y : ℤ) → member ≡ Some y → member ≡ leader (onward member all) → (z : ℕ) × (zs : List ℕ) × (onward member all ≡ z ∷ zs) × (y ≡ pos z) × (from_number z all ≡ z ∷ zs)
-at_hand all member y e h =
+-- the member that a walk has reached, and those after it
+pub reached_member : (all : List ℕ) (member : Option ℤ) (y : ℤ) → member ≡ Some y → member ≡ leader (onward member all) → (z : ℕ) × (zs : List ℕ) × (onward member all ≡ z ∷ zs) × (y ≡ pos z) × (from_number z all ≡ z ∷ zs)
+reached_member all member y e h =
     let s = shape (onward member all) y (sym e ∙ h) in
     (s.0, s.1, s.2, s.3, sym (ap (λ m. onward m all) (e ∙ ap Some s.3)) ∙ s.2)
 
@@ -130,18 +130,18 @@ module _ (st : State) (s : ℕ) (f : Option ℤ) where
   ok_by (Ok m) h = let q : f ≡ as_member (pos (head0 (members_of st.lists s m))) = cc in (refl, q)
   ok_by (Err e) h = cc
 
-  -- what the first look tells
+  -- what the first call finds
   pub found_first : (o : ℤ) → Ok f ≡ and_then (first_in st s o) (λ y. Ok (as_member y)) → IsOk (owner st s o) × (f ≡ as_member (pos (head0 (owned st s o))))
   found_first o h = ok_by (owner st s o) h
 
 pub not_found : (st : State) (s : ℕ) (o : ℤ) (e : FaultKind) → Err e ≡ and_then (first_in st s o) (λ y. Ok (as_member y)) → owner st s o ≡ Err e
 not_found st s o e h = stopped (owner st s o) (λ n. pos (head0 (members_of st.lists s n))) e (sym (stopped (first_in st s o) as_member e h))
 
--- a rank as it stands at first
+-- a rank in the state before the call
 pub as_ranked : (b : Bool) (s st : State) (n class : ℕ) (ks : List RankKey) (v w x : ℤ) → b ≡ ranks_after s n ks v x → s ≡ st → n ≡ class → v ≡ w → ranks_after st class ks w x ≡ b
 as_ranked b s st n class ks v w x h a d e = sym (h ∙ ap (λ (t : State). ranks_after t n ks v x) a ∙ ap (λ k. ranks_after st k ks v x) d ∙ ap (λ (u : ℤ). ranks_after st class ks u x) e)
 
--- a rank by the value of a first key, as it stands at first
+-- a rank by the value of a first key, in the state before the call
 pub as_ranked_by : (b : Bool) (t s st : State) (set n : ℕ) (k : RankKey) (ks : List RankKey) (v w x : ℤ) (o : Ordering) (its own : Value) → b ≡ match_ordering o k.high (ranks_after t n ks v x) (not k.high) → o ≡ value_cmp its own → value_in s (member_class s.layout set) k.field v ≡ Ok its → own ≡ value_of st n k.field x → t ≡ s → s ≡ st → n ≡ member_class st.layout set → v ≡ w → ranks_after st (member_class st.layout set) (k ∷ ks) w x ≡ b
 as_ranked_by b t s st set n k ks v w x o its own h order its_is own_is a a2 d e =
     let class = member_class st.layout set in
@@ -155,7 +155,7 @@ as_ranked_by b t s st set n k ks v w x o its own h order its_is own_is a a2 d e 
     ∙ ap (λ (q : Ordering). match_ordering q k.high (ranks_after t n ks v x) (not k.high)) (sym order)
     ∙ sym h
 
--- the number of the member behind the one that was read
+-- the number of the member after the one that was read
 pub next_number : (s st : State) (set : ℕ) (v w n m : ℤ) → next_in s set v ≡ Ok n → s ≡ st → v ≡ w → next_in st set w ≡ Ok m → n ≡ m
 next_number s st set v w n m h a e k =
     let q : Ok n ≡ Ok m = sym h ∙ ap (λ (t : State). next_in t set v) a ∙ ap (λ (u : ℤ). next_in st set u) e ∙ k in cc
@@ -178,23 +178,23 @@ first_field l set n k ks e h = subst (λ m. k.field < length (modes_of l m)) (sy
 pub other_fields : (l : Layout) (set n : ℕ) (k : RankKey) (ks : List RankKey) → n ≡ member_class l set → AreFields l (member_class l set) (k ∷ ks) → AreFields l n ks
 other_fields l set n k ks e h = subst (λ m. AreFields l m ks) (sym e) (All-tail (λ (q : RankKey). q.field < length (modes_of l (member_class l set))) k ks h)
 
--- what a look at the member at hand told: which members stand from it on, its next one, and whether it ranks after x
+-- what reading a member found: the members from it on, its next one, and whether it ranks after x
 pub record Looked (st : State) (set : ℕ) (o x : ℤ) (ks : List RankKey) (member : Option ℤ) (y next : ℤ) (b : Bool) : Type 0 where
   pub z : ℕ
   pub zs : List ℕ
   pub rest : onward member (owned st set o) ≡ z ∷ zs
   pub is : y ≡ pos z
   pub leads : as_member next ≡ leader zs
-  pub behind : onward (as_member next) (owned st set o) ≡ zs
+  pub following : onward (as_member next) (owned st set o) ≡ zs
   pub ranks : ranks_after st (member_class st.layout set) ks (pos z) x ≡ b
 
 pub looked : (st : State) (A : Apart st) (set : ℕ) (inside : set < length st.layout.sets) (o x : ℤ) (k : RankKey) (ks : List RankKey) (member : Option ℤ) (y v : ℤ) → member ≡ Some y → member ≡ leader (onward member (owned st set o)) → v ≡ y
     → (s t : State) → s ≡ st → t ≡ s → (n : ℕ) → n ≡ member_class st.layout set → (its own : Value) (next : ℤ) → value_in s (member_class s.layout set) k.field v ≡ Ok its → next_in s set v ≡ Ok next → own ≡ value_of st n k.field x
     → (order : Ordering) (b : Bool) → order ≡ value_cmp its own → b ≡ match_ordering order k.high (ranks_after t n ks v x) (not k.high) → Looked st set o x (k ∷ ks) member y next b
-looked st A set inside o x k ks member y v is here hand s t same kept n class its own next value behind own_is order b ordered told =
-    let a = at_hand (owned st set o) member y is here in
+looked st A set inside o x k ks member y v is here hand s t same kept n class its own next value following own_is order b ordered ordered_so =
+    let a = reached_member (owned st set o) member y is here in
     let it = next_is st A set inside o a.0 a.1 a.4 in
-    let number = next_number s st set v (pos a.0) next (pos (head0 a.1)) behind same (hand ∙ a.3) it in
+    let number = next_number s st set v (pos a.0) next (pos (head0 a.1)) following same (hand ∙ a.3) it in
     let leads = ap as_member number ∙ next_leads st A set inside o a.0 a.1 a.4 in
     record {
       z = a.0;
@@ -202,6 +202,6 @@ looked st A set inside o x k ks member y v is here hand s t same kept n class it
       rest = a.2;
       is = a.3;
       leads = leads;
-      behind = ap (λ m. onward m (owned st set o)) leads ∙ rest_is st A set inside o a.0 a.1 a.4;
-      ranks = as_ranked_by b t s st set n k ks v (pos a.0) x order its own told ordered value own_is kept same class (hand ∙ a.3);
+      following = ap (λ m. onward m (owned st set o)) leads ∙ rest_is st A set inside o a.0 a.1 a.4;
+      ranks = as_ranked_by b t s st set n k ks v (pos a.0) x order its own ordered_so ordered value own_is kept same class (hand ∙ a.3);
     }

@@ -97,7 +97,7 @@ fn first_after(
     }
 }
 
-// The same by a key that counts most and the others.
+// The first member that ranks after x, by a key that counts most and the others.
 fn first_after_by(
     heap: &mut Heap,
     key: RankKey,
@@ -122,7 +122,7 @@ fn first_after_by(
     }
 }
 
-// The same where the key is one of whole numbers, and the only one, and this is that of x.
+// The first member that ranks after x, where the key is the only one and of whole numbers, and x has this value.
 fn first_after_number(
     heap: &mut Heap,
     key: RankKey,
@@ -145,8 +145,8 @@ fn first_after_number(
     }
 }
 
-// The same where the key is one of whole numbers, and this is that of x. That of each member is read with the member
-// behind it.
+// The first member that ranks after x, where the key that counts most is of whole numbers, and x has this value. The value of
+// each member is read together with the next member.
 fn first_after_whole(
     heap: &mut Heap,
     key: RankKey,
@@ -183,8 +183,8 @@ fn first_after_whole(
     Ok(None)
 }
 
-// The same by a key of any mode. The value of x for that key is read once, and that of each member with the member
-// behind it.
+// The first member that ranks after x, by a key of any mode. The value of x is read once, and that of each member together with
+// the next member.
 fn first_after_value(
     heap: &mut Heap,
     key: RankKey,
@@ -309,7 +309,7 @@ fn ranks_after_by(
     }
 }
 
-// The same by their numbers in a key.
+// Whether one entity ranks after another, by a key of whole numbers that comes first, and then by the other keys.
 #[inline(always)]
 fn ranks_after_whole(
     heap: &Heap,

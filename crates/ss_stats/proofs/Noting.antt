@@ -8,7 +8,7 @@ use Rattle.std.proofs.lemmas.List.Sums.{fold-append}
 use Rattle.ss_stats.specs.declared.totals.Weighing.{Weighing}
 use Rattle.ss_stats.specs.declared.totals.Weighing.TheVariants.{Once, ByTime}
 use Rattle.ss_stats.specs.History.{History, Tally, Accumulate, Change, tally_limit, last_of, last_moment, weighed_sum, exact_sum_of, maximum_of, minimum_of, note_outcome, with_value, restarted}
-use Rattle.ss_stats.specs.Summary.{Summary, StandsFor, weighing_of, last_given}
+use Rattle.ss_stats.specs.Summary.{Summary, IsSummaryOf, weighing_of, last_given}
 
 -- ---- which kind of history
 
@@ -23,7 +23,7 @@ by_time_is a b c d e f p = (cc, cc, cc)
 
 -- ---- lists with one element more
 
--- the last of the changes is the one behind
+-- the last of the changes is the one added at the end
 last_of-append : (start : Change) (changes : List Change) (c : Change) → last_of start (changes ++ (c ∷ [])) ≡ c
 last_of-append start [] c = refl
 last_of-append start (x ∷ xs) c = last_of-append x xs c
@@ -33,11 +33,11 @@ weighed_sum-append : (start : Change) (changes : List Change) (c : Change) (now 
 weighed_sum-append start [] c now = refl
 weighed_sum-append start (x ∷ xs) c now = omega (arith, ints, weighed_sum-append x xs c now)
 
--- a value that stood for no time
+-- a value that lasted for no time
 no_time : (value moment : ℤ) → value *ℤ (moment -ℤ moment) ≡ pos 0
 no_time value moment = let z : moment -ℤ moment ≡ pos 0 = omega (arith, ints) in rw z (*ℤ-zero value)
 
--- the sum until the last moment, and the value that stands since then
+-- the sum until the last moment, and the value since then
 weighed_sum-until : (start : Change) (changes : List Change) (now : ℤ) → weighed_sum start changes now ≡ weighed_sum start changes (last_of start changes).moment +ℤ (last_of start changes).value *ℤ (now -ℤ (last_of start changes).moment)
 weighed_sum-until start [] now = omega (arith, ints, no_time start.value start.moment)
 weighed_sum-until start (x ∷ xs) now = omega (arith, ints, weighed_sum-until x xs now)
@@ -46,7 +46,7 @@ weighed_sum-until start (x ∷ xs) now = omega (arith, ints, weighed_sum-until x
 weighed_sum-noted : (start : Change) (changes : List Change) (c : Change) → weighed_sum start (changes ++ (c ∷ [])) c.moment ≡ weighed_sum start changes c.moment
 weighed_sum-noted start changes c = omega (arith, ints, weighed_sum-append start changes c c.moment, no_time c.value c.moment)
 
--- one value more behind those of the changes
+-- one value more after those of the changes
 fold-noted : (f : ℤ → ℤ → ℤ) (start : Change) (changes : List Change) (c : Change) → fold f start.value (map (λ d. d.value) (changes ++ (c ∷ []))) ≡ f (fold f start.value (map (λ d. d.value) changes)) c.value
 fold-noted f start changes c =
     ap (fold f start.value) (map-append (λ d. d.value) changes (c ∷ [])) ∙ fold-append f start.value (map (λ d. d.value) changes) (c.value ∷ [])
@@ -141,7 +141,7 @@ totals weighing sum maximum minimum =
 same_totals : (v w : Weighing) (a b c d e f : ℤ) → v ≡ w → a ≡ b → c ≡ d → e ≡ f → totals v a c e ≡ totals w b d f
 same_totals v w a b c d e f p q r s = cc
 
--- totals that agree with a history in these four stand for it
-pub agreeing : (h : History) (weighing : Weighing) (sum maximum minimum : ℤ) → weighing ≡ weighing_of h → sum ≡ exact_sum_of h (last_moment h) → maximum ≡ maximum_of h → minimum ≡ minimum_of h → StandsFor (totals weighing sum maximum minimum) h
+-- totals that agree with a history in these four are its summary
+pub agreeing : (h : History) (weighing : Weighing) (sum maximum minimum : ℤ) → weighing ≡ weighing_of h → sum ≡ exact_sum_of h (last_moment h) → maximum ≡ maximum_of h → minimum ≡ minimum_of h → IsSummaryOf (totals weighing sum maximum minimum) h
 agreeing (Tally values) w s a b p q r t = same_totals _ _ _ _ _ _ _ _ p q r t
 agreeing (Accumulate start changes) w s a b p q r t = same_totals _ _ _ _ _ _ _ _ p q r t

@@ -3,7 +3,7 @@ use Rattle.std.proofs.Common.{ℕ, suc, ◌*◌, ◌^◌, ◌≤◌, ℤ, pos, n
 use Rattle.std.proofs.Math.Nat.{mul-le-mul_left}
 use Rattle.std.proofs.lemmas.Int.{ints}
 
--- the same of natural numbers
+-- the bound for natural numbers
 scaled : (v t : ℕ) → v ≤ 2 ^ 63 → v * t ≤ 2 ^ 63 * t
 scaled v t h = grind (arith, mul-le-mul_left t h)
 

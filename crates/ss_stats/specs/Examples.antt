@@ -87,14 +87,14 @@ pub too_large-sum : sum_of too_large (pos 0) ≡ Err Overflow
 unfolding in_64_bits
 too_large-sum = refl
 
--- the mean has it all the same
+-- the mean has it
 abbrev pub two_to_63_of_two : ℤ × ℤ
 two_to_63_of_two = (pos 9223372036854775808, pos 2)
 
 pub too_large-mean : mean_of too_large (pos 0) ≡ two_to_63_of_two
 too_large-mean = refl
 
--- with -5 behind them it fits again
+-- with -5 after them it fits again
 pub large_again-sum : sum_of (with_value too_large (pos 0) (negsuc 4)) (pos 0) ≡ Ok (pos 9223372036854775803)
 unfolding in_64_bits
 large_again-sum = refl

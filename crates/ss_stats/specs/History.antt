@@ -35,11 +35,11 @@ abbrev pub number_of : History → ℤ → ℤ
 number_of (Tally values) now = pos (length values)
 number_of (Accumulate start changes) now = now -ℤ start.moment
 
--- each value times the time for which it stood, the last one until now
+-- each value times the time for which the variable had it, the last one until now
 abbrev pub weighed_sum : Change → List Change → ℤ → ℤ
-weighed_sum standing [] now = standing.value *ℤ (now -ℤ standing.moment)
-weighed_sum standing (next ∷ later) now =
-    standing.value *ℤ (next.moment -ℤ standing.moment) +ℤ weighed_sum next later now
+weighed_sum current [] now = current.value *ℤ (now -ℤ current.moment)
+weighed_sum current (next ∷ later) now =
+    current.value *ℤ (next.moment -ℤ current.moment) +ℤ weighed_sum next later now
 
 -- the sum of the values, each once or each times its time, however large it is
 abbrev pub exact_sum_of : History → ℤ → ℤ

@@ -1,4 +1,4 @@
--- What running totals keep of a history, and which histories they stand for.
+-- What running totals keep of a history: its summary.
 use Rattle.std.specs.Prelude.{◌≡◌, ◌^◌, length, ℤ, pos, neg_ℤ, ◌-ℤ◌, ◌*ℤ◌, ◌≤ℤ◌}
 use Rattle.ss_stats.specs.declared.totals.Weighing.{Weighing}
 use Rattle.ss_stats.specs.declared.totals.Weighing.TheVariants.{Once, ByTime}
@@ -28,8 +28,8 @@ summary_of history = record {
 }
 
 -- the totals are those of this history
-abbrev pub StandsFor : Summary → History → Type 0
-StandsFor totals history = totals ≡ summary_of history
+abbrev pub IsSummaryOf : Summary → History → Type 0
+IsSummaryOf totals history = totals ≡ summary_of history
 
 -- ---- what is true of every `Totals`
 

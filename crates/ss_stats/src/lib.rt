@@ -1,5 +1,5 @@
 //! The statistics of a variable: the number of its values, their sum and their extremes, taken over
-//! the values as such (TALLY) or over the time for which each of them stood (ACCUMULATE).
+//! the values as such (TALLY) or weighed by the time for which the variable had each (ACCUMULATE).
 #![tactic(auto)]
 
 mod totals;

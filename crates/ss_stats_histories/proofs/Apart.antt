@@ -1,4 +1,4 @@
--- The history of the system, which stands apart from those of the other entities.
+-- The history of the system, which is stored apart from those of the other entities.
 use Rattle.std.proofs.Common.{◌≡◌, ℤ, pos, Bool, true, false, List, Option, Some, None, cond, int_eq, refl, sym, ap, ◌∙◌}
 use Rattle.std.proofs.Math.Path.{fun_ext}
 use Rattle.std.proofs.lemmas.Bool.Decides.{Decides-int_eq}
@@ -11,7 +11,7 @@ use Rattle.ss_stats_histories.proofs.Rising.{found_by_number, same_by_number}
 abbrev pub in_two : Option History → List (ℤ × History) → Rows
 in_two s es = record { system = s; others = by_number es }
 
--- the same, the others in any order
+-- the history of the system, and those of the others in any order
 abbrev mixed : Option History → List (ℤ × History) → Rows
 mixed s es = record { system = s; others = es }
 
@@ -66,6 +66,6 @@ other_renewed s es fs y now present apart e =
       by None e = let f : Column → Column = λ c x. cond (int_eq (pos 0) x) s (c x) in ap f e
       by (Some h) e = mixed_placed s es fs y (Some (restarted h now present)) apart (λ x. ap (λ (c : Column). c x) e)
 
--- the same list in another order
+-- two lists of the others that differ only in their order
 pub same_in_two : (s : Option History) (es fs : List (ℤ × History)) → ((x : ℤ) → found_in fs x ≡ found_in es x) → in_two s fs ≡ in_two s es
 same_in_two s es fs e = let same = same_by_number fs es e in λ j. record { system = s; others = same j }

@@ -195,7 +195,7 @@ so_far P (y ∷ xs) zero x a p h (suc m) d l = absurd (omega (arith, l))
 so_far P (y ∷ xs) (suc j) x a p h zero d l = a zero d (omega arith)
 so_far P (y ∷ xs) (suc j) x a p h (suc m) d l = so_far P xs j x (λ n e k. a (suc n) e (omega (arith, k))) p (omega (arith, h)) m d (omega (arith, l))
 
--- what holds of the items from a place on, and of those behind it
+-- what holds of the items from a place on, and of those after it
 pub from_on : {X : Type 0} → (P : X → Type 0) (xs : List X) (j : ℕ) (x : X) → ((m : ℕ) (d : X) → j ≤ m → m < length xs → P (get_or xs m d)) →
     (m : ℕ) (d : X) → j + 1 ≤ m → m < length (slice_set xs j x) → P (get_or (slice_set xs j x) m d)
 from_on P [] j x a m d l h = absurd (omega (arith, h))

@@ -117,7 +117,7 @@ stops_places s x v [] = refl
 stops_places s x v (z ∷ zs) =
     stops_step x (is_about s z.0) v z zs (places (λ z. is_about s z.0) zs) ∙ ap (option_or (stopped s x v z)) (stops_places s x v zs)
 
--- ## What noting comes to
+-- ## What noting changes
 
 -- what is answered where there is a reason, and where there is none
 abbrev pub unless : {A : Type 0} → Option Unnoted → A → Result A Trouble
@@ -177,7 +177,7 @@ pub some_about : {X : Type 0} → (test : X → Bool) (xs : List X) → has_some
 some_about test [] = refl
 some_about test (x ∷ xs) = some_step (test x) (places test xs) ∙ ap (λ (b : Bool). test x || b) (some_about test xs)
 
--- ## What starting afresh comes to
+-- ## What starting afresh changes
 
 fresh_first : (x now v : ℤ) (o : Option History) (c : Column) (cs : List Column) → is_some o ≡ true →
     turned (λ h. with_history x (restarted h now v) c ∷ cs) (sure o) ≡ Ok (renewed_to x now v o c ∷ cs)

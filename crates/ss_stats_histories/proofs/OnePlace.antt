@@ -1,4 +1,4 @@
--- What noting a number at one place comes to.
+-- What noting a number at one place changes.
 use Rattle.std.proofs.Common.{◌≡◌, ℕ, ℤ, List, [], ◌∷◌, length, map, fold, get_or, Ok, Err, Some, None, Result, sym, ap, ◌∙◌, arith}
 use Rattle.std.specs.Prelude.{MatchResult}
 use Rattle.ss_base.specs.declared.value.Value.TheVariants.{Whole}

@@ -58,7 +58,7 @@ module _ (set place : ℕ) (x now n : ℤ) (ks ns : List Recorded) (only : IsOnl
   pub only_statistics : statistics_of ns ≡ statistics_of ks
   only_statistics = same_statistics (noted_where (OfCount set) x now (Whole n)) (noted_statistic (OfCount set) x now (Whole n)) ks ns changed
 
--- the same of what a contract sees
+-- noting at the only place, as a contract sees it
 pub only_seen : (set place : ℕ) (x now n : ℤ) (ks ns : List Recorded) (latest : ℤ) (r : Records) → records_of ks latest ≡ r → IsOnly set place r.statistics → Takes (OfCount set) x now r.statistics (columns_of r.rows) →
     (IsOnly set place (statistics_of ks) → Takes (OfCount set) x now (statistics_of ks) (columns_of (rows_of ks)) → all_noting (OfCount set) x now (Whole n) (statistics_of ks) (columns_of (rows_of ks)) ≡ Ok (columns_of (rows_of ns))) →
     all_noting (OfCount set) x now (Whole n) r.statistics (columns_of r.rows) ≡ Ok (columns_of (rows_of ns))

@@ -1,4 +1,4 @@
--- Where items that pass a test stand in a longer list.
+-- Where items that pass a test are in a longer list.
 use Rattle.std.proofs.Common.{◌≡◌, ℕ, suc, Bool, true, false, ◌<◌, ◌+◌, ◌∙◌, sym, ap, if◌then◌else◌, List, [], ◌∷◌, ◌++◌, length, map, take, get_or, refl, arith}
 use Rattle.std.proofs.lemmas.List.{map-append, take_more, length-take-le}
 use Rattle.ss_stats_histories.specs.Places.{places}

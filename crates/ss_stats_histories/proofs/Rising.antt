@@ -1,4 +1,4 @@
--- Entities with their histories by rising numbers: one list for all lists that have the same.
+-- Entities with their histories by rising numbers: lists that have the same histories are one list then.
 use Rattle.std.proofs.Common.{◌≡◌, ℤ, Bool, true, false, List, [], ◌∷◌, ◌<ℤ◌, Some, None, cond, if◌then◌else◌, int_eq, refl, sym, ap, ◌∙◌, subst, arith}
 use Rattle.std.specs.Prelude.{⊤, int_lt}
 use Rattle.std.proofs.lemmas.Int.{ints}
@@ -83,7 +83,7 @@ rises : (rows : List (ℤ × History)) → IsRising (by_number rows)
 rises [] = tt
 rises (row ∷ rows) = placed_rises row.0 row.1 (by_number rows) (rises rows)
 
--- ---- one list for all that have the same
+-- ---- lists that have the same histories are one list
 
 here : (row : ℤ × History) (rows : List (ℤ × History)) → found_in (row ∷ rows) row.0 ≡ Some row.1
 here row rows = ap (λ b. cond b (Some row.1) (found_in rows row.0)) (int_eq_equiv.refl row.0)

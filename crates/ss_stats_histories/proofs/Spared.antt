@@ -24,7 +24,7 @@ same n = true_of (n == n) (eqb_refl n)
 equal : (m n : ℕ) → (m == n) ≡ true → m ≡ n
 equal m n e = eqb→eq m n (subst T (sym e) tt)
 
--- items that stand nowhere pass no test
+-- where no item has a place, none passes the test
 nowhere : {X : Type 0} (test : X → Bool) (x : X) (xs : List X) → places test (x ∷ xs) ≡ [] → (test x ≡ false) × (places test xs ≡ [])
 nowhere test x xs e = by (test x) (places test xs) refl refl e where
   by : (b : Bool) (ps : List ℕ) → test x ≡ b → places test xs ≡ ps → (if b then 0 ∷ map suc ps else map suc ps) ≡ [] → (test x ≡ false) × (places test xs ≡ [])
@@ -70,7 +70,7 @@ module _ (l : Layout) (class : ℕ) (free : OwnsNone l class) where
   pub spared : (ks : List Recorded) (r : Records) → ((c f : ℕ) → places (is_about (OfAttribute c f)) (statistics_of ks) ≡ []) → r.statistics ≡ statistics_of ks → r.rows ≡ rows_of ks → r.room ≡ rooms_of ks → Spares l class r
   spared ks r none a b d = rw (a, b, d) (record { rooms = λ count. rooms_spared count ks none; starts = λ here now. starts_spared here now ks none; ends = λ x. ends_spared x ks none })
 
--- nothing stands in an empty table
+-- an empty table has nothing
 pub none_there : (class field : ℕ) → cell_at [] class field ≡ []
 none_there zero zero = refl
 none_there zero (suc f) = refl

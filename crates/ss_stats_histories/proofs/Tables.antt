@@ -3,21 +3,21 @@ use Rattle.std.proofs.Common.{◌≡◌, ℕ, zero, suc, Bool, true, false, ◌<
 use lib.Dec.{eqb_refl}
 use Rattle.ss_stats_histories.specs.Places.{row_at, table_in, cell_at}
 
--- a row that is empty, behind the last one, changes no row
+-- an empty row after the last one changes no row
 pub one_row : (rows : List (List ℕ)) (k : ℕ) → row_at (rows ++ [] ∷ []) k ≡ row_at rows k
 one_row [] zero = refl
 one_row [] (suc k) = refl
 one_row (r ∷ rows) zero = refl
 one_row (r ∷ rows) (suc k) = one_row rows k
 
--- the same of tables
+-- an empty table after the last one changes no cell
 pub one_table : (tables : List (List (List ℕ))) (j k : ℕ) → cell_at (tables ++ [] ∷ []) j k ≡ cell_at tables j k
 one_table [] zero k = refl
 one_table [] (suc j) k = refl
 one_table (t ∷ tables) zero k = refl
 one_table (t ∷ tables) (suc j) k = one_table tables j k
 
--- ## What stands in a list once an item was written
+-- ## The items of a list once one was written
 
 pub at_written : {X : Type 0} → (xs : List X) (i : ℕ) (x : X) → i < length xs → slice_get (slice_set xs i x) i ≡ Some x
 at_written [] i x h = absurd (omega arith)

@@ -37,7 +37,7 @@ ended_shown l whose x z = (z.0, if is_home l whose z.0 then ended_in x z.1 else 
 abbrev pub noted_one : (entity now value : ℤ) → Shown → Shown
 noted_one x now v z = (z.0, noted_column x now v z.1)
 
--- the same of any value; a text changes nothing
+-- noting any value; a text changes nothing
 abbrev pub noted_by : (entity now : ℤ) → Value → Shown → Shown
 noted_by x now (Whole v) z = noted_one x now v z
 noted_by x now (Text t) z = z

@@ -1,4 +1,4 @@
--- Where the statistics of a subject stand.
+-- The places of the statistics of a subject.
 use Rattle.std.specs.Prelude.{ℕ, suc, Bool, true, false, List, [], ◌∷◌, map, Option, Some, None, slice_get, if◌then◌else◌}
 use Rattle.ss_program.specs.declared.sections.Subject.{Subject}
 use Rattle.ss_program.specs.declared.sections.Subject.TheVariants.{OfVariable, OfAttribute, OfCount}
@@ -13,7 +13,7 @@ row_in (Some row) = row
 abbrev pub row_at : List (List ℕ) → ℕ → List ℕ
 row_at rows k = row_in (slice_get rows k)
 
--- where the items that pass a test stand in a list
+-- the places in a list of the items that pass a test
 abbrev pub places : {X : Type 0} → (X → Bool) → List X → List ℕ
 places test [] = []
 places test (x ∷ xs) = if test x then 0 ∷ map suc (places test xs) else map suc (places test xs)

@@ -46,7 +46,7 @@ pub record Rows : Type 0 where
   pub system : Option History
   pub others : List (ℤ × History)
 
--- the history of each entity, as they stand in a list
+-- the history of each entity that a list has
 abbrev pub found_in : List (ℤ × History) → Column
 found_in others x = lookup (int_eq x) others
 
@@ -136,7 +136,7 @@ figured (Some answer) = turned Whole (due answer)
 abbrev pub mean_in : (statistic : ℕ) → (entity now : ℤ) → List Column → Result (ℤ × ℤ) Trouble
 mean_in j x now cs = turned (λ h. mean_of h now) (history_of j x cs)
 
--- what starting afresh comes to: histories, where there is one to start
+-- the histories once one was started afresh, where there is one to start
 abbrev pub renewed_where : Bool → List Column → Result (List Column) Trouble
 renewed_where true cs = Ok cs
 renewed_where false cs = Err Misfit

@@ -30,7 +30,7 @@ impl Tables {
         }
     }
 
-    /// What stands under a subject.
+    /// The numbers under a subject.
     #[inline(always)]
     fn at(&self, subject: Subject) -> &[usize]
         ensures { result.now ≡ found subject self.now.variables self.now.attributes self.now.sets }
@@ -44,7 +44,7 @@ impl Tables {
         }
     }
 
-    /// What stands under an attribute of a class.
+    /// The numbers under an attribute of a class.
     #[inline(always)]
     fn at_attribute(&self, class: usize, field: usize) -> &[usize]
         ensures { result.now ≡ found (OfAttribute class field) self.now.variables self.now.attributes self.now.sets }
@@ -52,7 +52,7 @@ impl Tables {
         self.attributes.at(class, field)
     }
 
-    /// What stands under N. of a set.
+    /// The numbers under N. of a set.
     #[inline(always)]
     fn at_count(&self, set: usize) -> &[usize]
         ensures { result.now ≡ found (OfCount set) self.now.variables self.now.attributes self.now.sets }
@@ -60,7 +60,7 @@ impl Tables {
         self.sets.at(set)
     }
 
-    /// Whether nothing stands under an attribute.
+    /// Whether there is no number under any attribute.
     #[inline(always)]
     fn has_no_attributes(&self) -> bool
         ensures { result ≡ true → self.now.attributes ≡ [] }
@@ -83,7 +83,7 @@ impl Tables {
     }
 }
 
-/// Where the statistics of each subject stand among all of them. A contract sees it as all statistics.
+/// The places of the statistics of each subject among all statistics. A contract sees it as all statistics.
 #[derive(Drop)]
 pub(crate) struct About {
     statistics: Vec<Statistic>,
@@ -116,7 +116,7 @@ impl About {
         })
     }
 
-    /// Where the statistics of a subject stand.
+    /// The places of the statistics of a subject.
     #[inline(always)]
     pub(crate) fn places(&self, subject: Subject) -> &[usize]
         ensures { result.now ≡ places (is_about subject) self.now }
@@ -124,7 +124,7 @@ impl About {
         self.tables.at(subject)
     }
 
-    /// Where the statistics of an attribute of a class stand.
+    /// The places of the statistics of an attribute of a class.
     #[inline(always)]
     pub(crate) fn attribute_places(&self, class: usize, field: usize) -> &[usize]
         ensures { result.now ≡ places (is_about (OfAttribute class field)) self.now }
@@ -132,7 +132,7 @@ impl About {
         self.tables.at_attribute(class, field)
     }
 
-    /// Where the statistics of N. of a set stand.
+    /// The places of the statistics of N. of a set.
     #[inline(always)]
     pub(crate) fn count_places(&self, set: usize) -> &[usize]
         ensures { result.now ≡ places (is_about (OfCount set)) self.now }
@@ -149,7 +149,7 @@ impl About {
     }
 }
 
-// Where the statistics of each subject stand.
+// The places of the statistics of each subject.
 fn tables_of(alloc: Global, statistics: &[Statistic]) -> Result<Tables, AllocError>
     ensures { IfOk result (λ t. (s : TheSubject) → found s t.variables t.attributes t.sets ≡ places (is_about s) statistics.now) }
 {

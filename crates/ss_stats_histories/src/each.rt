@@ -65,7 +65,7 @@ pub(crate) fn note_each(kept: &mut [Kept], places: &[usize], entity: i64, now: i
     }
 }
 
-/// Whether the history of an entity in the statistic at a place takes a number, as it is told at once.
+/// Whether the history of an entity in the statistic at a place is known at once to take a number.
 #[inline(always)]
 pub(crate) fn takes_at(kept: &[Kept], place: usize, entity: i64, now: i64) -> bool
     requires within { place < length kept.now }
@@ -128,7 +128,7 @@ pub(crate) fn note_here(
     kept[place].note_or_refuse(entity, now, number)
 }
 
-// The same by a call.
+// Does the work of `note_here`, out of line.
 #[inline(never)]
 fn note_at_place(
     kept: &mut [Kept],
@@ -147,7 +147,7 @@ fn note_at_place(
     note_here(kept, place, entity, now, number)
 }
 
-// The same as `note_all` does.
+// Does the work of `note_all` for one place.
 #[inline(always)]
 fn note_one(
     kept: &mut [Kept],
@@ -190,7 +190,7 @@ fn note_refusable(
     }
 }
 
-// The same, at once where there is no place.
+// Does the work of `note_all` for a number; nothing where there is no place.
 #[inline(always)]
 fn note_number(
     kept: &mut [Kept],
@@ -289,7 +289,6 @@ pub(crate) fn reserve_each(
     Ok(())
 }
 
-// The same in one statistic.
 fn reserve_one(kept: &mut Kept, layout: &Layout, whose: Owner, count: i64) -> Result<(), AllocError>
     ensures bare { bare kept.new ≡ bare kept.old }
     ensures room { OnOk result (HasRoom layout.now whose count kept.new) }
@@ -314,7 +313,6 @@ pub(crate) fn begin_each(kept: &mut [Kept], layout: &Layout, whose: Owner, entit
     }
 }
 
-// The same in one statistic.
 #[inline(always)]
 fn begin_one(kept: &mut Kept, layout: &Layout, whose: Owner, entity: i64, now: i64)
     requires now { pos 0 ≤ℤ now }
@@ -341,7 +339,6 @@ pub(crate) fn begin_all_each(kept: &mut [Kept], layout: &Layout, whose: Owner, c
     }
 }
 
-// The same in one statistic.
 fn begin_all_one(kept: &mut Kept, layout: &Layout, whose: Owner, count: i64, now: i64)
     requires now { pos 0 ≤ℤ now }
     requires room { HasRoom layout.now whose count kept.old }
@@ -366,7 +363,6 @@ pub(crate) fn end_each(kept: &mut [Kept], layout: &Layout, whose: Owner, entity:
     }
 }
 
-// The same in one statistic.
 #[inline(always)]
 fn end_one(kept: &mut Kept, layout: &Layout, whose: Owner, entity: i64, latest: i64)
     requires until { KeptUntil latest kept.old }

@@ -191,7 +191,7 @@ impl Histories {
         note_at(&mut self.kept, &mut self.latest, places, entity, now, value)
     }
 
-    /// The same of an attribute of a class.
+    /// Notes a value of an attribute of a class, as `note` does.
     #[inline(always)]
     pub fn note_attribute(
         &mut self,
@@ -213,7 +213,7 @@ impl Histories {
         note_at(&mut self.kept, &mut self.latest, places, entity, now, value)
     }
 
-    /// Where the only statistic of N. of a set stands, if the history of its owner in it takes a number: then noting one
+    /// The place of the only statistic of N. of a set, if the history of its owner in it takes a number: then noting one
     /// does not fail.
     #[inline(always)]
     pub fn taking(&self, set: usize, owner: i64, now: i64) -> Option<usize>

@@ -132,7 +132,7 @@ impl Kept {
         }
     }
 
-    /// Whether the history of an entity takes a number, as it is told at once.
+    /// Whether the history of an entity is known at once to take a number.
     #[inline(always)]
     pub(crate) fn takes(&self, entity: i64, now: i64) -> bool
         requires { IsUntil now (column_of self.now.rows) }

@@ -3,10 +3,10 @@
 
 mod about;
 mod each;
+mod ghost_history;
 mod histories;
 mod kept;
 mod table;
-mod told;
 mod unnoted;
 mod watched;
 

@@ -68,7 +68,7 @@ impl Table {
         }
     }
 
-    /// What stands under a number.
+    /// The numbers under a number.
     #[inline(always)]
     pub(crate) fn at(&self, key: usize) -> &[usize]
         ensures { result.now ≡ row_at self.now key }
@@ -130,7 +130,7 @@ impl Grid {
         self.tables.is_empty()
     }
 
-    /// What stands under a pair of numbers.
+    /// The numbers under a pair of numbers.
     #[inline(always)]
     pub(crate) fn at(&self, first: usize, second: usize) -> &[usize]
         ensures { result.now ≡ cell_at self.now first second }

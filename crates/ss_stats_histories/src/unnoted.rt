@@ -5,6 +5,6 @@
 pub enum Unnoted {
     /// A history takes no further value: the fault 14.
     Full,
-    /// There is no history, or the value is a text. No value of a well-typed program comes to it.
+    /// There is no history, or the value is a text. This never comes of a well-typed program.
     Misfit,
 }

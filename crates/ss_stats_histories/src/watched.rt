@@ -6,7 +6,7 @@ ghost use Rattle.ss_meaning.specs.Histories.{at_start};
 ghost use Rattle.ss_stats_histories.specs.Records.{figure_of, noted_value};
 ghost use Rattle.ss_stats.specs.History.{is_full, last_moment, mean_of, restarted};
 
-use crate::told::Told;
+use crate::ghost_history::GhostHistory;
 use ss_base::FaultKind;
 use ss_program::expression::Fold;
 use ss_program::sections::Weighting;
@@ -17,18 +17,18 @@ use std::marker::Model;
 #[derive(Drop)]
 pub(crate) struct Watched {
     totals: Totals,
-    told: Told,
+    ghost_history: GhostHistory,
 }
 
 impl Model for Watched {
     ghost use Rattle.ss_stats.specs.History.{History};
-    ghost use Rattle.ss_stats.specs.Summary.{StandsFor};
+    ghost use Rattle.ss_stats.specs.Summary.{IsSummaryOf};
 
     ghost Value = { History };
 
-    ghost view = { λ w. w.told.history };
+    ghost view = { λ w. w.ghost_history.history };
 
-    ghost invariant = { λ w. StandsFor w.totals w.told.history };
+    ghost invariant = { λ w. IsSummaryOf w.totals w.ghost_history.history };
 }
 
 impl Watched {
@@ -37,19 +37,19 @@ impl Watched {
         requires { pos 0 ≤ℤ now }
         ensures { result ≡ at_start weighting now }
     {
-        let mut told = Told::tally();
+        let mut ghost_history = GhostHistory::tally();
         match weighting {
             Weighting::Tally => {
                 Watched {
                     totals: Totals::tally(),
-                    told,
+                    ghost_history,
                 }
             }
             Weighting::Accumulate => {
-                told.accumulate(now, 0);
+                ghost_history.accumulate(now, 0);
                 Watched {
                     totals: Totals::accumulate(now, 0),
-                    told,
+                    ghost_history,
                 }
             }
         }
@@ -64,7 +64,7 @@ impl Watched {
         totals.note(now, 0).is_err()
     }
 
-    /// Whether it takes one more value, as it is told at once.
+    /// Whether it is known at once to take one more value.
     #[inline(always)]
     pub(crate) fn is_open(&self, now: i64) -> bool
         requires { last_moment self.now ≤ℤ now }
@@ -82,7 +82,7 @@ impl Watched {
         ensures same { result ≡ false → self.new ≡ self.old }
     {
         if self.totals.note(now, value).is_ok() {
-            self.told.note(now, value);
+            self.ghost_history.note(now, value);
             true
         } else {
             false
@@ -117,6 +117,6 @@ impl Watched {
         ensures { self.new ≡ restarted self.old now present }
     {
         self.totals.reset(now, present);
-        self.told.restart(now, present);
+        self.ghost_history.restart(now, present);
     }
 }

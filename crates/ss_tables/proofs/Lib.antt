@@ -1,3 +1,3 @@
-mod Stand
+mod Places
 pub mod Refused
 pub mod Made

@@ -7,7 +7,7 @@ ghost use Rattle.ss_tables_rules.specs.Broken.{refusal, refusal_by};
 ghost use Rattle.ss_names_declarations.specs.Firsts.{place_in};
 ghost use Rattle.ss_names.specs.Table.{declared};
 ghost use Rattle.ss_names_meaning.specs.Layouts.{layout};
-ghost use Rattle.ss_tables.specs.Tables.{AreTables, AreTablesOf, Tells};
+ghost use Rattle.ss_tables.specs.Tables.{AreTables, AreTablesOf, Reports};
 
 use crate::error::{TableError, error_of};
 use ss_base::Layout;
@@ -40,11 +40,11 @@ impl Model for Tables {
     ghost invariant = { λ t. AreTables t.names };
 }
 
-// The table of names of a program of which this is said and that has these sections, where it breaks no rule.
+// The table of names of a program with these sayings and sections, where it breaks no rule.
 fn names_of(alloc: Global, sayings: &[Saying], sections: &[Section]) -> Result<Names, TableError>
     ensures kept { OnOk result (refusal_by sayings.now (map view_section sections.now) ≡ None) }
     ensures made { IfOk result (λ names. names ≡ declared sayings.now) }
-    ensures refused { IfErr result (λ e. Tells e (refusal_by sayings.now (map view_section sections.now))) }
+    ensures refused { IfErr result (λ e. Reports e (refusal_by sayings.now (map view_section sections.now))) }
 {
     let seed = seed_of(sayings);
     match refusal_of(alloc, seed, sayings, sections)? {
@@ -61,7 +61,7 @@ impl Tables {
     /// with the line of the first place where it does; `Memory` where memory is refused.
     pub fn of(alloc: Global, program: &Program) -> Result<Tables, TableError>
         ensures made { IfOk result (λ t. AreTablesOf (view_program program.now) t) }
-        ensures refused { IfErr result (λ e. Tells e (refusal (view_program program.now))) }
+        ensures refused { IfErr result (λ e. Reports e (refusal (view_program program.now))) }
     {
         let sayings = sayings_of(alloc, program)?;
         let names = names_of(alloc, &sayings, &program.sections)?;

@@ -1,4 +1,4 @@
--- What is kept of classes, one saying at a time.
+-- The table of classes, one saying at a time.
 use Rattle.std.proofs.Common.{◌≡◌, ℕ, ◌+◌, ◌<◌, Bool, true, false, ◌&&◌, List, [], ◌∷◌, ◌++◌, length, get_or, take, cond, Option, Some, None, refl, sym, ap, subst, ◌∙◌}
 use Rattle.std.specs.List.{find}
 use Rattle.std.specs.Option.{option_or}
@@ -8,16 +8,16 @@ use Rattle.ss_names_declarations.specs.Sayings.{NameBytes}
 use Rattle.ss_tables_rules.specs.declared.topic.Topic.{Topic}
 use Rattle.ss_tables_rules.specs.declared.classes.Classes.{Classes}
 use Rattle.ss_tables_rules.specs.Classes.{kept_of, class_kept, class_said, AreClasses, KeepsClass}
-use Rattle.ss_tables_rules.specs.Topics.{Thing, same_thing, thing_of, is_about, is_said_by, class_in, class_told, class_of}
+use Rattle.ss_tables_rules.specs.Topics.{Thing, same_thing, thing_of, is_about, is_said_by, class_in, class_given, class_of}
 use Rattle.ss_tables_rules.proofs.Finding.{take_next}
 use Rattle.ss_tables_rules.proofs.Keeping.{same_is}
-use Rattle.ss_tables_rules.proofs.Telling.{first_none, entry_last, item_last, entry_known}
+use Rattle.ss_tables_rules.proofs.Declaring.{first_none, entry_last, item_last, entry_known}
 
--- the class of a thing of which none is kept
+-- the class of a thing that has none in the table
 pub keeps_new : (old new : Classes) (thing : Thing) (class : Option NameBytes) → new.map ≡ old.map ++ (thing, class) ∷ [] → KeepsClass thing class old new
 keeps_new old new thing class is = λ t. ap (lookup (same_thing t)) is ∙ entry_last (same_thing t) old.map thing class
 
--- the class of a thing of which one is kept
+-- the class of a thing that has one in the table
 pub keeps_known : (old : Classes) (thing : Thing) (class known : Option NameBytes) → kept_of old thing ≡ Some known → KeepsClass thing class old old
 keeps_known old thing class known some = λ t. entry_known same_thing same_is old.map thing t class known (same_thing t thing) refl some
 
@@ -44,10 +44,10 @@ class_passed topic s old e says h = λ t. h t ∙ first_none (class_said (find (
 pub next_class : (topic : Topic) (xs : List Saying) (i : ℕ) (x : Saying) (old new : Classes) → i < length xs → x ≡ get_or xs i x → AreClasses topic (take i xs) old → ((says : List Saying) → AreClasses topic says old → AreClasses topic (says ++ x ∷ []) new) → AreClasses topic (take (i + 1) xs) new
 next_class topic xs i x old new lt is h note = subst (λ (l : List Saying). AreClasses topic l new) (sym (take_next xs i x lt is)) (note (take i xs) h)
 
-kept_told : (o : Option Saying) → class_kept (class_said o) ≡ class_told o
-kept_told None = refl
-kept_told (Some s) = refl
+kept_is_given : (o : Option Saying) → class_kept (class_said o) ≡ class_given o
+kept_is_given None = refl
+kept_is_given (Some s) = refl
 
--- the class that is kept is the one that is told
+-- the class in the table is the one that the first saying gives
 pub class_is : (topic : Topic) (says : List Saying) (c : Classes) (t : Thing) → AreClasses topic says c → class_kept (kept_of c t) ≡ class_of topic says t
-class_is topic says c t h = ap class_kept (h t) ∙ kept_told (find (is_said_by topic t) says)
+class_is topic says c t h = ap class_kept (h t) ∙ kept_is_given (find (is_said_by topic t) says)

@@ -1,4 +1,4 @@
--- What is kept of numbers of attributes, one saying at a time.
+-- The counts of attributes, one saying at a time.
 use Rattle.std.proofs.Common.{◌≡◌, ℕ, ◌+◌, ◌<◌, min, Bool, true, false, List, [], ◌∷◌, ◌++◌, length, get_or, take, cond, Option, Some, refl, sym, ap, subst, ◌∙◌, arith, add-zero}
 use Rattle.std.specs.List.{count_by}
 use Rattle.std.specs.Option.{option_eq}
@@ -26,21 +26,21 @@ other_class a b true e h =
     absurd (let back : same_name a b ≡ true = (bytes_decides a b).1 (sym ((bytes_decides b a).0 e)) in cc)
 
 counted_if : (says : List Saying) (s : Saying) (class other : NameBytes) (kept : NameBytes → ℕ) (same : Bool) → attribute_class s.said ≡ Some class → same_name class other ≡ same → ((c : NameBytes) → kept c ≡ min 64 (count_by (is_of c) says)) → cond same (min 64 (kept class + 1)) (kept other) ≡ min 64 (count_by (is_of other) (says ++ s ∷ []))
-counted_if says s class other kept true told e h =
+counted_if says s class other kept true is_given e h =
     let is = (bytes_decides class other).0 e in
     let P : NameBytes → Type 0 = λ c. min 64 (kept class + 1) ≡ min 64 (count_by (is_of c) (says ++ s ∷ [])) in
     let k = h class in
-    let n = count_last (is_of class) says s true (ap (λ o. option_eq same_name (Some class) o) told ∙ (bytes_decides class class).1 refl) in
+    let n = count_last (is_of class) says s true (ap (λ o. option_eq same_name (Some class) o) is_given ∙ (bytes_decides class class).1 refl) in
     let here : min 64 (kept class + 1) ≡ min 64 (count_by (is_of class) (says ++ s ∷ [])) = omega (arith, k, n) in
     subst P is here
-counted_if says s class other kept false told e h =
-    let n = count_last (is_of other) says s false (ap (λ o. option_eq same_name (Some other) o) told ∙ other_class class other (same_name other class) refl e) in
+counted_if says s class other kept false is_given e h =
+    let n = count_last (is_of other) says s false (ap (λ o. option_eq same_name (Some other) o) is_given ∙ other_class class other (same_name other class) refl e) in
     h other ∙ ap (min 64) (sym (add-zero (count_by (is_of other) says))) ∙ ap (min 64) (sym n)
 
 -- an attribute of this class
 pub counted : (says : List Saying) (s : Saying) (class : NameBytes) (old new : Counts) → attribute_class s.said ≡ Some class → CountsOne class old new → AreCounts says old → AreCounts (says ++ s ∷ []) new
-counted says s class old new told one h =
-    λ other. one other ∙ counted_if says s class other (count_of old) (same_name class other) told refl h
+counted says s class old new is_given one h =
+    λ other. one other ∙ counted_if says s class other (count_of old) (same_name class other) is_given refl h
 
 -- ---- the next of some sayings
 

@@ -1,6 +1,6 @@
 pub mod Finding
 pub mod Keeping
-pub mod Telling
+pub mod Declaring
 pub mod Classing
 pub mod Listing
 pub mod Ranking

@@ -1,4 +1,4 @@
--- What is kept of members, one saying at a time.
+-- The classes of members, one saying at a time.
 use Rattle.std.proofs.Common.{◌≡◌, ℕ, ◌+◌, ◌<◌, nat_eq, Bool, true, false, ◌&&◌, ◌||◌, List, [], ◌∷◌, ◌++◌, length, get_or, take, cond, Option, Some, refl, sym, ap, subst, ◌∙◌}
 use Rattle.std.specs.List.{list_any}
 use Rattle.std.proofs.lemmas.Bool.{eqb-true, eq-eqb}
@@ -28,9 +28,9 @@ either statement other f x old false e h =
 
 -- a set that a DEFINE names, whose members are of this class
 pub ranked : (all says : List Saying) (s : Saying) (statement : ℕ) (rule : SetRule) (class : NameBytes) (old new : Ranks) → s.said ≡ said.Discipline statement rule → class_of topics.Member all (thing_of s) ≡ Some class → ((other : ℕ) (key : Option NameBytes) → is_foreign_to (members_of new other) key ≡ cond (nat_eq statement other) (is_foreign_to (members_of old statement) key || is_foreign key (Some class)) (is_foreign_to (members_of old other) key)) → AreRanks all says old → AreRanks all (says ++ s ∷ []) new
-ranked all says s statement rule class old new is told add h =
+ranked all says s statement rule class old new is is_given add h =
     λ other key. add other key ∙ either statement other (λ n. is_foreign_to (members_of old n) key) (is_foreign key (Some class)) (list_any (misranks all other key) says) (nat_eq statement other) refl (h other key) ∙
-    sym (any_last (misranks all other key) says s ∙ (λ i. list_any (misranks all other key) says || (defines other (is i) && is_foreign key (told i))))
+    sym (any_last (misranks all other key) says s ∙ (λ i. list_any (misranks all other key) says || (defines other (is i) && is_foreign key (is_given i))))
 
 -- the next of some sayings
 pub next_ranked : (all xs : List Saying) (i : ℕ) (x : Saying) (old new : Ranks) → i < length xs → x ≡ get_or xs i x → AreRanks all (take i xs) old → ((says : List Saying) → AreRanks all says old → AreRanks all (says ++ x ∷ []) new) → AreRanks all (take (i + 1) xs) new

@@ -19,7 +19,7 @@ use Rattle.ss_tables_rules.specs.TallyTwice.{tally_twice}
 use Rattle.ss_tables_rules.specs.TooMany.{too_many}
 use Rattle.ss_tables_rules.specs.TieKey.{tie_key}
 
--- the lines where a rule is broken by what is said, and by what stands in the sections
+-- the lines where declarations and sections break a rule
 abbrev pub broken_by : List Saying → List SectionTree → Rule → List Line
 broken_by says sections rules.Twice = twice says
 broken_by says sections rules.RealMode = real_mode says sections
@@ -54,9 +54,9 @@ in_order =
     ∷ []
 
 -- a rule with the line where it is broken first, where there is one
-abbrev pub told : Rule → Option Line → Option Broken
-told rule None = None
-told rule (Some line) = Some (record { rule = rule; line = line })
+abbrev pub broken_at : Rule → Option Line → Option Broken
+broken_at rule None = None
+broken_at rule (Some line) = Some (record { rule = rule; line = line })
 
 -- the first of two, where there is one
 abbrev pub first_of : Option Broken → Option Broken → Option Broken
@@ -67,11 +67,11 @@ first_of (Some b) rest = Some b
 abbrev pub first_broken : List Saying → List SectionTree → List Rule → Option Broken
 first_broken says sections [] = None
 first_broken says sections (rule ∷ rules) =
-    first_of (told rule (first_line (broken_by says sections rule))) (first_broken says sections rules)
+    first_of (broken_at rule (first_line (broken_by says sections rule))) (first_broken says sections rules)
 
 abbrev pub refusal_by : List Saying → List SectionTree → Option Broken
 refusal_by says sections = first_broken says sections in_order
 
--- the first rule that a program breaks, at the first line where it does; none where it keeps them all
+-- the first rule that a program breaks, at the first line where it does; none where it breaks none
 abbrev pub refusal : ProgramTree → Option Broken
 refusal p = refusal_by (sayings p) p.sections

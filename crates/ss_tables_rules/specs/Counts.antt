@@ -1,4 +1,4 @@
--- What the code keeps of numbers of attributes.
+-- The counts of attributes that the code fills.
 use Rattle.std.specs.Prelude.{◌≡◌, ℕ, ◌+◌, cond, min, List, Option, Some, None}
 use Rattle.std.specs.List.{count_by}
 use Rattle.std.specs.Map.{lookup}
@@ -12,11 +12,11 @@ abbrev pub number_kept : Option ℕ → ℕ
 number_kept None = 0
 number_kept (Some n) = n
 
--- the number that is kept of a class
+-- the count of a class
 abbrev pub count_of : Counts → NameBytes → ℕ
 count_of c class = number_kept (lookup (same_name class) c.map.entries)
 
--- of each class the number of its attributes is kept, up to 64
+-- the count of each class is the number of its attributes, up to 64
 abbrev pub AreCounts : List Saying → Counts → Type 0
 AreCounts says c = (class : NameBytes) → count_of c class ≡ min 64 (count_by (is_of class) says)
 

@@ -1,4 +1,4 @@
--- The names that a program declares for the whole of it, and what they stand for.
+-- The global names that a program declares, and the kind of each.
 use Rattle.std.specs.Prelude.{ℕ, Bool, List, [], ◌∷◌, Option, Some, None, if◌then◌else◌}
 use Rattle.std.specs.List.{find, flat_map}
 use Rattle.ss_base.specs.declared.line.Line.{Line}
@@ -14,7 +14,7 @@ use Rattle.ss_tables_rules.specs.declared.globals.Standing.TheVariants.{Variable
 use Rattle.ss_names_declarations.specs.Firsts.{same_name}
 use Rattle.ss_tables_rules.specs.Topics.{global, is_said}
 
--- a name that is declared, what it stands for, and the line
+-- a name that is declared, its kind, and the line
 pub record Declaration : Type 0 where
   pub name : NameBytes
   pub standing : Standing
@@ -48,7 +48,7 @@ class_declares line class_kinds.Permanent class = declaration line Class class �
 class_declares line class_kinds.Temporary class = declaration line Class class ∷ []
 class_declares line class_kinds.EventNotice class = declaration line Class class ∷ []
 
--- What is declared by what is said of a name, where this tells the attributes. A DEFINE as a variable of an attribute
+-- What is declared by what is said of a name, where `is_attribute` finds the attributes. A DEFINE as a variable of an attribute
 -- gives its mode and declares nothing; a DEFINE as a set declares nothing.
 abbrev pub said_declares : (NameBytes → Bool) → Line → Said → NameBytes → List Declaration
 said_declares is_attribute line (said.Class kind) name = class_declares line kind name
@@ -77,15 +77,15 @@ is_attribute says name = is_said topics.Attribute says (global name)
 abbrev pub declarations : List Saying → List Declaration
 declarations says = flat_map (saying_declares (is_attribute says)) says
 
--- ---- what a name stands for
+-- ---- the kind of a name
 
 abbrev pub declares : NameBytes → Declaration → Bool
 declares name d = same_name name d.name
 
-abbrev pub standing_told : Option Declaration → Option Standing
-standing_told None = None
-standing_told (Some d) = Some d.standing
+abbrev pub standing_declared : Option Declaration → Option Standing
+standing_declared None = None
+standing_declared (Some d) = Some d.standing
 
--- what a name stands for, by the first of some declarations of it
+-- the kind of a name, by the first of some declarations of it
 abbrev pub standing_of : List Declaration → NameBytes → Option Standing
-standing_of ds name = standing_told (find (declares name) ds)
+standing_of ds name = standing_declared (find (declares name) ds)

@@ -125,7 +125,7 @@ set_with_owner_and_members = refl
 pub set_after_a_variable : refusal (declares (integers ∷ variable 2 pool ∷ class 3 job (belongs_to (names1 pool) ∷ []) ∷ system_pool 4 ∷ [])) ≡ at Twice 3
 set_after_a_variable = refl
 
--- a variable F.POOL behind the first clause of the set POOL, whichever it is
+-- a variable F.POOL after the first clause of the set POOL, whichever it is
 pub derived_name_of_a_set : refusal (declares (integers ∷ class 2 job (belongs_to (names1 pool) ∷ []) ∷ variable 3 (codes "F.POOL") ∷ system_pool 4 ∷ [])) ≡ at Twice 3
 derived_name_of_a_set = refl
 
@@ -230,11 +230,11 @@ parameter_named_like_an_attribute = refl
 pub hidden_count : refusal (with_sections (integers ∷ every (line 2) Permanent job [] ∷ []) (section 4 main (local 5 (codes "N.JOB") Integer ∷ []) [] ∷ [])) ≡ at Twice 5
 hidden_count = refl
 
--- the DEFINE breaks the rule, though the routine comes behind it
+-- the DEFINE breaks the rule, though the routine comes after it
 pub hidden_routine : refusal (with_sections [] (section 1 main (local 2 x Integer ∷ []) [] ∷ section 4 (routine x [] []) [] [] ∷ [])) ≡ at Twice 2
 hidden_routine = refl
 
--- what a name stands for first counts: a variable may be hidden, and the routine breaks the rule
+-- the first declaration of a name counts: a variable may be hidden, and the routine breaks the rule
 pub hidden_variable_and_routine : refusal (with_sections (variable 1 x ∷ []) (section 3 main (local 4 x Integer ∷ []) [] ∷ section 6 (routine x [] []) [] [] ∷ [])) ≡ at Twice 6
 hidden_variable_and_routine = refl
 
@@ -246,12 +246,12 @@ real_variable = refl
 pub real_local : refusal (with_sections (integers ∷ []) (section 3 main (local 4 x Real ∷ []) [] ∷ [])) ≡ at RealMode 4
 real_local = refl
 
--- NORMALLY gives the mode, wherever it stands; without it, or where it says REAL, a DEFINE does
+-- NORMALLY gives the mode, wherever it is; without it, or where it says REAL, a DEFINE does
 pub attribute_without_mode : refusal (declares (temporary_entities (line 1) ∷ class 2 job (has (names1 rank) ∷ []) ∷ [])) ≡ at RealMode 2
 attribute_without_mode = refl
 
-pub attribute_with_mode_behind_it : refusal (declares (class 2 job (has (names1 rank) ∷ []) ∷ normally (line 3) Alpha ∷ [])) ≡ None
-attribute_with_mode_behind_it = refl
+pub attribute_with_mode_after_it : refusal (declares (class 2 job (has (names1 rank) ∷ []) ∷ normally (line 3) Alpha ∷ [])) ≡ None
+attribute_with_mode_after_it = refl
 
 pub attribute_of_real_mode : refusal (declares (normally (line 1) Real ∷ class 2 job (has (names1 rank) ∷ []) ∷ [])) ≡ at RealMode 2
 attribute_of_real_mode = refl
@@ -289,7 +289,7 @@ reset_without_mode = refl
 pub loop_variable_without_mode : refusal (with_sections [] (section 1 main [] (loop_statement (line 2) (for_head (over_range x one one None [])) no_statement ∷ []) ∷ [])) ≡ at RealMode 2
 loop_variable_without_mode = refl
 
--- FOR EACH X: X stands for a class, and CALLED Y is a loop's name
+-- FOR EACH X: X is a class, and CALLED Y is a loop's name
 pub class_of_a_loop : refusal (with_sections [] (section 1 main [] (loop_statement (line 2) (for_head (over_class x None [])) no_statement ∷ []) ∷ [])) ≡ None
 class_of_a_loop = refl
 

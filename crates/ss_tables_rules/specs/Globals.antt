@@ -1,4 +1,4 @@
--- What the code keeps of declarations.
+-- The table of global names that the code fills.
 use Rattle.std.specs.Prelude.{◌≡◌, List, ◌++◌, Option}
 use Rattle.std.specs.Map.{lookup}
 use Rattle.ss_names_declarations.specs.Sayings.{NameBytes}
@@ -9,15 +9,15 @@ use Rattle.ss_tables_rules.specs.Lines.{first_line}
 use Rattle.ss_names_declarations.specs.Firsts.{same_name}
 use Rattle.ss_tables_rules.specs.Twice.{clashes}
 
--- what is found of a name
+-- the kind that is found by a name
 abbrev pub found_in : Globals → NameBytes → Option Standing
 found_in g name = lookup (same_name name) g.map
 
--- what is kept is what each name stands for by some declarations, and the first line where they clash
-pub record Tells (ds : List Declaration) (g : Globals) : Type 0 where
+-- the table has the kind of each name by some declarations, and the first line where they clash
+pub record IsGlobalsOf (ds : List Declaration) (g : Globals) : Type 0 where
   pub standing : (name : NameBytes) → found_in g name ≡ standing_of ds name
   pub clash : g.clash ≡ first_line (clashes ds)
 
 -- some declarations were added
 abbrev pub Adds : List Declaration → Globals → Globals → Type 0
-Adds more old new = (ds : List Declaration) → Tells ds old → Tells (ds ++ more) new
+Adds more old new = (ds : List Declaration) → IsGlobalsOf ds old → IsGlobalsOf (ds ++ more) new

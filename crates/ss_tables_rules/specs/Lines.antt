@@ -25,12 +25,12 @@ line_if false line = []
 abbrev pub lines_where : {A : Type 0} → (A → Line) → (A → Bool) → List A → List Line
 lines_where line_of test items = flat_map (λ x. line_if (test x) (line_of x)) items
 
--- the lines of the items that pass a test with the items before them, of which the first stand behind some
-abbrev pub lines_behind : {A : Type 0} → (A → Line) → (List A → A → Bool) → List A → List A → List Line
-lines_behind line_of test before [] = []
-lines_behind line_of test before (x ∷ xs) =
-    line_if (test before x) (line_of x) ++ lines_behind line_of test (before ++ x ∷ []) xs
+-- the lines of the items that pass a test with the items before them: some items, then the earlier ones of the list
+abbrev pub lines_after : {A : Type 0} → (A → Line) → (List A → A → Bool) → List A → List A → List Line
+lines_after line_of test before [] = []
+lines_after line_of test before (x ∷ xs) =
+    line_if (test before x) (line_of x) ++ lines_after line_of test (before ++ x ∷ []) xs
 
 -- the lines of the items that pass a test with all the items before them
 abbrev pub later_lines : {A : Type 0} → (A → Line) → (List A → A → Bool) → List A → List Line
-later_lines line_of test items = lines_behind line_of test [] items
+later_lines line_of test items = lines_after line_of test [] items

@@ -1,4 +1,4 @@
--- Rules on what is said of a thing of which something else must be said as well.
+-- Rules by which one declaration of a thing needs another one of it.
 use Rattle.std.specs.Prelude.{Bool, not, ◌&&◌, List}
 use Rattle.ss_base.specs.declared.line.Line.{Line}
 use Rattle.ss_names_declarations.specs.declared.saying.Saying.{Saying}

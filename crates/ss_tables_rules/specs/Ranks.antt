@@ -1,4 +1,4 @@
--- What the code keeps of the classes of members.
+-- The classes of members that the code records.
 use Rattle.std.specs.Prelude.{◌≡◌, ℕ, nat_eq, Bool, true, false, not, List, Option, Some, None}
 use Rattle.std.specs.List.{list_any}
 use Rattle.std.specs.Option.{option_eq}
@@ -20,6 +20,6 @@ is_foreign_to (Some Several) key = true
 abbrev pub members_of : Ranks → ℕ → Option Members
 members_of r number = lookup (nat_eq number) r.map.entries
 
--- of each DEFINE the classes of its sets' members are kept, as far as keys may be foreign to them
+-- each DEFINE has the classes of its sets' members, as far as keys may be foreign to them
 abbrev pub AreRanks : List Saying → List Saying → Ranks → Type 0
 AreRanks all says r = (number : ℕ) (key : Option NameBytes) → is_foreign_to (members_of r number) key ≡ list_any (misranks all number key) says

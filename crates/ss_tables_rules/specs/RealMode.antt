@@ -27,7 +27,7 @@ gives_mode (said.Normally modes.Integer) = true
 gives_mode (said.Normally modes.Alpha) = true
 gives_mode _ = false
 
--- whether NORMALLY gives a mode to the names that have none, wherever it stands
+-- whether NORMALLY gives a mode to the names that have none, wherever it is
 abbrev pub has_usual_mode : List Saying → Bool
 has_usual_mode says = list_any (λ (s : Saying). gives_mode s.said) says
 

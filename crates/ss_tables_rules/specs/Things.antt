@@ -1,4 +1,4 @@
--- What the code keeps of sayings.
+-- The set of things that the code fills.
 use Rattle.std.specs.Prelude.{◌≡◌, Bool, List, [], ◌∷◌, ◌++◌, if◌then◌else◌}
 use Rattle.std.specs.List.{list_any}
 use Rattle.ss_names_declarations.specs.declared.saying.Saying.{Saying}

@@ -11,7 +11,7 @@ use Rattle.ss_tables_rules.specs.Lines.{lines_where}
 use Rattle.ss_names_declarations.specs.Firsts.{same_name}
 use Rattle.ss_tables_rules.specs.Topics.{thing_of, line_of, class_of}
 
--- whether what is said is of a key that isn't an attribute of this class
+-- whether this is a key of a BREAK whose class isn't this one
 abbrev pub is_bad_tie : Said → Option NameBytes → Bool
 is_bad_tie (said.TieKey class high) key = not (option_eq same_name (Some class) key)
 is_bad_tie _ key = false

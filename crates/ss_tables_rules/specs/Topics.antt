@@ -1,4 +1,4 @@
--- What sayings are about, and what of.
+-- The topic of a saying, and the thing that it is of.
 use Rattle.std.specs.Prelude.{ℕ, nat_eq, Bool, true, false, ◌&&◌, List, Option, Some, None}
 use Rattle.std.specs.Option.{option_eq}
 use Rattle.std.specs.List.{find, list_any}
@@ -12,7 +12,7 @@ use Rattle.ss_names_declarations.specs.Sayings.{NameBytes}
 use Rattle.ss_tables_rules.specs.declared.topic.Topic.{Topic}
 use Rattle.ss_tables_rules.specs.declared.topic.Topic.TheVariants as topics
 
--- whether what is said is about this
+-- whether a saying has this topic
 abbrev pub is_about : Topic → Said → Bool
 is_about topics.Normally (said.Normally mode) = true
 is_about topics.Class (said.Class kind) = true
@@ -41,7 +41,7 @@ is_about _ _ = false
 abbrev pub line_of : Saying → Line
 line_of s = s.line
 
--- ---- what is spoken of
+-- ---- the thing that a saying is of
 
 -- A name in the section of this number, or in the whole program, with 0 for a number; or nothing that has a name.
 abbrev pub Thing : Type 0
@@ -65,7 +65,7 @@ thing_of s = (section_of s.said, s.name)
 abbrev pub same_thing : Thing → Thing → Bool
 same_thing a b = nat_eq a.0 b.0 && option_eq (pointwise nat_eq) a.1 b.1
 
--- ---- what is said of it
+-- ---- sayings about a thing
 
 -- whether a saying is about this and of that thing
 abbrev pub is_said_by : Topic → Thing → Saying → Bool
@@ -75,17 +75,17 @@ is_said_by topic thing s = is_about topic s.said && same_thing thing (thing_of s
 abbrev pub is_said : Topic → List Saying → Thing → Bool
 is_said topic says thing = list_any (is_said_by topic thing) says
 
--- the class of which something is said
+-- the class that a saying gives
 abbrev pub class_in : Said → Option NameBytes
 class_in (said.Attribute class) = Some class
 class_in (said.MemberSet class) = Some class
 class_in _ = None
 
--- the class that the first of some sayings tells of a name
-abbrev pub class_told : Option Saying → Option NameBytes
-class_told None = None
-class_told (Some s) = class_in s.said
+-- the class that a saying gives, if there is one
+abbrev pub class_given : Option Saying → Option NameBytes
+class_given None = None
+class_given (Some s) = class_in s.said
 
--- the class of an attribute, or of the members of a set: that of the first saying that tells it
+-- the class of an attribute, or of the members of a set: that of the first saying that gives it
 abbrev pub class_of : Topic → List Saying → Thing → Option NameBytes
-class_of topic says thing = class_told (find (is_said_by topic thing) says)
+class_of topic says thing = class_given (find (is_said_by topic thing) says)

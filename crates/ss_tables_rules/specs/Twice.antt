@@ -13,7 +13,7 @@ use Rattle.ss_tables_rules.specs.Topics.{Thing, thing_of, line_of, is_about, is_
 
 -- ---- names that are declared twice
 
--- Whether a name that stands for one thing is declared as another. The owner of a set and its members' class both
+-- Whether a name of one kind is declared as another. The owner of a set and its members' class both
 -- declare the set and its derived names.
 abbrev pub is_another : Option Standing → Standing → Bool
 is_another None new = false
@@ -74,7 +74,7 @@ sets_again says =
 abbrev pub modes_again : List Saying → List Line
 modes_again says = again topics.Variable (is_said topics.Attribute says) says
 
--- NORMALLY, PRIORITY ORDER or MAIN stands twice
+-- NORMALLY, PRIORITY ORDER or MAIN is there twice
 abbrev pub statements_again : List Saying → List Line
 statements_again says =
     again topics.Normally anything says ++ again topics.PriorityOrder anything says ++ again topics.Main anything says

@@ -2,9 +2,9 @@
 
 ghost use Rattle.std.specs.Prelude.{◌≡◌, map, IfOk};
 ghost use Rattle.ss_tree.specs.View.{view_section};
-ghost use Rattle.ss_tables_rules.specs.Broken.{broken_by, told, first_of, first_broken, refusal_by};
+ghost use Rattle.ss_tables_rules.specs.Broken.{broken_by, broken_at, first_of, first_broken, refusal_by};
 ghost use Rattle.ss_tables_rules.specs.Declarations.{declarations};
-ghost use Rattle.ss_tables_rules.specs.Globals.{Tells};
+ghost use Rattle.ss_tables_rules.specs.Globals.{IsGlobalsOf};
 ghost use Rattle.ss_tables_rules.specs.Lines.{first_line};
 
 use crate::globals::{Globals, globals_of};
@@ -27,7 +27,7 @@ fn place_of(
     sayings: &[Saying],
     sections: &[Section],
 ) -> Result<Option<Line>, AllocError>
-    requires { Tells (declarations sayings.now) globals.now }
+    requires { IsGlobalsOf (declarations sayings.now) globals.now }
     ensures { IfOk result (λ line. line ≡ first_line (broken_by sayings.now (map view_section sections.now) rule)) }
 {
     match rule {
@@ -45,8 +45,8 @@ fn place_of(
 }
 
 /// A rule with the line where it is broken first.
-fn told(rule: Rule, line: Option<Line>) -> Option<Broken>
-    ensures { result ≡ told rule line }
+fn broken_at(rule: Rule, line: Option<Line>) -> Option<Broken>
+    ensures { result ≡ broken_at rule line }
 {
     match line {
         None => None,
@@ -63,14 +63,14 @@ fn or_broken(
     sections: &[Section],
     found: Option<Broken>,
 ) -> Result<Option<Broken>, AllocError>
-    requires { Tells (declarations sayings.now) globals.now }
-    ensures { IfOk result (λ b. b ≡ first_of found (told rule (first_line (broken_by sayings.now (map view_section sections.now) rule)))) }
+    requires { IsGlobalsOf (declarations sayings.now) globals.now }
+    ensures { IfOk result (λ b. b ≡ first_of found (broken_at rule (first_line (broken_by sayings.now (map view_section sections.now) rule)))) }
 {
     match found {
         Some(broken) => Ok(Some(broken)),
         None => {
             let line = place_of(alloc, globals, rule, sayings, sections)?;
-            Ok(told(rule, line))
+            Ok(broken_at(rule, line))
         }
     }
 }
@@ -83,7 +83,7 @@ fn first_broken(
     sayings: &[Saying],
     sections: &[Section],
 ) -> Result<Option<Broken>, AllocError>
-    requires { Tells (declarations sayings.now) globals.now }
+    requires { IsGlobalsOf (declarations sayings.now) globals.now }
     ensures { IfOk result (λ b. b ≡ first_broken sayings.now (map view_section sections.now) rules.now) }
 {
     let mut found = None;
@@ -94,8 +94,8 @@ fn first_broken(
 }
 
 /// The first rule that a program breaks by what it declares, in the order of the rules' numbers, with the
-/// first line where it does; None where it keeps them all. The sayings are those of the program
-/// (`sayings_of` of ss_names_declarations), the seed is made from them (`seed_of` of ss_tables_rules), the sections are its sections.
+/// first line where it does; None where it breaks none. The sayings are those of the program
+/// (`sayings_of` of ss_names_declarations), the seed is made from them (`seed_of`), the sections are its sections.
 ///
 /// # Errors
 /// `AllocError` where memory is refused.

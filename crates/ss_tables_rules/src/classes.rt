@@ -40,7 +40,7 @@ impl Classes {
         }
     }
 
-    /// Keeps the class of a thing, unless one is kept.
+    /// Enters the class of a thing, unless it has an entry.
     fn add(&mut self, thing: Thing, class: Option<Name>) -> Result<(), AllocError>
         ensures { OnOk result (KeepsClass thing class self.old self.new) }
     {
@@ -53,7 +53,7 @@ impl Classes {
         Ok(())
     }
 
-    /// Keeps the class that a saying tells, where it is about this.
+    /// Enters the class that a saying gives, where it is about this.
     fn note(&mut self, topic: Topic, saying: &Saying) -> Result<(), AllocError>
         ensures { OnOk result ((says : List Saying) → AreClasses topic says self.old → AreClasses topic (says ++ saying.now ∷ []) self.new) }
     {
@@ -64,7 +64,7 @@ impl Classes {
     }
 }
 
-/// The classes that sayings about this tell, each the first.
+/// The classes that sayings about this give: for each thing that of the first one.
 pub fn classes_said(
     alloc: Global,
     seed: Seed,

@@ -1,4 +1,4 @@
-//! What the global names of a program stand for.
+//! The global names of a program, and the kind of each.
 
 ghost use Rattle.std.specs.Prelude.{◌≡◌, ◌++◌, ◌∷◌, [], List, OnOk, IfOk};
 ghost use Rattle.std.specs.List.{flat_map};
@@ -8,7 +8,7 @@ ghost use Rattle.ss_tables_rules.specs.Declarations.{Declaration, declaration, d
 ghost use Rattle.ss_tables_rules.specs.Lines.{soonest, line_if};
 ghost use Rattle.ss_tables_rules.specs.Things.{has_global};
 ghost use Rattle.ss_tables_rules.specs.Twice.{is_another, may_hide};
-ghost use Rattle.ss_tables_rules.specs.Globals.{Tells, Adds, found_in};
+ghost use Rattle.ss_tables_rules.specs.Globals.{IsGlobalsOf, Adds, found_in};
 
 use crate::lines::sooner_if;
 use crate::things::{Things, things_said};
@@ -18,7 +18,7 @@ use ss_names_declarations::{Said, Saying, Seed, Spelling, Table};
 use ss_tree::preamble::ClassKind;
 use std::alloc::{AllocError, Global};
 
-/// What a global name stands for.
+/// The kind of a global name.
 #[derive(Clone, Copy)]
 pub enum Standing {
     /// A variable made by a DEFINE.
@@ -33,7 +33,7 @@ pub enum Standing {
     Other,
 }
 
-/// Whether a name that stands for one thing is declared as another.
+/// Whether a name of one kind is declared as another.
 fn is_another(old: Option<Standing>, new: Standing) -> bool
     ensures { result ≡ is_another old new }
 {
@@ -45,7 +45,7 @@ fn is_another(old: Option<Standing>, new: Standing) -> bool
     }
 }
 
-/// Whether a parameter or a local variable may have the name of such a thing.
+/// Whether a parameter or a local variable may have a global name of this kind.
 pub fn may_hide(standing: Option<Standing>) -> bool
     ensures { result ≡ may_hide standing }
 {
@@ -57,7 +57,7 @@ pub fn may_hide(standing: Option<Standing>) -> bool
     }
 }
 
-/// The names that are declared, each with what it stands for by its first declaration, and the first line
+/// The names that are declared, each with its kind by its first declaration, and the first line
 /// where one is declared as another thing.
 #[derive(Drop)]
 pub struct Globals {
@@ -67,7 +67,7 @@ pub struct Globals {
 
 impl Globals {
     fn new(alloc: Global, seed: Seed) -> Globals
-        ensures { Tells [] result }
+        ensures { IsGlobalsOf [] result }
     {
         Globals {
             map: Table::new(alloc, seed),
@@ -93,7 +93,7 @@ impl Globals {
         self.map.get(&name).copied()
     }
 
-    /// What a name stands for.
+    /// The kind of a name.
     pub(crate) fn standing(&self, name: &Name) -> Option<Standing>
         ensures { result ≡ found_in self.now name.now }
     {
@@ -148,7 +148,7 @@ impl Globals {
         }
     }
 
-    /// Declares what is declared by what is said of a name.
+    /// Enters the declarations that a saying of this name makes.
     fn declare_said(
         &mut self,
         attributes: &Things,
@@ -196,7 +196,7 @@ fn globals_with(
     attributes: &Things,
     sayings: &[Saying],
 ) -> Result<Globals, AllocError>
-    ensures { IfOk result (Tells (flat_map (saying_declares (has_global attributes.now)) sayings.now)) }
+    ensures { IfOk result (IsGlobalsOf (flat_map (saying_declares (has_global attributes.now)) sayings.now)) }
 {
     let mut globals = Globals::new(alloc, seed);
     for saying in sayings {
@@ -210,7 +210,7 @@ fn globals_with(
 /// # Errors
 /// `AllocError` where memory is refused.
 pub fn globals_of(alloc: Global, seed: Seed, sayings: &[Saying]) -> Result<Globals, AllocError>
-    ensures { IfOk result (Tells (declarations sayings.now)) }
+    ensures { IfOk result (IsGlobalsOf (declarations sayings.now)) }
 {
     let attributes = things_said(alloc, seed, Topic::Attribute, sayings)?;
     globals_with(alloc, seed, &attributes, sayings)

@@ -23,7 +23,7 @@ fn push_if(lines: &mut Vec<Line>, test: bool, line: Line) -> Result<(), AllocErr
     Ok(())
 }
 
-/// The lines of the classes, in the order in which they are said.
+/// The lines of the classes, in the order of the sayings.
 ///
 /// # Errors
 /// `AllocError` where memory is refused.
@@ -48,7 +48,7 @@ fn is_new_set(before: &Things, saying: &Saying) -> bool
     is_about(Topic::Set, &saying.said) && !before.has(thing_of(saying))
 }
 
-/// The lines where the sets are named first, in the order in which they are said.
+/// The lines where the sets are named first, in the order of the sayings.
 ///
 /// # Errors
 /// `AllocError` where memory is refused.

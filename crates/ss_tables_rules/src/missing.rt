@@ -1,4 +1,4 @@
-//! What is said of a thing of which something else must be said as well.
+//! Rules by which one declaration of a thing needs another one of it.
 
 ghost use Rattle.std.specs.Prelude.{◌≡◌, ◌&&◌, not, IfOk};
 ghost use Rattle.ss_names_declarations.specs.declared.saying.Saying.{Saying};
@@ -37,7 +37,7 @@ pub fn missing(
     Ok(missing_among(topic, &things, sayings, found))
 }
 
-/// The same, where these are the things of which a saying is about the other.
+/// What was found so far, or the first line of a saying about the one, of none of these things.
 fn missing_among(
     topic: Topic,
     things: &Things,

@@ -5,7 +5,7 @@ ghost use Rattle.ss_tree.specs.View.{view_section};
 ghost use Rattle.ss_names_declarations.specs.declared.saying.Saying.{Saying};
 ghost use Rattle.ss_tables_rules.specs.declared.topic.Topic.TheVariants as topics;
 ghost use Rattle.ss_tables_rules.specs.Declarations.{declarations};
-ghost use Rattle.ss_tables_rules.specs.Globals.{Tells};
+ghost use Rattle.ss_tables_rules.specs.Globals.{IsGlobalsOf};
 ghost use Rattle.ss_tables_rules.specs.Lines.{soonest, first_line, lines_where};
 ghost use Rattle.ss_tables_rules.specs.RealMode.{gives_mode, has_usual_mode, says_real, is_real, is_variable_role, is_undefined, lacks_mode, mentioned_at, unmoded_in, unmoded, real_mode};
 ghost use Rattle.ss_tables_rules.specs.Things.{AreSaid};
@@ -62,7 +62,7 @@ fn reals(sayings: &[Saying]) -> Option<Line>
     found
 }
 
-/// Whether a name without subscript that stands so is a variable.
+/// Whether a name without subscript is a variable in this role.
 fn is_variable_role(role: Role) -> bool
     ensures { result ≡ is_variable_role role }
 {
@@ -74,7 +74,7 @@ fn is_variable_role(role: Role) -> bool
 
 /// Whether this is a name that isn't global and has no DEFINE in the section of this number.
 fn is_undefined(globals: &Globals, locals: &Things, number: usize, what: &Mentioned) -> bool
-    ensures { (says : List Saying) → Tells (declarations says) globals.now → AreSaid topics.Local says locals.now → result ≡ is_undefined says number what.now }
+    ensures { (says : List Saying) → IsGlobalsOf (declarations says) globals.now → AreSaid topics.Local says locals.now → result ≡ is_undefined says number what.now }
 {
     match what {
         Mentioned::Name(name) => {
@@ -86,7 +86,7 @@ fn is_undefined(globals: &Globals, locals: &Things, number: usize, what: &Mentio
 
 /// Whether a name in a statement of the section of this number lacks a mode.
 fn lacks_mode(globals: &Globals, locals: &Things, number: usize, mention: &Mention) -> bool
-    ensures { (says : List Saying) → Tells (declarations says) globals.now → AreSaid topics.Local says locals.now → result ≡ lacks_mode says number mention.now }
+    ensures { (says : List Saying) → IsGlobalsOf (declarations says) globals.now → AreSaid topics.Local says locals.now → result ≡ lacks_mode says number mention.now }
 {
     is_variable_role(mention.role)
         && (mention.subscripts == 0 && is_undefined(globals, locals, number, &mention.what))
@@ -100,7 +100,7 @@ fn unmoded_among(
     mentions: &[Mention],
     found: Option<Line>,
 ) -> Option<Line>
-    ensures { (says : List Saying) → Tells (declarations says) globals.now → AreSaid topics.Local says locals.now → result ≡ soonest found (lines_where mentioned_at (lacks_mode says number) mentions.now) }
+    ensures { (says : List Saying) → IsGlobalsOf (declarations says) globals.now → AreSaid topics.Local says locals.now → result ≡ soonest found (lines_where mentioned_at (lacks_mode says number) mentions.now) }
 {
     let mut found = found;
     for mention in mentions {
@@ -113,7 +113,7 @@ fn unmoded_among(
     found
 }
 
-/// The same in all sections.
+/// What was found so far, or the first line of a name that lacks a mode in any section.
 fn unmoded_in(
     alloc: Global,
     globals: &Globals,
@@ -121,7 +121,7 @@ fn unmoded_in(
     sections: &[Section],
     found: Option<Line>,
 ) -> Result<Option<Line>, AllocError>
-    ensures { IfOk result (λ line. (says : List Saying) → Tells (declarations says) globals.now → AreSaid topics.Local says locals.now → line ≡ soonest found (unmoded_in says 0 (map view_section sections.now))) }
+    ensures { IfOk result (λ line. (says : List Saying) → IsGlobalsOf (declarations says) globals.now → AreSaid topics.Local says locals.now → line ≡ soonest found (unmoded_in says 0 (map view_section sections.now))) }
 {
     let mut found = found;
     for (number, section) in sections.iter().enumerate() {
@@ -139,7 +139,7 @@ fn unmoded(
     sections: &[Section],
     found: Option<Line>,
 ) -> Result<Option<Line>, AllocError>
-    requires { Tells (declarations sayings.now) globals.now }
+    requires { IsGlobalsOf (declarations sayings.now) globals.now }
     ensures { IfOk result (λ line. line ≡ soonest found (unmoded sayings.now (map view_section sections.now))) }
 {
     let seed = globals.seed();
@@ -164,7 +164,7 @@ fn unmoded(
     Ok(mentioned)
 }
 
-/// The first line of a DEFINE that says REAL, or of a name that gets no mode.
+/// The first line of a DEFINE that says REAL, or of a name without a mode.
 ///
 /// # Errors
 /// `AllocError` where memory is refused.
@@ -174,7 +174,7 @@ pub fn real_mode(
     sayings: &[Saying],
     sections: &[Section],
 ) -> Result<Option<Line>, AllocError>
-    requires { Tells (declarations sayings.now) globals.now }
+    requires { IsGlobalsOf (declarations sayings.now) globals.now }
     ensures { IfOk result (λ line. line ≡ first_line (real_mode sayings.now (map view_section sections.now))) }
 {
     let real = reals(sayings);

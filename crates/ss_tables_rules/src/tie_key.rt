@@ -14,7 +14,7 @@ use ss_base::{Line, Name};
 use ss_names_declarations::{Said, Saying, Seed};
 use std::alloc::{AllocError, Global};
 
-/// Whether what is said is of a key that isn't an attribute of this class.
+/// Whether this is a key of a BREAK whose class isn't this one.
 fn is_bad_tie(said: &Said, key: &Option<Name>) -> bool
     ensures { result ≡ is_bad_tie said.now key.now }
 {

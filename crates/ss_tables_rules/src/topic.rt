@@ -1,4 +1,4 @@
-//! What sayings are about, and what of.
+//! The topic of a saying, and the thing that it is of.
 
 ghost use Rattle.std.specs.Prelude.{◌≡◌};
 ghost use Rattle.ss_tables_rules.specs.Topics.{is_about, section_of, thing_of, class_in};
@@ -7,7 +7,7 @@ use ss_base::Name;
 use ss_names_declarations::{Said, Saying};
 use ss_tree::preamble::ClassKind;
 
-/// What a saying is about.
+/// The topic of a saying.
 #[derive(Clone, Copy)]
 pub enum Topic {
     /// NORMALLY.
@@ -50,7 +50,7 @@ pub enum Topic {
 /// number; or nothing that has a name.
 pub type Thing = (usize, Option<Name>);
 
-/// Whether what is said is about this.
+/// Whether a saying has this topic.
 pub fn is_about(topic: Topic, said: &Said) -> bool
     ensures { result ≡ is_about topic said.now }
 {
@@ -102,7 +102,7 @@ pub fn thing_of(saying: &Saying) -> Thing
     (section_of(&saying.said), saying.name)
 }
 
-/// The class of which something is said.
+/// The class that a saying gives.
 pub fn class_in(said: &Said) -> Option<Name>
     ensures { result ≡ class_in said.now }
 {

@@ -4,7 +4,7 @@ ghost use Rattle.std.specs.Prelude.{◌≡◌, ◌&&◌, ◌||◌, not, List, If
 ghost use Rattle.ss_tables_rules.specs.declared.globals.Standing.{Standing};
 ghost use Rattle.ss_tables_rules.specs.declared.topic.Topic.TheVariants as topics;
 ghost use Rattle.ss_tables_rules.specs.Declarations.{Declaration, declarations};
-ghost use Rattle.ss_tables_rules.specs.Globals.{Tells};
+ghost use Rattle.ss_tables_rules.specs.Globals.{IsGlobalsOf};
 ghost use Rattle.ss_tables_rules.specs.Lines.{soonest, first_line};
 ghost use Rattle.ss_tables_rules.specs.Things.{has_thing};
 ghost use Rattle.ss_tables_rules.specs.Topics.{is_about, thing_of, is_said};
@@ -54,7 +54,7 @@ fn is_of_both(topic: Topic, saying: &Saying, first: &Things, second: &Things) ->
     is_about(topic, &saying.said) && (first.has(thing_of(saying)) && second.has(thing_of(saying)))
 }
 
-/// The same, where only these things count.
+/// What was found so far, or the first line of a second saying about this, of one of these things.
 fn again_among(
     alloc: Global,
     seed: Seed,
@@ -75,7 +75,8 @@ fn again_among(
     Ok(found)
 }
 
-/// The same, where things count of which some saying is about the other.
+/// What was found so far, or the first line of a second saying about this, of a thing of which some saying
+/// is about the other.
 fn again_said(
     alloc: Global,
     seed: Seed,
@@ -105,7 +106,7 @@ fn sets_again(
     Ok(defined)
 }
 
-/// NORMALLY, PRIORITY ORDER or MAIN that stands twice.
+/// A second NORMALLY, PRIORITY ORDER or MAIN.
 fn statements_again(
     alloc: Global,
     seed: Seed,
@@ -175,7 +176,7 @@ fn repeats(
 
 /// Whether a saying is about a parameter or a local variable that hides what may not be hidden.
 fn hides(globals: &Globals, saying: &Saying) -> bool
-    ensures { (ds : List Declaration) → Tells ds globals.now → result ≡ hides ds saying.now }
+    ensures { (ds : List Declaration) → IsGlobalsOf ds globals.now → result ≡ hides ds saying.now }
 {
     let said = &saying.said;
     match &saying.name {
@@ -190,7 +191,7 @@ fn hides(globals: &Globals, saying: &Saying) -> bool
 /// What was found so far, or the first line where a parameter or a local variable hides what may not be
 /// hidden.
 fn hidings(globals: &Globals, sayings: &[Saying], found: Option<Line>) -> Option<Line>
-    ensures { Tells (declarations sayings.now) globals.now → result ≡ soonest found (hidings sayings.now) }
+    ensures { IsGlobalsOf (declarations sayings.now) globals.now → result ≡ soonest found (hidings sayings.now) }
 {
     let mut found = found;
     for saying in sayings {
@@ -208,7 +209,7 @@ pub fn twice(
     globals: &Globals,
     sayings: &[Saying],
 ) -> Result<Option<Line>, AllocError>
-    requires { Tells (declarations sayings.now) globals.now }
+    requires { IsGlobalsOf (declarations sayings.now) globals.now }
     ensures { IfOk result (λ line. line ≡ first_line (twice sayings.now)) }
 {
     let repeated = repeats(alloc, globals.seed(), sayings, globals.clash())?;

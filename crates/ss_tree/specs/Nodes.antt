@@ -21,22 +21,22 @@ abbrev mutual
   row_nodes no_expression = 0
   row_nodes (and_expression e es) = expression_nodes e + row_nodes es
 
-  -- what stands behind the first factor of a product: a factor at least in the tree of a text
+  -- the further factors of a product; the tree of a text has one at least
   pub product_nodes : ExpressionRow → ℕ
   product_nodes no_expression = 1
   product_nodes (and_expression e es) = 1 + expression_nodes e + factor_nodes es
 
-  -- each further factor stands behind an operator
+  -- an operator and its factor, for each further factor
   pub factor_nodes : ExpressionRow → ℕ
   factor_nodes no_expression = 0
   factor_nodes (and_expression e es) = 1 + expression_nodes e + factor_nodes es
 
-  -- what stands behind the first term of a sum: a term at least in the tree of a text
+  -- the further terms of a sum; the tree of a text has one at least
   pub sum_nodes : TermRow → ℕ
   sum_nodes no_term = 1
   sum_nodes (and_term sign e es) = 1 + expression_nodes e + term_nodes es
 
-  -- each further term stands behind an operator
+  -- an operator and its term, for each further term
   pub term_nodes : TermRow → ℕ
   term_nodes no_term = 0
   term_nodes (and_term sign e es) = 1 + expression_nodes e + term_nodes es

@@ -34,7 +34,7 @@ mutual
     no_expression : ExpressionRow
     and_expression : ExpressionTree → ExpressionRow → ExpressionRow
 
-  -- further terms of a sum, each behind its sign
+  -- further terms of a sum, each after its sign
   pub data TermRow : Type 0 where
     no_term : TermRow
     and_term : Sign → ExpressionTree → TermRow → TermRow
@@ -104,7 +104,7 @@ pub data WhenTree : Type 0 where
   now : WhenTree
 
 mutual
-  -- a statement; the line of its first word stands first
+  -- a statement; the line of its first word comes first
   pub data StatementTree : Type 0 where
     let_statement : Line → NamedTree → ExpressionTree → StatementTree
     add_statement : Line → ExpressionTree → NamedTree → StatementTree
@@ -150,7 +150,7 @@ pub data OrderTree : Type 0 where
   lifo : OrderTree
   ranked : List Key → OrderTree
 
--- a statement of a preamble; the line of its first word stands first
+-- a statement of a preamble; the line of its first word comes first
 pub data PreambleTree : Type 0 where
   permanent_entities : Line → PreambleTree
   temporary_entities : Line → PreambleTree

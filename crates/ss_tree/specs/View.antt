@@ -82,7 +82,7 @@ view_start starts.End = from_end
 view_start (starts.From e) = from_member (view_expression e)
 view_start (starts.After e) = after_member (view_expression e)
 
--- what a view makes of what may be there
+-- the view of an optional value
 abbrev pub view_option : {A B : Type 0} → (A → B) → Option A → Option B
 view_option view None = None
 view_option view (Some x) = Some (view x)

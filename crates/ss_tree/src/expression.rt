@@ -24,7 +24,7 @@ pub enum Function {
     Max,
 }
 
-/// What stands where a program names a value.
+/// What names a value, without its subscripts.
 #[derive(Clone, Copy)]
 pub enum Designator {
     Name(Name),
@@ -42,7 +42,7 @@ pub struct Named {
     pub subscripts: Vec<Expression>,
 }
 
-/// A further term of a sum, behind its sign.
+/// A further term of a sum, and the sign before it.
 #[cycle(expressions)]
 #[derive(Drop)]
 pub struct Term {
@@ -69,7 +69,7 @@ pub enum Expression {
         first: Box<Expression>,
         further: Vec<Expression>,
     },
-    /// A term behind a sign that stands first in a sum.
+    /// A term with a sign before it, as the first term of a sum.
     Signed {
         sign: Sign,
         term: Box<Expression>,

@@ -1,7 +1,7 @@
 //! The tree of a program.
 //!
 //! Every sequence is a `Vec`. A statement, a statement of the preamble, a local definition and a section
-//! keep the line of their first word.
+//! have the line of their first word.
 #![tactic(auto)]
 
 pub mod condition;

@@ -39,14 +39,14 @@ pub struct Key {
 /// How a set is ordered.
 #[derive(Drop)]
 pub enum SetOrder {
-    /// FIFO, or nothing said.
+    /// FIFO, written or not.
     Fifo,
     Lifo,
     /// RANKED BY keys.
     Ranked(Vec<Key>),
 }
 
-/// What a statistic tells of its subject.
+/// What a statistic reports of its subject.
 #[derive(Clone, Copy)]
 pub enum StatisticKind {
     Number,
@@ -68,7 +68,7 @@ pub struct Statistic {
 pub enum Weighting {
     /// TALLY: each value once.
     Tally,
-    /// ACCUMULATE: each value by the time that it stood.
+    /// ACCUMULATE: each value by the time for which it lasted.
     Accumulate,
 }
 
@@ -88,7 +88,7 @@ pub enum PreambleStatement {
         line: Line,
         included: Vec<Name>,
     },
-    /// EVERY class, of the kind of the group that it stands in.
+    /// EVERY class, of the kind of the group that it is in.
     Every {
         line: Line,
         kind: ClassKind,

@@ -2,8 +2,8 @@
 
 use crate::program::Program;
 
-/// Gives the memory of a tree back. To drop one in line does the same; then the drops of all its parts are proved where that
-/// is done, and not once for all here.
+/// Gives the memory of a tree back, as a drop in line does. A drop in line makes the caller prove the drops of all parts
+/// of a tree; here they are proved once for all.
 pub fn release_tree(program: Program) {
     let _released = program;
 }

@@ -33,7 +33,7 @@ pub enum When {
     Now,
 }
 
-/// Whether the case was found for which the statements behind a FIND stand first.
+/// The outcome that the first branch of a FIND's IF is for: the case was found, or it was not.
 #[derive(Clone, Copy)]
 pub enum FindOutcome {
     Found,
@@ -94,7 +94,7 @@ pub enum Statement {
         line: Line,
         head: Head,
     },
-    /// FIND THE FIRST CASE and the IF behind it.
+    /// FIND THE FIRST CASE and the IF after it.
     FindIf {
         line: Line,
         head: Head,

@@ -28,7 +28,7 @@ pub record Members : Type 0 where
   pub owner : ℕ
   pub list : List ℕ
 
--- the state of a heap: the record of creation number n stands n-th, None once it is destroyed; for each
+-- the state of a heap: the record of creation number n is the n-th, None once it is destroyed; for each
 -- class the records of its permanent entities by index, None until they are made
 pub record State : Type 0 where
   pub layout : Layout
@@ -166,7 +166,7 @@ timed s x t = and_then (notice s x) (λ r. Ok (record s { records = slice_set s.
 
 -- ## Creating
 
--- why a call is refused: for the fault that is due, and for want of memory only where none is
+-- why a call is refused: for the fault that is due, and out of memory only where none is due
 abbrev pub RefusedFor : {A : Type 0} → Result A FaultKind → Refused → Type 0
 RefusedFor r (Fault f) = r ≡ Err f
 RefusedFor r Memory = IsOk r

@@ -10,7 +10,7 @@ use std::alloc::{AllocError, Global};
 /// A mistake in a case file.
 #[derive(Clone, Copy)]
 pub struct Mistake {
-    /// The line that it stands in, from 1; 0 where it is the whole file's.
+    /// The line that it is in, from 1; 0 where it is the whole file's.
     pub line: u64,
     pub wrong: Wrong,
 }
@@ -56,7 +56,7 @@ impl<'a> Book<'a> {
     }
 
     /// Reads the text of a case file. A line with a mistake is left out of its case. The error comes
-    /// where memory was refused for what is told of a mistake.
+    /// where memory was refused for the words about a mistake.
     pub fn read(&mut self, text: &'a str) -> Result<(), AllocError> {
         let mut number: u64 = 0;
         for line in text.split('\n') {
@@ -114,7 +114,7 @@ impl<'a> Book<'a> {
         }
     }
 
-    // Ends what content belongs to. Content behind it belongs nowhere.
+    // Ends what content belongs to. Content after it belongs nowhere.
     fn settle(&mut self) -> Result<(), Wrong> {
         self.place = Place::Nowhere;
         match self.cases.last_mut() {
@@ -194,7 +194,7 @@ impl<'a> Book<'a> {
         }
     }
 
-    // Takes down what is said of the case under way. Where there is none, what is wrong with the words
+    // Records what a directive says of the case under way. Where there is none, what is wrong with the words
     // themselves comes first.
     fn take_down(&mut self, topic: Topic, words: &'a str) -> Result<(), Wrong> {
         let alloc = self.alloc;
@@ -267,7 +267,7 @@ fn said_of_none(alloc: Global, topic: Topic, words: &str) -> Result<(), Wrong> {
     take_down_of_none(&mut case, topic, words)
 }
 
-// What is wrong with words that are said of this case, which is none.
+// What is wrong with words about this case, which is none.
 fn take_down_of_none<'a>(case: &mut Case<'a>, topic: Topic, words: &'a str) -> Result<(), Wrong> {
     case.take_down(topic, words)?;
     Err(Wrong::NoCase)

@@ -28,7 +28,7 @@ impl Came<'_> {
     // Whether it is the line that is wanted.
     fn is_line(self, wanted: &str) -> bool {
         match self {
-            Came::Line(line) => tells(wanted, line),
+            Came::Line(line) => is_wanted(wanted, line),
             _ => false,
         }
     }
@@ -69,7 +69,7 @@ fn ended_or(line: &str) -> &str {
 }
 
 // Whether a line is the one that is wanted. A refusal may be wanted without its line number.
-fn tells(wanted: &str, line: &str) -> bool {
+fn is_wanted(wanted: &str, line: &str) -> bool {
     match line.strip_prefix(wanted) {
         Some(rest) => rest.is_empty() || is_line_of_refusal(wanted, rest),
         None => false,

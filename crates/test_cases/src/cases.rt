@@ -52,8 +52,8 @@ pub struct Case<'a> {
     /// The line of its file that it begins in.
     pub line: u64,
     pub model: Vec<u8>,
-    /// What stands behind the line of the model that content takes the place of, while it does.
-    behind: Vec<u8>,
+    /// What comes after the line of the model that content replaces, while it does.
+    rest: Vec<u8>,
     pub input: Vec<u8>,
     pub report: Vec<u8>,
     pub calls: Vec<Call<'a>>,
@@ -68,7 +68,7 @@ pub struct Case<'a> {
     judge: Option<Judge>,
 }
 
-// Fills a slot for what may be said once.
+// Fills a slot that may be filled once.
 fn set_once<T: Drop>(slot: &mut Option<T>, value: Result<T, Wrong>) -> Result<(), Wrong> {
     let value = value?;
     if slot.is_some() {
@@ -79,14 +79,14 @@ fn set_once<T: Drop>(slot: &mut Option<T>, value: Result<T, Wrong>) -> Result<()
 }
 
 impl<'a> Case<'a> {
-    /// A case that begins in this line, and of which only its name is said.
+    /// A case that begins in this line, and has only its name so far.
     pub fn new(alloc: Global, name: &'a str, line: u64) -> Case<'a> {
         Case {
             alloc,
             name,
             line,
             model: Vec::new(alloc),
-            behind: Vec::new(alloc),
+            rest: Vec::new(alloc),
             input: Vec::new(alloc),
             report: Vec::new(alloc),
             calls: Vec::new(alloc),
@@ -131,7 +131,7 @@ impl<'a> Case<'a> {
         Ok(())
     }
 
-    /// Begins a part: the content that follows is put behind the model, or makes the part anew.
+    /// Begins a part: the content that follows is added to the model, or makes the part anew.
     pub fn begin_part(&mut self, part: Part) {
         match part {
             Part::Model => {}
@@ -140,7 +140,7 @@ impl<'a> Case<'a> {
         }
     }
 
-    /// Cuts the model before the line of this number, counted from 1. What stands behind that line
+    /// Cuts the model before the line of this number, counted from 1. What comes after that line
     /// comes back with `end_line`.
     pub fn begin_line(&mut self, number: u64) -> Result<(), Wrong> {
         match place_of_line(&self.model, number) {
@@ -149,19 +149,19 @@ impl<'a> Case<'a> {
         }
     }
 
-    // Cuts the model before a line, and keeps what stands behind that.
+    // Cuts the model before a line, and sets aside what comes after that.
     fn cut(&mut self, line: LinePlace) -> Result<(), Wrong> {
-        if let Some(behind) = self.model.get(line.end..) {
-            self.behind.extend_from_slice(behind)?;
+        if let Some(rest) = self.model.get(line.end..) {
+            self.rest.extend_from_slice(rest)?;
         }
         self.model.truncate(line.start);
         Ok(())
     }
 
-    /// Puts what stood behind a line that was begun behind the model. Does nothing where none was.
+    /// Puts what came after a replaced line back at the end of the model. Does nothing where no line was begun.
     pub fn end_line(&mut self) -> Result<(), Wrong> {
-        self.model.extend_from_slice(&self.behind)?;
-        self.behind.clear();
+        self.model.extend_from_slice(&self.rest)?;
+        self.rest.clear();
         Ok(())
     }
 

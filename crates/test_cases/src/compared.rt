@@ -1,4 +1,4 @@
-//! What came of a case, beside what is wanted of it.
+//! The results of a case, beside those that are wanted.
 
 use crate::came::Came;
 use crate::cases::Case;

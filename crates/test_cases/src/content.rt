@@ -3,14 +3,14 @@
 use crate::wrong::Wrong;
 use std::alloc::Global;
 
-/// A line of content, as it stands in the file.
+/// A line of content, as it is in the file.
 #[derive(Clone, Copy)]
 pub struct Content<'a> {
     /// The text, with its escapes.
     text: &'a [u8],
-    /// How often it is meant.
+    /// How often it is repeated.
     times: u64,
-    /// What is put behind it at last.
+    /// What is added after it at the end.
     end: &'static [u8],
 }
 
@@ -25,13 +25,13 @@ impl<'a> Content<'a> {
         }
     }
 
-    /// Puts the bytes that are meant behind these.
+    /// Adds the bytes of this line to these.
     pub fn add_to(self, alloc: Global, bytes: &mut Vec<u8>) -> Result<(), Wrong> {
         let mut piece = Vec::new(alloc);
         self.add_through(&mut piece, bytes)
     }
 
-    // Reads the text into an empty piece, and puts that behind the bytes as often as it is meant.
+    // Reads the text into an empty piece, and adds that to the bytes as often as it is repeated.
     fn add_through(self, piece: &mut Vec<u8>, bytes: &mut Vec<u8>) -> Result<(), Wrong> {
         unescape(self.text, piece)?;
         for _ in 0..self.times {
@@ -82,7 +82,7 @@ enum Escape {
     OneDigit(u8),
 }
 
-// Puts the bytes that a text means behind these.
+// Adds the bytes of a text, its escapes resolved, to these.
 fn unescape(text: &[u8], bytes: &mut Vec<u8>) -> Result<(), Wrong> {
     let mut escape = Escape::Outside;
     for byte in text {
@@ -104,7 +104,7 @@ fn add_byte(bytes: &mut Vec<u8>, escape: Escape, byte: u8) -> Result<Escape, Wro
     }
 }
 
-// Adds a byte that is meant.
+// Adds a byte.
 fn add_meant(bytes: &mut Vec<u8>, byte: u8) -> Result<Escape, Wrong> {
     bytes.push(byte)?;
     Ok(Escape::Outside)
@@ -118,7 +118,7 @@ fn add_plain(bytes: &mut Vec<u8>, byte: u8) -> Result<Escape, Wrong> {
     }
 }
 
-// Reads the byte behind a backslash.
+// Reads the byte after a backslash.
 fn add_escaped(bytes: &mut Vec<u8>, byte: u8) -> Result<Escape, Wrong> {
     match byte {
         b'\\' => add_meant(bytes, b'\\'),
@@ -139,14 +139,14 @@ fn digit(byte: u8) -> Result<u8, Wrong> {
     }
 }
 
-/// Where a line of a text stands.
+/// Where a line of a text lies.
 #[derive(Clone, Copy)]
 pub struct LinePlace {
     pub start: usize,
     pub end: usize,
 }
 
-/// Where the line of this number stands in a text, counted from 1; None where it has no such line.
+/// Where the line of this number lies in a text, counted from 1; None where it has no such line.
 pub fn place_of_line(text: &[u8], number: u64) -> Option<LinePlace> {
     let mut start: usize = 0;
     let mut count: u64 = 0;

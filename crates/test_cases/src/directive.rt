@@ -3,10 +3,10 @@
 use crate::cases::Part;
 use crate::wrong::Wrong;
 
-/// What the first word of a directive tells.
+/// What the first word of a directive means.
 #[derive(Clone, Copy)]
 pub enum Head {
-    /// The content behind it is a text of the name that follows.
+    /// The content after it is a text of the name that follows.
     Text,
     /// A case of the name that follows begins.
     Case,
@@ -14,11 +14,11 @@ pub enum Head {
     After,
     /// The model is that of the case before.
     As,
-    /// The content behind it takes the place of a line of the model.
+    /// The content after it takes the place of a line of the model.
     Line,
-    /// The content behind it belongs to this part of the case.
+    /// The content after it belongs to this part of the case.
     Part(Part),
-    /// This is said of the case.
+    /// A property of the case.
     Says(Topic),
 }
 
@@ -67,7 +67,7 @@ static HEADS: [(&str, Head); 17] = [
 ];
 
 impl Head {
-    /// What this word tells as the first of a directive.
+    /// What this word means as the first of a directive.
     pub fn of(word: &str) -> Result<Head, Wrong> {
         for (spelled, head) in &HEADS {
             if *spelled == word {

@@ -5,8 +5,8 @@ use crate::wrong::Wrong;
 use ss_tree::program::Program;
 use std::fmt;
 
-/// How many statements stand in the preamble of a tree, how many sections it has, and how many
-/// statements stand right in these.
+/// How many statements the preamble of a tree has, how many sections it has, and how many
+/// statements lie right in these.
 #[derive(Clone, Copy)]
 pub struct Counts {
     pub preamble: u64,
@@ -66,7 +66,7 @@ pub enum Ending<'a> {
 }
 
 impl<'a> Ending<'a> {
-    /// A tree, kept, or a line of the program.
+    /// A tree, `kept`, or a line of the program.
     pub fn of(words: &'a str) -> Result<Ending<'a>, Wrong> {
         match words.strip_prefix("tree ") {
             Some(counts) => tree_of(counts),
@@ -86,7 +86,7 @@ impl fmt::Display for Ending<'_> {
     }
 }
 
-// Any tree, kept, or a line of the program.
+// Any tree, `kept`, or a line of the program.
 fn other_ending(words: &str) -> Result<Ending<'_>, Wrong> {
     match words {
         "" => Err(Wrong::Ending),

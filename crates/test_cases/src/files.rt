@@ -2,9 +2,9 @@
 
 use crate::book::{Book, Mistake};
 use crate::cases::Case;
+use crate::messages::{report_mistake, report_score, report_verdict};
 use crate::score::Score;
 use crate::simulator::Simulator;
-use crate::told::{tell_mistake, tell_score, tell_verdict};
 use crate::trial::tried;
 use crate::wrong::Wrong;
 use std::alloc::Global;
@@ -34,16 +34,16 @@ fn try_book<'a, S: Simulator, W: Write>(
     book: &mut Book<'a>,
 ) -> io::Result<Score> {
     book.read(text)?;
-    let mistakes = tell_mistakes(out, file, &book.mistakes)?;
+    let mistakes = report_mistakes(out, file, &book.mistakes)?;
     let cases = try_cases(alloc, simulator, out, file, &book.cases)?;
     Ok(mistakes.and(cases))
 }
 
-// Tells of the mistakes in a file.
-fn tell_mistakes<W: Write>(out: &mut W, file: &str, mistakes: &[Mistake]) -> io::Result<Score> {
+// Reports the mistakes in a file.
+fn report_mistakes<W: Write>(out: &mut W, file: &str, mistakes: &[Mistake]) -> io::Result<Score> {
     let mut score = Score::NONE;
     for mistake in mistakes {
-        tell_mistake(out, file, *mistake)?;
+        report_mistake(out, file, *mistake)?;
         score = score.with_mistake();
     }
     Ok(score)
@@ -75,7 +75,7 @@ fn try_case<S: Simulator, W: Write>(
     let verdict = tried(alloc, simulator, case)?;
     let failed = !verdict.found.is_empty();
     if failed {
-        tell_verdict(out, file, case.name, &verdict)?;
+        report_verdict(out, file, case.name, &verdict)?;
     }
     Ok(failed)
 }
@@ -92,7 +92,7 @@ fn try_file<S: Simulator, R: Files + AllocGlobal, W: Write>(
             line: 0,
             wrong: Wrong::File,
         };
-        tell_mistake(out, file, mistake)?;
+        report_mistake(out, file, mistake)?;
         return Ok(Score::NONE.with_mistake());
     };
     try_text(rt.alloc(), simulator, out, file, &text)
@@ -121,14 +121,14 @@ fn try_all<S: Simulator, R: Env + Files + AllocGlobal, W: Write>(
     Ok(score)
 }
 
-// Tries the cases, and tells of the score.
-fn try_and_tell<S: Simulator, R: Env + Files + AllocGlobal, W: Write>(
+// Tries the cases, and reports the score.
+fn try_and_report<S: Simulator, R: Env + Files + AllocGlobal, W: Write>(
     rt: &R,
     simulator: &S,
     out: &mut W,
 ) -> io::Result<Score> {
     let score = try_all(rt, simulator, out)?;
-    tell_score(out, score)?;
+    report_score(out, score)?;
     out.flush()?;
     Ok(score)
 }
@@ -139,7 +139,7 @@ pub fn try_files<S: Simulator, R: Env + Files + Print + AllocGlobal>(
     rt: &R,
     simulator: &S,
 ) -> io::Result<Score> {
-    try_and_tell(
+    try_and_report(
         rt,
         simulator,
         &mut BufWriter::new(rt.alloc(), io::writer(rt))?,

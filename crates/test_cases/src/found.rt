@@ -1,4 +1,4 @@
-//! What came of a case and is not wanted, in words.
+//! The results of a case that are not the wanted ones, in words.
 
 use crate::came::Came;
 use crate::ending::Ending;
@@ -61,13 +61,13 @@ pub fn add_line(
     )
 }
 
-/// Notes what came of the beginning of the model with so many bytes.
+/// Adds the result for the beginning of the model with so many bytes.
 pub fn add_cut_short(found: &mut String, length: usize, came: Came<'_>) -> Result<(), AllocError> {
     part(found)?;
     write!(found, "cut short to {length} bytes: came {came}")
 }
 
-/// A line of a report as it is told, if it is there.
+/// A line of a report as it is shown, if it is there.
 #[derive(Clone, Copy)]
 struct Shown<'a>(Option<&'a [u8]>);
 

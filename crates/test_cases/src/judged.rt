@@ -60,7 +60,7 @@ pub fn cut_short<S: Simulator>(
         };
         let came = simulator.refusal(alloc, beginning);
         if !is_one_of(simulator, came, refusals) {
-            return tell_cut_short(alloc, simulator, length, came, found);
+            return report_cut_short(alloc, simulator, length, came, found);
         }
     }
     Ok(())
@@ -82,8 +82,8 @@ fn has_number(number: Option<u64>, numbers: &[u64]) -> bool {
     }
 }
 
-// Notes what came of the beginning of a model with so many bytes.
-fn tell_cut_short<S: Simulator>(
+// Adds the result for the beginning of a model with so many bytes.
+fn report_cut_short<S: Simulator>(
     alloc: Global,
     simulator: &S,
     length: usize,
@@ -91,13 +91,13 @@ fn tell_cut_short<S: Simulator>(
     found: &mut String,
 ) -> Result<(), AllocError> {
     match came {
-        Some(refusal) => tell_cut_refused(alloc, simulator, length, refusal, found),
+        Some(refusal) => report_cut_refused(alloc, simulator, length, refusal, found),
         None => add_cut_short(found, length, Came::Kept),
     }
 }
 
 // Notes the refusal of the beginning of a model with so many bytes.
-fn tell_cut_refused<S: Simulator>(
+fn report_cut_refused<S: Simulator>(
     alloc: Global,
     simulator: &S,
     length: usize,

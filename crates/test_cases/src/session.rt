@@ -19,12 +19,12 @@ pub fn run_session<S: Simulator>(
 ) -> Result<(), AllocError> {
     match simulator.start(alloc, &case.model, streams) {
         Ok(session) => run_started(alloc, simulator, case, session, found),
-        Err(refusal) => tell_no_session(alloc, simulator, refusal, found),
+        Err(refusal) => report_no_session(alloc, simulator, refusal, found),
     }
 }
 
 // Notes that there is no session, since the text is refused.
-fn tell_no_session<S: Simulator>(
+fn report_no_session<S: Simulator>(
     alloc: Global,
     simulator: &S,
     refusal: S::Outcome,

@@ -136,7 +136,7 @@ fn run_whole<S: Simulator>(
     compare_run(alloc, simulator, case, outcome, &streams, found)
 }
 
-// Notes what a run came to that is not wanted.
+// Adds a result of a run that is not the wanted one.
 fn compare_run<S: Simulator>(
     alloc: Global,
     simulator: &S,

@@ -93,10 +93,10 @@ enum Start {
 }
 
 /// How the words say what goes wrong with a stream, and when: those before a number, and those
-/// behind it.
+/// after it.
 struct Phrase {
     before: &'static str,
-    behind: &'static str,
+    after: &'static str,
     trouble: Trouble,
     start: Start,
 }
@@ -104,7 +104,7 @@ struct Phrase {
 /// What goes wrong with a reader.
 static READER_PHRASES: [Phrase; 1] = [Phrase {
     before: "fails from call ",
-    behind: "",
+    after: "",
     trouble: Trouble::Error,
     start: Start::Call,
 }];
@@ -113,34 +113,34 @@ static READER_PHRASES: [Phrase; 1] = [Phrase {
 static WRITER_PHRASES: [Phrase; 4] = [
     Phrase {
         before: "fails from call ",
-        behind: "",
+        after: "",
         trouble: Trouble::Error,
         start: Start::Call,
     },
     Phrase {
         before: "fails after ",
-        behind: " bytes",
+        after: " bytes",
         trouble: Trouble::Error,
         start: Start::Bytes,
     },
     Phrase {
         before: "takes nothing from call ",
-        behind: "",
+        after: "",
         trouble: Trouble::NoByte,
         start: Start::Call,
     },
     Phrase {
         before: "takes nothing after ",
-        behind: " bytes",
+        after: " bytes",
         trouble: Trouble::NoByte,
         start: Start::Bytes,
     },
 ];
 
 impl Phrase {
-    // The word that stands for the number, where the words are so.
+    // The word of the number, where the words are so.
     fn number<'a>(&self, words: &'a str) -> Option<&'a str> {
-        words.strip_prefix(self.before)?.strip_suffix(self.behind)
+        words.strip_prefix(self.before)?.strip_suffix(self.after)
     }
 
     // The plan of a stream that goes wrong so.

@@ -26,7 +26,7 @@ pub enum Wrong {
     NoLine,
     /// A model was begun before.
     Begun,
-    /// Something is said twice of one case.
+    /// A directive comes twice in one case.
     Twice,
     NoEnding,
     TwoEndings,
@@ -34,7 +34,7 @@ pub enum Wrong {
 }
 
 impl Wrong {
-    /// The words that tell of it.
+    /// The words that say so.
     pub fn words(self) -> &'static str {
         match self {
             Wrong::File => "the file can't be read as text",

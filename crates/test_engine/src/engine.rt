@@ -1,4 +1,4 @@
-//! What outcomes, refusals and listings are told as, and a whole run whose memory is refused.
+//! The words for outcomes, refusals and listings, and a whole run whose memory is refused.
 
 use ss_base::{FaultKind, Line, MemoryRead, MemoryWrite, Plan, Trouble};
 use ss_engine::{Model, Outcome, Refusal, Stop, compile, outcome_line, outcome_status, simulate};
@@ -161,16 +161,16 @@ static OUTCOMES: [(Outcome, u8, &[u8]); 10] = [
     (Outcome::Stopped(Stop::Failed, 0), 6, b"failed before\n"),
 ];
 
-// Whether this line tells of an outcome.
+// Whether this line reports an outcome.
 fn is_line(alloc: Global, outcome: &Outcome, line: &[u8]) -> bool {
     match outcome_line(alloc, outcome) {
-        Ok(told) => told.as_slice() == line,
+        Ok(words) => words.as_slice() == line,
         Err(_) => false,
     }
 }
 
 // Whether outcomes have these statuses and lines.
-fn are_told(alloc: Global, outcomes: &[(Outcome, u8, &[u8])]) -> bool {
+fn are_lines(alloc: Global, outcomes: &[(Outcome, u8, &[u8])]) -> bool {
     for (outcome, status, line) in outcomes {
         if outcome_status(outcome) != *status || !is_line(alloc, outcome, line) {
             return false;
@@ -181,7 +181,7 @@ fn are_told(alloc: Global, outcomes: &[(Outcome, u8, &[u8])]) -> bool {
 
 #[test]
 fn statuses_and_lines(rt: HostRuntime) {
-    assert!(rt; are_told(rt.alloc(), &OUTCOMES));
+    assert!(rt; are_lines(rt.alloc(), &OUTCOMES));
 }
 
 static REFUSALS: [(Refusal, u32, &str, u32); 30] = [
@@ -232,7 +232,7 @@ fn refusals_have_their_numbers_names_and_lines(rt: HostRuntime) {
     assert!(rt; are_refusals(&REFUSALS));
 }
 
-// Whether a run of that text ended as it should, or for want of memory with the first of its report.
+// Whether a run of that text ended as it should, or out of memory with the first of its report.
 fn is_no_wrong_answer(outcome: &Outcome, report: &[u8]) -> bool {
     match outcome {
         Outcome::Stopped(Stop::Ended, used) => *used == 0 && report == b"5\n7\n".as_slice(),
@@ -248,7 +248,7 @@ fn runs_well(alloc: Global, reader: MemoryRead, writer: MemoryWrite) -> bool {
     is_no_wrong_answer(&outcome, writer.bytes())
 }
 
-// Whatever growth is refused, the run ends for want of memory with the first of the report, or as it
+// Whatever growth is refused, the run ends out of memory with the first of the report, or as it
 // should.
 #[test]
 fn want_of_memory_is_never_a_wrong_answer(rt: HostRuntime) -> Result<(), Fail> {

@@ -1,4 +1,4 @@
-//! Worked examples of what the engine tells.
+//! Worked examples of the lines that the engine gives.
 #![tactic(auto)]
 
 #[cfg(test)]

@@ -32,7 +32,7 @@ static FAULTS: [(FaultKind, u32, &str); 22] = [
 ];
 
 // Whether faults have these numbers and words.
-fn are_told(faults: &[(FaultKind, u32, &str)]) -> bool {
+fn are_named(faults: &[(FaultKind, u32, &str)]) -> bool {
     for (kind, number, words) in faults {
         if kind.number() != *number || kind.text() != *words {
             return false;
@@ -43,7 +43,7 @@ fn are_told(faults: &[(FaultKind, u32, &str)]) -> bool {
 
 #[test]
 fn faults_have_their_numbers_and_words(rt: HostRuntime) {
-    assert!(rt; are_told(&FAULTS));
+    assert!(rt; are_named(&FAULTS));
 }
 
 #[test]

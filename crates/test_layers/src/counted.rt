@@ -6,7 +6,7 @@ use std::io::{self, ErrorKind};
 // What a stream answers to each call.
 type Answer = Result<usize, ErrorKind>;
 
-// It answers four calls so and fails behind them, and keeps how often it was called and how long the last buffer was.
+// It answers four calls so and fails after them, and counts how often it was called and how long the last buffer was.
 #[derive(Drop)]
 struct Recording {
     answers: [Answer; 4],
@@ -114,7 +114,7 @@ fn a_counted_write_is_one_write(rt: HostRuntime) {
 
 static HELL: [Option<&[u8]>; 1] = [Some(b"HELL")];
 
-// Whether a reader counts no failure, and goes on behind what was read.
+// Whether a reader counts no failure, and goes on after what was read.
 fn counts_none(mut reader: Counted<&'static [u8]>) -> bool {
     let counted = gives(&mut reader, &HELL) && reader.faults() == 0;
     let rest = reader.into_inner();

@@ -141,8 +141,8 @@ fn equals_come_out_in_order_of_scheduling(rt: HostRuntime) {
     assert!(rt; keep_their_order(rt.alloc(), listed(rt.alloc(), &PLAIN_ALONE)));
 }
 
-// A hundred notices, of which the later are scheduled first, numbered behind so many.
-fn line_up_behind(alloc: Global, pending: &mut Pending, before: i64) -> Result<(), Refused> {
+// A hundred notices, of which the later are scheduled first, numbered after so many.
+fn line_up_after(alloc: Global, pending: &mut Pending, before: i64) -> Result<(), Refused> {
     for number in 1i64..101 {
         let time = 101i64.wrapping_sub(number);
         schedule(alloc, pending, (time, 0, &[]), before.wrapping_add(number))?;
@@ -152,9 +152,9 @@ fn line_up_behind(alloc: Global, pending: &mut Pending, before: i64) -> Result<(
 
 // Three hundred, three at each of a hundred times.
 fn line_up(alloc: Global, pending: &mut Pending) -> Result<(), Refused> {
-    line_up_behind(alloc, pending, 0)?;
-    line_up_behind(alloc, pending, 100)?;
-    line_up_behind(alloc, pending, 200)
+    line_up_after(alloc, pending, 0)?;
+    line_up_after(alloc, pending, 100)?;
+    line_up_after(alloc, pending, 200)
 }
 
 // Whether the first, one in the middle and the last of those at a time are cancelled, and one of them is scheduled again.

@@ -3,7 +3,7 @@ use ss_input::Source;
 use std::io;
 use std::io::ErrorKind;
 
-// What a reader gives at its calls in turn, None for an error; behind them stands its end.
+// What a reader gives at its calls in turn, None for an error; after them comes its end.
 type Pieces = &'static [Option<&'static [u8]>];
 
 // It gives pieces, and keeps how often it was asked, and whether for 4,096 bytes each time.

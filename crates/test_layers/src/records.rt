@@ -126,7 +126,7 @@ fn set_value(heap: &mut Heap, class: usize, r: i64, value: i64) -> Option<Result
     }
 }
 
-// What a set's calls are asked, or told to do.
+// What a set's calls are asked for, or have to do.
 #[derive(Clone, Copy)]
 pub enum Ask {
     First(i64),
@@ -625,7 +625,7 @@ fn fit(alloc: Global, commands: &[Command]) -> Option<bool> {
 }
 
 #[test]
-fn commands_that_do_not_fit_are_told(rt: HostRuntime) {
+fn commands_that_do_not_fit_are_reported(rt: HostRuntime) {
     let alloc = rt.alloc();
     assert!(rt; fit(alloc, &[Command::Create { class: MACHINE }]) == Some(false));
     assert!(rt; fit(alloc, &[Command::CreateAll { class: JOB, n: 1 }]) == Some(false));

@@ -129,8 +129,8 @@ fn arrive_named(heap: &mut Heap, discipline: &Discipline, name: &[u8]) -> bool {
     arrive(heap, discipline, &values).is_some()
 }
 
-// The first of the line, or the one behind x.
-fn behind(heap: &mut Heap, x: Option<i64>) -> Option<i64> {
+// The first of the line, or the one after x.
+fn member_after(heap: &mut Heap, x: Option<i64>) -> Option<i64> {
     let layout = heap.layout();
     if LINE >= layout.sets.len() {
         return None;
@@ -143,12 +143,12 @@ fn behind(heap: &mut Heap, x: Option<i64>) -> Option<i64> {
 
 // Whether the line has these members, from the first to the last.
 fn is_order(heap: &mut Heap, wanted: &[i64]) -> bool {
-    let mut at = behind(heap, None);
+    let mut at = member_after(heap, None);
     for x in wanted {
         if at != Some(*x) {
             return false;
         }
-        at = behind(heap, at);
+        at = member_after(heap, at);
     }
     at == Some(0)
 }

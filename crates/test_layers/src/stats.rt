@@ -149,7 +149,7 @@ fn takes_changes_at_one_moment(rt: HostRuntime) {
     assert!(rt; accumulate(5, -2, &AT_ONE_MOMENT));
 }
 
-// That a tally refuses the value behind these is proved; no test can note so many.
+// That a tally refuses the value after these is proved; no test can note so many.
 #[test]
 fn a_tally_holds_as_many_values(rt: HostRuntime) {
     assert!(rt; TALLY_LIMIT == 4_611_686_018_427_387_903);

@@ -58,7 +58,7 @@ fn assign(heap: &mut Heap, class: usize, r: i64, field: usize, value: Value) -> 
 // The class and the number of an entity, one of its attributes, and the bytes of a text.
 type TextRow = (usize, i64, usize, &'static [u8]);
 
-// The same with a whole number.
+// The class and the number of an entity, one of its attributes, and a whole number.
 type NumberRow = (usize, i64, usize, i64);
 
 // Whether texts are written.
@@ -174,7 +174,7 @@ fn titles_are_kept(heap: &mut Heap) -> bool {
         && are_read(heap, &NEXT_TITLES, &NEXT_NUMBERS)
 }
 
-// The same in a heap of its own.
+// Whether a heap of its own keeps texts so.
 fn keeps_titles(heap: Option<Heap>) -> bool {
     match heap {
         Some(mut heap) => titles_are_kept(&mut heap),

@@ -25,7 +25,7 @@ fn report(alloc: Global) -> Result<MemoryWrite, AllocError> {
     MemoryWrite::new(alloc, 100, Plan::smooth(4096), Trouble::Error)
 }
 
-// What came of a run with these data, and whether the report is this.
+// The result of a run with these data, and whether the report is this.
 fn ran<R: FaultyRead + Drop>(
     alloc: Global,
     text: &[u8],

@@ -5,14 +5,13 @@ ghost use Rattle.ss_events.specs.Slots.{Leads, no_slot, cell_of, first_guess, se
 use std::alloc::{AllocError, Global};
 use std::collections::HashMap;
 
-// What stands in a cell that names no slot.
+// In a cell that names no slot.
 const FREE: usize = usize::MAX;
 
 // The least number of cells.
 const FEWEST_CELLS: usize = 16;
 
-/// Names two slots for a notice, in one of which it stands if it stands anywhere. Who looks for it has to see whether it
-/// does.
+/// Names two slots for a notice. If it is pending, it is in one of them, and the caller has to look which.
 ///
 /// A notice has a cell, whose number is its last binary digits: notices with numbers in turn have cells of their own.
 /// Where another notice has taken the cell, a map names the slot.
@@ -81,7 +80,7 @@ impl Directory {
         self.mapped(notice)
     }
 
-    // The same of a map that isn't empty.
+    // The slot that the map names, where the map isn't empty.
     #[inline(never)]
     fn mapped(&self, notice: i64) -> usize
         ensures { result ≡ second_guess self.now notice }
@@ -89,7 +88,7 @@ impl Directory {
         self.others.get(&notice).copied().unwrap_or(FREE)
     }
 
-    /// Notes in which slot a notice stands that is new here.
+    /// Notes the slot of a notice that is new here.
     #[inline(always)]
     pub(crate) fn note(&mut self, notice: i64, slot: usize) -> Result<(), AllocError>
         ensures noted { OnOk result (Leads self.new notice slot) }
@@ -103,7 +102,7 @@ impl Directory {
         self.note_in_map(notice, slot)
     }
 
-    /// The same of a notice whose cell shows that it is new here, and says whether that is so. If not, nothing has changed.
+    /// Notes the slot of a notice, if its cell shows that the notice is new here, and says whether it did. If not, nothing has changed.
     #[inline(always)]
     pub(crate) fn note_at_once(&mut self, notice: i64, slot: usize) -> bool
         ensures fresh { result ≡ true → (first_guess self.old notice ≡ no_slot) × (second_guess self.old notice ≡ no_slot) }
@@ -122,7 +121,7 @@ impl Directory {
         false
     }
 
-    // The same, whatever the notice's cell names.
+    // Notes the slot of a notice in the map, whatever its cell names.
     #[inline(never)]
     fn note_in_map(&mut self, notice: i64, slot: usize) -> Result<(), AllocError>
         ensures noted { OnOk result (Leads self.new notice slot) }
@@ -132,7 +131,7 @@ impl Directory {
         Ok(())
     }
 
-    /// Forgets a notice that stood in a slot, without memory.
+    /// Forgets a notice that was in a slot. It needs no memory.
     #[inline(always)]
     pub(crate) fn forget(&mut self, notice: i64, slot: usize)
         ensures others { (n : ℤ) → (s : ℕ) → n ≢ notice → s ≢ slot → Leads self.old n s → Leads self.new n s }

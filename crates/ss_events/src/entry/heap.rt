@@ -4,19 +4,19 @@ ghost use Rattle.std.specs.Ordering.{int_eq};
 ghost use Rattle.std.specs.List.{list_any};
 ghost use Rattle.std.specs.List.Sorted.{IsPermutation};
 ghost use Rattle.ss_events.specs.declared.entry.Entry.{Entry};
-ghost use Rattle.ss_events.specs.HeapEntries.{lines_of, notices_of, event_of, Removes, Leaves, AreBehind};
+ghost use Rattle.ss_events.specs.HeapEntries.{lines_of, notices_of, event_of, Removes, Leaves, AreAfterHeads};
 ghost use Rattle.ss_events.specs.HeapOrder.{IsFirstOf, IsFirstAmong};
 ghost use Rattle.ss_world.specs.Order.{comes_before};
-ghost use Rattle.ss_events.specs.Slots.{mark_of, told_ranks, told_numbers};
-ghost use Rattle.ss_events.specs.declared.entry.places.Stand.{Stand as StandSeen};
+ghost use Rattle.ss_events.specs.Slots.{mark_of, plain_ranks, plain_numbers};
+ghost use Rattle.ss_events.specs.declared.entry.places.HeapNode.{HeapNode as HeapNodeSeen};
 
 use super::order::comes_before;
-use super::places::{Places, Stand};
-use super::{Entry, Key, Mark, TOLD_NUMBERS, UNTOLD};
+use super::places::{HeapNode, Places};
+use super::{Entry, Key, Mark, NOT_PLAIN, PLAIN_NUMBERS};
 use std::alloc::{AllocError, Global};
 use std::marker::Model;
 
-/// Entries in lines, whose heads stand in places from 0 on.
+/// Entries in lines, whose heads are in places from 0 on.
 ///
 /// It counts each comparison of two keys and each write of an entry into a place.
 #[derive(Drop)]
@@ -71,12 +71,12 @@ impl Heap {
         self.moves = 0;
     }
 
-    /// Each entry that stands behind another one comes behind the head of its line. It does nothing.
+    /// Does nothing. Its contract says that each follower comes after a head.
     #[inline(always)]
-    pub(crate) fn are_behind(&self)
-        ensures { AreBehind self.now.entries self.now.followers }
+    pub(crate) fn are_after_heads(&self)
+        ensures { AreAfterHeads self.now.entries self.now.followers }
     {
-        self.entries.are_behind();
+        self.entries.are_after_heads();
     }
 
     /// Whether there is an entry of a notice.
@@ -103,7 +103,8 @@ impl Heap {
         self.entries.event(0)
     }
 
-    /// Reads what stands behind the entry in the first place, so that it is at hand when that is taken out. Nothing changes.
+    /// Reads the slot that follows the entry in the first place, so that it is in the cache when that entry is taken out. Nothing
+    /// changes.
     #[inline(always)]
     pub(crate) fn look_ahead(&mut self)
         requires { 0 < length self.old.entries }
@@ -126,7 +127,7 @@ impl Heap {
         if early.time != late.time {
             return early.time < late.time;
         }
-        if early.order == UNTOLD || late.order == UNTOLD {
+        if early.order == NOT_PLAIN || late.order == NOT_PLAIN {
             return is_tied_before(&self.entries, a, b);
         }
         early.order < late.order
@@ -193,12 +194,12 @@ impl Heap {
         Ok(())
     }
 
-    /// The same of one without ties, of a rank and a number that an order tells, where there is room for it and its notice is found
-    /// to be new at once; and says whether it did. If not, nothing has changed.
+    /// Puts a plain entry into the next place, if there is room and its notice is found to be new at once, and says whether it did.
+    /// Counts a move where it did. If not, nothing has changed.
     #[inline(always)]
-    pub(crate) fn push_told(&mut self, time: i64, rank: usize, number: u64, notice: i64) -> bool
-        requires rank { rank < told_ranks }
-        requires number { number < told_numbers }
+    pub(crate) fn push_plain(&mut self, time: i64, rank: usize, number: u64, notice: i64) -> bool
+        requires rank { rank < plain_ranks }
+        requires number { number < plain_numbers }
         requires countable { self.old.moves + 1 < 2 ^ 64 }
         ensures done { result ≡ true → self.new ≡ record self.old { entries = self.old.entries ++ record { key = record { time = time; rank = rank; ties = [] }; number = number; notice = notice } ∷ []; moves = self.old.moves + 1 } }
         ensures apart { result ≡ true → list_any (int_eq notice) (notices_of self.old.entries) ≡ false }
@@ -207,7 +208,7 @@ impl Heap {
     {
         if !self
             .entries
-            .push_told(told_mark(time, rank, number), notice)
+            .push_plain(plain_mark(time, rank, number), notice)
         {
             return false;
         }
@@ -215,12 +216,12 @@ impl Heap {
         true
     }
 
-    /// Puts such an entry behind the last of a line of its time, where one is found that comes before it; and says whether it did.
+    /// Puts a plain entry after the last of a line of its time, where one is found that comes before it; and says whether it did.
     /// Counts a comparison, and a move where it did. If not, nothing else has changed.
     #[inline(never)]
-    pub(crate) fn append_told(&mut self, time: i64, rank: usize, number: u64, notice: i64) -> bool
-        requires rank { rank < told_ranks }
-        requires number { number < told_numbers }
+    pub(crate) fn append_plain(&mut self, time: i64, rank: usize, number: u64, notice: i64) -> bool
+        requires rank { rank < plain_ranks }
+        requires number { number < plain_numbers }
         requires comparable { self.old.comparisons + 1 < 2 ^ 64 }
         requires countable { self.old.moves + 1 < 2 ^ 64 }
         ensures entries { self.new.entries ≡ self.old.entries }
@@ -231,9 +232,9 @@ impl Heap {
         ensures compared { result ≡ true → self.new.comparisons ≡ self.old.comparisons + 1 }
         ensures kept { result ≡ false → self.new ≡ record self.old { comparisons = self.old.comparisons + 1 } }
     {
-        let mark = told_mark(time, rank, number);
+        let mark = plain_mark(time, rank, number);
         self.comparisons += 1;
-        if !self.entries.append_told(mark, notice) {
+        if !self.entries.append_plain(mark, notice) {
             return false;
         }
         self.count_move();
@@ -253,40 +254,40 @@ impl Heap {
         self.entries.remove(at)
     }
 
-    /// Takes out the entry of a notice where it stands behind another one, and says whether it did. If not, nothing has changed.
-    pub(crate) fn remove_behind(&mut self, notice: i64) -> bool
+    /// Takes out the entry of a notice where it follows another one, and says whether it did. If not, nothing has changed.
+    pub(crate) fn remove_follower(&mut self, notice: i64) -> bool
         ensures found { result ≡ list_any (int_eq notice) (notices_of self.old.followers) }
         ensures left { result ≡ true → Leaves (lines_of self.old) (lines_of self.new) notice }
         ensures counts { (self.new.comparisons ≡ self.old.comparisons) × (self.new.moves ≡ self.old.moves) }
         ensures kept { result ≡ false → self.new ≡ self.old }
     {
-        self.entries.remove_behind(notice)
+        self.entries.remove_follower(notice)
     }
 }
 
-// The mark of an entry without ties, of a rank and a number that an order tells.
+// The mark of a plain entry.
 #[inline(always)]
-fn told_mark(time: i64, rank: usize, number: u64) -> Mark
-    requires rank { rank < told_ranks }
-    requires number { number < told_numbers }
-    ensures { result ≡ record { time = time; order = rank * told_numbers + number } }
+fn plain_mark(time: i64, rank: usize, number: u64) -> Mark
+    requires rank { rank < plain_ranks }
+    requires number { number < plain_numbers }
+    ensures { result ≡ record { time = time; order = rank * plain_numbers + number } }
 {
     Mark {
         time,
-        order: rank as u64 * TOLD_NUMBERS + number,
+        order: rank as u64 * PLAIN_NUMBERS + number,
     }
 }
 
 // The first of two of the four entries from a place on, one left of the other. It is reckoned without a branch, which would go one way
 // as often as the other.
 #[inline(always)]
-fn first_of(entries: &Places, four: &[Stand], from: usize, left: usize, right: usize) -> usize
+fn first_of(entries: &Places, four: &[HeapNode], from: usize, left: usize, right: usize) -> usize
     requires apart { left < right }
     requires right { right < 4 }
     requires four { length four.now ≡ 4 }
     requires within { from + 4 ≤ length entries.now.heads }
     requires small { from + 4 < 2 ^ 64 }
-    requires marks { (k : ℕ) → k < 4 → (s : StandSeen) (d : Entry) → (slice_index_or four.now k s).mark ≡ mark_of (slice_index_or entries.now.heads (from + k) d) }
+    requires marks { (k : ℕ) → k < 4 → (s : HeapNodeSeen) (d : Entry) → (slice_index_or four.now k s).mark ≡ mark_of (slice_index_or entries.now.heads (from + k) d) }
     ensures { IsFirstOf comes_before entries.now.heads (from + left) (from + right) (from + result) }
 {
     let is_right = is_before_in(entries, four, from, right, left);
@@ -295,47 +296,47 @@ fn first_of(entries: &Places, four: &[Stand], from: usize, left: usize, right: u
 
 // Whether one of the four entries from a place on comes out before another of them.
 #[inline(always)]
-fn is_before_in(entries: &Places, four: &[Stand], from: usize, a: usize, b: usize) -> bool
+fn is_before_in(entries: &Places, four: &[HeapNode], from: usize, a: usize, b: usize) -> bool
     requires a { a < 4 }
     requires b { b < 4 }
     requires four { length four.now ≡ 4 }
     requires within { from + 4 ≤ length entries.now.heads }
     requires small { from + 4 < 2 ^ 64 }
-    requires marks { (k : ℕ) → k < 4 → (s : StandSeen) (d : Entry) → (slice_index_or four.now k s).mark ≡ mark_of (slice_index_or entries.now.heads (from + k) d) }
+    requires marks { (k : ℕ) → k < 4 → (s : HeapNodeSeen) (d : Entry) → (slice_index_or four.now k s).mark ≡ mark_of (slice_index_or entries.now.heads (from + k) d) }
     ensures { (d : Entry) → result ≡ comes_before (slice_index_or entries.now.heads (from + a) d) (slice_index_or entries.now.heads (from + b) d) }
 {
     let (early, late) = (four[a].mark, four[b].mark);
     if early.time != late.time {
         return early.time < late.time;
     }
-    if early.order == UNTOLD || late.order == UNTOLD {
+    if early.order == NOT_PLAIN || late.order == NOT_PLAIN {
         return is_tied_before(entries, from + a, from + b);
     }
     early.order < late.order
 }
 
-// Whether the entry at place `a` comes out before that at `b`, whose marks do not tell.
+// Whether the entry at place `a` comes out before that at `b`, where their marks don't decide it.
 #[inline(never)]
 fn is_tied_before(entries: &Places, a: usize, b: usize) -> bool
     requires a_within { a < length entries.now.heads }
     requires b_within { b < length entries.now.heads }
     ensures { (d : Entry) → result ≡ comes_before (slice_index_or entries.now.heads a d) (slice_index_or entries.now.heads b d) }
 {
-    if entries.mark(a).order == UNTOLD {
-        return is_before_told_or_not(entries.whole(a), entries, b);
+    if entries.mark(a).order == NOT_PLAIN {
+        return is_before_at(entries.whole(a), entries, b);
     }
-    let told = entries.told(a);
-    is_before_told_or_not(&told, entries, b)
+    let plain = entries.plain(a);
+    is_before_at(&plain, entries, b)
 }
 
-// The same of an entry and that at a place.
-fn is_before_told_or_not(entry: &Entry, entries: &Places, b: usize) -> bool
+// Whether an entry comes out before that at place `b`.
+fn is_before_at(entry: &Entry, entries: &Places, b: usize) -> bool
     requires { b < length entries.now.heads }
     ensures { (d : Entry) → result ≡ comes_before entry.now (slice_index_or entries.now.heads b d) }
 {
-    if entries.mark(b).order == UNTOLD {
+    if entries.mark(b).order == NOT_PLAIN {
         return comes_before(entry, entries.whole(b));
     }
-    let told = entries.told(b);
-    comes_before(entry, &told)
+    let plain = entries.plain(b);
+    comes_before(entry, &plain)
 }

@@ -1,23 +1,23 @@
-// Entries in lines, of which the first stands in a place: no entry moves while lines change places.
+// Entries in lines, of which the first is in a place of the heap: no entry moves while lines change places.
 ghost use Rattle.std.specs.Prelude.{true, false, pos, ℕ, ◌+◌, ◌*◌, ◌^◌, ◌≢◌, ◌==◌, ◌||◌, slice_set, ◌≡◌, ◌<◌, ◌≤◌, ◌++◌, ◌∷◌, [], length, swap, slice_index_or, vec_len, if◌then◌else◌, IfOk, OnOk, OnErr, MatchOption, position, is_some, EachIndex};
 ghost use Rattle.std.specs.Ordering.{int_eq};
 ghost use Rattle.std.specs.List.{list_any};
 ghost use Rattle.std.specs.List.Sorted.{IsPermutation};
 ghost use Rattle.ss_events.specs.declared.entry.Entry.{Entry};
-ghost use Rattle.ss_events.specs.declared.entry.places.Stand.{Stand as StandSeen};
-ghost use Rattle.ss_events.specs.HeapEntries.{notices_of, event_of, Removes, Leaves, AreBehind};
-ghost use Rattle.ss_events.specs.Slots.{no_entry, no_mark, no_kept, no_slot, no_stand, behind, mark_of, untold, order_of, IsBut, told_by, told_ranks, told_numbers, kept, stand, IsTaken, AreDistinct, AreLed, at_put, next_put, exchanged};
+ghost use Rattle.ss_events.specs.declared.entry.places.HeapNode.{HeapNode as HeapNodeSeen};
+ghost use Rattle.ss_events.specs.HeapEntries.{notices_of, event_of, Removes, Leaves, AreAfterHeads};
+ghost use Rattle.ss_events.specs.Slots.{no_entry, no_mark, blank_slot, no_slot, no_node, following, mark_of, not_plain, order_of, IsBut, plain_entry, plain_ranks, plain_numbers, slot_at, node, IsTaken, AreDistinct, AreLed, at_put, next_put, exchanged};
 
 use super::directory::Directory;
-use super::{Entry, Mark, TOLD_NUMBERS, UNTOLD, mark_of, told_by};
+use super::{Entry, Mark, NOT_PLAIN, PLAIN_NUMBERS, mark_of, plain_entry};
 use std::alloc::{AllocError, Global};
 use std::marker::Model;
 
 // What no slot is.
 const NO_SLOT: usize = usize::MAX;
 
-// What is added to a slot to say that an entry stands behind the one there.
-const BEHIND: usize = 9_223_372_036_854_775_808;
+// What is added to the number of a slot to say that an entry follows the one there.
+const FOLLOWING: usize = 9_223_372_036_854_775_808;
 
 // How many times are remembered, each with the entry that came to it last.
 const HINTS: usize = 4096;
@@ -25,21 +25,21 @@ const HINTS: usize = 4096;
 /// The fewest heads among which it is worth while to look for a line that an entry may join.
 pub(crate) const MANY: usize = 64;
 
-// What stands in a place: a slot, and what tells in which order its entry comes.
+// What is in a place of the heap: a slot, and the mark of its entry.
 #[derive(Clone, Copy)]
-pub(super) struct Stand {
+pub(super) struct HeapNode {
     pub(super) mark: Mark,
     slot: usize,
 }
 
-// What is kept of an entry in its slot.
+// What a slot records of its entry.
 #[derive(Clone, Copy)]
 struct Slot {
     notice: i64,
     mark: Mark,
     // The slot of the next one in its line, or none.
     next: usize,
-    // The place in which it stands, or `BEHIND` and the slot of the one before it.
+    // Its place, or `FOLLOWING` and the slot of the one before it.
     at: usize,
 }
 
@@ -50,19 +50,19 @@ struct Hint {
     slot: usize,
 }
 
-/// Entries in lines. The first of each line stands in a place, from 0 on, and the others behind it: they come at the same time,
+/// Entries in lines. The first of each line is in a place, from 0 on, and the others follow it: they come at the same time,
 /// one after another. A contract sees the list of those in places, and a list of all others.
 ///
 /// An entry keeps its slot from when it comes until it goes. The slot is then free, and the next entry that comes takes it. A
-/// directory says in which slots to look for a notice, and hints in which slot to look for the last of a line. Of an entry that its
-/// mark tells nothing else is kept but its notice. The mark of a head stands in its slot and beside its place.
+/// directory says in which slots to look for a notice, and hints in which slot to look for the last of a line. A plain entry is
+/// made from its mark and its notice, and is stored nowhere else. The mark of a head is in its slot and in the node of its place.
 #[derive(Drop)]
 pub struct Places {
     slots: Vec<Slot>,
-    // By slot, as far as any was kept: its entry where its mark does not tell it, and elsewhere one without ties.
+    // By slot, as far as one was ever stored: its entry where that isn't plain, and elsewhere one without ties.
     entries: Vec<Entry>,
-    // By place: what stands there. The slots that are free stand behind all places.
-    stands: Vec<Stand>,
+    // By place: the slot there. The free slots come after all places.
+    nodes: Vec<HeapNode>,
     // How many places there are.
     count: usize,
     // How many slots are free.
@@ -79,9 +79,9 @@ impl Model for Places {
 
     ghost Value = { Lines };
 
-    ghost view = { λ p. record { heads = heads p.count p.slots.items p.entries.items p.stands.items; followers = followers p.slots.items } };
+    ghost view = { λ p. record { heads = heads p.count p.slots.items p.entries.items p.nodes.items; followers = followers p.slots.items } };
 
-    ghost invariant = { λ p. AreHeld p.count p.free p.slots.items p.entries.items p.stands.items p.directory };
+    ghost invariant = { λ p. AreHeld p.count p.free p.slots.items p.entries.items p.nodes.items p.directory };
 }
 
 impl Places {
@@ -91,7 +91,7 @@ impl Places {
         Places {
             slots: Vec::new(alloc),
             entries: Vec::new(alloc),
-            stands: Vec::new(alloc),
+            nodes: Vec::new(alloc),
             count: 0,
             free: 0,
             hints: Vec::new(alloc),
@@ -108,10 +108,10 @@ impl Places {
         self.count
     }
 
-    /// Each entry that stands behind another one comes behind the first of its line. It does nothing.
+    /// Does nothing. Its contract says that each follower comes after a head.
     #[inline(always)]
-    pub(crate) fn are_behind(&self)
-        ensures { AreBehind self.now.heads self.now.followers }
+    pub(crate) fn are_after_heads(&self)
+        ensures { AreAfterHeads self.now.heads self.now.followers }
     {
         let _ = &self.count;
     }
@@ -134,24 +134,24 @@ impl Places {
         slot_of(&self.directory, &self.slots, self.count, notice).is_some()
     }
 
-    /// What tells in which order the entry in a place comes.
+    /// The mark of the entry in a place.
     #[inline(always)]
     pub(crate) fn mark(&self, place: usize) -> Mark
         requires { place < length self.now.heads }
         ensures { (d : Entry) → result ≡ mark_of (slice_index_or self.now.heads place d) }
     {
-        self.stands[place].mark
+        self.nodes[place].mark
     }
 
-    /// What stands in four places from this one on.
+    /// The nodes of four places from this one on.
     #[inline(always)]
-    pub(super) fn four(&self, from: usize) -> &[Stand]
+    pub(super) fn four(&self, from: usize) -> &[HeapNode]
         requires within { from + 4 ≤ length self.now.heads }
         requires small { from + 4 < 2 ^ 64 }
         ensures four { length result.now ≡ 4 }
-        ensures marks { (k : ℕ) → k < 4 → (s : StandSeen) (d : Entry) → (slice_index_or result.now k s).mark ≡ mark_of (slice_index_or self.now.heads (from + k) d) }
+        ensures marks { (k : ℕ) → k < 4 → (s : HeapNodeSeen) (d : Entry) → (slice_index_or result.now k s).mark ≡ mark_of (slice_index_or self.now.heads (from + k) d) }
     {
-        &self.stands[from..from + 4]
+        &self.nodes[from..from + 4]
     }
 
     /// The time and the notice of the entry in a place.
@@ -160,12 +160,12 @@ impl Places {
         requires { place < length self.now.heads }
         ensures { (d : Entry) → result ≡ event_of (slice_index_or self.now.heads place d) }
     {
-        let stand = self.stands[place];
-        (stand.mark.time, self.slots[stand.slot].notice)
+        let node = self.nodes[place];
+        (node.mark.time, self.slots[node.slot].notice)
     }
 
-    /// Reads the cell of the notice in the first place, and what stands behind that, where there are many heads, so that the processor
-    /// has them at hand when the entry is taken out: they lie far apart. Nothing else changes.
+    /// Where there are many heads, reads the cell of the notice in the first place, and the slot that follows. They lie far apart, and
+    /// are then in the processor's cache when the entry is taken out. Nothing else changes.
     #[inline(always)]
     pub(crate) fn look_ahead(&mut self)
         requires { 0 < length self.old.heads }
@@ -174,7 +174,7 @@ impl Places {
         if self.count < MANY {
             return;
         }
-        let Slot { notice, next, .. } = self.slots[self.stands[0].slot];
+        let Slot { notice, next, .. } = self.slots[self.nodes[0].slot];
         let mut ahead = self.directory.first_guess(notice) as u64;
         if next < self.slots.len() {
             ahead ^= self.slots[next].mark.order;
@@ -182,22 +182,22 @@ impl Places {
         self.ahead = ahead;
     }
 
-    /// The entry in a place, but for its notice, whose mark does not tell it.
+    /// The entry in a place, but for its notice, where it isn't plain.
     pub(crate) fn whole(&self, place: usize) -> &Entry
         requires within { place < length self.now.heads }
-        requires untold { (d : Entry) → order_of (slice_index_or self.now.heads place d) ≡ untold }
+        requires not_plain { (d : Entry) → order_of (slice_index_or self.now.heads place d) ≡ not_plain }
         ensures { (d : Entry) → IsBut result.now (slice_index_or self.now.heads place d) }
     {
-        &self.entries[self.stands[place].slot]
+        &self.entries[self.nodes[place].slot]
     }
 
-    /// The entry in a place, but for its notice, whose mark tells it.
-    pub(crate) fn told(&self, place: usize) -> Entry
+    /// The entry in a place, but for its notice, where it is plain.
+    pub(crate) fn plain(&self, place: usize) -> Entry
         requires within { place < length self.now.heads }
-        requires told { (d : Entry) → order_of (slice_index_or self.now.heads place d) ≢ untold }
+        requires plain { (d : Entry) → order_of (slice_index_or self.now.heads place d) ≢ not_plain }
         ensures { (d : Entry) → IsBut result (slice_index_or self.now.heads place d) }
     {
-        told_by(*self.slots.allocator(), self.stands[place].mark)
+        plain_entry(*self.slots.allocator(), self.nodes[place].mark)
     }
 
     /// Makes room for one more entry.
@@ -211,7 +211,7 @@ impl Places {
             self.count,
             self.free,
         )?;
-        self.free = some_free(&mut self.slots, &mut self.stands, self.count, self.free)?;
+        self.free = some_free(&mut self.slots, &mut self.nodes, self.count, self.free)?;
         Ok(())
     }
 
@@ -229,13 +229,13 @@ impl Places {
             self.count,
             self.free,
         )?;
-        self.free = some_free(&mut self.slots, &mut self.stands, self.count, self.free)?;
+        self.free = some_free(&mut self.slots, &mut self.nodes, self.count, self.free)?;
         let next = self.count;
-        let slot = self.stands[next].slot;
+        let slot = self.nodes[next].slot;
         let mark = mark_of(&entry);
         reach(&mut self.entries, slot, mark)?;
         self.directory.note(entry.notice, slot)?;
-        self.stands[next] = Stand { mark, slot };
+        self.nodes[next] = HeapNode { mark, slot };
         self.count = next + 1;
         self.free -= 1;
         self.slots[slot] = alone(entry.notice, mark, next);
@@ -244,12 +244,12 @@ impl Places {
         Ok(())
     }
 
-    /// The same of one that its mark tells, where there is room for it and its notice is found to be new at once; and says whether it
-    /// did. If not, nothing has changed.
+    /// Puts a plain entry into the next place, if there is room and its notice is found to be new at once, and says whether it did.
+    /// If not, nothing has changed.
     #[inline(always)]
-    pub(crate) fn push_told(&mut self, mark: Mark, notice: i64) -> bool
-        requires told { mark.order < told_ranks * told_numbers }
-        ensures done { result ≡ true → self.new ≡ record self.old { heads = self.old.heads ++ told_by mark notice ∷ [] } }
+    pub(crate) fn push_plain(&mut self, mark: Mark, notice: i64) -> bool
+        requires plain { mark.order < plain_ranks * plain_numbers }
+        ensures done { result ≡ true → self.new ≡ record self.old { heads = self.old.heads ++ plain_entry mark notice ∷ [] } }
         ensures apart { result ≡ true → list_any (int_eq notice) (notices_of self.old.heads) ≡ false }
         ensures fresh { result ≡ true → list_any (int_eq notice) (notices_of self.old.followers) ≡ false }
         ensures kept { result ≡ false → self.new ≡ self.old }
@@ -258,11 +258,11 @@ impl Places {
             return false;
         }
         let next = self.count;
-        let slot = self.stands[next].slot;
+        let slot = self.nodes[next].slot;
         if !self.directory.note_at_once(notice, slot) {
             return false;
         }
-        self.stands[next] = Stand { mark, slot };
+        self.nodes[next] = HeapNode { mark, slot };
         self.count = next + 1;
         self.free -= 1;
         self.slots[slot] = alone(notice, mark, next);
@@ -270,13 +270,13 @@ impl Places {
         true
     }
 
-    /// Puts an entry that its mark tells behind the last of a line of its time, where such a line is found that it comes after, there is
-    /// room for it, and its notice is found to be new at once; and says whether it did. If not, nothing has changed.
+    /// Puts a plain entry after the last of a line of its time, if a line is found that ends before it, there is room for it, and its
+    /// notice is found to be new at once; and says whether it did. If not, nothing has changed.
     #[inline(always)]
-    pub(crate) fn append_told(&mut self, mark: Mark, notice: i64) -> bool
-        requires told { mark.order < told_ranks * told_numbers }
+    pub(crate) fn append_plain(&mut self, mark: Mark, notice: i64) -> bool
+        requires plain { mark.order < plain_ranks * plain_numbers }
         ensures heads { self.new.heads ≡ self.old.heads }
-        ensures done { result ≡ true → IsPermutation (told_by mark notice ∷ self.old.followers) self.new.followers }
+        ensures done { result ≡ true → IsPermutation (plain_entry mark notice ∷ self.old.followers) self.new.followers }
         ensures apart { result ≡ true → list_any (int_eq notice) (notices_of self.old.heads) ≡ false }
         ensures fresh { result ≡ true → list_any (int_eq notice) (notices_of self.old.followers) ≡ false }
         ensures kept { result ≡ false → self.new ≡ self.old }
@@ -288,12 +288,12 @@ impl Places {
         self.append_to(before, mark, notice)
     }
 
-    // The same behind the entry of a slot, if it is the last of such a line.
+    // Puts a plain entry after the entry of a slot, if that is the last of such a line.
     #[inline(never)]
     fn append_to(&mut self, before: usize, mark: Mark, notice: i64) -> bool
-        requires told { mark.order < told_ranks * told_numbers }
+        requires plain { mark.order < plain_ranks * plain_numbers }
         ensures heads { self.new.heads ≡ self.old.heads }
-        ensures done { result ≡ true → IsPermutation (told_by mark notice ∷ self.old.followers) self.new.followers }
+        ensures done { result ≡ true → IsPermutation (plain_entry mark notice ∷ self.old.followers) self.new.followers }
         ensures apart { result ≡ true → list_any (int_eq notice) (notices_of self.old.heads) ≡ false }
         ensures fresh { result ≡ true → list_any (int_eq notice) (notices_of self.old.followers) ≡ false }
         ensures kept { result ≡ false → self.new ≡ self.old }
@@ -305,7 +305,7 @@ impl Places {
             return false;
         }
         let last = self.count + self.free - 1;
-        let slot = self.stands[last].slot;
+        let slot = self.nodes[last].slot;
         if !self.directory.note_at_once(notice, slot) {
             return false;
         }
@@ -322,7 +322,7 @@ impl Places {
         requires b_within { b < length self.old.heads }
         ensures { self.new ≡ record self.old { heads = swap self.old.heads a b } }
     {
-        exchange(&mut self.stands, &mut self.slots, a, b);
+        exchange(&mut self.nodes, &mut self.slots, a, b);
     }
 
     /// Takes the entry out of a place, into which the next of its line comes, or else the last head, and answers its time and its
@@ -331,29 +331,29 @@ impl Places {
         requires { at < length self.old.heads }
         ensures { Removes self.old self.new at result }
     {
-        let stand = self.stands[at];
-        let Slot { notice, next, .. } = self.slots[stand.slot];
+        let node = self.nodes[at];
+        let Slot { notice, next, .. } = self.slots[node.slot];
         if next != NO_SLOT {
-            advance(&mut self.stands, &mut self.slots, at, next);
+            advance(&mut self.nodes, &mut self.slots, at, next);
             release(
-                &mut self.stands,
+                &mut self.nodes,
                 &mut self.slots,
                 self.count + self.free,
-                stand.slot,
+                node.slot,
             );
         } else {
             let last = self.count - 1;
-            exchange(&mut self.stands, &mut self.slots, at, last);
+            exchange(&mut self.nodes, &mut self.slots, at, last);
             self.count = last;
-            clear(&mut self.entries, stand.slot, stand.mark);
+            clear(&mut self.entries, node.slot, node.mark);
         }
         self.free += 1;
-        self.directory.forget(notice, stand.slot);
-        (stand.mark.time, notice)
+        self.directory.forget(notice, node.slot);
+        (node.mark.time, notice)
     }
 
-    /// Takes out the entry of a notice where it stands behind another one, and says whether it did. If not, nothing has changed.
-    pub(crate) fn remove_behind(&mut self, notice: i64) -> bool
+    /// Takes out the entry of a notice where it follows another one, and says whether it did. If not, nothing has changed.
+    pub(crate) fn remove_follower(&mut self, notice: i64) -> bool
         ensures found { result ≡ list_any (int_eq notice) (notices_of self.old.followers) }
         ensures left { result ≡ true → Leaves self.old self.new notice }
         ensures kept { result ≡ false → self.new ≡ self.old }
@@ -362,12 +362,12 @@ impl Places {
             return false;
         };
         let Slot { next, at, .. } = self.slots[slot];
-        if at < BEHIND {
+        if at < FOLLOWING {
             return false;
         }
-        close_up(&mut self.slots, at - BEHIND, next);
+        close_up(&mut self.slots, at - FOLLOWING, next);
         release(
-            &mut self.stands,
+            &mut self.nodes,
             &mut self.slots,
             self.count + self.free,
             slot,
@@ -378,7 +378,7 @@ impl Places {
     }
 }
 
-// What is kept of an entry in a place, with none behind it.
+// The slot of an entry in a place, with none after it.
 #[inline(always)]
 fn alone(notice: i64, mark: Mark, at: usize) -> Slot
     ensures { result ≡ record { notice = notice; mark = mark; next = no_slot; at = at } }
@@ -391,19 +391,19 @@ fn alone(notice: i64, mark: Mark, at: usize) -> Slot
     }
 }
 
-// Makes room for what is in a slot, unless its mark tells it.
+// Makes room for the entry of a slot, unless it is plain.
 #[inline(always)]
 fn reach(entries: &mut Vec<Entry>, slot: usize, mark: Mark) -> Result<(), AllocError>
     ensures same { (s : ℕ) → slice_index_or entries.new.items s no_entry ≡ slice_index_or entries.old.items s no_entry }
-    ensures within { OnOk result (mark.order ≡ untold → slot < vec_len entries.new) }
+    ensures within { OnOk result (mark.order ≡ not_plain → slot < vec_len entries.new) }
 {
-    if mark.order == UNTOLD {
+    if mark.order == NOT_PLAIN {
         lengthen(entries, slot)?;
     }
     Ok(())
 }
 
-// Makes room for what is in a slot.
+// Makes room for the entry of a slot.
 #[inline(never)]
 fn lengthen(entries: &mut Vec<Entry>, slot: usize) -> Result<(), AllocError>
     ensures same { (s : ℕ) → slice_index_or entries.new.items s no_entry ≡ slice_index_or entries.old.items s no_entry }
@@ -416,30 +416,30 @@ fn lengthen(entries: &mut Vec<Entry>, slot: usize) -> Result<(), AllocError>
     Ok(())
 }
 
-// Puts an entry into a slot, unless its mark tells it.
+// Stores the entry of a slot, unless it is plain.
 #[inline(always)]
 fn keep(entries: &mut Vec<Entry>, slot: usize, entry: Entry, mark: Mark)
-    requires { mark.order ≡ untold → slot < vec_len entries.old }
-    ensures { entries.new.items ≡ (if mark.order == untold then slice_set entries.old.items slot entry else entries.old.items) }
+    requires { mark.order ≡ not_plain → slot < vec_len entries.old }
+    ensures { entries.new.items ≡ (if mark.order == not_plain then slice_set entries.old.items slot entry else entries.old.items) }
 {
-    if mark.order == UNTOLD {
+    if mark.order == NOT_PLAIN {
         put(entries, slot, entry);
     }
 }
 
-// Takes what is in a slot out of it, unless its mark tells it.
+// Drops the entry of a slot, unless it is plain.
 #[inline(always)]
 fn clear(entries: &mut Vec<Entry>, slot: usize, mark: Mark)
-    requires { mark.order ≡ untold → slot < vec_len entries.old }
-    ensures { entries.new.items ≡ (if mark.order == untold then slice_set entries.old.items slot no_entry else entries.old.items) }
+    requires { mark.order ≡ not_plain → slot < vec_len entries.old }
+    ensures { entries.new.items ≡ (if mark.order == not_plain then slice_set entries.old.items slot no_entry else entries.old.items) }
 {
-    if mark.order == UNTOLD {
+    if mark.order == NOT_PLAIN {
         let none = Entry::none(*entries.allocator());
         put(entries, slot, none);
     }
 }
 
-// Puts an entry into a slot.
+// Stores the entry of a slot.
 #[inline(never)]
 fn put(entries: &mut Vec<Entry>, slot: usize, entry: Entry)
     requires { slot < vec_len entries.old }
@@ -452,7 +452,7 @@ fn put(entries: &mut Vec<Entry>, slot: usize, entry: Entry)
 #[inline(always)]
 fn slot_of(directory: &Directory, slots: &[Slot], count: usize, notice: i64) -> Option<usize>
     requires { AreLed directory.now count slots.now }
-    ensures { MatchOption result ((s : ℕ) → s < length slots.now → IsTaken count (kept slots.now s) → (kept slots.now s).notice ≢ notice) (λ s. (s < length slots.now) × IsTaken count (kept slots.now s) × ((kept slots.now s).notice ≡ notice)) }
+    ensures { MatchOption result ((s : ℕ) → s < length slots.now → IsTaken count (slot_at slots.now s) → (slot_at slots.now s).notice ≢ notice) (λ s. (s < length slots.now) × IsTaken count (slot_at slots.now s) × ((slot_at slots.now s).notice ≡ notice)) }
 {
     let first = directory.first_guess(notice);
     if is_in(slots, count, first, notice) {
@@ -468,20 +468,20 @@ fn slot_of(directory: &Directory, slots: &[Slot], count: usize, notice: i64) -> 
 // Whether the entry of a notice is in a slot.
 #[inline(always)]
 fn is_in(slots: &[Slot], count: usize, slot: usize, notice: i64) -> bool
-    ensures yes { result ≡ true → (slot < length slots.now) × IsTaken count (kept slots.now slot) × ((kept slots.now slot).notice ≡ notice) }
-    ensures no { result ≡ false → slot < length slots.now → IsTaken count (kept slots.now slot) → (kept slots.now slot).notice ≢ notice }
+    ensures yes { result ≡ true → (slot < length slots.now) × IsTaken count (slot_at slots.now slot) × ((slot_at slots.now slot).notice ≡ notice) }
+    ensures no { result ≡ false → slot < length slots.now → IsTaken count (slot_at slots.now slot) → (slot_at slots.now slot).notice ≢ notice }
 {
     if slot >= slots.len() {
         return false;
     }
     let it = slots[slot];
-    it.notice == notice && (it.at < count || it.at >= BEHIND)
+    it.notice == notice && (it.at < count || it.at >= FOLLOWING)
 }
 
 // Which hint is that for entries of this time and rank.
 #[inline(always)]
 fn hint_of(mark: Mark) -> usize {
-    (mark.time.cast_unsigned() as usize ^ (mark.order / TOLD_NUMBERS) as usize) & (HINTS - 1)
+    (mark.time.cast_unsigned() as usize ^ (mark.order / PLAIN_NUMBERS) as usize) & (HINTS - 1)
 }
 
 // The slot in which to look for the last of a line that an entry may join, or none.
@@ -517,112 +517,116 @@ fn give_hint(hints: &mut [Hint], mark: Mark, slot: usize) {
 #[inline(always)]
 fn is_last_before(slots: &[Slot], count: usize, slot: usize, mark: Mark) -> bool
     ensures within { result ≡ true → slot < length slots.now }
-    ensures taken { result ≡ true → IsTaken count (kept slots.now slot) }
-    ensures last { result ≡ true → (kept slots.now slot).next ≡ no_slot }
-    ensures time { result ≡ true → (kept slots.now slot).mark.time ≡ mark.time }
-    ensures order { result ≡ true → (kept slots.now slot).mark.order < mark.order }
+    ensures taken { result ≡ true → IsTaken count (slot_at slots.now slot) }
+    ensures last { result ≡ true → (slot_at slots.now slot).next ≡ no_slot }
+    ensures time { result ≡ true → (slot_at slots.now slot).mark.time ≡ mark.time }
+    ensures order { result ≡ true → (slot_at slots.now slot).mark.order < mark.order }
 {
     if slot >= slots.len() {
         return false;
     }
     let it = slots[slot];
-    if it.at >= count && it.at < BEHIND {
+    if it.at >= count && it.at < FOLLOWING {
         return false;
     }
     it.next == NO_SLOT && it.mark.time == mark.time && it.mark.order < mark.order
 }
 
-// Puts a new entry into a slot, behind that of another.
+// Puts a new entry into a slot, after that of another.
 #[inline(always)]
 fn line_up(slots: &mut [Slot], before: usize, slot: usize, notice: i64, mark: Mark)
     requires before { before < length slots.old }
-    requires small { length slots.old < behind }
+    requires small { length slots.old < following }
     requires within { slot < length slots.old }
-    ensures { slots.new ≡ slice_set (next_put slots.old before slot) slot (record { notice = notice; mark = mark; next = no_slot; at = behind + before }) }
+    ensures { slots.new ≡ slice_set (next_put slots.old before slot) slot (record { notice = notice; mark = mark; next = no_slot; at = following + before }) }
 {
     slots[before].next = slot;
-    slots[slot] = alone(notice, mark, BEHIND + before);
+    slots[slot] = alone(notice, mark, FOLLOWING + before);
 }
 
 // Joins the entry of a slot to the next one in its line, or to none, where the one between goes.
 #[inline(always)]
 fn close_up(slots: &mut [Slot], before: usize, next: usize)
-    requires small { length slots.old < behind }
+    requires small { length slots.old < following }
     requires before { before < length slots.old }
     requires next { next ≢ no_slot → next < length slots.old }
-    ensures { slots.new ≡ (if next == no_slot then next_put slots.old before next else at_put (next_put slots.old before next) next (behind + before)) }
+    ensures { slots.new ≡ (if next == no_slot then next_put slots.old before next else at_put (next_put slots.old before next) next (following + before)) }
 {
     slots[before].next = next;
     if next != NO_SLOT {
-        slots[next].at = BEHIND + before;
+        slots[next].at = FOLLOWING + before;
     }
 }
 
-// Lets the next of a line stand in the place of its first.
+// Puts the next of a line into the place of its first.
 #[inline(always)]
-fn advance(stands: &mut [Stand], slots: &mut [Slot], at: usize, next: usize)
-    requires at { at < length stands.old }
+fn advance(nodes: &mut [HeapNode], slots: &mut [Slot], at: usize, next: usize)
+    requires at { at < length nodes.old }
     requires next { next < length slots.old }
-    ensures stands { stands.new ≡ slice_set stands.old at (record { mark = (kept slots.old next).mark; slot = next }) }
+    ensures nodes { nodes.new ≡ slice_set nodes.old at (record { mark = (slot_at slots.old next).mark; slot = next }) }
     ensures slots { slots.new ≡ at_put slots.old next at }
 {
-    stands[at] = Stand {
+    nodes[at] = HeapNode {
         mark: slots[next].mark,
         slot: next,
     };
     slots[next].at = at;
 }
 
-// Puts a slot that is free now behind all others that are.
+// Puts a slot that is free now after all other free slots.
 #[inline(always)]
-fn release(stands: &mut [Stand], slots: &mut [Slot], place: usize, slot: usize)
-    requires place { place < length stands.old }
+fn release(nodes: &mut [HeapNode], slots: &mut [Slot], place: usize, slot: usize)
+    requires place { place < length nodes.old }
     requires slot { slot < length slots.old }
-    ensures stands { stands.new ≡ slice_set stands.old place (record (stand stands.old place) { slot = slot }) }
+    ensures nodes { nodes.new ≡ slice_set nodes.old place (record (node nodes.old place) { slot = slot }) }
     ensures slots { slots.new ≡ at_put slots.old slot place }
 {
-    stands[place].slot = slot;
+    nodes[place].slot = slot;
     slots[slot].at = place;
 }
 
-// How many slots are free, once there is a new one where none was. That stands behind all places.
+// How many slots are free, once there is a new one where none was. The new one comes after all places.
 #[inline(always)]
 fn some_free(
     slots: &mut Vec<Slot>,
-    stands: &mut Vec<Stand>,
+    nodes: &mut Vec<HeapNode>,
     count: usize,
     free: usize,
 ) -> Result<usize, AllocError>
-    requires within { count ≤ vec_len stands.old }
+    requires within { count ≤ vec_len nodes.old }
     ensures many { IfOk result (λ n. n ≡ (if free == 0 then 1 else free)) }
-    ensures slots { OnOk result (slots.new.items ≡ (if free == 0 then slots.old.items ++ record no_kept { at = count } ∷ [] else slots.old.items)) }
-    ensures stands { OnOk result (stands.new.items ≡ (if free == 0 then slice_set (stands.old.items ++ no_stand ∷ []) count (record no_stand { slot = vec_len slots.old }) else stands.old.items)) }
-    ensures small { OnOk result (free ≡ 0 → vec_len slots.old + 1 < behind) }
+    ensures slots { OnOk result (slots.new.items ≡ (if free == 0 then slots.old.items ++ record blank_slot { at = count } ∷ [] else slots.old.items)) }
+    ensures nodes { OnOk result (nodes.new.items ≡ (if free == 0 then slice_set (nodes.old.items ++ no_node ∷ []) count (record no_node { slot = vec_len slots.old }) else nodes.old.items)) }
+    ensures small { OnOk result (free ≡ 0 → vec_len slots.old + 1 < following) }
     ensures err_slots { OnErr result (slots.new.items ≡ slots.old.items) }
-    ensures err_stands { OnErr result (stands.new.items ≡ stands.old.items) }
+    ensures err_nodes { OnErr result (nodes.new.items ≡ nodes.old.items) }
 {
     if free != 0 {
         return Ok(free);
     }
-    new_slot(slots, stands, count)?;
+    new_slot(slots, nodes, count)?;
     Ok(1)
 }
 
-// A new slot behind all others, which stands behind so many places.
+// Adds a free slot, which comes after so many places.
 #[inline(never)]
-fn new_slot(slots: &mut Vec<Slot>, stands: &mut Vec<Stand>, count: usize) -> Result<(), AllocError>
-    requires within { count ≤ vec_len stands.old }
-    ensures slots { OnOk result (slots.new.items ≡ slots.old.items ++ record no_kept { at = count } ∷ []) }
-    ensures stands { OnOk result (stands.new.items ≡ slice_set (stands.old.items ++ no_stand ∷ []) count (record no_stand { slot = vec_len slots.old })) }
-    ensures small { OnOk result (vec_len slots.old + 1 < behind) }
+fn new_slot(
+    slots: &mut Vec<Slot>,
+    nodes: &mut Vec<HeapNode>,
+    count: usize,
+) -> Result<(), AllocError>
+    requires within { count ≤ vec_len nodes.old }
+    ensures slots { OnOk result (slots.new.items ≡ slots.old.items ++ record blank_slot { at = count } ∷ []) }
+    ensures nodes { OnOk result (nodes.new.items ≡ slice_set (nodes.old.items ++ no_node ∷ []) count (record no_node { slot = vec_len slots.old })) }
+    ensures small { OnOk result (vec_len slots.old + 1 < following) }
     ensures err_slots { OnErr result (slots.new.items ≡ slots.old.items) }
-    ensures err_stands { OnErr result (stands.new.items ≡ stands.old.items) }
+    ensures err_nodes { OnErr result (nodes.new.items ≡ nodes.old.items) }
 {
     slots.reserve(1)?;
-    stands.reserve(1)?;
+    nodes.reserve(1)?;
     let number = slots.len();
     // So many slots fit into no memory.
-    if number >= BEHIND - 1 {
+    if number >= FOLLOWING - 1 {
         return Err(AllocError);
     }
     slots.push_reserved(Slot {
@@ -631,11 +635,11 @@ fn new_slot(slots: &mut Vec<Slot>, stands: &mut Vec<Stand>, count: usize) -> Res
         next: NO_SLOT,
         at: count,
     });
-    stands.push_reserved(Stand {
+    nodes.push_reserved(HeapNode {
         mark: Mark::none(),
         slot: 0,
     });
-    stands[count] = Stand {
+    nodes[count] = HeapNode {
         mark: Mark::none(),
         slot: number,
     };
@@ -643,7 +647,7 @@ fn new_slot(slots: &mut Vec<Slot>, stands: &mut Vec<Stand>, count: usize) -> Res
 }
 
 // Makes a directory of more cells, unless there are more than four for each slot that is taken: of notices that come and go in
-// turn, the last still to come may be long behind the newest.
+// turn, the oldest still pending may be far from the newest.
 #[inline(always)]
 fn make_cells(
     directory: &mut Directory,
@@ -698,27 +702,27 @@ fn noted(alloc: Global, slots: &[Slot], count: usize, cells: usize) -> Result<Di
     let mut directory = Directory::of_cells(alloc, cells)?;
     for slot in 0..slots.len() {
         let it = slots[slot];
-        if it.at < count || it.at >= BEHIND {
+        if it.at < count || it.at >= FOLLOWING {
             directory.note(it.notice, slot)?;
         }
     }
     Ok(directory)
 }
 
-// Lets what stands in two places change places, and tells each of the two its new place.
+// Exchanges the nodes of two places, and writes into each of the two slots its new place.
 #[inline(always)]
-fn exchange(stands: &mut [Stand], slots: &mut [Slot], a: usize, b: usize)
-    requires a_within { a < length stands.old }
-    requires b_within { b < length stands.old }
-    requires a_there { (stand stands.old a).slot < length slots.old }
-    requires b_there { (stand stands.old b).slot < length slots.old }
-    ensures stands { stands.new ≡ swap stands.old a b }
-    ensures slots { slots.new ≡ exchanged stands.old slots.old a b }
+fn exchange(nodes: &mut [HeapNode], slots: &mut [Slot], a: usize, b: usize)
+    requires a_within { a < length nodes.old }
+    requires b_within { b < length nodes.old }
+    requires a_there { (node nodes.old a).slot < length slots.old }
+    requires b_there { (node nodes.old b).slot < length slots.old }
+    ensures nodes { nodes.new ≡ swap nodes.old a b }
+    ensures slots { slots.new ≡ exchanged nodes.old slots.old a b }
 {
-    let first = stands[a];
-    let second = stands[b];
-    stands[a] = second;
-    stands[b] = first;
+    let first = nodes[a];
+    let second = nodes[b];
+    nodes[a] = second;
+    nodes[b] = first;
     slots[second.slot].at = a;
     slots[first.slot].at = b;
 }

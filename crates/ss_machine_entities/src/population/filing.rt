@@ -204,7 +204,7 @@ impl Population {
         is_in(&mut self.heap, set, o, x)
     }
 
-    /// The member that comes next to x in the set of an owner, behind it or in reverse before it, 0 for none. None where x is
+    /// The member that comes next to x in the set of an owner, after it or in reverse before it, 0 for none. None where x is
     /// not in that set, or there is a fault.
     #[inline(always)]
     pub fn onward(&mut self, set: usize, o: i64, n: i64, reverse: bool) -> Option<i64>
@@ -216,7 +216,7 @@ impl Population {
     }
 
     /// Walks along the set of an owner from the member x on, or in reverse, past members that a filter passes over, and at most `most`
-    /// of all, the one that it comes to among them. None where x is not in that set or not of the class of the filter, or there is a
+    /// of all, the one that it ends at among them. None where x is not in that set or not of the class of the filter, or there is a
     /// fault, and it may give up elsewhere too.
     #[inline(always)]
     pub fn skim(

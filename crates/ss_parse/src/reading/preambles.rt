@@ -2,10 +2,10 @@
 
 ghost use Rattle.std.specs.Prelude.{◌≡◌, None, map};
 ghost use Rattle.ss_tree.specs.View.{view_clause, view_order, view_preamble};
-ghost use Rattle.ss_parse_expressions.specs.Reading.{Gives, word, begins, expect, behind, closed, maybe_list, begins_by, begins_more, taken, in_table};
+ghost use Rattle.ss_parse_expressions.specs.Reading.{Gives, word, begins, expect, following, closed, maybe_list, begins_by, begins_more, taken, in_table};
 ghost use Rattle.ss_lex.specs.declared.word.Word.TheVariants.{Include, Variable};
 ghost use Rattle.ss_parse_expressions.specs.ReadWords.{begins_name, names};
-ghost use Rattle.ss_parse.specs.SpelledPreambles.{group_behind};
+ghost use Rattle.ss_parse.specs.SpelledPreambles.{group_after};
 ghost use Rattle.ss_parse_expressions.specs.WordTables.{mode_of, rank_of, statistic_of};
 ghost use Rattle.ss_parse.specs.ReadPreambles.{then_rank, keys, statistic_kind, found, clause, begins_clause, clause_list, clauses, ranking, order, permanent_at, temporary_at, notices_at, every_at, normally_at, system_at, define_end, define_at, priority_at, break_at, statistics_at, preamble_at, begins_preamble, preamble_in, preambles, whole_preamble};
 
@@ -16,7 +16,7 @@ use ss_parse_expressions::failure::Failure;
 use ss_parse_expressions::names::{begins_name, items, name, names};
 use ss_parse_expressions::steps::{alone, beside};
 use ss_parse_expressions::tokens::{
-    begins_symbol, begins_word, behind_first, expect_word, skip_separator, skip_word, syntax,
+    after_first, begins_symbol, begins_word, expect_word, skip_separator, skip_word, syntax,
 };
 use ss_parse_expressions::words::{mode_of, rank_of, statistic_of};
 use ss_parse_statements::statements::{begins_noisy, expect_noisy};
@@ -108,7 +108,7 @@ fn then_rank(tokens: &[Token]) -> Result<(bool, &[Token]), Failure>
     rank(rest)
 }
 
-/// Keys, the further ones behind THEN BY.
+/// Keys, the further ones after THEN BY.
 #[tactic(auto, unfolding(crate::specs::ReadPreambles::key))]
 fn keys(alloc: Global, tokens: &[Token]) -> Result<(Vec<Key>, &[Token]), Failure>
     ensures { Gives (λ x. (x.0.items, x.1.now)) result (keys tokens.now) }
@@ -116,21 +116,21 @@ fn keys(alloc: Global, tokens: &[Token]) -> Result<(Vec<Key>, &[Token]), Failure
     let (high, from) = rank(tokens)?;
     let first = name(from)?;
     let mut all = alone(alloc, Key { high, name: first })?;
-    let mut rest = behind_first(from);
+    let mut rest = after_first(from);
     'more: while begins_noisy(rest, Word::Then) {
-        let (higher, behind) = then_rank(rest)?;
-        let next = name(behind)?;
+        let (higher, following) = then_rank(rest)?;
+        let next = name(following)?;
         all.push(Key {
             high: higher,
             name: next,
         })?;
-        rest = behind_first(behind);
+        rest = after_first(following);
     }
     Ok((all, rest))
 }
 
-/// What a statistic tells.
-fn told(tokens: &[Token]) -> Result<(StatisticKind, &[Token]), Failure>
+/// The word for the kind of a statistic.
+fn measure(tokens: &[Token]) -> Result<(StatisticKind, &[Token]), Failure>
     ensures { Gives (λ x. (x.0, x.1.now)) result (taken (in_table statistic_of) tokens.now) }
 {
     match tokens {
@@ -145,12 +145,12 @@ fn told(tokens: &[Token]) -> Result<(StatisticKind, &[Token]), Failure>
     }
 }
 
-/// AS, and what a statistic tells.
+/// AS and the kind of a statistic.
 fn statistic_kind(tokens: &[Token]) -> Result<(StatisticKind, &[Token]), Failure>
     ensures { Gives (λ x. (x.0, x.1.now)) result (statistic_kind tokens.now) }
 {
     let rest = expect_word(tokens, Word::As)?;
-    told(skip_word(rest, Word::The))
+    measure(skip_word(rest, Word::The))
 }
 
 /// Whether a separator and then a name follow.
@@ -167,15 +167,15 @@ fn found(alloc: Global, tokens: &[Token]) -> Result<(Vec<Statistic>, &[Token]), 
     ensures { Gives (λ x. (x.0.items, x.1.now)) result (found tokens.now) }
 {
     let first = name(tokens)?;
-    let (kind, mut rest) = statistic_kind(behind_first(tokens))?;
+    let (kind, mut rest) = statistic_kind(after_first(tokens))?;
     let mut all = alone(alloc, Statistic { name: first, kind })?;
     'more: while begins_more_statistics(rest) {
         let from = skip_separator(rest);
         let next = name(from)?;
-        let (told, after) = statistic_kind(behind_first(from))?;
+        let (measure, after) = statistic_kind(after_first(from))?;
         all.push(Statistic {
             name: next,
-            kind: told,
+            kind: measure,
         })?;
         rest = after;
     }
@@ -228,7 +228,7 @@ fn clauses(alloc: Global, tokens: &[Token]) -> Result<(Vec<Clause>, &[Token]), F
     }
 }
 
-/// How a set is ordered, behind SET.
+/// The ranking of a set, after SET.
 fn ranking(alloc: Global, tokens: &[Token]) -> Result<(SetOrder, &[Token]), Failure>
     ensures { Gives (λ x. (view_order x.0, x.1.now)) result (ranking tokens.now) }
 {
@@ -257,7 +257,7 @@ fn order(alloc: Global, tokens: &[Token]) -> Result<(SetOrder, &[Token]), Failur
     }
 }
 
-/// PERMANENT ENTITIES behind its first word.
+/// The rest of PERMANENT ENTITIES, after its first word.
 #[tactic(auto, unfolding(crate::specs::ReadPreambles::permanent_at))]
 fn permanent(line: Line, tokens: &[Token]) -> Result<(PreambleStatement, &[Token]), Failure>
     ensures { Gives (λ x. (view_preamble x.0, x.1.now)) result (permanent_at line tokens.now) }
@@ -266,7 +266,7 @@ fn permanent(line: Line, tokens: &[Token]) -> Result<(PreambleStatement, &[Token
     Ok((PreambleStatement::PermanentEntities { line }, rest))
 }
 
-/// TEMPORARY ENTITIES behind its first word.
+/// The rest of TEMPORARY ENTITIES, after its first word.
 #[tactic(auto, unfolding(crate::specs::ReadPreambles::temporary_at))]
 fn temporary(line: Line, tokens: &[Token]) -> Result<(PreambleStatement, &[Token]), Failure>
     ensures { Gives (λ x. (view_preamble x.0, x.1.now)) result (temporary_at line tokens.now) }
@@ -277,7 +277,7 @@ fn temporary(line: Line, tokens: &[Token]) -> Result<(PreambleStatement, &[Token
 
 /// The classes that EVENT NOTICES includes, if there are any.
 fn included(alloc: Global, tokens: &[Token]) -> Result<(Vec<Name>, &[Token]), Failure>
-    ensures { Gives (λ x. (x.0.items, x.1.now)) result (maybe_list (begins (word Include)) (behind (expect (word Include)) names) tokens.now) }
+    ensures { Gives (λ x. (x.0.items, x.1.now)) result (maybe_list (begins (word Include)) (following (expect (word Include)) names) tokens.now) }
 {
     if !begins_word(tokens, Word::Include) {
         return Ok((Vec::new(alloc), tokens));
@@ -285,7 +285,7 @@ fn included(alloc: Global, tokens: &[Token]) -> Result<(Vec<Name>, &[Token]), Fa
     names(alloc, skip_word(tokens, Word::Include))
 }
 
-/// EVENT NOTICES behind its first word.
+/// The rest of EVENT NOTICES, after its first word.
 #[tactic(auto, unfolding(crate::specs::ReadPreambles::notices_at))]
 fn notices(
     alloc: Global,
@@ -299,7 +299,7 @@ fn notices(
     Ok((PreambleStatement::EventNotices { line, included }, rest))
 }
 
-/// EVERY behind its first word, in a group of this kind.
+/// The rest of EVERY, after its first word, in a group of this kind.
 #[tactic(auto, unfolding(crate::specs::ReadPreambles::every_at))]
 fn every(
     alloc: Global,
@@ -313,7 +313,7 @@ fn every(
         None => Err(syntax(tokens)),
         Some(kind) => {
             let class = name(tokens)?;
-            let (clauses, rest) = clauses(alloc, behind_first(tokens))?;
+            let (clauses, rest) = clauses(alloc, after_first(tokens))?;
             let statement = PreambleStatement::Every {
                 line,
                 kind,
@@ -325,7 +325,7 @@ fn every(
     }
 }
 
-/// NORMALLY behind its first word.
+/// The rest of NORMALLY, after its first word.
 #[tactic(auto, unfolding(crate::specs::ReadPreambles::normally_at))]
 fn normally(line: Line, tokens: &[Token]) -> Result<(PreambleStatement, &[Token]), Failure>
     ensures { Gives (λ x. (view_preamble x.0, x.1.now)) result (normally_at line tokens.now) }
@@ -336,7 +336,7 @@ fn normally(line: Line, tokens: &[Token]) -> Result<(PreambleStatement, &[Token]
     Ok((PreambleStatement::Normally { line, mode }, rest))
 }
 
-/// THE SYSTEM OWNS behind its first word.
+/// The rest of THE SYSTEM OWNS, after its first word.
 #[tactic(auto, unfolding(crate::specs::ReadPreambles::system_at))]
 fn system(
     alloc: Global,
@@ -372,7 +372,7 @@ fn define_end(
     }
 }
 
-/// DEFINE behind its first word.
+/// The rest of DEFINE, after its first word.
 #[tactic(auto, unfolding(crate::specs::ReadPreambles::define_at))]
 fn define(
     alloc: Global,
@@ -386,7 +386,7 @@ fn define(
     define_end(alloc, line, names, skip_class(rest, Class::Article))
 }
 
-/// PRIORITY ORDER behind its first word.
+/// The rest of PRIORITY ORDER, after its first word.
 #[tactic(auto, unfolding(crate::specs::ReadPreambles::priority_at))]
 fn priority(
     alloc: Global,
@@ -401,7 +401,7 @@ fn priority(
     Ok((PreambleStatement::PriorityOrder { line, classes }, rest))
 }
 
-/// BREAK behind its first word.
+/// The rest of BREAK, after its first word.
 #[tactic(auto, unfolding(crate::specs::ReadPreambles::break_at))]
 fn break_form(
     alloc: Global,
@@ -411,13 +411,13 @@ fn break_form(
     ensures { Gives (λ x. (view_preamble x.0, x.1.now)) result (break_at line tokens.now) }
 {
     let class = name(tokens)?;
-    let rest = expect_word(behind_first(tokens), Word::Ties)?;
+    let rest = expect_word(after_first(tokens), Word::Ties)?;
     let rest = expect_word(rest, Word::By)?;
     let (keys, rest) = keys(alloc, rest)?;
     Ok((PreambleStatement::BreakTies { line, class, keys }, rest))
 }
 
-/// TALLY or ACCUMULATE behind its first word.
+/// The rest of TALLY or ACCUMULATE, after its first word.
 #[tactic(auto, unfolding(crate::specs::ReadPreambles::statistics_at))]
 fn statistics(
     alloc: Global,
@@ -436,12 +436,12 @@ fn statistics(
         statistics,
         subject,
     };
-    Ok((statement, behind_first(rest)))
+    Ok((statement, after_first(rest)))
 }
 
-/// A statement of a preamble behind its first word, in a group of this kind.
+/// The rest of a statement of a preamble, after its first word, in a group of this kind.
 #[tactic(auto, unfolding(crate::specs::ReadPreambles::preamble_at))]
-fn statement_behind(
+fn statement_rest(
     alloc: Global,
     group: Option<ClassKind>,
     line: Line,
@@ -466,7 +466,7 @@ fn statement_behind(
     }
 }
 
-/// Whether a statement of a preamble begins so.
+/// Whether a statement of a preamble begins here.
 fn begins_preamble(tokens: &[Token]) -> bool
     ensures { result ≡ begins_preamble tokens.now }
 {
@@ -503,15 +503,15 @@ fn preamble_statement(
     match tokens {
         [] => Err(syntax(tokens)),
         [first, rest @ ..] => match &first.kind {
-            TokenKind::Word(word) => statement_behind(alloc, group, first.line, *word, rest),
+            TokenKind::Word(word) => statement_rest(alloc, group, first.line, *word, rest),
             _ => Err(syntax(tokens)),
         },
     }
 }
 
-/// The kind of the group that goes on behind the statement.
-fn group_behind(group: Option<ClassKind>, statement: &PreambleStatement) -> Option<ClassKind>
-    ensures { result ≡ group_behind group (view_preamble statement.now) }
+/// The kind of the group that the next statement is in.
+fn group_after(group: Option<ClassKind>, statement: &PreambleStatement) -> Option<ClassKind>
+    ensures { result ≡ group_after group (view_preamble statement.now) }
 {
     match statement {
         PreambleStatement::PermanentEntities { .. } => Some(ClassKind::Permanent),
@@ -533,7 +533,7 @@ fn preamble_statements(
     let mut rest = tokens;
     'more: while begins_preamble(rest) {
         let (next, after) = preamble_statement(alloc, group, rest)?;
-        group = group_behind(group, &next);
+        group = group_after(group, &next);
         all.push(next)?;
         rest = after;
     }

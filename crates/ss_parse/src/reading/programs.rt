@@ -3,7 +3,7 @@
 ghost use Rattle.std.specs.Prelude.{◌≡◌, map};
 ghost use Rattle.ss_parse_expressions.specs.Shapes.{first_line};
 ghost use Rattle.ss_tree.specs.View.{view_definition, view_kind, view_statement, view_section, view_program};
-ghost use Rattle.ss_parse_expressions.specs.Reading.{Gives, word, begins, expect, behind, maybe_list, rows};
+ghost use Rattle.ss_parse_expressions.specs.Reading.{Gives, word, begins, expect, following, maybe_list, rows};
 ghost use Rattle.ss_parse_expressions.specs.ReadWords.{names};
 ghost use Rattle.ss_parse.specs.ReadPrograms.{begins_section, saving, routine_kind, event_kind, kind_at, variables, definition, definitions, body_in, section_at, section_in, program_in, program_of};
 
@@ -15,7 +15,7 @@ use ss_parse_expressions::failure::Failure;
 use ss_parse_expressions::names::{name, names};
 use ss_parse_expressions::nesting::levels;
 use ss_parse_expressions::steps::beside;
-use ss_parse_expressions::tokens::{begins_word, behind_first, expect_word, skip_word, syntax};
+use ss_parse_expressions::tokens::{after_first, begins_word, expect_word, skip_word, syntax};
 use ss_parse_statements::statements::statements;
 use ss_tree::preamble::Mode;
 use ss_tree::program::{LocalDefinition, Program, Section, SectionKind};
@@ -32,13 +32,13 @@ fn line_at(tokens: &[Token]) -> Line
     }
 }
 
-/// Names behind the word, if it is there.
-fn names_behind(
+/// The names after this word, if it is there.
+fn names_after(
     alloc: Global,
     tokens: &[Token],
     wanted: Word,
 ) -> Result<(Vec<Name>, &[Token]), Failure>
-    ensures { Gives (λ x. (x.0.items, x.1.now)) result (maybe_list (begins (word wanted)) (behind (expect (word wanted)) names) tokens.now) }
+    ensures { Gives (λ x. (x.0.items, x.1.now)) result (maybe_list (begins (word wanted)) (following (expect (word wanted)) names) tokens.now) }
 {
     if !begins_word(tokens, wanted) {
         return Ok((Vec::new(alloc), tokens));
@@ -60,15 +60,15 @@ fn saving(tokens: &[Token]) -> Result<(bool, &[Token]), Failure>
     Ok((true, rest))
 }
 
-/// The header of a routine behind its first word.
+/// The rest of the header of a routine, after its first word.
 #[tactic(auto, unfolding(crate::specs::ReadPrograms::routine_kind))]
 fn routine(alloc: Global, tokens: &[Token]) -> Result<(SectionKind, &[Token]), Failure>
     ensures { Gives (λ x. (view_kind x.0, x.1.now)) result (routine_kind tokens.now) }
 {
     let rest = skip_class(tokens, Class::Towards);
     let name = name(rest)?;
-    let (given, rest) = names_behind(alloc, behind_first(rest), Word::Given)?;
-    let yielding = names_behind(alloc, rest, Word::Yielding);
+    let (given, rest) = names_after(alloc, after_first(rest), Word::Given)?;
+    let yielding = names_after(alloc, rest, Word::Yielding);
     let (given, (yielding, rest)) = beside(given, yielding)?;
     let kind = SectionKind::Routine {
         name,
@@ -78,13 +78,13 @@ fn routine(alloc: Global, tokens: &[Token]) -> Result<(SectionKind, &[Token]), F
     Ok((kind, rest))
 }
 
-/// The header of an event routine behind its first word.
+/// The rest of the header of an event routine, after its first word.
 #[tactic(auto, unfolding(crate::specs::ReadPrograms::event_kind))]
 fn event(alloc: Global, tokens: &[Token]) -> Result<(SectionKind, &[Token]), Failure>
     ensures { Gives (λ x. (view_kind x.0, x.1.now)) result (event_kind tokens.now) }
 {
     let name = name(tokens)?;
-    let (given, rest) = names_behind(alloc, behind_first(tokens), Word::Given)?;
+    let (given, rest) = names_after(alloc, after_first(tokens), Word::Given)?;
     let (given, (saving, rest)) = beside(given, saving(rest))?;
     let kind = SectionKind::Event {
         name,
@@ -94,7 +94,7 @@ fn event(alloc: Global, tokens: &[Token]) -> Result<(SectionKind, &[Token]), Fai
     Ok((kind, rest))
 }
 
-/// The header of a section behind its first word.
+/// The rest of the header of a section, after its first word.
 fn section_kind(
     alloc: Global,
     word: Word,
@@ -110,7 +110,7 @@ fn section_kind(
     }
 }
 
-/// Names and their mode, behind DEFINE.
+/// Names and their mode, after DEFINE.
 #[tactic(auto, unfolding(crate::specs::ReadPrograms::variables))]
 fn variables(alloc: Global, tokens: &[Token]) -> Result<(Vec<Name>, Mode, &[Token]), Failure>
     ensures { Gives (λ x. ((x.0.items, x.1), x.2.now)) result (variables tokens.now) }
@@ -147,7 +147,7 @@ fn definitions(alloc: Global, tokens: &[Token]) -> Result<(Vec<LocalDefinition>,
     Ok((all, rest))
 }
 
-/// The body of a section, and the END behind it.
+/// The body of a section, and its END.
 fn body(
     alloc: Global,
     tokens: &[Token],
@@ -161,9 +161,9 @@ fn body(
     Ok((definitions, body, rest))
 }
 
-/// A section behind its first word.
+/// The rest of a section, after its first word.
 #[tactic(auto, unfolding(crate::specs::ReadPrograms::section_at))]
-fn section_behind(
+fn section_rest(
     alloc: Global,
     line: Line,
     word: Word,
@@ -190,13 +190,13 @@ fn section(alloc: Global, tokens: &[Token], room: u8) -> Result<(Section, &[Toke
     match tokens {
         [] => Err(syntax(tokens)),
         [first, rest @ ..] => match &first.kind {
-            TokenKind::Word(word) => section_behind(alloc, first.line, *word, rest, room),
+            TokenKind::Word(word) => section_rest(alloc, first.line, *word, rest, room),
             _ => Err(syntax(tokens)),
         },
     }
 }
 
-/// Whether a section begins so.
+/// Whether a section begins here.
 fn begins_section(tokens: &[Token]) -> bool
     ensures { result ≡ begins_section tokens.now }
 {
@@ -233,7 +233,7 @@ fn parts(alloc: Global, tokens: &[Token], room: u8) -> Result<(Program, &[Token]
     Ok((Program { preamble, sections }, rest))
 }
 
-/// A program and nothing behind it.
+/// A program to the end of the tokens.
 #[tactic(auto, unfolding(crate::specs::ReadPrograms::program_of))]
 pub fn program(alloc: Global, tokens: &[Token]) -> Result<Program, Failure>
     ensures { Gives view_program result (program_of 64 tokens.now) }

@@ -3,7 +3,7 @@ use Rattle.ss_base.proofs.Texts.{trimmed-blank, trimmed-other}
 use Rattle.ss_base.proofs.alpha.trimmed.Goals as goal
 use Rattle.ss_base.proofs.alpha.trimmed.Goals.{then-b-ne32, else-b-ne32}
 
--- a blank leaves the end where it was, another byte moves it behind itself
+-- a blank leaves the end where it was, another byte moves it after this byte
 pub loop-i-preserved : goal.loop-i-preserved
 loop-i-preserved c =
     elim c.if-b-ne32.branch [

@@ -4,4 +4,4 @@ use Rattle.ss_code_instructions.specs.Translation.{guards_code}
 use Rattle.ss_code.proofs.conditions.emit_guards.Given as goal
 
 abbrev pub invariant-loop-i : goal.invariant-loop-i
-invariant-loop-i l = l.rest ≡ guards_code l.line (length l.fn.behind.items + l.more) (map view_guard (drop l.i l.guards)) ++ l.fn.behind.items
+invariant-loop-i l = l.rest ≡ guards_code l.line (length l.fn.following.items + l.more) (map view_guard (drop l.i l.guards)) ++ l.fn.following.items

@@ -9,5 +9,5 @@ returns c =
     let gs = map view_guard c.args.guards.now in
     appended c.append.result c.append.new.self.items c.args.code.now.items _ _ c.append.ensures.items
     (c.in_ok-first.ensures ∙
-    ap (λ b. guards_code c.args.line (length b + 0) gs ++ b) c.in_ok-behind.ensures ∙
+    ap (λ b. guards_code c.args.line (length b + 0) gs ++ b) c.in_ok-following.ensures ∙
     looped c.args.line gs c.args.body.items c.in_ok-turn.turn.items c.in_ok-turn.ensures)

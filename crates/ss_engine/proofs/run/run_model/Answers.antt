@@ -4,10 +4,10 @@ use Rattle.ss_machine.specs.Start.{IsAtStart}
 use Rattle.ss_machine.specs.Stop.TheVariants.{Memory, Output, Input}
 use Rattle.ss_engine.specs.Sessions.{session_machine, session_reader, session_writer}
 use Rattle.ss_engine.specs.Headline.{Simulated}
-use Rattle.ss_engine.specs.Standing.{Stood}
+use Rattle.ss_engine.specs.Cuts.{WasCut}
 use Rattle.ss_engine.proofs.Headline.{nothing_simulated}
-use Rattle.ss_engine.proofs.Standing.{nothing_stood}
-use Rattle.ss_engine.proofs.Running.{stands_stopped}
+use Rattle.ss_engine.proofs.Cuts.{nothing_cut}
+use Rattle.ss_engine.proofs.Running.{stopped_by}
 use Rattle.ss_engine.proofs.run.run_model.Goals as goal
 
 pub returns-in-Err-clause-simulated : goal.returns-in-Err-clause-simulated
@@ -35,17 +35,17 @@ returns-clause-simulated g c p typed b =
     let written = subst (λ w. Simulated remaining contents p c.run_pieces-stop.result (session_machine now).used c.args.reader out.0 c.args.writer w) last_writer read in
     subst (λ u. Simulated remaining contents p c.run_pieces-stop.result u c.args.reader out.0 c.args.writer out.1) (sym c.used-used.ensures) written
 
-pub returns-in-Err-clause-stood : goal.returns-in-Err-clause-stood
-returns-in-Err-clause-stood g c =
+pub returns-in-Err-clause-where_cut : goal.returns-in-Err-clause-where_cut
+returns-in-Err-clause-where_cut g c =
     let given = c.start.ensures.err (c.in-Err.reader, c.in-Err.writer) c.in-Err.is in
     let same_reader : c.args.reader ≡ c.in-Err.reader = sym (ap (λ (x : g.row.R.Denot × g.row.W.Denot). x.0) given) in
     let same_writer : c.args.writer ≡ c.in-Err.writer = sym (ap (λ (x : g.row.R.Denot × g.row.W.Denot). x.1) given) in
-    subst (λ r. Stood g.R.FaultyRead.remaining g.W.FaultyWrite.contents c.args.model Memory 0 c.args.reader r c.args.writer c.in-Err.writer) same_reader
-    (subst (λ w. Stood g.R.FaultyRead.remaining g.W.FaultyWrite.contents c.args.model Memory 0 c.args.reader c.args.reader c.args.writer w) same_writer
-    (nothing_stood g.R.FaultyRead.remaining g.W.FaultyWrite.contents c.args.model c.args.reader c.args.writer))
+    subst (λ r. WasCut g.R.FaultyRead.remaining g.W.FaultyWrite.contents c.args.model Memory 0 c.args.reader r c.args.writer c.in-Err.writer) same_reader
+    (subst (λ w. WasCut g.R.FaultyRead.remaining g.W.FaultyWrite.contents c.args.model Memory 0 c.args.reader c.args.reader c.args.writer w) same_writer
+    (nothing_cut g.R.FaultyRead.remaining g.W.FaultyWrite.contents c.args.model c.args.reader c.args.writer))
 
-pub returns-clause-stood : goal.returns-clause-stood
-returns-clause-stood g c =
+pub returns-clause-where_cut : goal.returns-clause-where_cut
+returns-clause-where_cut g c =
     let remaining = g.R.FaultyRead.remaining in
     let contents = g.W.FaultyWrite.contents in
     let code = c.args.model in
@@ -55,18 +55,18 @@ returns-clause-stood g c =
     let last_reader : session_reader now ≡ out.0 = sym (ap (λ (x : g.row.R.Denot × g.row.W.Denot). x.0) closed) in
     let last_writer : session_writer now ≡ out.1 = sym (ap (λ (x : g.row.R.Denot × g.row.W.Denot). x.1) closed) in
     let was = c.run_pieces-stop.ensures.was_run code c.args.reader c.args.writer c.in-Ok.ensures.has_run in
-    let stood = c.sessions_stand.ensures now code c.args.reader c.args.writer was.pieces was.run in
-    let stopped = subst (λ s. Stood remaining contents code s (session_machine now).used c.args.reader (session_reader now) c.args.writer (session_writer now)) (sym c.run_pieces-stop.ensures.stopped) stood in
-    let read = subst (λ r. Stood remaining contents code c.run_pieces-stop.result (session_machine now).used c.args.reader r c.args.writer (session_writer now)) last_reader stopped in
-    let written = subst (λ w. Stood remaining contents code c.run_pieces-stop.result (session_machine now).used c.args.reader out.0 c.args.writer w) last_writer read in
-    subst (λ u. Stood remaining contents code c.run_pieces-stop.result u c.args.reader out.0 c.args.writer out.1) (sym c.used-used.ensures) written
+    let where_cut = c.sessions_are_cut.ensures now code c.args.reader c.args.writer was.pieces was.run in
+    let stopped = subst (λ s. WasCut remaining contents code s (session_machine now).used c.args.reader (session_reader now) c.args.writer (session_writer now)) (sym c.run_pieces-stop.ensures.stopped) where_cut in
+    let read = subst (λ r. WasCut remaining contents code c.run_pieces-stop.result (session_machine now).used c.args.reader r c.args.writer (session_writer now)) last_reader stopped in
+    let written = subst (λ w. WasCut remaining contents code c.run_pieces-stop.result (session_machine now).used c.args.reader out.0 c.args.writer w) last_writer read in
+    subst (λ u. WasCut remaining contents code c.run_pieces-stop.result u c.args.reader out.0 c.args.writer out.1) (sym c.used-used.ensures) written
 
 pub returns-clause-output : goal.returns-clause-output
 returns-clause-output g c q =
     let now = c.run_pieces-stop.new.session in
     let was = c.run_pieces-stop.ensures.was_run c.args.model c.args.reader c.args.writer c.in-Ok.ensures.has_run in
     let last_writer : session_writer now ≡ c.close-reader.result.1 = sym (ap (λ (x : g.row.R.Denot × g.row.W.Denot). x.1) c.close-reader.ensures) in
-    let stopped = stands_stopped (session_machine now).stopped Output (λ e. cc) (sym c.run_pieces-stop.ensures.stopped ∙ q) in
+    let stopped = stopped_by (session_machine now).stopped Output (λ e. cc) (sym c.run_pieces-stop.ensures.stopped ∙ q) in
     subst (λ w. HasRisen (g.W.Faulty.faults c.args.writer) (g.W.Faulty.faults w)) last_writer (was.run.output stopped)
 
 pub returns-clause-input : goal.returns-clause-input
@@ -74,7 +74,7 @@ returns-clause-input g c q =
     let now = c.run_pieces-stop.new.session in
     let was = c.run_pieces-stop.ensures.was_run c.args.model c.args.reader c.args.writer c.in-Ok.ensures.has_run in
     let last_reader : session_reader now ≡ c.close-reader.result.0 = sym (ap (λ (x : g.row.R.Denot × g.row.W.Denot). x.0) c.close-reader.ensures) in
-    let stopped = stands_stopped (session_machine now).stopped Input (λ e. cc) (sym c.run_pieces-stop.ensures.stopped ∙ q) in
+    let stopped = stopped_by (session_machine now).stopped Input (λ e. cc) (sym c.run_pieces-stop.ensures.stopped ∙ q) in
     subst (λ r. HasRisen (g.R.Faulty.faults c.args.reader) (g.R.Faulty.faults r)) last_reader (was.run.input stopped)
 
 pub run_pieces-stop-requires-clause-goes_on : goal.run_pieces-stop-requires-clause-goes_on

@@ -1,9 +1,9 @@
 use Rattle.std.proofs.Common.{rules, arith, ◌≡◌, ◌+◌, ◌++◌, [], sym, ap, ◌∙◌, take, length, ◌∷◌}
 use Rattle.std.specs.List.{sum}
 use Rattle.ss_machine.specs.Stop.TheVariants.{Paused}
-use Rattle.ss_engine.specs.Sessions.{session_machine, stands_so}
+use Rattle.ss_engine.specs.Sessions.{session_machine, last_stop}
 use Rattle.ss_engine.proofs.Handing.{next_piece, some_used, more_used, all_used, no_sum, all_handed}
-use Rattle.ss_engine.proofs.Running.{kept_stands, last_some}
+use Rattle.ss_engine.proofs.Running.{kept_stop, last_some}
 use Rattle.ss_engine.proofs.run.run_pieces.Goals as goal
 
 pub loop-ticks-preserved : goal.loop-ticks-preserved
@@ -18,7 +18,7 @@ loop-ticks-preserved g c =
     let piece = next_piece c.args.pieces.now c.in-Some.rest.now c.in-Some.first.now c.loop-ticks.ticks-index split c.loop-ticks-test.true in
     record {
       goes_on = e.goes_on on;
-      stopped = kept_stands c.run-stop-in-loop-ticks.result ∙ ap stands_so (sym (e.stopped on));
+      stopped = kept_stop c.run-stop-in-loop-ticks.result ∙ ap last_stop (sym (e.stopped on));
       right = e.never_failed on;
       was_run = λ code reader writer h.
           let w = i.was_run code reader writer h in
@@ -36,7 +36,7 @@ loop-ticks-init g c =
     let one : sum (take (0 + 1) c.args.pieces.now) ≡ c.in-Some.first.now = ap (λ l. sum (take 1 l)) split ∙ omega arith in
     record {
       goes_on = e.goes_on on;
-      stopped = kept_stands c.run-stop.result ∙ ap stands_so (sym (e.stopped on));
+      stopped = kept_stop c.run-stop.result ∙ ap last_stop (sym (e.stopped on));
       right = e.never_failed on;
       was_run = λ code reader writer h. record { pieces = [] ++ _ ∷ []; some = last_some [] _; run = e.has_run code reader writer [] h };
       used = omega (arith, e.used.1, one, c.requires.first);
@@ -51,7 +51,7 @@ returns-in_default g c =
     let empty : length c.args.pieces.now ≡ 0 = search rules in
     record {
       was_run = λ code reader writer h. record { pieces = [] ++ 0 ∷ []; some = last_some [] 0; run = e.has_run code reader writer [] h };
-      stopped = kept_stands c.run.result ∙ ap stands_so (sym (e.stopped on));
+      stopped = kept_stop c.run.result ∙ ap last_stop (sym (e.stopped on));
       never_failed = e.never_failed on;
       used = omega (arith, e.used.1, c.requires.first);
       paused = λ p. omega (arith, e.paused on p, c.requires.first, no_sum c.args.pieces.now empty);

@@ -1,7 +1,7 @@
 use Rattle.std.proofs.Common.{refl}
-use Rattle.ss_engine.specs.Sessions.{session_machine, session_reader, session_source, session_writer, stands_so}
+use Rattle.ss_engine.specs.Sessions.{session_machine, session_reader, session_source, session_writer, last_stop}
 use Rattle.ss_engine.proofs.Headline.{ran_simulated}
-use Rattle.ss_engine.proofs.Running.{came_ran, stands_right}
+use Rattle.ss_engine.proofs.Running.{came_ran, right_stop}
 use Rattle.ss_engine.proofs.session_laws.sessions_are_meant.Goals as goal
 
 pub returns : goal.returns
@@ -11,4 +11,4 @@ returns g c session p code reader writer pieces typed behaves some h =
     let laws = c.laws.ensures in
     let m = session_machine session in
     let ran = came_ran remaining code h.first m.working h.source (session_source session) (contents writer) (contents (session_writer session)) m.used m.steps m.stopped h.came (λ none. h.paused none some) in
-    ran_simulated laws.on_the_way laws.one_tick_fewer laws.pauses laws.steps_go_on laws.endings_stay p (λ input n. c.laws-2.ensures.never_wrong p typed input n) code behaves remaining contents reader (session_reader session) writer (session_writer session) h.first m.working h.source (session_source session) m.used m.steps h.starts h.fresh refl h.end (stands_so m.stopped) (stands_right m.stopped h.right) ran
+    ran_simulated laws.on_the_way laws.one_tick_fewer laws.pauses laws.steps_go_on laws.endings_stay p (λ input n. c.laws-2.ensures.never_wrong p typed input n) code behaves remaining contents reader (session_reader session) writer (session_writer session) h.first m.working h.source (session_source session) m.used m.steps h.starts h.fresh refl h.end (last_stop m.stopped) (right_stop m.stopped h.right) ran

@@ -9,5 +9,5 @@ returns-clause-headline g c =
       simulated = c.run_model-stop.ensures.simulated compiled.program (c.laws.ensures.typed c.args.text.now compiled.program compiled.meant) compiled.behaves;
     }
 
-pub returns-clause-standing : goal.returns-clause-standing
-returns-clause-standing g c = record { code = c.in-Ok.model; compiled = c.in-Ok.ensures.accepted; stood = c.run_model-stop.ensures.stood }
+pub returns-clause-where_cut : goal.returns-clause-where_cut
+returns-clause-where_cut g c = record { code = c.in-Ok.model; compiled = c.in-Ok.ensures.accepted; where_cut = c.run_model-stop.ensures.where_cut }

@@ -4,7 +4,7 @@ use Rattle.ss_events.specs.declared.entry.Entry.{Entry}
 use Rattle.ss_events.specs.HeapEntries.{HeapEntries, all_of}
 use Rattle.ss_events.proofs.Sifts.{inserted, inserted_all, insert_work}
 use Rattle.ss_events.proofs.sift.insert.Goals as goal
-use Rattle.ss_events.proofs.sift.insert.Goals.{in-Some+then-rank-lt-TOLD_RANKS+then-number-lt-TOLD_NUMBERS+else-insert_told, in_default}
+use Rattle.ss_events.proofs.sift.insert.Goals.{in-Some+then-rank-lt-PLAIN_RANKS+then-number-lt-PLAIN_NUMBERS+else-insert_plain, in_default}
 
 -- nothing was put anywhere yet, and nothing counted
 record Ready (old heap : HeapEntries) : Type 0 where
@@ -17,11 +17,11 @@ ready : (c : goal.After-raise) → Ready c.args.heap.now c.match-untied.heap
 ready c =
     let anew = c.make_room.ensures ∙ c.reset_counts.ensures in
     elim c.match-untied.branch [
-      | in-Some+then-rank-lt-TOLD_RANKS+then-number-lt-TOLD_NUMBERS+else-insert_told w ↦
+      | in-Some+then-rank-lt-PLAIN_RANKS+then-number-lt-PLAIN_NUMBERS+else-insert_plain w ↦
           let is = w.heap-is ∙ w.reset_counts-2.ensures in
-          let tried = w.insert_told.ensures in record {
-            entries = ap (λ h. h.entries) is ∙ tried.kept_entries w.if-insert_told.false ∙ ap (λ h. h.entries) anew;
-            followers = ap (λ h. h.followers) is ∙ tried.kept_followers w.if-insert_told.false ∙ ap (λ h. h.followers) anew;
+          let tried = w.insert_plain.ensures in record {
+            entries = ap (λ h. h.entries) is ∙ tried.kept_entries w.if-insert_plain.false ∙ ap (λ h. h.entries) anew;
+            followers = ap (λ h. h.followers) is ∙ tried.kept_followers w.if-insert_plain.false ∙ ap (λ h. h.followers) anew;
             uncompared = ap (λ h. h.comparisons) is;
             unmoved = ap (λ h. h.moves) is;
           }
@@ -38,7 +38,7 @@ ready c =
 abbrev its : (c : goal.After-raise) → Entry
 its c = record { key = c.args.key; number = c.args.number; notice = c.args.notice }
 
--- the heads with the new one behind them
+-- the heads with the new one after them
 put : (c : goal.After-raise) → c.push.new.self.entries ≡ c.args.heap.now.entries ++ its c ∷ []
 put c =
     ap (λ h. h.entries) c.in_ok-push.ensures.ok
@@ -49,7 +49,7 @@ put c =
 last : (c : goal.After-raise) → c.len-place.result ≡ length c.args.heap.now.entries
 last c = c.len-place.ensures ∙ ap length (ready c).entries
 
--- those behind others
+-- the followers
 others : (c : goal.After-raise) → c.raise.new.heap.followers ≡ c.args.heap.now.followers
 others c = c.raise.ensures.cost.followers ∙ ap (λ h. h.followers) c.in_ok-push.ensures.ok ∙ (ready c).followers
 

@@ -2,10 +2,10 @@ use Rattle.std.proofs.Common.{rules, arith, length, take, ◌≡◌, ◌<◌, �
 use Rattle.std.proofs.lemmas.List.{length-append}
 use Rattle.std.proofs.lemmas.Result.{err_from_is_err_and}
 use Rattle.std.proofs.lemmas.List.Folds.{list_all-append}
-use Rattle.ss_input.specs.Sources.{Passes, WordPassed, StandsBefore}
+use Rattle.ss_input.specs.Sources.{Passes, WordPassed, NextIs}
 use Rattle.ss_input.specs.Words.{is_separator, is_word_byte}
 use Rattle.ss_input.proofs.Asked.{unasked_then}
-use Rattle.ss_input.proofs.Passages.{word_more, word_stays, passes_then, gives_behind, wants_behind}
+use Rattle.ss_input.proofs.Passages.{word_more, word_stays, passes_then, gives_after, wants_after}
 use Rattle.ss_input.proofs.passing.pass_word.Goals as goal
 
 pub loop-count-preserved : goal.loop-count-preserved
@@ -23,7 +23,7 @@ loop-count-preserved g c =
 pub returns-in-None-clause-passed : goal.returns-in-None-clause-passed
 returns-in-None-clause-passed g c count e =
     let same : c.loop-count.count ≡ count = cc in
-    let none : Passes g.R.FaultyRead.remaining c.loop-count.block c.pass_word_byte.new.block [] × StandsBefore is_separator c.pass_word_byte.new.block = search rules in
+    let none : Passes g.R.FaultyRead.remaining c.loop-count.block c.pass_word_byte.new.block [] × NextIs is_separator c.pass_word_byte.new.block = search rules in
     let passed = word_stays g.R.FaultyRead.remaining c.args.block.now c.loop-count.block c.pass_word_byte.new.block (take c.loop-count.count c.loop-count.word) c.loop-count.invariant.passed none.0 in
     (subst (λ n. WordPassed g.R.FaultyRead.remaining c.args.block.now c.pass_word_byte.new.block (take n c.loop-count.word)) same passed, omega (arith, same, c.loop-count-test.true), none.1)
 
@@ -42,16 +42,16 @@ pub returns-in-None-2-clause-passed : goal.returns-in-None-2-clause-passed
 returns-in-None-2-clause-passed g c count e =
     let at_end : c.loop-count.count ≡ 64 = omega (arith, c.loop-count.auto.count-end, c.loop-count-test.false) in
     let same : 64 ≡ count = cc in
-    let none : Passes g.R.FaultyRead.remaining c.loop-count.block c.pass_word_byte-2.new.block [] × StandsBefore is_separator c.pass_word_byte-2.new.block = search rules in
+    let none : Passes g.R.FaultyRead.remaining c.loop-count.block c.pass_word_byte-2.new.block [] × NextIs is_separator c.pass_word_byte-2.new.block = search rules in
     let passed = word_stays g.R.FaultyRead.remaining c.args.block.now c.loop-count.block c.pass_word_byte-2.new.block (take c.loop-count.count c.loop-count.word) c.loop-count.invariant.passed none.0 in
     (subst (λ n. WordPassed g.R.FaultyRead.remaining c.args.block.now c.pass_word_byte-2.new.block (take n c.loop-count.word)) (at_end ∙ same) passed, omega (arith, same), none.1)
 
 pub returns-in_err-pass_word_byte-clause-gives : goal.returns-in_err-pass_word_byte-clause-gives
 returns-in_err-pass_word_byte-clause-gives g c =
     let e = err_from_is_err_and c.from_residual-in_err-pass_word_byte.result c.from_residual-in_err-pass_word_byte.ensures.1 in
-    rw e.1 (gives_behind g.R.FaultyRead.remaining c.args.block.now c.loop-count.block c.pass_word_byte-2.new.block (take c.loop-count.count c.loop-count.word) c.loop-count.invariant.passed.0 c.in_err-pass_word_byte.ensures.unread)
+    rw e.1 (gives_after g.R.FaultyRead.remaining c.args.block.now c.loop-count.block c.pass_word_byte-2.new.block (take c.loop-count.count c.loop-count.word) c.loop-count.invariant.passed.0 c.in_err-pass_word_byte.ensures.unread)
 
 pub returns-in_err-pass_word_byte-clause-wants : goal.returns-in_err-pass_word_byte-clause-wants
 returns-in_err-pass_word_byte-clause-wants g c =
     let e = err_from_is_err_and c.from_residual-in_err-pass_word_byte.result c.from_residual-in_err-pass_word_byte.ensures.1 in
-    rw e.1 (wants_behind g.R.FaultyRead.remaining is_word_byte c.args.block.now c.loop-count.block c.pass_word_byte-2.new.block (take c.loop-count.count c.loop-count.word) c.loop-count.invariant.passed.0 c.loop-count.invariant.passed.1 c.in_err-pass_word_byte.ensures.unread c.in_err-pass_word_byte.ensures.wanted)
+    rw e.1 (wants_after g.R.FaultyRead.remaining is_word_byte c.args.block.now c.loop-count.block c.pass_word_byte-2.new.block (take c.loop-count.count c.loop-count.word) c.loop-count.invariant.passed.0 c.loop-count.invariant.passed.1 c.in_err-pass_word_byte.ensures.unread c.in_err-pass_word_byte.ensures.wanted)

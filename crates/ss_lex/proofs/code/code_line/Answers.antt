@@ -1,6 +1,6 @@
 use Rattle.std.proofs.Common.{◌<◌, length, sym, ap, ◌∙◌, Some, false-eqb, arith}
 use Rattle.std.proofs.lemmas.Bool.{eqb-true}
-use Rattle.ss_lex.proofs.Told.{stepped, read_none, read_more, read_fault, read_cut, read_all}
+use Rattle.ss_lex.proofs.CodeLines.{stepped, read_none, read_more, read_fault, read_cut, read_all}
 use Rattle.ss_lex.proofs.code.code_line.Goals as goal
 
 pub pieces-init : goal.pieces-init

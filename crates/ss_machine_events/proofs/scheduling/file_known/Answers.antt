@@ -22,6 +22,6 @@ returns c =
     let old = c.args.scene.now in let mid = c.file_at_once.new.scene in let new = c.file_apart.new.scene in
     let same : to_z w64 (of_z w64 time) ≡ time = search rules in
     let kept : mid ≡ old = subst (λ (b : Bool). Does (filed_notice c.args.class (Whole n) (to_z w64 (of_z w64 time))) b old mid) c.if-file_at_once.false c.file_at_once.ensures in
-    subst (Grows (filed_notice c.args.class (Whole n) time) old new) (sym c.as_told.ensures)
+    subst (Grows (filed_notice c.args.class (Whole n) time) old new) (sym c.as_filed.ensures)
     (subst (λ (m : Seen). Grows (filed_notice c.args.class (Whole n) time) m new (filing_of c.file_apart.result)) kept
     (subst (λ (t : ℤ). Grows (filed_notice c.args.class (Whole n) t) mid new (filing_of c.file_apart.result)) same c.file_apart.ensures))

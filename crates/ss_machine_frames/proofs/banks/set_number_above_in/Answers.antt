@@ -2,7 +2,7 @@ use Rattle.std.proofs.Common.{rules, ◌≡◌, ◌+◌, true, false, Ok, refl, 
 use Rattle.ss_base.specs.declared.value.Value.TheVariants.{Whole}
 use Rattle.ss_meaning.specs.Store.{put_at}
 use Rattle.ss_machine_frames.specs.Banks.{valued}
-use Rattle.ss_machine_frames.proofs.Above.{put_from, put_told_below}
+use Rattle.ss_machine_frames.proofs.Above.{put_from, put_result_below}
 use Rattle.ss_machine_frames.proofs.Banked.{valued_long}
 use Rattle.ss_machine_frames.proofs.Whole.{is_within, number_from}
 use Rattle.ss_machine_frames.proofs.banks.set_number_above_in.Goals as goal
@@ -24,7 +24,7 @@ returns-clause-below c =
     let vs = valued c.args.numbers.now c.args.texts.now in
     let ws = valued c.set_number_in.new.numbers c.args.texts.now in
     let is : put_at vs (c.args.base + c.args.number) (Whole c.args.value) ≡ Ok ws = search rules in
-    put_told_below c.args.base c.args.number (c.args.base + c.args.number) vs ws (Whole c.args.value) true refl is (λ e. absurd (true_false e))
+    put_result_below c.args.base c.args.number (c.args.base + c.args.number) vs ws (Whole c.args.value) true refl is (λ e. absurd (true_false e))
 
 pub returns-clause-here : goal.returns-clause-here
 returns-clause-here c =

@@ -7,7 +7,7 @@ use Rattle.ss_meaning.specs.Events.{begun}
 use Rattle.ss_code_instructions.specs.States.{AnEvent, fit}
 use Rattle.ss_code_instructions.specs.Machine.{enter, take_event}
 use Rattle.ss_machine_instructions.specs.Beginning.{BeganAs}
-use Rattle.ss_machine_instructions.specs.Holding.{IsLost, store_of, core_of, Told}
+use Rattle.ss_machine_instructions.specs.Holding.{IsLost, store_of, core_of, IsOutcome}
 use Rattle.ss_machine_instructions.proofs.Began.{entered_alike}
 use Rattle.ss_machine_instructions.proofs.Faults.{breaks, lost, goes, rested, here_rests}
 use Rattle.ss_machine_instructions.proofs.beginning.take_event.Goals as goal
@@ -61,7 +61,7 @@ returns-in-Some-entry_at c =
     let began = subst (λ r. BeganAs r event.rank vs (begun (coming_meant event ties (store_of one input))) t) c.in-Ok.is (c.in_ok-kind.ensures.store ties input) in
     let events = ap (λ es. slice_get es event.rank) (sym c.events.ensures) ∙ c.in-Some-entry_at.ensures in
     let on = rested (core_of one input) one w (refl, refl) c.in_ok-kind.ensures.rests in
-    subst (λ m. Told outcome m (core_of c.enter_event.new.working input))
+    subst (λ m. IsOutcome outcome m (core_of c.enter_event.new.working input))
     (sym (goes event.line _ began (ap (λ o. fit o (λ n. take_event c.args.code.now n (core_of old input))) next) ∙
     ap (λ o. enter o (AnEvent event.rank) 0 vs old.operands.here (core_of old input) t) events ∙
     ap (λ (l : List Value). enter (Some entry) (AnEvent event.rank) 0 vs l (core_of old input) t) (sym (here_rests one w c.in_ok-kind.ensures.rests)) ∙

@@ -7,7 +7,7 @@ use Rattle.ss_code_instructions.specs.States.{To, did, past, core_of as core_wit
 use Rattle.ss_code_instructions.specs.Machine.{act, begins}
 use Rattle.ss_machine_frames.specs.Frames.{Stacked, frames_seen}
 use Rattle.ss_machine_frames.specs.Ranged.{range_said, ranged}
-use Rattle.ss_machine_instructions.specs.Holding.{store_of, frames_of, core_of, Told}
+use Rattle.ss_machine_instructions.specs.Holding.{store_of, frames_of, core_of, IsOutcome}
 use Rattle.ss_machine_instructions.proofs.Popped.{popped, popped_two, with_operands}
 use Rattle.ss_machine_instructions.proofs.looping.begin.Goals as goal
 
@@ -31,4 +31,4 @@ returns-in_ok-push_bounds-in-Ok c = λ code input.
     ap (λ z. To (core_with (past c.args.skip (int_le b.first z) place) (Whole b.first ∷ Whole b.step ∷ Whole z ∷ three.here) (frames_of one) (store_of one input))) least ∙
     ap (λ (s : Stacked). To (core_with goes s.here (frames_seen old.frames s.below old.locals.below) (store_of old input))) (sym c.in_ok-push_bounds-in-Ok.ensures) ∙
     ap (λ t. To (core_with (past c.args.skip t place) c.push_bounds.new.self.here (frames_of (with_operands old c.push_bounds.new.self)) (store_of old input))) (sym c.has_items-holds.ensures) in
-    subst (λ m. Told c.choose.result m (core_of c.choose.new.self input)) (sym whole) (c.choose.ensures input)
+    subst (λ m. IsOutcome c.choose.result m (core_of c.choose.new.self input)) (sym whole) (c.choose.ensures input)

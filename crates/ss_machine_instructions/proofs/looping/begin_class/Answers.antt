@@ -9,7 +9,7 @@ use Rattle.ss_code_instructions.specs.States.{To, did, past, core_of as core_wit
 use Rattle.ss_code_instructions.specs.Machine.{begins}
 use Rattle.ss_machine_frames.specs.Frames.{Stacked, frames_seen}
 use Rattle.ss_machine_frames.specs.Ranged.{range_said}
-use Rattle.ss_machine_instructions.specs.Holding.{store_of, frames_of, core_of, Told}
+use Rattle.ss_machine_instructions.specs.Holding.{store_of, frames_of, core_of, IsOutcome}
 use Rattle.ss_machine_instructions.proofs.Popped.{with_operands}
 use Rattle.ss_machine_instructions.proofs.Faults.{breaks, lost}
 use Rattle.ss_machine_instructions.proofs.Indices.{indices_ok, indices_err}
@@ -46,4 +46,4 @@ returns-in_ok-push_bounds-in-Ok c = λ code input.
     ap (λ z. To (core_with (past skip (int_le b.first z) place) (Whole b.first ∷ Whole b.step ∷ Whole z ∷ old.operands.here) (frames_of old) s)) least ∙
     ap (λ (t : Stacked). To (core_with goes t.here (frames_seen old.frames t.below old.locals.below) s)) (sym c.in_ok-push_bounds-in-Ok.ensures) ∙
     ap (λ t. To (core_with (past skip t place) c.push_bounds.new.self.here (frames_of (with_operands old c.push_bounds.new.self)) s)) (sym c.has_items-holds.ensures) in
-    subst (λ m. Told c.choose.result m (core_of c.choose.new.self input)) (sym whole) (c.choose.ensures input)
+    subst (λ m. IsOutcome c.choose.result m (core_of c.choose.new.self input)) (sym whole) (c.choose.ensures input)

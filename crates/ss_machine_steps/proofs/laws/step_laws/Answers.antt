@@ -14,6 +14,6 @@ returns c =
       few_ticks = many_ticks;
       pauses_there = pause_is;
       ends_outside = off_step;
-      steps_as_told = outcome_step;
+      steps_by_outcome = outcome_step;
       stops_without = without_step;
     }

@@ -1,7 +1,7 @@
 use Rattle.std.proofs.Common.{Err, refl, ap, ◌∙◌, subst, List, ℕ, ◌+◌}
 use Rattle.ss_code_instructions.specs.declared.instruction.Instruction.TheVariants.{TestData}
 use Rattle.ss_code_instructions.specs.States.{To, past, core_of as core_with}
-use Rattle.ss_machine_instructions.specs.Holding.{core_of, frames_of, store_of, Told}
+use Rattle.ss_machine_instructions.specs.Holding.{core_of, frames_of, store_of, IsOutcome}
 use Rattle.ss_machine_steps.proofs.Worded.{missed_step, test_fault, test_step}
 use Rattle.ss_machine_steps.proofs.one_step.test_data.Goals as goal
 
@@ -17,5 +17,5 @@ returns-in-Err-clause-stepped g c known =
 pub returns-in-Ok-clause-stepped : goal.returns-in-Ok-clause-stepped
 returns-in-Ok-clause-stepped g c known =
     let w = c.args.working.now in
-    let told = subst (λ b. (input : List ℕ) → Told c.choose.result (To (core_with (past c.args.skip b (w.place + 1)) w.operands.here (frames_of w) (store_of w input))) (core_of c.choose.new.working input)) c.tested.ensures c.choose.ensures in
-    rw c.step_of.ensures (test_step g.R.FaultyRead.remaining c.args.source.now c.ended.new.self known c.args.code.now w c.args.negated c.args.skip c.args.line c.requires.here c.in-Ok.ended (c.ended.ensures.read c.in-Ok.ended c.in-Ok.is) c.choose.new.working c.choose.result told)
+    let follows = subst (λ b. (input : List ℕ) → IsOutcome c.choose.result (To (core_with (past c.args.skip b (w.place + 1)) w.operands.here (frames_of w) (store_of w input))) (core_of c.choose.new.working input)) c.tested.ensures c.choose.ensures in
+    rw c.step_of.ensures (test_step g.R.FaultyRead.remaining c.args.source.now c.ended.new.self known c.args.code.now w c.args.negated c.args.skip c.args.line c.requires.here c.in-Ok.ended (c.ended.ensures.read c.in-Ok.ended c.in-Ok.is) c.choose.new.working c.choose.result follows)

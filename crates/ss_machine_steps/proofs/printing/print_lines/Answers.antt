@@ -3,7 +3,7 @@ use Rattle.std.proofs.lemmas.List.{append_assoc}
 use Rattle.std.proofs.lemmas.Result.{err_from_is_err_and}
 use Rattle.ss_meaning.specs.Values.{lines_with, line_end}
 use Rattle.ss_picture.specs.Pictures.{filled, picture_fields}
-use Rattle.ss_machine_steps.proofs.Known.{turn, took_both, part_behind}
+use Rattle.ss_machine_steps.proofs.Known.{turn, took_both, part_after}
 use Rattle.ss_machine_steps.proofs.Fields.{now_suits, later_suits}
 use Rattle.ss_machine_steps.proofs.printing.print_lines.Goals as goal
 
@@ -19,7 +19,7 @@ returns-in_err-print_line-clause-err g c =
     let whole : lines_with c.args.pictures.now c.args.items.now ≡ i.done ++ (line ++ more) =
     i.so_far ∙ ap (λ l. i.done ++ l) (one ∙ rw (c.split_at.ensures.front, c.split_at.ensures.back) refl) in
     let e = err_from_is_err_and c.from_residual.result c.from_residual.ensures.1 in
-    rw e.1 (part_behind _ _ _ i.done line (lines_with c.args.pictures.now c.args.items.now) more i.took whole c.in_err-print_line.ensures.err)
+    rw e.1 (part_after _ _ _ i.done line (lines_with c.args.pictures.now c.args.items.now) more i.took whole c.in_err-print_line.ensures.err)
 
 pub print_line-requires-clause-suited : goal.print_line-requires-clause-suited
 print_line-requires-clause-suited g c =

@@ -1,7 +1,7 @@
 use Rattle.std.proofs.Common.{◌≡◌, ℕ, zero, suc, ◌+◌, ◌-◌, [], ◌∷◌, ◌++◌, replicate, refl, ap, arith}
 use Rattle.std.proofs.lemmas.Result.{err_from_is_err_and}
 use Rattle.ss_meaning.specs.Values.{line_end}
-use Rattle.ss_machine_steps.proofs.Known.{first_of, part_behind}
+use Rattle.ss_machine_steps.proofs.Known.{first_of, part_after}
 use Rattle.ss_machine_steps.proofs.printing.send_empty.Goals as goal
 
 split : (i k n : ℕ) → n ≡ i + (k + 1) → replicate n line_end ≡ replicate i line_end ++ (line_end ∷ replicate k line_end)
@@ -17,4 +17,4 @@ returns-in_err-write-clause-err g c =
     let whole = split c.loop-line._line k c.args.lines (omega (arith, c.loop-line-test.true)) in
     let one = first_of g.W.FaultyWrite.contents c.loop-line.sink c.write.new.self (line_end ∷ []) (line_end ∷ []) refl c.in_err-write.ensures.err in
     let e = err_from_is_err_and c.from_residual.result c.from_residual.ensures.1 in
-    rw e.1 (part_behind _ _ _ (replicate c.loop-line._line line_end) (line_end ∷ []) (replicate c.args.lines line_end) (replicate k line_end) i.took whole one)
+    rw e.1 (part_after _ _ _ (replicate c.loop-line._line line_end) (line_end ∷ []) (replicate c.args.lines line_end) (replicate k line_end) i.took whole one)

@@ -23,7 +23,7 @@ loop-kind-preserved c =
           let store = with_seen s c.args.scene.now in
           let v = rw l.invariant.same at c.in-Some.ensures.value s in
           l.invariant.made s ∙ one_more c.args.kinds.now l.kind-index _ c.loop-kind-test.true l.rest.now store xs x v
-          ∙ sym (λ t. in_front (pushed t) (shown (drop (l.kind-index + 1) c.args.kinds.now) (c.values_behind-rest.ensures t) store));
+          ∙ sym (λ t. in_front (pushed t) (shown (drop (l.kind-index + 1) c.args.kinds.now) (c.values_after-rest.ensures t) store));
       printable = subst (AllByRecursion IsPrintable) (sym pushed) (printable_more xs x l.invariant.printable c.in-Some.ensures.printable);
       same = c.in-Some.ensures.same ∙ l.invariant.same;
     }

@@ -11,6 +11,6 @@ returns c =
     let cs = c.args.classes.now in
     let first = flat_map (priority_by cs) c.args.sayings.now in
     let later = flat_map (declared_by cs) c.args.sayings.now in
-    IfOk-weaker c.more_told.result _ _
+    IfOk-weaker c.extend_firsts.result _ _
     (λ all e. e ∙ ap (λ es. fold with_first es later) c.in_ok-first.ensures ∙ sym (fold-append with_first [] first later))
-    c.more_told.ensures
+    c.extend_firsts.ensures

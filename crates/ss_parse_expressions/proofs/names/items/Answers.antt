@@ -8,10 +8,10 @@ use Rattle.ss_parse_expressions.proofs.Rows.{first_taken, grows_plain, breaks_pl
 use Rattle.ss_parse_expressions.proofs.names.items.Goals as goal
 
 pub more-preserved : goal.more-preserved
-more-preserved c = grows_plain items_loop _ _ c.in_ok-next.next _ _ _ c.in_ok-push.ensures.items (sym c.begins_more_items.ensures ∙ c.more-test.true) (first_taken _ _ c.skip_class-from-in-more.result.now _ (sym (ap (taken name_of) (c.skip_class-from-in-more.ensures ∙ ap (skip_class classes.Article) c.skip_separator.ensures)) ∙ c.in_ok-next.ensures) c.behind_first-rest-in-more.ensures) c.more.invariant
+more-preserved c = grows_plain items_loop _ _ c.in_ok-next.next _ _ _ c.in_ok-push.ensures.items (sym c.begins_more_items.ensures ∙ c.more-test.true) (first_taken _ _ c.skip_class-from-in-more.result.now _ (sym (ap (taken name_of) (c.skip_class-from-in-more.ensures ∙ ap (skip_class classes.Article) c.skip_separator.ensures)) ∙ c.in_ok-next.ensures) c.after_first-rest-in-more.ensures) c.more.invariant
 
 pub more-smaller : goal.more-smaller
-more-smaller c = (items_loop).shrinks _ _ _ (sym c.begins_more_items.ensures ∙ c.more-test.true) (first_taken _ _ c.skip_class-from-in-more.result.now _ (sym (ap (taken name_of) (c.skip_class-from-in-more.ensures ∙ ap (skip_class classes.Article) c.skip_separator.ensures)) ∙ c.in_ok-next.ensures) c.behind_first-rest-in-more.ensures)
+more-smaller c = (items_loop).shrinks _ _ _ (sym c.begins_more_items.ensures ∙ c.more-test.true) (first_taken _ _ c.skip_class-from-in-more.result.now _ (sym (ap (taken name_of) (c.skip_class-from-in-more.ensures ∙ ap (skip_class classes.Article) c.skip_separator.ensures)) ∙ c.in_ok-next.ensures) c.after_first-rest-in-more.ensures)
 
 pub returns : goal.returns
 returns c = is_done_plain items_loop _ _ _ (sym c.begins_more_items.ensures ∙ c.more-test.false) c.more.invariant

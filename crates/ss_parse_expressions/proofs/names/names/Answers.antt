@@ -6,10 +6,10 @@ use Rattle.ss_parse_expressions.proofs.Rows.{first_taken, grows_plain, breaks_pl
 use Rattle.ss_parse_expressions.proofs.names.names.Goals as goal
 
 pub more-preserved : goal.more-preserved
-more-preserved c = grows_plain names_loop _ _ c.in_ok-next.next _ _ _ c.in_ok-push.ensures.items (sym c.begins_more_names.ensures ∙ c.more-test.true) (first_taken _ _ c.skip_separator-from.result.now _ (ap (taken name_of) (sym c.skip_separator-from.ensures) ∙ c.in_ok-next.ensures) c.behind_first-rest-in-more.ensures) c.more.invariant
+more-preserved c = grows_plain names_loop _ _ c.in_ok-next.next _ _ _ c.in_ok-push.ensures.items (sym c.begins_more_names.ensures ∙ c.more-test.true) (first_taken _ _ c.skip_separator-from.result.now _ (ap (taken name_of) (sym c.skip_separator-from.ensures) ∙ c.in_ok-next.ensures) c.after_first-rest-in-more.ensures) c.more.invariant
 
 pub more-smaller : goal.more-smaller
-more-smaller c = (names_loop).shrinks _ _ _ (sym c.begins_more_names.ensures ∙ c.more-test.true) (first_taken _ _ c.skip_separator-from.result.now _ (ap (taken name_of) (sym c.skip_separator-from.ensures) ∙ c.in_ok-next.ensures) c.behind_first-rest-in-more.ensures)
+more-smaller c = (names_loop).shrinks _ _ _ (sym c.begins_more_names.ensures ∙ c.more-test.true) (first_taken _ _ c.skip_separator-from.result.now _ (ap (taken name_of) (sym c.skip_separator-from.ensures) ∙ c.in_ok-next.ensures) c.after_first-rest-in-more.ensures)
 
 pub returns : goal.returns
 returns c = is_done_plain names_loop _ _ _ (sym c.begins_more_names.ensures ∙ c.more-test.false) c.more.invariant

@@ -26,8 +26,8 @@ decreases-body l = 16 * l.room + 4
 abbrev pub decreases-loop_form : goal.decreases-loop_form
 decreases-loop_form l = 16 * l.room + 5
 
-abbrev pub decreases-asked : goal.decreases-asked
-decreases-asked l = 16 * l.room + 4
+abbrev pub decreases-outcome_and_branches : goal.decreases-outcome_and_branches
+decreases-outcome_and_branches l = 16 * l.room + 4
 
 abbrev pub decreases-find_if_form : goal.decreases-find_if_form
 decreases-find_if_form l = 16 * l.room + 5

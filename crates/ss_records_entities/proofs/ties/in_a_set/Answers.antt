@@ -11,8 +11,8 @@ class_is : {m n : ℕ} → Class m ≡ Class n → m ≡ n
 class_is e = cc
 
 -- the set whose links come next
-at_hand : (c : In-links) → Here c.args.layout.now c.args.class c.args.number c.args.notes.now.lists c.links.k
-at_hand c = here c.args.layout.now c.args.class c.args.number c.args.notes.now.lists c.links.k c.links.invariant.left (subst (λ n. c.links.k < n) c.owned_start-end.ensures.at c.links-test.true)
+links_here : (c : In-links) → Here c.args.layout.now c.args.class c.args.number c.args.notes.now.lists c.links.k
+links_here c = here c.args.layout.now c.args.class c.args.number c.args.notes.now.lists c.links.k c.links.invariant.left (subst (λ n. c.links.k < n) c.owned_start-end.ensures.at c.links-test.true)
 
 pub owned_start-end-requires : goal.owned_start-end-requires
 owned_start-end-requires c = λ k is. let e = c.requires.entry in subst (λ n. n < length c.args.layout.now.classes) (c.requires.class ∙ class_is is) (c.requires.kept.classes e.0 c.args.place (inl e.1))
@@ -33,7 +33,7 @@ filed_in-requires-clause-kept c =
 
 pub filed_in-requires-clause-set : goal.filed_in-requires-clause-set
 filed_in-requires-clause-set c =
-    let h = at_hand (goal.at.filed_in-requires-clause-set c).In-links in
+    let h = links_here (goal.at.filed_in-requires-clause-set c).In-links in
     (h.at, h.set, h.there, ap (λ bs. class_at bs c.args.place) c.links.invariant.cells ∙ c.requires.class ∙ sym h.joined, h.base)
 
 pub filed_in-requires-clause-entry : goal.filed_in-requires-clause-entry
@@ -46,7 +46,7 @@ filed_in-requires-clause-touches c =
 
 pub returns-then-filed_in-clause-value : goal.returns-then-filed_in-clause-value
 returns-then-filed_in-clause-value c =
-    let l = c.args.layout.now in let x = c.args.number in let ms = c.args.notes.now.lists in let h = at_hand (goal.at.returns-then-filed_in-clause-value c).In-links in
+    let l = c.args.layout.now in let x = c.args.number in let ms = c.args.notes.now.lists in let h = links_here (goal.at.returns-then-filed_in-clause-value c).In-links in
     let class = ap (λ bs. class_at bs c.args.place) c.links.invariant.cells ∙ c.requires.class ∙ sym h.joined in
     sym (found l c.args.class x ms c.links.k h (sym (c.filed_in.ensures.value h.at h.set h.there class h.base) ∙ c.if-filed_in.true))
 
@@ -55,10 +55,10 @@ returns-then-filed_in-clause-cells c = c.filed_in.ensures.cells ∙ c.links.inva
 
 pub returns-then-filed_in-clause-touches : goal.returns-then-filed_in-clause-touches
 returns-then-filed_in-clause-touches c =
-    let l = c.args.layout.now in let x = c.args.number in let ms = c.args.notes.now.lists in let h = at_hand (goal.at.returns-then-filed_in-clause-touches c).In-links in
+    let l = c.args.layout.now in let x = c.args.number in let ms = c.args.notes.now.lists in let h = links_here (goal.at.returns-then-filed_in-clause-touches c).In-links in
     let t = c.filed_in.ensures.touches in let j = c.links.invariant.touches in
-    let told : 3 * c.filed_in.new.blocks.touches + links_start l c.args.class ≡ 3 * c.args.blocks.now.touches + (c.links.k + 3) = omega (arith, t.0, j.0) in
-    (few_touched l c.args.class x ms (c.links.k + 3) c.filed_in.new.blocks.touches c.args.blocks.now.touches c.requires.kept.small.sets (room l c.args.class x ms c.links.k h) told, omega (arith, t.0, t.1, j.1))
+    let touches_known : 3 * c.filed_in.new.blocks.touches + links_start l c.args.class ≡ 3 * c.args.blocks.now.touches + (c.links.k + 3) = omega (arith, t.0, j.0) in
+    (few_touched l c.args.class x ms (c.links.k + 3) c.filed_in.new.blocks.touches c.args.blocks.now.touches c.requires.kept.small.sets (room l c.args.class x ms c.links.k h) touches_known, omega (arith, t.0, t.1, j.1))
 
 pub overflow_add-k : goal.overflow_add-k
 overflow_add-k c = omega (arith, c.links-test.true, c.owned_start-end.ensures.bound)
@@ -68,7 +68,7 @@ links-smaller c = omega (arith, c.links-test.true)
 
 pub links-preserved : goal.links-preserved
 links-preserved c =
-    let l = c.args.layout.now in let x = c.args.number in let ms = c.args.notes.now.lists in let h = at_hand (goal.at.links-preserved c).In-links in
+    let l = c.args.layout.now in let x = c.args.number in let ms = c.args.notes.now.lists in let h = links_here (goal.at.links-preserved c).In-links in
     let class = ap (λ bs. class_at bs c.args.place) c.links.invariant.cells ∙ c.requires.class ∙ sym h.joined in
     let t = c.filed_in.ensures.touches in let j = c.links.invariant.touches in
     record {

@@ -7,7 +7,7 @@ use Rattle.ss_world.specs.Lists.{head0}
 use Rattle.ss_world.specs.Sets.{owner, first_in, member_class}
 use Rattle.ss_world.specs.Disciplines.{passed, owned, AreFields}
 use Rattle.ss_sets.specs.Walks.{first_after, as_member}
-use Rattle.ss_sets.proofs.Walking.{onward, leader, onward_all, first_leads, at_hand, next_is, stops, passes, found_first, not_found, Looked, looked, never_lost, first_field, other_fields}
+use Rattle.ss_sets.proofs.Walking.{onward, leader, onward_all, first_leads, reached_member, next_is, stops, passes, found_first, not_found, Looked, looked, never_lost, first_field, other_fields}
 use Rattle.ss_sets.proofs.ranking.first_after_value.Goals as goal
 
 pub value-own-requires : goal.value-own-requires
@@ -63,7 +63,7 @@ impossible c =
     let st = c.args.heap.now.state in let o : ℤ = to_z w64 (of_z w64 c.args.o) in let y : ℤ = to_z w64 (of_z w64 c.in-Some.y) in
     let hand : y ≡ c.in-Some.y = search rules in
     let all : List ℕ = owned st c.args.set o in let h = c.loop-member.invariant in
-    let a = at_hand all c.loop-member.member c.in-Some.y c.in-Some.is h.here in
+    let a = reached_member all c.loop-member.member c.in-Some.y c.in-Some.is h.here in
     let n = next_is st c.sets_are_apart.ensures c.args.set c.requires.set o a.0 a.1 a.4 in
     never_lost c.loop-member.heap.state st c.args.set y (pos a.0) (pos (head0 a.1)) c.in-Err-member.fault c.in-Err-member.ensures.found h.same (hand ∙ a.3) n
 
@@ -73,27 +73,27 @@ returns-in-Err-member-clause-found c = absurd (impossible c)
 pub returns-in-Err-member-clause-touches : goal.returns-in-Err-member-clause-touches
 returns-in-Err-member-clause-touches c = absurd (impossible c)
 
--- x passes the member at hand
+-- x passes this member
 passed_one : (c : goal.After-as_member-member) → Looked c.args.heap.now.state c.args.set (to_z w64 (of_z w64 c.args.o)) (to_z w64 (of_z w64 c.args.x)) (c.args.key ∷ c.args.others.now) c.loop-member.member c.in-Some.y c.in-Ok-member.its.next false
 passed_one c =
     let st = c.args.heap.now.state in let o : ℤ = to_z w64 (of_z w64 c.args.o) in let x : ℤ = to_z w64 (of_z w64 c.args.x) in let y : ℤ = to_z w64 (of_z w64 c.in-Some.y) in
     let hand : y ≡ c.in-Some.y = search rules in let h = c.loop-member.invariant in
     looked st c.sets_are_apart.ensures c.args.set c.requires.set o x c.args.key c.args.others.now c.loop-member.member c.in-Some.y y c.in-Some.is h.here hand c.loop-member.heap.state c.member.new.self.state h.same c.in-Ok-member.ensures.same c.class_of-class.result c.class_of-class.ensures c.in-Ok-member.its.value c.value-own.result c.in-Ok-member.its.next c.in-Ok-member.ensures.found.0 c.in-Ok-member.ensures.found.1 c.value-own.ensures c.order_of-order.result false c.order_of-order.ensures c.if-ranks_after_by.ensures
 
--- the member that is next at hand
+-- the member that is next
 next_one : (c : goal.After-as_member-member) → c.as_member-member.result ≡ as_member c.in-Ok-member.its.next
 next_one c = let e : to_z w64 (of_z w64 c.in-Ok-member.its.next) ≡ c.in-Ok-member.its.next = search rules in c.as_member-member.ensures ∙ ap as_member e
 
 pub loop-member-smaller : goal.loop-member-smaller
 loop-member-smaller c =
     let p = passed_one c in let all : List ℕ = owned c.args.heap.now.state c.args.set (to_z w64 (of_z w64 c.args.o)) in
-    let shorter : length (onward c.as_member-member.result all) < length (onward c.loop-member.member all) = omega (arith, ap (λ m. length (onward m all)) (next_one c), ap length p.behind, ap length p.rest) in shorter
+    let shorter : length (onward c.as_member-member.result all) < length (onward c.loop-member.member all) = omega (arith, ap (λ m. length (onward m all)) (next_one c), ap length p.following, ap length p.rest) in shorter
 
 pub loop-member-preserved : goal.loop-member-preserved
 loop-member-preserved c =
     let st = c.args.heap.now.state in let o : ℤ = to_z w64 (of_z w64 c.args.o) in let x : ℤ = to_z w64 (of_z w64 c.args.x) in let class = member_class st.layout c.args.set in let ks : List RankKey = c.args.key ∷ c.args.others.now in
     let p = passed_one c in let h = c.loop-member.invariant in let q = passes st class ks x p.z p.zs p.ranks in
-    let rest = ap (λ m. onward m (owned st c.args.set o)) (next_one c) ∙ p.behind in
+    let rest = ap (λ m. onward m (owned st c.args.set o)) (next_one c) ∙ p.following in
     record {
       same = c.in-Ok-member.ensures.same ∙ h.same;
       here = next_one c ∙ p.leads ∙ ap leader (sym rest);

@@ -5,7 +5,7 @@ use Rattle.ss_sets.specs.Walks.{first_after}
 use Rattle.ss_sets.proofs.Walking.{onward, leader}
 use Rattle.ss_sets.proofs.ranking.first_after_value.Given as goal
 
--- x passes the members before the one at hand
+-- x passes the members before this one
 abbrev pub invariant-loop-member : goal.invariant-loop-member
 invariant-loop-member l =
     let st = l.fn.heap.state in let all = owned st l.set l.o in let rest = onward l.member all in let class = member_class st.layout l.set in let ks = l.key ∷ l.others in

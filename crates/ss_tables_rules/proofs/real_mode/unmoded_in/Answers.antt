@@ -8,5 +8,5 @@ use Rattle.ss_tables_rules.proofs.real_mode.unmoded_in.Goals as goal
 pub loop-number-preserved : goal.loop-number-preserved
 loop-number-preserved c =
     let i = c.loop-number.number in
-    λ says tells said. next_section says c.args.sections.now i c.index-sections-number.result c.args.found c.loop-number.found _ c.loop-number-test.true c.index-sections-number.is (c.loop-number.invariant says tells said)
-    (c.unmoded_among-found.ensures says tells said ∙ ap (λ (ms : List Mention). soonest c.loop-number.found (lines_where mentioned_at (lacks_mode says i) ms)) (c.deref.ensures.value ∙ c.in_ok-mentions.ensures))
+    λ says is_of said. next_section says c.args.sections.now i c.index-sections-number.result c.args.found c.loop-number.found _ c.loop-number-test.true c.index-sections-number.is (c.loop-number.invariant says is_of said)
+    (c.unmoded_among-found.ensures says is_of said ∙ ap (λ (ms : List Mention). soonest c.loop-number.found (lines_where mentioned_at (lacks_mode says i) ms)) (c.deref.ensures.value ∙ c.in_ok-mentions.ensures))

@@ -2,36 +2,36 @@ use Rattle.std.proofs.Common.{rules, w64, to_z, of_z, pos, ◌≡◌, ◌<◌, �
 use Rattle.std.proofs.lemmas.Bool.{cases_eq}
 use Rattle.std.proofs.lemmas.List.{get_or_default}
 use Rattle.ss_events.specs.declared.entry.places.Slot.{Slot}
-use Rattle.ss_events.specs.Slots.{no_kept, no_slot, kept, IsTaken, Leads}
+use Rattle.ss_events.specs.Slots.{blank_slot, no_slot, slot_at, IsTaken, Leads}
 use Rattle.ss_events.proofs.Grown.{led_more}
 use Rattle.ss_events.proofs.entry.places.noted.Goals as goal
-use Rattle.ss_events.proofs.entry.places.noted.Goals.{then-it-count+in_ok-note, then-it-count-via-then-it-count, then-it-count-via-else-it-count+then-it-ge-BEHIND, else-it-count+else-it-ge-BEHIND}
+use Rattle.ss_events.proofs.entry.places.noted.Goals.{then-it-count+in_ok-note, then-it-count-via-then-it-count, then-it-count-via-else-it-count+then-it-ge-FOLLOWING, else-it-count+else-it-ge-FOLLOWING}
 
 pub loop-slot-preserved : goal.loop-slot-preserved
 loop-slot-preserved c =
     let slots = c.args.slots.now in
     let k = c.loop-slot.slot in
     let x : Slot = get_or slots k (record { notice = pos 0; mark = record { time = pos 0; order = 0 }; next = 0; at = 0 }) in
-    let is : x ≡ kept slots k = get_or_default slots k (record { notice = pos 0; mark = record { time = pos 0; order = 0 }; next = 0; at = 0 }) no_kept c.loop-slot-test.true in
+    let is : x ≡ slot_at slots k = get_or_default slots k (record { notice = pos 0; mark = record { time = pos 0; order = 0 }; next = 0; at = 0 }) blank_slot c.loop-slot-test.true in
     elim c.if-it-count.branch [
       | then-it-count+in_ok-note w ↦
           let small : k < no_slot = search rules in
           let fits : to_z w64 (of_z w64 x.notice) ≡ x.notice = search rules in
-          let same : to_z w64 (of_z w64 x.notice) ≡ (kept slots k).notice = fits ∙ ap (λ (y : Slot). y.notice) is in
-          let taken : IsTaken c.args.count (kept slots k) = elim w.then-it-count.branch [
+          let same : to_z w64 (of_z w64 x.notice) ≡ (slot_at slots k).notice = fits ∙ ap (λ (y : Slot). y.notice) is in
+          let taken : IsTaken c.args.count (slot_at slots k) = elim w.then-it-count.branch [
             | then-it-count-via-then-it-count v ↦ inl (omega (arith, v.if-it-count.true, ap (λ (y : Slot). y.at) is))
-            | then-it-count-via-else-it-count+then-it-ge-BEHIND v ↦ inr (omega (arith, v.if-it-ge-BEHIND.true, ap (λ (y : Slot). y.at) is))
+            | then-it-count-via-else-it-count+then-it-ge-FOLLOWING v ↦ inr (omega (arith, v.if-it-ge-FOLLOWING.true, ap (λ (y : Slot). y.at) is))
           ] in
-          λ s lt its. subst (λ d. Leads d (kept slots s).notice s) (sym w.directory-is)
+          λ s lt its. subst (λ d. Leads d (slot_at slots s).notice s) (sym w.directory-is)
           (led_more c.args.count slots c.loop-slot.directory w.note.new.self k c.requires c.loop-slot-test.true small c.loop-slot.invariant taken
           (subst (λ n. Leads w.note.new.self n k) same w.in_ok-note.ensures.noted)
           (λ n t other apart led. w.note.ensures.others n t (λ e. other (e ∙ same)) apart led)
           s lt its)
-      | else-it-count+else-it-ge-BEHIND w ↦ λ s lt its. subst (λ d. Leads d (kept slots s).notice s) (sym w.directory-is)
+      | else-it-count+else-it-ge-FOLLOWING w ↦ λ s lt its. subst (λ d. Leads d (slot_at slots s).notice s) (sym w.directory-is)
           (⊎_elim
           (λ e. absurd (⊎_elim
-          (λ less. omega (arith, less, w.if-it-count.false, ap (λ (y : Slot). y.at) is, ap (λ n. (kept slots n).at) e))
-          (λ more. omega (arith, more, w.if-it-ge-BEHIND.false, ap (λ (y : Slot). y.at) is, ap (λ n. (kept slots n).at) e))
+          (λ less. omega (arith, less, w.if-it-count.false, ap (λ (y : Slot). y.at) is, ap (λ n. (slot_at slots n).at) e))
+          (λ more. omega (arith, more, w.if-it-ge-FOLLOWING.false, ap (λ (y : Slot). y.at) is, ap (λ n. (slot_at slots n).at) e))
           its))
           (λ other. c.loop-slot.invariant s (omega (arith, lt, other)) its)
           (cases_eq s k))

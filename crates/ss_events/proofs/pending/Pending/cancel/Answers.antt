@@ -51,40 +51,40 @@ returns-in-Some-clause-comparisons c = (work c).comparisons
 pub returns-in-Some-clause-moves : goal.returns-in-Some-clause-moves
 returns-in-Some-clause-moves c = (work c).moves
 
--- ---- one that stood behind another
+-- ---- a follower
 
 -- it left
-left : (c : goal.Then-remove_behind) → Leaves (lines_of c.reset_counts.new.self) (lines_of c.remove_behind.new.self) (to_z w64 (of_z w64 c.args.notice))
-left c = c.remove_behind.ensures.left c.if-remove_behind.true
+left : (c : goal.Then-remove_follower) → Leaves (lines_of c.reset_counts.new.self) (lines_of c.remove_follower.new.self) (to_z w64 (of_z w64 c.args.notice))
+left c = c.remove_follower.ensures.left c.if-remove_follower.true
 
-same_heads : (c : goal.Then-remove_behind) → c.remove_behind.new.self.entries ≡ c.self.inside.heap.entries
+same_heads : (c : goal.Then-remove_follower) → c.remove_follower.new.self.entries ≡ c.self.inside.heap.entries
 same_heads c = (left c).heads ∙ ap (λ h. h.entries) c.reset_counts.ensures
 
 -- the entry that left and the others are those of the heap
-all_behind : (c : goal.Then-remove_behind) → IsPermutation (all_of c.self.inside.heap) ((left c).entry ∷ all_of c.remove_behind.new.self)
-all_behind c =
+others_permuted : (c : goal.Then-remove_follower) → IsPermutation (all_of c.self.inside.heap) ((left c).entry ∷ all_of c.remove_follower.new.self)
+others_permuted c =
     let l = left c in
     let heads = c.self.inside.heap.entries in
     let fs = c.self.inside.heap.followers in
-    let gs = c.remove_behind.new.self.followers in
+    let gs = c.remove_follower.new.self.followers in
     let rest : IsPermutation fs (l.entry ∷ gs) = subst (λ (h : HeapEntries). IsPermutation h.followers (l.entry ∷ gs)) c.reset_counts.ensures l.followers in
     let to_front : IsPermutation (heads ++ fs) (l.entry ∷ (heads ++ gs)) =
     IsPermutation-trans (heads ++ fs) (heads ++ l.entry ∷ gs) (l.entry ∷ (heads ++ gs)) (IsPermutation-append_right heads fs (l.entry ∷ gs) rest) (IsPermutation-middle heads l.entry gs) in
     subst (λ (es : List Entry). IsPermutation (heads ++ fs) (l.entry ∷ (es ++ gs))) (sym (same_heads c)) to_front
 
-pub invariant_of-self-then-remove_behind : goal.invariant_of-self-then-remove_behind
-invariant_of-self-then-remove_behind c =
-    agenda-taken c.self.inside.heap.entries (all_of c.self.inside.heap) c.self.inside.schedulings c.self.invariant (left c).entry (all_of c.remove_behind.new.self) (all_behind c)
-    c.remove_behind.new.self.entries (subst (IsHeap comes_before) (sym (same_heads c)) c.self.invariant.order)
+pub invariant_of-self-then-remove_follower : goal.invariant_of-self-then-remove_follower
+invariant_of-self-then-remove_follower c =
+    agenda-taken c.self.inside.heap.entries (all_of c.self.inside.heap) c.self.inside.schedulings c.self.invariant (left c).entry (all_of c.remove_follower.new.self) (others_permuted c)
+    c.remove_follower.new.self.entries (subst (IsHeap comes_before) (sym (same_heads c)) c.self.invariant.order)
 
-pub returns-then-remove_behind-clause-ok : goal.returns-then-remove_behind-clause-ok
-returns-then-remove_behind-clause-ok c =
+pub returns-then-remove_follower-clause-ok : goal.returns-then-remove_follower-clause-ok
+returns-then-remove_follower-clause-ok c =
     let z = to_z w64 (of_z w64 c.args.notice) in
     let l = left c in
     let known = found-pending c.self.inside.heap c.args.self.now.list.entries (ap (λ v. v.list.entries) c.self.view_is) c.reset_counts.new.self z c.args.notice true (ap all_of c.reset_counts.ensures) (to_z-of_z c.ranges.notice)
-    (sym (or_right (list_any (int_eq z) (notices_of c.reset_counts.new.self.entries)) (list_any (int_eq z) (notices_of c.reset_counts.new.self.followers)) (sym (sym c.if-remove_behind.true ∙ c.remove_behind.ensures.found)))) in
+    (sym (or_right (list_any (int_eq z) (notices_of c.reset_counts.new.self.entries)) (list_any (int_eq z) (notices_of c.reset_counts.new.self.followers)) (sym (sym c.if-remove_follower.true ∙ c.remove_follower.ensures.found)))) in
     let its : int_eq c.args.notice l.entry.notice ≡ true = ap (int_eq c.args.notice) (l.noticed ∙ to_z-of_z c.ranges.notice) ∙ int_eq_equiv.refl c.args.notice in
-    let rest = in_order-taken c.self.inside.heap.entries (all_of c.self.inside.heap) c.self.inside.schedulings c.self.invariant l.entry (all_of c.remove_behind.new.self) (all_behind c) c.args.notice its in
+    let rest = in_order-taken c.self.inside.heap.entries (all_of c.self.inside.heap) c.self.inside.schedulings c.self.invariant l.entry (all_of c.remove_follower.new.self) (others_permuted c) c.args.notice its in
     cancelled-pending c.args.notice c.args.self.now.list (sym known)
     ∙ ap (λ v. Ok (record v.list { entries = without c.args.notice v.list.entries })) (sym c.self.view_is)
     ∙ ap (λ es. Ok (record { entries = es; schedulings = c.self.inside.schedulings; classes = map (λ shapes. shapes.items) c.self.inside.classes.items })) (sym rest)
@@ -95,5 +95,5 @@ pub returns-clause-refused : goal.returns-clause-refused
 returns-clause-refused c =
     let z = to_z w64 (of_z w64 c.args.notice) in
     let known = found-pending c.self.inside.heap c.args.self.now.list.entries (ap (λ v. v.list.entries) c.self.view_is) c.reset_counts.new.self z c.args.notice false (ap all_of c.reset_counts.ensures) (to_z-of_z c.ranges.notice)
-    (sym (or_from (list_any (int_eq z) (notices_of c.reset_counts.new.self.entries)) (list_any (int_eq z) (notices_of c.reset_counts.new.self.followers)) (sym c.in_default.ensures.found) (sym c.remove_behind.ensures.found ∙ c.if-remove_behind.false))) in
+    (sym (or_from (list_any (int_eq z) (notices_of c.reset_counts.new.self.entries)) (list_any (int_eq z) (notices_of c.reset_counts.new.self.followers)) (sym c.in_default.ensures.found) (sym c.remove_follower.ensures.found ∙ c.if-remove_follower.false))) in
     cancelled-none c.args.notice c.args.self.now.list (sym known)

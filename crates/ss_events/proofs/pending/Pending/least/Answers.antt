@@ -1,14 +1,14 @@
 use Rattle.std.proofs.Common.{◌≡◌, ◌<◌, ◌∙◌, List, [], ◌∷◌, Some, length, get_or, refl, ap, sym, subst, arith}
 use Rattle.ss_events.specs.declared.entry.Entry.{Entry}
-use Rattle.ss_events.specs.HeapEntries.{HeapEntries, AreBehind, event_of}
+use Rattle.ss_events.specs.HeapEntries.{HeapEntries, AreAfterHeads, event_of}
 use Rattle.ss_events.proofs.Agendas.{next-none, next-first}
 use Rattle.ss_events.proofs.pending.Pending.least.Goals as goal
 
 pub returns-then-len-eq0-clause-next : goal.returns-then-len-eq0-clause-next
 returns-then-len-eq0-clause-next c =
     let anew = c.reset_counts.ensures in
-    let behind : AreBehind c.self.inside.heap.entries c.self.inside.heap.followers = subst (λ (h : HeapEntries). AreBehind h.entries h.followers) anew c.are_behind.ensures in
-    sym (next-none c.self.inside.heap c.args.self.now.list (ap (λ v. v.list.entries) c.self.view_is) behind (omega (arith, ap (λ h. length h.entries) anew)))
+    let following : AreAfterHeads c.self.inside.heap.entries c.self.inside.heap.followers = subst (λ (h : HeapEntries). AreAfterHeads h.entries h.followers) anew c.are_after_heads.ensures in
+    sym (next-none c.self.inside.heap c.args.self.now.list (ap (λ v. v.list.entries) c.self.view_is) following (omega (arith, ap (λ h. length h.entries) anew)))
 
 -- the entry in the first place
 at_top : (es : List Entry) → 0 < length es → (e : Entry) × (e ≡ get_or es 0 e)
@@ -18,8 +18,8 @@ at_top (e ∷ es) some = (e, refl)
 pub returns-clause-next : goal.returns-clause-next
 returns-clause-next c =
     let anew = c.reset_counts.ensures in
-    let behind : AreBehind c.self.inside.heap.entries c.self.inside.heap.followers = subst (λ (h : HeapEntries). AreBehind h.entries h.followers) anew c.are_behind-2.ensures in
+    let following : AreAfterHeads c.self.inside.heap.entries c.self.inside.heap.followers = subst (λ (h : HeapEntries). AreAfterHeads h.entries h.followers) anew c.are_after_heads-2.ensures in
     let some : 0 < length c.self.inside.heap.entries = omega (arith, ap (λ h. length h.entries) anew) in
     let top = at_top c.self.inside.heap.entries some in
     ap Some (c.first-event.ensures top.0 ∙ ap (λ h. event_of (get_or h.entries 0 top.0)) anew ∙ ap event_of (sym top.1))
-    ∙ sym (next-first c.self.inside.heap c.args.self.now.list (ap (λ v. v.list.entries) c.self.view_is) behind c.self.inside.schedulings c.self.invariant top.0 some top.1)
+    ∙ sym (next-first c.self.inside.heap c.args.self.now.list (ap (λ v. v.list.entries) c.self.view_is) following c.self.inside.schedulings c.self.invariant top.0 some top.1)

@@ -3,12 +3,12 @@ use Rattle.std.proofs.lemmas.Result.{err_from_is_err_and}
 use Rattle.ss_world.specs.PendingList.{scheduling_limit, with_entry}
 use Rattle.std.specs.List.{list_any}
 use Rattle.std.proofs.lemmas.Bool.{or_parts}
-use Rattle.ss_events.specs.HeapEntries.{HeapEntries, all_of, notices_of, AreBehind}
+use Rattle.ss_events.specs.HeapEntries.{HeapEntries, all_of, notices_of, AreAfterHeads}
 use Rattle.ss_events.specs.Sifting.{IsLogarithmic}
 use Rattle.ss_events.proofs.Agendas.{found-pending, any-append, some_head, work_of, in_order-inserted, agenda-inserted}
 use Rattle.ss_events.proofs.Outcomes.{scheduled-pending, scheduled-full, scheduled-room}
 use Rattle.ss_events.proofs.pending.Pending.schedule.Goals as goal
-use Rattle.ss_events.proofs.pending.Pending.schedule.Goals.{After-are_behind}
+use Rattle.ss_events.proofs.pending.Pending.schedule.Goals.{After-are_after_heads}
 
 pub returns-then-holds-clause-refused : goal.returns-then-holds-clause-refused
 returns-then-holds-clause-refused c =
@@ -78,16 +78,16 @@ returns-clause-moves c = (work_ok c).moves
 
 pub returns-clause-compared : goal.returns-clause-compared
 returns-clause-compared c = λ some.
-    let behind : AreBehind c.self.inside.heap.entries c.self.inside.heap.followers = subst (λ (h : HeapEntries). AreBehind h.entries h.followers) c.reset_counts.ensures c.are_behind.ensures in
-    let head = some_head c.self.inside.heap c.args.self.now.list.entries (ap (λ v. v.list.entries) c.self.view_is) behind some in
+    let following : AreAfterHeads c.self.inside.heap.entries c.self.inside.heap.followers = subst (λ (h : HeapEntries). AreAfterHeads h.entries h.followers) c.reset_counts.ensures c.are_after_heads.ensures in
+    let head = some_head c.self.inside.heap c.args.self.now.list.entries (ap (λ v. v.list.entries) c.self.view_is) following some in
     c.in_ok-insert.ensures.compared (omega (arith, head, ap (λ h. length h.entries) c.reset_counts.ensures))
 
 -- no entry has the notice
-none : (c : After-are_behind) → (list_any (int_eq (to_z w64 (of_z w64 c.args.notice))) (notices_of c.reset_counts.new.self.entries) ≡ false) × (list_any (int_eq (to_z w64 (of_z w64 c.args.notice))) (notices_of c.reset_counts.new.self.followers) ≡ false)
+none : (c : After-are_after_heads) → (list_any (int_eq (to_z w64 (of_z w64 c.args.notice))) (notices_of c.reset_counts.new.self.entries) ≡ false) × (list_any (int_eq (to_z w64 (of_z w64 c.args.notice))) (notices_of c.reset_counts.new.self.followers) ≡ false)
 none c = or_parts (list_any (int_eq (to_z w64 (of_z w64 c.args.notice))) (notices_of c.reset_counts.new.self.entries)) (list_any (int_eq (to_z w64 (of_z w64 c.args.notice))) (notices_of c.reset_counts.new.self.followers)) (sym c.holds.ensures ∙ c.if-holds.false)
 
 pub insert-requires-clause-apart : goal.insert-requires-clause-apart
-insert-requires-clause-apart c = (none (goal.at.insert-requires-clause-apart c).After-are_behind).0
+insert-requires-clause-apart c = (none (goal.at.insert-requires-clause-apart c).After-are_after_heads).0
 
 pub insert-requires-clause-fresh : goal.insert-requires-clause-fresh
-insert-requires-clause-fresh c = (none (goal.at.insert-requires-clause-fresh c).After-are_behind).1
+insert-requires-clause-fresh c = (none (goal.at.insert-requires-clause-fresh c).After-are_after_heads).1

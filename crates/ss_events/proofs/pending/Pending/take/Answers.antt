@@ -1,6 +1,6 @@
 use Rattle.std.proofs.Common.{◌<◌, ◌∷◌, ◌∙◌, Some, length, map, get_or, ap, subst, sym, arith, IsPermutation}
 use Rattle.std.specs.Cmp.{int_eq_equiv}
-use Rattle.ss_events.specs.HeapEntries.{HeapEntries, all_of, AreBehind}
+use Rattle.ss_events.specs.HeapEntries.{HeapEntries, all_of, AreAfterHeads}
 use Rattle.ss_world.specs.PendingList.{without}
 use Rattle.ss_events.specs.InOrder.{in_order}
 use Rattle.ss_events.specs.Sifting.{IsLogarithmic}
@@ -8,21 +8,21 @@ use Rattle.ss_events.proofs.Agendas.{next-none, after_next-none, next-first, aft
 use Rattle.ss_events.proofs.pending.Pending.take.Goals as goal
 
 -- where no head is
-none_behind : (c : goal.After-are_behind) → AreBehind c.self.inside.heap.entries c.self.inside.heap.followers
-none_behind c = subst (λ (h : HeapEntries). AreBehind h.entries h.followers) c.reset_counts.ensures c.are_behind.ensures
+after_heads : (c : goal.After-are_after_heads) → AreAfterHeads c.self.inside.heap.entries c.self.inside.heap.followers
+after_heads c = subst (λ (h : HeapEntries). AreAfterHeads h.entries h.followers) c.reset_counts.ensures c.are_after_heads.ensures
 
 pub returns-then-len-eq0-clause-next : goal.returns-then-len-eq0-clause-next
 returns-then-len-eq0-clause-next c =
-    sym (next-none c.self.inside.heap c.args.self.now.list (ap (λ v. v.list.entries) c.self.view_is) (none_behind c) (omega (arith, ap (λ h. length h.entries) c.reset_counts.ensures)))
+    sym (next-none c.self.inside.heap c.args.self.now.list (ap (λ v. v.list.entries) c.self.view_is) (after_heads c) (omega (arith, ap (λ h. length h.entries) c.reset_counts.ensures)))
 
 pub returns-then-len-eq0-clause-rest : goal.returns-then-len-eq0-clause-rest
 returns-then-len-eq0-clause-rest c =
     ap (λ h. record { entries = in_order (all_of h); schedulings = c.self.inside.schedulings; classes = map (λ shapes. shapes.items) c.self.inside.classes.items }) c.reset_counts.ensures
     ∙ ap (λ v. v.list) c.self.view_is
-    ∙ sym (after_next-none c.self.inside.heap c.args.self.now.list (ap (λ v. v.list.entries) c.self.view_is) (none_behind c) (omega (arith, ap (λ h. length h.entries) c.reset_counts.ensures)))
+    ∙ sym (after_next-none c.self.inside.heap c.args.self.now.list (ap (λ v. v.list.entries) c.self.view_is) (after_heads c) (omega (arith, ap (λ h. length h.entries) c.reset_counts.ensures)))
 
-behind : (c : goal.After-take_out) → AreBehind c.self.inside.heap.entries c.self.inside.heap.followers
-behind c = subst (λ (h : HeapEntries). AreBehind h.entries h.followers) c.reset_counts.ensures c.are_behind-2.ensures
+following : (c : goal.After-take_out) → AreAfterHeads c.self.inside.heap.entries c.self.inside.heap.followers
+following c = subst (λ (h : HeapEntries). AreAfterHeads h.entries h.followers) c.reset_counts.ensures c.are_after_heads-2.ensures
 
 -- the entry that went and the others are those of the heap
 all : (c : goal.After-take_out) → IsPermutation (all_of c.self.inside.heap) (c.take_out.ensures.taken.entry ∷ all_of c.take_out.new.heap)
@@ -40,7 +40,7 @@ returns-clause-next c =
     let some : 0 < length c.self.inside.heap.entries = omega (arith, ap (λ h. length h.entries) anew) in
     let first = taken.there ∙ ap (λ h. get_or h.entries 0 taken.entry) anew in
     ap Some taken.is
-    ∙ sym (next-first c.self.inside.heap c.args.self.now.list (ap (λ v. v.list.entries) c.self.view_is) (behind c) c.self.inside.schedulings c.self.invariant taken.entry some first)
+    ∙ sym (next-first c.self.inside.heap c.args.self.now.list (ap (λ v. v.list.entries) c.self.view_is) (following c) c.self.inside.schedulings c.self.invariant taken.entry some first)
 
 pub returns-clause-rest : goal.returns-clause-rest
 returns-clause-rest c =
@@ -52,7 +52,7 @@ returns-clause-rest c =
     let rest = in_order-taken c.self.inside.heap.entries (all_of c.self.inside.heap) c.self.inside.schedulings c.self.invariant entry (all_of c.take_out.new.heap) (all c) entry.notice (int_eq_equiv.refl entry.notice) in
     ap (λ es. record { entries = es; schedulings = c.self.inside.schedulings; classes = map (λ shapes. shapes.items) c.self.inside.classes.items }) rest
     ∙ ap (λ v. record v.list { entries = without entry.notice v.list.entries }) c.self.view_is
-    ∙ sym (after_next-first c.self.inside.heap c.args.self.now.list (ap (λ v. v.list.entries) c.self.view_is) (behind c) c.self.inside.schedulings c.self.invariant entry some first)
+    ∙ sym (after_next-first c.self.inside.heap c.args.self.now.list (ap (λ v. v.list.entries) c.self.view_is) (following c) c.self.inside.schedulings c.self.invariant entry some first)
 
 work : (c : goal.After-take_out) → IsLogarithmic (length c.args.self.now.list.entries) c.take_out.new.heap
 work c = work_of c.self.inside.heap c.args.self.now.list.entries (ap (λ v. v.list.entries) c.self.view_is) c.reset_counts.new.self.entries c.take_out.new.heap (ap (λ h. h.entries) c.reset_counts.ensures) c.take_out.ensures.work

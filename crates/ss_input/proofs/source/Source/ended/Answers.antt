@@ -38,7 +38,7 @@ returns-clause-unasked g c enough =
     let h = c.find_end-answer.ensures.unasked enough in
     ap (λ (b : BlockSeen g.row.R.Denot). b.reader) c.remember.ensures.block ∙ h.reader
 
-pub returns-in-Some-gap_at_hand-clause-read : goal.returns-in-Some-gap_at_hand-clause-read
-returns-in-Some-gap_at_hand-clause-read g c ended e =
+pub returns-in-Some-buffered_gap-clause-read : goal.returns-in-Some-buffered_gap-clause-read
+returns-in-Some-buffered_gap-clause-read g c ended e =
     let same : false ≡ ended = cc in
-    subst (λ b. Reads g.R.FaultyRead.remaining c.args.self.now c.pass_gap_at_hand.new.self (λ input rest. (rest ≡ input) × (is_ended input ≡ Ok b))) same c.pass_gap_at_hand.ensures.read
+    subst (λ b. Reads g.R.FaultyRead.remaining c.args.self.now c.pass_buffered_gap.new.self (λ input rest. (rest ≡ input) × (is_ended input ≡ Ok b))) same c.pass_buffered_gap.ensures.read

@@ -41,11 +41,11 @@ pub returns-clause-unasked : goal.returns-clause-unasked
 returns-clause-unasked g c has =
     ap (λ (b : BlockSeen g.row.R.Denot). b.reader) c.remember.ensures.block ∙ c.read_integer-answer.ensures.unasked has
 
-pub returns-in-Some-number_at_hand-clause-read : goal.returns-in-Some-number_at_hand-clause-read
-returns-in-Some-number_at_hand-clause-read g c x e =
+pub returns-in-Some-buffered_number-clause-read : goal.returns-in-Some-buffered_number-clause-read
+returns-in-Some-buffered_number-clause-read g c x e =
     let old = c.args.self.now in
-    let n = c.in-Some-number_at_hand.number in
-    let begins : BeginsWith n.value n.count (drop n.gap (source_block old).left) = c.in-Some-number_at_hand.ensures.begins in
+    let n = c.in-Some-buffered_number.number in
+    let begins : BeginsWith n.value n.count (drop n.gap (source_block old).left) = c.in-Some-buffered_number.ensures.begins in
     let whole : to_z w64 n.value ≡ pos n.value = to_z_pos w64 n.value (omega (arith, begins.small)) in
     let same : to_z w64 n.value ≡ x = cc in
     subst (λ z. Reads g.R.FaultyRead.remaining old c.pass_number.new.self (λ input rest. value_given Integer input ≡ Ok (record { value = Whole z; rest = rest }))) (sym whole ∙ same) c.pass_number.ensures.read

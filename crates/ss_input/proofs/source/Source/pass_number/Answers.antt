@@ -1,7 +1,7 @@
 use Rattle.std.proofs.Common.{rules, ◌≡◌, ◌+◌, drop, refl}
 use Rattle.ss_input.specs.declared.source.Source.{Source}
 use Rattle.ss_input.specs.Inputs.{source_block}
-use Rattle.ss_input.proofs.AtHand.{at_hand_read}
+use Rattle.ss_input.proofs.BufferedNumber.{buffered_read}
 use Rattle.ss_input.proofs.source.Source.pass_number.Goals as goal
 
 pub returns-clause-read : goal.returns-clause-read
@@ -11,4 +11,4 @@ returns-clause-read g c =
     let k = c.args.number.gap in
     let n = c.args.number.count in
     let block : source_block new ≡ record { reader = (source_block old).reader; left = drop (k + n) (source_block old).left; ended = (source_block old).ended } = search rules in
-    at_hand_read g.R.FaultyRead.remaining old new k c.args.number.value n c.requires block refl
+    buffered_read g.R.FaultyRead.remaining old new k c.args.number.value n c.requires block refl

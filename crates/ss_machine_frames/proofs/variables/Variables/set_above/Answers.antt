@@ -1,5 +1,5 @@
 use Rattle.std.proofs.Common.{rules, ◌+◌, ◌≤◌, length}
-use Rattle.ss_machine_frames.proofs.Above.{put_beyond, put_from, put_told_below}
+use Rattle.ss_machine_frames.proofs.Above.{put_beyond, put_from, put_result_below}
 use Rattle.ss_machine_frames.proofs.variables.Variables.set_above.Goals as goal
 
 pub returns-in_default-clause-here : goal.returns-in_default-clause-here
@@ -9,7 +9,7 @@ returns-in_default-clause-here c =
 
 pub returns-clause-below : goal.returns-clause-below
 returns-clause-below c =
-    put_told_below c.args.base c.args.number c.in-Some.place c.args.self.now c.set.new.self c.args.value c.set.result c.in-Some.ensures.1 c.set.ensures.set c.set.ensures.kept
+    put_result_below c.args.base c.args.number c.in-Some.place c.args.self.now c.set.new.self c.args.value c.set.result c.in-Some.ensures.1 c.set.ensures.set c.set.ensures.kept
 
 pub returns-clause-here : goal.returns-clause-here
 returns-clause-here c =

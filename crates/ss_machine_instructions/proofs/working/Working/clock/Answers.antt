@@ -1,12 +1,12 @@
 use Rattle.std.proofs.Common.{◌∷◌, sym, subst}
 use Rattle.std.proofs.lemmas.Result.{IfOk-weaker}
 use Rattle.ss_code_instructions.specs.States.{onward}
-use Rattle.ss_machine_instructions.specs.Holding.{store_of, core_of, Told}
+use Rattle.ss_machine_instructions.specs.Holding.{store_of, core_of, IsOutcome}
 use Rattle.ss_machine_instructions.proofs.working.Working.clock.Goals as goal
 
 pub returns : goal.returns
 returns c =
     let old = c.args.self.now in
     IfOk-weaker c.push.result _ _ (λ outcome t. λ code input.
-    subst (λ v. Told outcome (onward (v ∷ old.operands.here) (core_of old input) (store_of old input)) (core_of c.push.new.self input))
+    subst (λ v. IsOutcome outcome (onward (v ∷ old.operands.here) (core_of old input) (store_of old input)) (core_of c.push.new.self input))
     (sym (c.clock-time.ensures (store_of old input))) (t code input)) c.push.ensures

@@ -5,10 +5,10 @@ use Rattle.ss_parse.proofs.PreambleLaws.{keys_loop, then_key_read, then_key_no_r
 use Rattle.ss_parse.proofs.reading.preambles.keys.Goals as goal
 
 pub more-preserved : goal.more-preserved
-more-preserved c = grows_plain keys_loop _ _ _ _ _ _ c.in_ok-push.ensures.items (sym c.begins_noisy.ensures ∙ c.more-test.true) (then_key_read _ _ _ _ _ c.in_ok-higher.ensures c.in_ok-next.ensures c.behind_first-rest-in-more.ensures) c.more.invariant
+more-preserved c = grows_plain keys_loop _ _ _ _ _ _ c.in_ok-push.ensures.items (sym c.begins_noisy.ensures ∙ c.more-test.true) (then_key_read _ _ _ _ _ c.in_ok-higher.ensures c.in_ok-next.ensures c.after_first-rest-in-more.ensures) c.more.invariant
 
 pub more-smaller : goal.more-smaller
-more-smaller c = keys_loop.shrinks _ _ _ (sym c.begins_noisy.ensures ∙ c.more-test.true) (then_key_read _ _ _ _ _ c.in_ok-higher.ensures c.in_ok-next.ensures c.behind_first-rest-in-more.ensures)
+more-smaller c = keys_loop.shrinks _ _ _ (sym c.begins_noisy.ensures ∙ c.more-test.true) (then_key_read _ _ _ _ _ c.in_ok-higher.ensures c.in_ok-next.ensures c.after_first-rest-in-more.ensures)
 
 pub returns : goal.returns
 returns c = is_done_plain keys_loop _ _ _ (sym c.begins_noisy.ensures ∙ c.more-test.false) c.more.invariant

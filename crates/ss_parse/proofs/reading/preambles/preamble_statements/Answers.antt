@@ -5,7 +5,7 @@ use Rattle.ss_parse.proofs.PreambleLaws.{preamble_shrinks, preamble_grows, pream
 use Rattle.ss_parse.proofs.reading.preambles.preamble_statements.Goals as goal
 
 pub more-preserved : goal.more-preserved
-more-preserved c = preamble_grows view_preamble _ _ c.in_ok-next.next _ _ _ _ _ c.in_ok-push.ensures.items (sym c.begins_preamble.ensures ∙ c.more-test.true) c.in_ok-next.ensures c.group_behind-group.ensures c.more.invariant
+more-preserved c = preamble_grows view_preamble _ _ c.in_ok-next.next _ _ _ _ _ c.in_ok-push.ensures.items (sym c.begins_preamble.ensures ∙ c.more-test.true) c.in_ok-next.ensures c.group_after-group.ensures c.more.invariant
 
 pub more-smaller : goal.more-smaller
 more-smaller c = preamble_shrinks _ _ _ _ c.in_ok-next.ensures

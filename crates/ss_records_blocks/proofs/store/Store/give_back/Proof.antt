@@ -32,7 +32,7 @@ use Rattle.ss_records_blocks.specs.Cells.{Word, words_at, without}
 use Rattle.ss_records_blocks.specs.Ownership.{words_own, block_type, deed_owns, store_owns}
 use Rattle.ss_records_blocks.proofs.Cutting.{block_glue, store_leave, null_words}
 use Rattle.ss_records_blocks.proofs.Calls.{Gives, at_gives, Gives-goes, Gives-gives}
-use Rattle.ss_records_blocks.proofs.Values.{place_val, place_told, place_typed}
+use Rattle.ss_records_blocks.proofs.Values.{place_val, place_known, place_typed}
 use Rattle.ss_records_blocks.specs.contracts.store.Store as S
 use Rattle.ss_records_blocks.specs.contracts.store.Address as P
 use Rattle.ss_records_blocks.specs.contracts.store.Store.give_back.{ended, clauses}
@@ -56,7 +56,7 @@ give_back_spec 𝓤 𝓛 𝓜 𝓡 wired =
     let a = z.0.3 in let vss = z.0.4 in let κ = z.0.0.0 in let q = z.0.1.0 in let κ₁ = z.0.0.1.0 in let q₁ = z.0.1.1.0 in
     let b = a.0.ref_ptr.0 in let o = a.0.ref_ptr.1 in let d = a.0.now in let cs = d.cells in
     let h : Global = a.1.0.now in let at = a.1.0.ref_ptr in
-    let p : Ptr = a.1.1.0.at in let told = place_told p vss.1.1.0 are.1.1.0 in
+    let p : Ptr = a.1.1.0.at in let place_is = place_known p vss.1.1.0 are.1.1.0 in
     let n = a.1.1.1.0 in let fn64 = are.1.1.1.0.1 in
     let ws : List Word = words_at cs p in
     let new : (S.the_row).Denot = record { cells = without cs p; total = d.total } in
@@ -65,7 +65,7 @@ give_back_spec 𝓤 𝓛 𝓜 𝓡 wired =
     qed 𝓛 ((raw (alive 𝓛 ended.signature z.0.0 z.0.1) ⊛ ‵ (owns (types_at ended.signature.params z.0.0) a vss)) ∷ raw (fact 𝓤 Asked) ∷ []) ∵
     move ! (1 ∷ []) $ heard ! Asked (λ asked. split ! $ use1 𝓛 (‵ (flft κ q) ⊛ ‵ (flft κ₁ q₁) ⊛ ‵ ftrue) (id⊢ 𝓤 _) $ split3 ! $ move ! (3 ∷ []) $ fsplit ! $ fsplit3 ! $ feq_l ! (λ e0. move ! (2 ∷ []) $ fsplit ! $ fsplit ! $ feq_l ! (λ e1. move ! (1 ∷ []) $ drop ! $
     -- [seen; obs; bor; token; token₁; true]
-    regoal ! (λ (us : List Val). prop (WpFn 𝓤 H C Λ fn us Post)) (λ i. e0 i ++ (e1 i ++ (told i ++ (are.1.1.1.0.0 i ++ [])))) refl $
+    regoal ! (λ (us : List Val). prop (WpFn 𝓤 H C Λ fn us Post)) (λ i. e0 i ++ (e1 i ++ (place_is i ++ (are.1.1.1.0.0 i ++ [])))) refl $
     enter ! C Λ fn (vptr b o ∷ vptr at.0 at.1 ∷ place_val p ∷ vint w64 n ∷ []) Post $
     alloc_all ! (λ l. pass_all ! refl ((tt, tt), ((tt, tt), (place_typed [] p, ((tt, record { fits = fn64 }), tt)))) $ let En : Env 𝓤 H = env fn.locals l in
     let some : 0 < length ws = subst (λ (k : ℕ). 0 < k) (sym asked.0) asked.1 in

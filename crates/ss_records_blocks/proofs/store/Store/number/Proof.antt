@@ -30,7 +30,7 @@ use Rattle.ss_records_blocks.specs.Ownership.{word_lent}
 use Rattle.ss_records_blocks.proofs.Memory.{word_ptr}
 use Rattle.ss_records_blocks.proofs.Numbers.{number_inside, is_number}
 use Rattle.ss_records_blocks.proofs.Sharing.{store_see, lent_knows, peer_in, peer_out}
-use Rattle.ss_records_blocks.proofs.Values.{place_val, place_told, place_typed}
+use Rattle.ss_records_blocks.proofs.Values.{place_val, place_known, place_typed}
 use Rattle.ss_records_blocks.specs.contracts.store.Store as S
 use Rattle.ss_records_blocks.specs.contracts.store.Address as P
 use Rattle.ss_records_blocks.specs.contracts.store.Store.number.{ended, clauses}
@@ -54,7 +54,7 @@ number_spec 𝓤 𝓛 𝓜 𝓡 wired =
     let a = z.0.3 in let vss = z.0.4 in let κ = z.0.0.0 in let q = z.0.1.0 in
     let b = a.0.ref_ptr.0 in let o = a.0.ref_ptr.1 in let cs = a.0.now.cells in
     let p : Ptr = a.1.0.at in let k = a.1.1.0 in
-    let fk = are.1.1.0.1 in let told = place_told p vss.1.0 are.1.0 in
+    let fk = are.1.1.0.1 in let place_is = place_known p vss.1.0 are.1.0 in
     let w : Word = word_at cs p k in
     let Asked : Type 0 = IsNumber w in
     qed 𝓛 ((raw (alive 𝓛 ended.signature z.0.0 z.0.1) ⊛ ‵ (owns (types_at ended.signature.params z.0.0) a vss)) ∷ raw (fact 𝓤 Asked) ∷ []) ∵
@@ -62,7 +62,7 @@ number_spec 𝓤 𝓛 𝓜 𝓡 wired =
     -- [the store, shared; token; true]
     let found = is_number w asked in let x = found.0 in let inside = number_inside (words_at cs p) k asked in
     let Gives : Type 0 = w ≡ number x in
-    regoal ! (λ (us : List Val). prop (WpFn 𝓤 H C Λ fn us Post)) (λ i. e0 i ++ (told i ++ (are.1.1.0.0 i ++ []))) refl $
+    regoal ! (λ (us : List Val). prop (WpFn 𝓤 H C Λ fn us Post)) (λ i. e0 i ++ (place_is i ++ (are.1.1.0.0 i ++ []))) refl $
     enter ! C Λ fn (vptr b o ∷ place_val p ∷ vint w64 k ∷ []) Post $
     alloc_all ! (λ l. pass_all ! refl ((tt, tt), (place_typed [] p, ((tt, record { fits = fk }), tt))) $ let En : Env 𝓤 H = env fn.locals l in
     unhide ! $ fsplit ! $ drop ! $ lent_knows ! κ cs p (λ small.

@@ -27,7 +27,7 @@ use Rattle.std.proofs.VecSteps.Shapes.{after}
 use Rattle.ss_records_blocks.specs.Cells.{Word, number, words_at, word_at, put_word, MayBeNumber}
 use Rattle.ss_records_blocks.specs.Ownership.{word_owns, store_owns}
 use Rattle.ss_records_blocks.proofs.Memory.{word_ptr, store_take, store_knows, null_word, word_room}
-use Rattle.ss_records_blocks.proofs.Values.{place_val, place_told, place_typed}
+use Rattle.ss_records_blocks.proofs.Values.{place_val, place_known, place_typed}
 use Rattle.ss_records_blocks.specs.contracts.store.Store as S
 use Rattle.ss_records_blocks.specs.contracts.store.Address as P
 use Rattle.ss_records_blocks.specs.contracts.store.Store.set_number.{ended, clauses}
@@ -51,7 +51,7 @@ set_number_spec 𝓤 𝓛 𝓜 𝓡 wired =
     let a = z.0.3 in let vss = z.0.4 in let κ = z.0.0.0 in let q = z.0.1.0 in
     let b = a.0.ref_ptr.0 in let o = a.0.ref_ptr.1 in let h = a.0.now in let cs = h.cells in
     let p : Ptr = a.1.0.at in let k = a.1.1.0 in
-    let fk = are.1.1.0.1 in let told = place_told p vss.1.0 are.1.0 in
+    let fk = are.1.1.0.1 in let place_is = place_known p vss.1.0 are.1.0 in
     let w : Word = word_at cs p k in
     let x = a.1.1.1.0 in let fx = are.1.1.1.0.1 in
     let Asked : Type 0 = (k < length (words_at cs p)) × MayBeNumber w in
@@ -60,7 +60,7 @@ set_number_spec 𝓤 𝓛 𝓜 𝓡 wired =
     qed 𝓛 ((raw (alive 𝓛 ended.signature z.0.0 z.0.1) ⊛ ‵ (owns (types_at ended.signature.params z.0.0) a vss)) ∷ raw (fact 𝓤 Asked) ∷ []) ∵
     move ! (1 ∷ []) $ heard ! Asked (λ asked. split ! $ use1 𝓛 (‵ (flft κ q) ⊛ ‵ ftrue) (id⊢ 𝓤 _) $ split ! $ move ! (2 ∷ []) $ fsplit ! $ fsplit3 ! $ feq_l ! (λ e0. move ! (2 ∷ []) $ drop ! $
     let inside : k < length (words_at cs p) = asked.0 in
-    regoal ! (λ (us : List Val). prop (WpFn 𝓤 H C Λ fn us Post)) (λ i. e0 i ++ (told i ++ (are.1.1.0.0 i ++ (are.1.1.1.0.0 i ++ [])))) refl $
+    regoal ! (λ (us : List Val). prop (WpFn 𝓤 H C Λ fn us Post)) (λ i. e0 i ++ (place_is i ++ (are.1.1.0.0 i ++ (are.1.1.1.0.0 i ++ [])))) refl $
     enter ! C Λ fn (vptr b o ∷ place_val p ∷ vint w64 k ∷ vint w64 x ∷ []) Post $
     alloc_all ! (λ l. pass_all ! refl ((tt, tt), (place_typed [] p, ((tt, record { fits = fk }), ((tt, record { fits = fx }), tt)))) $ let En : Env 𝓤 H = env fn.locals l in
     opens ! tt S.the_row b o (λ us. move ! (1 ∷ []) $ fsplit ! $ move ! (1 ∷ []) $

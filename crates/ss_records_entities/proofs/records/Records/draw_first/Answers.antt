@@ -10,7 +10,7 @@ use Rattle.ss_records_entities.proofs.Looks.{as_whole, first_leads, first_small,
 use Rattle.ss_records_entities.proofs.Files.{owner_words, member_words', after_word', kept_out, state_out, some_members}
 use Rattle.ss_records_entities.proofs.Cuts.{at_first}
 use Rattle.ss_records_entities.proofs.Ends.{joins_it, taken, first_in_it}
-use Rattle.ss_records_entities.proofs.Drawn.{behind, less_is, around_first}
+use Rattle.ss_records_entities.proofs.Drawn.{following, less_is, around_first}
 use Rattle.ss_records_entities.proofs.Remembered.{numbered_entry}
 use Rattle.ss_records_entities.proofs.records.Records.draw_first.Goals as goal
 
@@ -44,7 +44,7 @@ unlink-requires-clause-member c =
     let z = c.look-after.result in let cells = c.look-first.ensures.cells in let both = c.look-after.ensures.cells ∙ cells in
     let w : word_at r.blocks.cells q.place.at mem.result ≡ link z.place.at = (λ i. word_at (sym cells i) q.place.at mem.result) ∙ c.look-after.ensures.word in
     let v : word_at r.blocks.cells z.place.at 1 ≡ number z.number = (λ i. word_at (sym cells i) z.place.at 1) ∙ c.look-after.ensures.there in
-    let ys = (behind r k c.args.s c.requires.set e.number q j inn between.first).0 in
+    let ys = (following r k c.args.s c.requires.set e.number q j inn between.first).0 in
     let around = around_first r k c.args.s c.requires.set e.number q j inn between.first mem.result mem.ensures.at z w v in
     rw (c.start_at-2.ensures.cells, c.peek_count-count.ensures.cells, c.look-after.ensures.cells, c.look-first.ensures.cells) (member_words' r k c.args.s c.requires.set e q own mem.result set.result mem.ensures.at set.ensures.at j (record { place = r.system; number = 0 }) z [] ys around)
 
@@ -65,7 +65,7 @@ unlink-requires-clause-after c = λ no.
     let z = c.look-after.result in let cells = c.look-first.ensures.cells in let both = c.look-after.ensures.cells ∙ cells in
     let w : word_at r.blocks.cells q.place.at mem.result ≡ link z.place.at = (λ i. word_at (sym cells i) q.place.at mem.result) ∙ c.look-after.ensures.word in
     let v : word_at r.blocks.cells z.place.at 1 ≡ number z.number = (λ i. word_at (sym cells i) z.place.at 1) ∙ c.look-after.ensures.there in
-    let ys = (behind r k c.args.s c.requires.set e.number q j inn between.first).0 in
+    let ys = (following r k c.args.s c.requires.set e.number q j inn between.first).0 in
     let around = around_first r k c.args.s c.requires.set e.number q j inn between.first mem.result mem.ensures.at z w v in
     rw (c.start_at-2.ensures.cells, c.peek_count-count.ensures.cells, c.look-after.ensures.cells, c.look-first.ensures.cells) (after_word' r k c.args.s c.requires.set e q own mem.result set.result mem.ensures.at set.ensures.at j (record { place = r.system; number = 0 }) z [] ys around no)
 
@@ -78,7 +78,7 @@ unlink-requires-clause-counts c =
     let z = c.look-after.result in let cells = c.look-first.ensures.cells in let both = c.look-after.ensures.cells ∙ cells in
     let w : word_at r.blocks.cells q.place.at mem.result ≡ link z.place.at = (λ i. word_at (sym cells i) q.place.at mem.result) ∙ c.look-after.ensures.word in
     let v : word_at r.blocks.cells z.place.at 1 ≡ number z.number = (λ i. word_at (sym cells i) z.place.at 1) ∙ c.look-after.ensures.there in
-    let ys = (behind r k c.args.s c.requires.set e.number q j inn between.first).0 in
+    let ys = (following r k c.args.s c.requires.set e.number q j inn between.first).0 in
     let around = around_first r k c.args.s c.requires.set e.number q j inn between.first mem.result mem.ensures.at z w v in
     let n : word_at r.blocks.cells e.place.at (set.result + 2) ≡ counter c.peek_count-count.result = (λ i. word_at (sym both i) e.place.at (set.result + 2)) ∙ c.peek_count-count.ensures.word in
     let many = how_many r k c.args.s c.requires.set e own set.result set.ensures.at c.peek_count-count.result n in
@@ -98,7 +98,7 @@ returns-clause-kept c =
     let z = c.look-after.result in let cells = c.look-first.ensures.cells in let both = c.look-after.ensures.cells ∙ cells in
     let w : word_at r.blocks.cells q.place.at mem.result ≡ link z.place.at = (λ i. word_at (sym cells i) q.place.at mem.result) ∙ c.look-after.ensures.word in
     let v : word_at r.blocks.cells z.place.at 1 ≡ number z.number = (λ i. word_at (sym cells i) z.place.at 1) ∙ c.look-after.ensures.there in
-    let ys = (behind r k c.args.s c.requires.set e.number q j inn between.first).0 in
+    let ys = (following r k c.args.s c.requires.set e.number q j inn between.first).0 in
     let around = around_first r k c.args.s c.requires.set e.number q j inn between.first mem.result mem.ensures.at z w v in
     let n : word_at r.blocks.cells e.place.at (set.result + 2) ≡ counter c.peek_count-count.result = (λ i. word_at (sym both i) e.place.at (set.result + 2)) ∙ c.peek_count-count.ensures.word in
     let many = how_many r k c.args.s c.requires.set e own set.result set.ensures.at c.peek_count-count.result n in
@@ -113,7 +113,7 @@ returns-clause-done c = λ o om.
     let z = c.look-after.result in let cells = c.look-first.ensures.cells in let both = c.look-after.ensures.cells ∙ cells in
     let w : word_at r.blocks.cells q.place.at mem.result ≡ link z.place.at = (λ i. word_at (sym cells i) q.place.at mem.result) ∙ c.look-after.ensures.word in
     let v : word_at r.blocks.cells z.place.at 1 ≡ number z.number = (λ i. word_at (sym cells i) z.place.at 1) ∙ c.look-after.ensures.there in
-    let ys = (behind r k c.args.s c.requires.set e.number q j inn between.first).0 in
+    let ys = (following r k c.args.s c.requires.set e.number q j inn between.first).0 in
     let around = around_first r k c.args.s c.requires.set e.number q j inn between.first mem.result mem.ensures.at z w v in
     let n : word_at r.blocks.cells e.place.at (set.result + 2) ≡ counter c.peek_count-count.result = (λ i. word_at (sym both i) e.place.at (set.result + 2)) ∙ c.peek_count-count.ensures.word in
     let many = how_many r k c.args.s c.requires.set e own set.result set.ensures.at c.peek_count-count.result n in

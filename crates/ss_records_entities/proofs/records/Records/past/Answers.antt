@@ -11,7 +11,7 @@ use Rattle.ss_records_entities.specs.Passing.{ranks_past, first_where}
 use Rattle.ss_records_entities.proofs.Looks.{first_leads}
 use Rattle.ss_records_entities.proofs.Cuts.{at_first}
 use Rattle.ss_records_entities.proofs.Still.{joins_still}
-use Rattle.ss_records_entities.proofs.Passing.{as_before, at_start, room, joins, small, it_is, none_past, next_leads, next_stands}
+use Rattle.ss_records_entities.proofs.Passing.{as_before, at_start, room, joins, small, it_is, none_past, next_leads, next_walk}
 use Rattle.ss_records_entities.proofs.records.Records.past.Goals as goal
 
 pub follow-member-requires-clause-leads : goal.follow-member-requires-clause-leads
@@ -26,7 +26,7 @@ members-init c =
     record {
       same = refl;
       cells = w.ensures.cells;
-      stands = at_start r c.args.s c.args.owner.number t (record { place = r.system; number = 0 }) w.result w.new.self.touches between (omega (arith, w.ensures.touches.0, c.requires.touches));
+      walk = at_start r c.args.s c.args.owner.number t (record { place = r.system; number = 0 }) w.result w.new.self.touches between (omega (arith, w.ensures.touches.0, c.requires.touches));
       total = omega (arith, w.ensures.touches.0, w.ensures.touches.1, c.requires.touches);
     }
 
@@ -36,7 +36,7 @@ is_past-requires-clause-joins c =
     let v : ℤ = to_z w64 (of_z w64 c.args.own) in let e : v ≡ c.args.own = search rules in
     let t = ranks_past (state r) (member_class r.layout c.args.s) c.args.field c.args.high (Whole v) in
     joins_still r m.self (as_before r m.self m.invariant.same m.invariant.cells) c.args.s m.member
-    (joins r c.requires.kept c.args.s c.requires.set c.args.owner.number t m.member m.self.blocks.touches m.invariant.stands c.members-test.true)
+    (joins r c.requires.kept c.args.s c.requires.set c.args.owner.number t m.member m.self.blocks.touches m.invariant.walk c.members-test.true)
 
 pub returns-then-is_past-clause-value : goal.returns-then-is_past-clause-value
 returns-then-is_past-clause-value c =
@@ -44,9 +44,9 @@ returns-then-is_past-clause-value c =
     let v : ℤ = to_z w64 (of_z w64 c.args.own) in let e : v ≡ c.args.own = search rules in
     let t = ranks_past (state r) (member_class r.layout c.args.s) c.args.field c.args.high (Whole v) in
     let fo = c.ranges.own in let h = simp to_z-of_z at c.if-is_past.ensures in
-    let told : true ≡ t m.member.number = h ∙ ap (λ (z : Records). ranks_past (state z) (member_class z.layout c.args.s) c.args.field c.args.high (Whole c.args.own) m.member.number) (as_before r m.self m.invariant.same m.invariant.cells)
+    let test_result : true ≡ t m.member.number = h ∙ ap (λ (z : Records). ranks_past (state z) (member_class z.layout c.args.s) c.args.field c.args.high (Whole c.args.own) m.member.number) (as_before r m.self m.invariant.same m.invariant.cells)
     ∙ ap (λ (z : ℤ). ranks_past (state r) (member_class r.layout c.args.s) c.args.field c.args.high (Whole z) m.member.number) (sym e) in
-    it_is r c.requires.kept c.args.s c.requires.set c.args.owner.number t m.member m.self.blocks.touches m.invariant.stands c.members-test.true (sym told)
+    it_is r c.requires.kept c.args.s c.requires.set c.args.owner.number t m.member m.self.blocks.touches m.invariant.walk c.members-test.true (sym test_result)
     ∙ ap (λ (z : ℤ). first_where (ranks_past (state r) (member_class r.layout c.args.s) c.args.field c.args.high (Whole z)) (members_of r.notes.lists c.args.s c.args.owner.number)) e
 
 pub returns-then-is_past-clause-small : goal.returns-then-is_past-clause-small
@@ -54,7 +54,7 @@ returns-then-is_past-clause-small c =
     let r = c.args.self.now in let m = c.members in
     let v : ℤ = to_z w64 (of_z w64 c.args.own) in let e : v ≡ c.args.own = search rules in
     let t = ranks_past (state r) (member_class r.layout c.args.s) c.args.field c.args.high (Whole v) in
-    small r c.requires.kept c.args.s c.requires.set c.args.owner.number t m.member m.self.blocks.touches m.invariant.stands c.members-test.true
+    small r c.requires.kept c.args.s c.requires.set c.args.owner.number t m.member m.self.blocks.touches m.invariant.walk c.members-test.true
 
 pub follow-member-requires-in-members-clause-leads : goal.follow-member-requires-in-members-clause-leads
 follow-member-requires-in-members-clause-leads c =
@@ -62,14 +62,14 @@ follow-member-requires-in-members-clause-leads c =
     let v : ℤ = to_z w64 (of_z w64 c.args.own) in let e : v ≡ c.args.own = search rules in
     let t = ranks_past (state r) (member_class r.layout c.args.s) c.args.field c.args.high (Whole v) in
     subst (λ cs. Leads cs m.member.place.at c.member_base-next.result) (sym m.invariant.cells)
-    (next_leads r c.requires.kept c.args.s c.requires.set c.args.owner.number t m.member m.self.blocks.touches m.invariant.stands c.members-test.true c.member_base-next.result c.member_base-next.ensures.at)
+    (next_leads r c.requires.kept c.args.s c.requires.set c.args.owner.number t m.member m.self.blocks.touches m.invariant.walk c.members-test.true c.member_base-next.result c.member_base-next.ensures.at)
 
 pub follow-member-requires-in-members-clause-room : goal.follow-member-requires-in-members-clause-room
 follow-member-requires-in-members-clause-room c =
     let r = c.args.self.now in let m = c.members in
     let v : ℤ = to_z w64 (of_z w64 c.args.own) in let e : v ≡ c.args.own = search rules in
     let t = ranks_past (state r) (member_class r.layout c.args.s) c.args.field c.args.high (Whole v) in
-    room r c.requires.kept c.args.s c.requires.set c.args.owner.number t m.member m.self.blocks.touches m.invariant.stands
+    room r c.requires.kept c.args.s c.requires.set c.args.owner.number t m.member m.self.blocks.touches m.invariant.walk
 
 pub members-preserved : goal.members-preserved
 members-preserved c =
@@ -77,14 +77,14 @@ members-preserved c =
     let v : ℤ = to_z w64 (of_z w64 c.args.own) in let e : v ≡ c.args.own = search rules in
     let t = ranks_past (state r) (member_class r.layout c.args.s) c.args.field c.args.high (Whole v) in
     let fo = c.ranges.own in let h = simp to_z-of_z at c.if-is_past.ensures in
-    let told : false ≡ t m.member.number = h ∙ ap (λ (z : Records). ranks_past (state z) (member_class z.layout c.args.s) c.args.field c.args.high (Whole c.args.own) m.member.number) (as_before r m.self m.invariant.same m.invariant.cells)
+    let test_result : false ≡ t m.member.number = h ∙ ap (λ (z : Records). ranks_past (state z) (member_class z.layout c.args.s) c.args.field c.args.high (Whole c.args.own) m.member.number) (as_before r m.self m.invariant.same m.invariant.cells)
     ∙ ap (λ (z : ℤ). ranks_past (state r) (member_class r.layout c.args.s) c.args.field c.args.high (Whole z) m.member.number) (sym e) in
     let word = (λ i. word_at (sym m.invariant.cells i) m.member.place.at c.member_base-next.result) ∙ w.ensures.word in
     let there = (λ i. word_at (sym m.invariant.cells i) w.result.place.at 1) ∙ w.ensures.there in
     record {
       same = ap (λ (z : Records). record z { blocks = w.new.self }) m.invariant.same;
       cells = w.ensures.cells ∙ m.invariant.cells;
-      stands = next_stands r c.requires.kept c.args.s c.requires.set c.args.owner.number t m.member m.self.blocks.touches m.invariant.stands c.members-test.true c.member_base-next.result c.member_base-next.ensures.at (sym told) w.result w.new.self.touches word there w.ensures.touches.0;
+      walk = next_walk r c.requires.kept c.args.s c.requires.set c.args.owner.number t m.member m.self.blocks.touches m.invariant.walk c.members-test.true c.member_base-next.result c.member_base-next.ensures.at (sym test_result) w.result w.new.self.touches word there w.ensures.touches.0;
       total = omega (arith, w.ensures.touches.0, w.ensures.touches.1, m.invariant.total);
     }
 
@@ -93,5 +93,5 @@ returns-clause-value c =
     let r = c.args.self.now in let m = c.members in
     let v : ℤ = to_z w64 (of_z w64 c.args.own) in let e : v ≡ c.args.own = search rules in
     let t = ranks_past (state r) (member_class r.layout c.args.s) c.args.field c.args.high (Whole v) in
-    sym (none_past r c.requires.kept c.args.s c.requires.set c.args.owner.number t m.member m.self.blocks.touches m.invariant.stands c.members-test.false)
+    sym (none_past r c.requires.kept c.args.s c.requires.set c.args.owner.number t m.member m.self.blocks.touches m.invariant.walk c.members-test.false)
     ∙ ap (λ (z : ℤ). first_where (ranks_past (state r) (member_class r.layout c.args.s) c.args.field c.args.high (Whole z)) (members_of r.notes.lists c.args.s c.args.owner.number)) e

@@ -4,7 +4,7 @@ use Rattle.ss_world.specs.State.{members_of}
 use Rattle.ss_world.specs.Sets.{member_class}
 use Rattle.ss_records_entities.specs.Parts.{state}
 use Rattle.ss_records_entities.specs.Passing.{ranks_past}
-use Rattle.ss_records_entities.proofs.Passing.{Stands}
+use Rattle.ss_records_entities.proofs.Passing.{WalkState}
 use Rattle.ss_records_entities.proofs.records.Records.past.Given as goal
 
 abbrev pub invariant-members : goal.invariant-members
@@ -13,7 +13,7 @@ invariant-members l =
     record {
       same : l.self ≡ record r { blocks = l.self.blocks };
       cells : l.self.blocks.cells ≡ r.blocks.cells;
-      stands : Stands r l.s l.fn.owner.number (ranks_past (state r) (member_class r.layout l.s) l.fn.field l.fn.high (Whole l.fn.own)) l.member l.self.blocks.touches;
+      walk : WalkState r l.s l.fn.owner.number (ranks_past (state r) (member_class r.layout l.s) l.fn.field l.fn.high (Whole l.fn.own)) l.member l.self.blocks.touches;
       total : l.self.blocks.total ≡ r.blocks.total + l.self.blocks.touches;
     }
 

@@ -41,16 +41,16 @@ invariant_of-self c =
     ]
 
 pub returns-clause-noted : goal.returns-clause-noted
-returns-clause-noted c h stands =
+returns-clause-noted c h is_summary =
     let view = sym (ap (λ t. t.weighing) c.self.view_is) in
-    let kind = sym (ap (λ t. t.weighing) (c.self.view_is ∙ stands)) in
+    let kind = sym (ap (λ t. t.weighing) (c.self.view_is ∙ is_summary)) in
     let n : to_z w64 (of_z w64 c.args.now) ≡ c.args.now = omega (arith, ints) in
     let v : to_z w64 (of_z w64 c.args.value) ≡ c.args.value = omega (arith, ints) in
-    let s : c.exact_sum-until_now.result ≡ exact_sum_of h c.args.now = rw n at (c.exact_sum-until_now.ensures.value h stands) in
+    let s : c.exact_sum-until_now.result ≡ exact_sum_of h c.args.now = rw n at (c.exact_sum-until_now.ensures.value h is_summary) in
     let f : FitsSigned w64 c.extremes_with-maximum.result.0 = search rules in
     let g : FitsSigned w64 c.extremes_with-maximum.result.1 = search rules in
-    let a : to_z w64 (of_z w64 c.extremes_with-maximum.result.0) ≡ maximum_of (with_value h c.args.now c.args.value) = to_z-of_z w64 _ f ∙ rw v at (c.extremes_with-maximum.ensures.maximum h c.args.now stands) in
-    let b : to_z w64 (of_z w64 c.extremes_with-maximum.result.1) ≡ minimum_of (with_value h c.args.now c.args.value) = to_z-of_z w64 _ g ∙ rw v at (c.extremes_with-maximum.ensures.minimum h c.args.now stands) in
+    let a : to_z w64 (of_z w64 c.extremes_with-maximum.result.0) ≡ maximum_of (with_value h c.args.now c.args.value) = to_z-of_z w64 _ f ∙ rw v at (c.extremes_with-maximum.ensures.maximum h c.args.now is_summary) in
+    let b : to_z w64 (of_z w64 c.extremes_with-maximum.result.1) ≡ minimum_of (with_value h c.args.now c.args.value) = to_z-of_z w64 _ g ∙ rw v at (c.extremes_with-maximum.ensures.minimum h c.args.now is_summary) in
     elim c.match-self.branch [
       | in-Once+else-number-eq-TALLY_LIMIT w ↦ (
           let k = kind ∙ w.in-Once.is in
@@ -75,8 +75,8 @@ returns-clause-noted c h stands =
     ]
 
 pub returns-clause-outcome : goal.returns-clause-outcome
-returns-clause-outcome c h stands =
-    let kind = sym (ap (λ t. t.weighing) (c.self.view_is ∙ stands)) in elim c.match-self.branch [
+returns-clause-outcome c h is_summary =
+    let kind = sym (ap (λ t. t.weighing) (c.self.view_is ∙ is_summary)) in elim c.match-self.branch [
       | in-Once+else-number-eq-TALLY_LIMIT w ↦ (let i = rw w.in-Once.is at c.self.invariant in sym (once_outcome h _ (kind ∙ w.in-Once.is) (omega (arith, ints))))
       | in-ByTime w ↦ sym (by_time_outcome h _ _ _ (kind ∙ w.in-ByTime.is))
     ]

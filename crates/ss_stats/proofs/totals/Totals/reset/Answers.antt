@@ -6,8 +6,8 @@ use Rattle.ss_stats.proofs.totals.Totals.reset.Goals as goal
 use Rattle.ss_stats.proofs.totals.Totals.reset.Goals.{in-Once, in-ByTime}
 
 pub returns-clause-restarted : goal.returns-clause-restarted
-returns-clause-restarted c h stands =
-    let kind = sym (ap (λ t. t.weighing) (c.self.view_is ∙ stands)) in elim c.match-self.branch [
+returns-clause-restarted c h is_summary =
+    let kind = sym (ap (λ t. t.weighing) (c.self.view_is ∙ is_summary)) in elim c.match-self.branch [
       | in-Once w ↦ c.self-2.view_is ∙ w.self-is ∙ w.tally.ensures ∙ sym (ap summary_of (once_restarted h _ c.args.now c.args.value (kind ∙ w.in-Once.is)))
       | in-ByTime w ↦ (
           let n : to_z w64 (of_z w64 c.args.now) ≡ c.args.now = omega (arith, ints) in

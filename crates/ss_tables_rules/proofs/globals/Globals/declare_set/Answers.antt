@@ -3,7 +3,7 @@ use Rattle.ss_tables_rules.specs.declared.globals.Standing.TheVariants.{Set, OfS
 use Rattle.ss_names_declarations.specs.Sayings.{NameBytes}
 use Rattle.ss_tables_rules.specs.Declarations.{declaration, derived}
 use Rattle.ss_tables_rules.specs.Globals.{Adds}
-use Rattle.ss_tables_rules.proofs.Telling.{adds_both}
+use Rattle.ss_tables_rules.proofs.Declaring.{adds_both}
 use Rattle.ss_tables_rules.proofs.globals.Globals.declare_set.Goals as goal
 
 pub returns : goal.returns

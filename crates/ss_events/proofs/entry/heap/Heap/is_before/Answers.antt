@@ -2,7 +2,7 @@ use Rattle.std.proofs.Common.{rules, ◌≡◌, ◌∙◌, get_or, ap, sym, to_z
 use Rattle.std.specs.Prelude.{int_lt, nat_lt}
 use Rattle.ss_events.specs.declared.entry.Mark.{Mark}
 use Rattle.ss_events.specs.Slots.{mark_of}
-use Rattle.ss_events.proofs.Times.{times_tell, orders_tell}
+use Rattle.ss_events.proofs.Times.{times_tell, orders_decide}
 use Rattle.ss_events.proofs.entry.heap.Heap.is_before.Goals as goal
 
 pub returns-then-early-late-clause-value : goal.returns-then-early-late-clause-value
@@ -29,4 +29,4 @@ returns-clause-value c = λ d.
     let second : c.mark-late.result ≡ mark_of f = c.mark-late.ensures d ∙ ap (λ h. mark_of (get_or h.entries c.args.b d)) c.self.view_is in
     let same : e.key.time ≡ f.key.time = sym (ap (λ (m : Mark). m.time) first) ∙ sym early ∙ ap (to_z w64) c.if-early-late.false ∙ late ∙ ap (λ (m : Mark). m.time) second in
     (λ i. nat_lt (first i).order (second i).order)
-    ∙ orders_tell e f same (λ is. c.if-early.false (ap (λ (m : Mark). m.order) first ∙ is)) (λ is. c.if-late.false (ap (λ (m : Mark). m.order) second ∙ is))
+    ∙ orders_decide e f same (λ is. c.if-early.false (ap (λ (m : Mark). m.order) first ∙ is)) (λ is. c.if-late.false (ap (λ (m : Mark). m.order) second ∙ is))

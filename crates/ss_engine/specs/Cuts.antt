@@ -1,0 +1,29 @@
+-- Where the runs of a session were cut as memory, its reader or its writer failed.
+use Rattle.std.specs.Prelude.{ℕ, ◌+◌, List}
+use Rattle.std.specs.declared.option.Option.{Option}
+use Rattle.std.specs.Io.KnownBytes.{Appends}
+use Rattle.ss_code_instructions.specs.Machine.{Code}
+use Rattle.ss_code_instructions.specs.Running.{start}
+use Rattle.ss_machine.specs.Stop.{Stop}
+use Rattle.ss_machine.specs.Stop.TheVariants.{Ended, Fault, Paused, Memory, Output, Input, Failed}
+use Rattle.ss_machine.specs.Runs.{IsCut, IsCutAt, does_read, does_write}
+use Rattle.ss_engine.specs.Headline.{Gave}
+
+-- the code, run from its first state with so many ticks and any more, passes after so many steps a state with those more left:
+-- there or in its next step the report is cut to these bytes; where the writer failed the next instruction writes, where the
+-- reader failed it reads. Of every other stop the meaning says all
+abbrev pub CutBy : Stop → Code → (used made : ℕ) → (bytes input : List ℕ) → Type 0
+CutBy Ended code used made bytes input = Unit {0}
+CutBy (Fault kind line) code used made bytes input = Unit {0}
+CutBy Paused code used made bytes input = Unit {0}
+CutBy Memory code used made bytes input = (more : ℕ) → IsCut code (start code input (used + more)) made bytes more
+CutBy Output code used made bytes input = (more : ℕ) → IsCutAt does_write code (start code input (used + more)) made bytes more
+CutBy Input code used made bytes input = (more : ℕ) → IsCutAt does_read code (start code input (used + more)) made bytes more
+CutBy Failed code used made bytes input = Unit {0}
+
+-- runs of the code that used so many ticks were cut so, while the reader gave their input and the writer took these bytes
+pub record WasCut {R W : Type 0} (remaining : R → Option (List ℕ)) (contents : W → Option (List ℕ)) (code : Code) (stop : Stop) (used : ℕ) (reader new_reader : R) (writer new_writer : W) : Type 0 where
+  pub bytes : List ℕ
+  pub made : ℕ
+  pub took : Appends (contents writer) (contents new_writer) bytes
+  pub place : Gave remaining reader new_reader (CutBy stop code used made bytes)

@@ -1,9 +1,0 @@
--- A `&` to what is told holds nothing. Assumes `Logic`.
-use base.Fml.{ftrue}
-use denote.SharingLaws.{nothing_shr_laws}
-use denote.Struct.Lending.{of_Lends, Lends-nothing}
-use Rattle.ss_stats_histories.specs.contracts.told.Told as C
-use Rattle.ss_stats_histories.proofs.told.Told.TheLaw.Statement.{statement}
-
-pub shares : statement
-shares = of_Lends C.struct C.the_codes C.the_heap C.the_lent (λ d p. nothing_shr_laws) tt (λ M 𝓤 𝓛 d p. Lends-nothing 𝓛 ftrue (C.the_row).lives)
