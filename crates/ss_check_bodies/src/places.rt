@@ -5,7 +5,7 @@ ghost use Rattle.ss_tree.specs.View.{view_expression, view_named, view_option};
 ghost use Rattle.ss_program.specs.View.{view_expression as view_resolved, view_option as option_seen, view_owner, view_place, view_restart, view_target};
 ghost use Rattle.ss_names_meaning.specs.Answers.{Gives, each};
 ghost use Rattle.ss_names_meaning.specs.Expressions.{owned_by, place_of, set_named, target};
-ghost use Rattle.ss_names_meaning.specs.Statements.{entity_called, mode_of, new_place, reader, restart, told_of};
+ghost use Rattle.ss_names_meaning.specs.Statements.{entity_called, mode_of, new_place, reader, restart, owner_of_statistic};
 
 use crate::expressions::{entity_of, plain, resolve_expression, resolve_subscript};
 use ss_base::Mode;
@@ -186,8 +186,8 @@ pub(crate) fn resolve_set<S: Scope>(
 
 // The entity whose statistic starts afresh; None where the statistic is of no entity.
 #[tactic(auto, using(crate::proofs::Seen::plain_seen))]
-fn told_of(meaning: Meaning, subscript: Option<Resolved>) -> Result<Option<Resolved>, ResolveError>
-    ensures { Gives (option_seen view_resolved) result (told_of meaning (option_seen view_resolved subscript)) }
+fn owner_of_statistic(meaning: Meaning, subscript: Option<Resolved>) -> Result<Option<Resolved>, ResolveError>
+    ensures { Gives (option_seen view_resolved) result (owner_of_statistic meaning (option_seen view_resolved subscript)) }
 {
     match meaning {
         Meaning::Variable { variable, .. } => match variable {
@@ -219,7 +219,7 @@ fn resolve_restart<S: Scope>(
     let meaning = scope.meaning(tree.designator)?;
     let statistic = scope.statistic(tree.designator)?;
     let subscript = resolve_subscript(alloc, scope, &tree.subscripts)?;
-    let of = told_of(meaning, subscript)?;
+    let of = owner_of_statistic(meaning, subscript)?;
     Ok(Restart { statistic, of })
 }
 

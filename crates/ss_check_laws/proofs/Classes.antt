@@ -18,7 +18,7 @@ use Rattle.ss_check_scopes.specs.Whole.{Whole}
 use Rattle.ss_check_rules.specs.Unknown.{is_transient, is_notice, is_permanent}
 use Rattle.ss_program.specs.declared.statement.Counted.{Counted}
 use Rattle.ss_program.specs.Program.{Fetch, ToVariable, Statement, Create, CreateEvery, Destroy, Cancel}
-use Rattle.ss_program.specs.WellTyped.{Scope, HasMode, TakesMode, kind_of, comes_alone}
+use Rattle.ss_program.specs.WellTyped.{Scope, HasMode, TakesMode, kind_of, is_created_singly}
 use Rattle.ss_names_meaning.specs.declared.meaning.ClassMeant.{ClassMeant}
 use Rattle.ss_names_meaning.specs.Answers.{◌>>=◌, each}
 use Rattle.ss_names_meaning.specs.Contexts.{Context, if_single, if_notice, if_permanent, single_class, notice_class, permanent_class, counted}
@@ -34,7 +34,7 @@ use Rattle.ss_check_laws.proofs.Statements.{StatementResolves, number_target}
 
 -- a class whose entities come one by one
 abbrev IsSingleKind : ClassWord → Type 0
-IsSingleKind kind = (comes_alone (Some (kind_said kind)) ≡ true) × ((class : ClassMeant) → if_single class (kind_said kind) ≡ Some class)
+IsSingleKind kind = (is_created_singly (Some (kind_said kind)) ≡ true) × ((class : ClassMeant) → if_single class (kind_said kind) ≡ Some class)
 
 known_single : (known : Known) → is_transient known ≡ true → (kind : ClassWord) × (known ≡ knowns.Class kind) × IsSingleKind kind
 known_single (knowns.Class class_words.Temporary) h = (class_words.Temporary, refl, (refl, λ class. refl))
@@ -51,7 +51,7 @@ known_notice _ h = absurd cc
 module _ (w : Whole) (locals : Moded) (c : Context) (s : Scope) (linked : Linked w locals c s) (line : Line) where
   -- a class of such a kind
   abbrev IsSingle : NameBytes → Type 0
-  IsSingle name = (referent : ClassMeant) × (kind : ClassWord) × (single_class c name ≡ Some referent) × IsClass w locals s name kind referent × (comes_alone (kind_of s.program referent.class) ≡ true)
+  IsSingle name = (referent : ClassMeant) × (kind : ClassWord) × (single_class c name ≡ Some referent) × IsClass w locals s name kind referent × (is_created_singly (kind_of s.program referent.class) ≡ true)
 
   single_there : (name : NameBytes) (known : Known) → w.meanings name ≡ Some known → is_transient known ≡ true → IsSingle name
   single_there name known e h =
@@ -63,7 +63,7 @@ module _ (w : Whole) (locals : Moded) (c : Context) (s : Scope) (linked : Linked
         k.0,
         step (c.class name) (λ u. if_single u u.kind) referent referent meant.1 chosen,
         meant.2,
-        ap comes_alone meant.2.kind_there ∙ k.2.0,
+        ap is_created_singly meant.2.kind_there ∙ k.2.0,
       )
 
   -- a class of notices

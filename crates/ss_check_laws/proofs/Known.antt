@@ -14,7 +14,7 @@ use Rattle.ss_names.specs.declared.meaning.Meaning.TheVariants as globals
 use Rattle.ss_names.specs.declared.entry.Variable.{Variable as VariableSaid}
 use Rattle.ss_names.specs.declared.entry.VariableKind.{VariableKind}
 use Rattle.ss_names.specs.declared.entry.VariableKind.TheVariants as kinds
-use Rattle.ss_names_declarations.specs.Firsts.{place_in, same_name, told_of}
+use Rattle.ss_names_declarations.specs.Firsts.{place_in, same_name, value_for}
 use Rattle.ss_names.specs.Table.{Table}
 use Rattle.ss_check_scopes.specs.declared.known.Known.TheVariants as knowns
 use Rattle.ss_check_scopes.specs.Locals.{Moded, number_of}
@@ -36,7 +36,7 @@ use Rattle.ss_check_laws.specs.Links.{IsImplied}
 use Rattle.ss_names_laws.specs.Tables.{standing_of}
 use Rattle.ss_names_laws.specs.ValidTables.{IsKept}
 use Rattle.ss_names_laws.specs.LaidOut.{HasTables}
-use Rattle.ss_names_declarations.proofs.Entries.{key_at, no_place, place_of_told, value_at}
+use Rattle.ss_names_declarations.proofs.Entries.{key_at, no_place, place_of_value, value_at}
 use Rattle.ss_names_laws.proofs.Steps.{got, numbers_at}
 use Rattle.ss_names_laws.proofs.Structure.{IsClassMode, IsTable}
 use Rattle.ss_names_laws.proofs.Typed.{global_known, plain}
@@ -95,12 +95,12 @@ module _ (t : Table) (signatures : List Signed) (is : IsTable t) (k : IsKept t) 
   pub hidden : (name : NameBytes) (mode : Option ModeWord) → lookup (same_name name) locals ≡ Some mode → meaning_in w.meanings locals name ≡ Some (knowns.Local (value_mode mode))
   hidden name mode e = ap (λ o. local_or o (w.meanings name)) e
 
-  pub unhidden : (name : NameBytes) (m : Global) → lookup (same_name name) locals ≡ None → told_of t.names name ≡ Some m → meaning_in w.meanings locals name ≡ whole.meaning_by t m
+  pub unhidden : (name : NameBytes) (m : Global) → lookup (same_name name) locals ≡ None → value_for t.names name ≡ Some m → meaning_in w.meanings locals name ≡ whole.meaning_by t m
   unhidden name m e f = ap (λ o. local_or o (w.meanings name)) e ∙ ap (whole.meaning_of t) f
 
   pub local_known : (name : NameBytes) (mode : Option ModeWord) → lookup (same_name name) locals ≡ Some mode → (n : ℕ) × (m : Mode) × (number_of locals name ≡ Some n) × (mode_given mode ≡ Some m) × (slice_get s.locals n ≡ Some m)
   local_known name mode e =
-      let place = place_of_told locals name mode e in
+      let place = place_of_value locals name mode e in
       let at = numbers_at (local_mode locals) (length locals) s.locals place.0 modes (slice_get_within locals place.0 (name, mode) place.1.1) in
       let key : slice_get (keys_of locals) place.0 ≡ Some name = key_at locals place.0 name mode place.1.1 in
       let found : mode_given mode ≡ Some at.0 =
@@ -111,7 +111,7 @@ module _ (t : Table) (signatures : List Signed) (is : IsTable t) (k : IsKept t) 
 
   -- ---- variables of classes
 
-  pub class_variable_whole : (class n : ℕ) (name : NameBytes) (v : VariableSaid) → told_of t.names name ≡ Some (globals.Class class n) → slice_get t.variables n ≡ Some (name, v) → TakesMode s (ToVariable (variables.Global n)) Integer
+  pub class_variable_whole : (class n : ℕ) (name : NameBytes) (v : VariableSaid) → value_for t.names name ≡ Some (globals.Class class n) → slice_get t.variables n ≡ Some (name, v) → TakesMode s (ToVariable (variables.Global n)) Integer
   class_variable_whole class n name v e f =
       let value : slice_get (values_of t.variables) n ≡ Some v = value_at t.variables n name v f in
       let standing : standing_of n v.kind ≡ globals.Class class n = same_Some (standing_of n v.kind) (globals.Class class n) (sym (k.said.variable_names n name v f) ∙ e) in
@@ -124,7 +124,7 @@ module _ (t : Table) (signatures : List Signed) (is : IsTable t) (k : IsKept t) 
       (mode.2 ∙ ap Some same, plain t is k s.program h n v value other)
 
   -- the variable of a class's name in the section has the mode that the rules know
-  pub class_variable_typed : (class n : ℕ) (name : NameBytes) → told_of t.names name ≡ Some (globals.Class class n) → (m : Mode) × (mode_in w locals name ≡ Some m) × TakesMode s (ToVariable (variable_of locals name n)) m
+  pub class_variable_typed : (class n : ℕ) (name : NameBytes) → value_for t.names name ≡ Some (globals.Class class n) → (m : Mode) × (mode_in w locals name ≡ Some m) × TakesMode s (ToVariable (variable_of locals name n)) m
   class_variable_typed class n name e = by (lookup (same_name name) locals) refl
     where
       by : (o : Option (Option ModeWord)) → lookup (same_name name) locals ≡ o → (m : Mode) × (mode_in w locals name ≡ Some m) × TakesMode s (ToVariable (variable_of locals name n)) m

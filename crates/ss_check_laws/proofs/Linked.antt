@@ -22,7 +22,7 @@ use Rattle.ss_names.specs.declared.meaning.Subject.{Subject as SubjectNumber}
 use Rattle.ss_names.specs.declared.meaning.Subject.TheVariants as subjects
 use Rattle.ss_names.specs.declared.entry.Variable.{Variable as VariableSaid}
 use Rattle.ss_names.specs.declared.entry.VariableKind.TheVariants as kinds
-use Rattle.ss_names_declarations.specs.Firsts.{place_in, same_name, told_of}
+use Rattle.ss_names_declarations.specs.Firsts.{place_in, same_name, value_for}
 use Rattle.ss_names.specs.Histories as histories
 use Rattle.ss_names.specs.Table.{Table}
 use Rattle.ss_check_scopes.specs.declared.known.Holder.{Holder}
@@ -46,7 +46,7 @@ use Rattle.ss_names_meaning.specs.declared.meaning.Meaning.TheVariants as meanin
 use Rattle.ss_names_meaning.specs.declared.meaning.RoutineMeant.{RoutineMeant}
 use Rattle.ss_names_meaning.specs.declared.meaning.SetMeant.{SetMeant}
 use Rattle.ss_names_meaning.specs.Layouts.{field_mode}
-use Rattle.ss_names_meaning.specs.Meanings.{asked, class_of, class_variable, context_in, count_behind, count_kind, global_class, global_routine, global_set, meaning_of, of_owner, routine_of, set_of, set_owned, statistic_of, variable_of}
+use Rattle.ss_names_meaning.specs.Meanings.{asked, class_of, class_variable, context_in, count_of_class, count_kind, global_class, global_routine, global_set, meaning_of, of_owner, routine_of, set_of, set_owned, statistic_of, variable_of}
 use Rattle.ss_names_meaning.specs.Resolved.{local_modes}
 use Rattle.ss_names_meaning.specs.Words.{class_kind, mode_given, mode_said}
 use Rattle.ss_check_laws.specs.Links.{HasCount, IsClass, IsRoutine, IsSetOf, IsSubject, Linked, kind_said}
@@ -56,7 +56,7 @@ use Rattle.ss_names_laws.specs.ValidTables.{IsKept}
 use Rattle.ss_names_laws.specs.LaidOut.{HasTables}
 use Rattle.ss_check_laws.specs.Signed.{AreSigned}
 use Rattle.ss_check_laws.proofs.Known.{mode_agrees, class_variable_typed, kind_of_class, unhidden, w}
-use Rattle.ss_names_declarations.proofs.Entries.{told_by_place, value_at}
+use Rattle.ss_names_declarations.proofs.Entries.{value_by_place, value_at}
 use Rattle.ss_names_laws.proofs.Steps.{each_length, each_map, goes, holds}
 use Rattle.ss_names_laws.proofs.Structure.{IsTable, same_number}
 use Rattle.ss_check_laws.proofs.SetsAndStatistics.{attribute_of_each, attribute_there, class_there, count_alone, count_of_each, owner_there, set_meant, variable_alone}
@@ -77,16 +77,16 @@ module _ (t : Table) (signatures : List Signed) (is : IsTable t) (k : IsKept t) 
 
   set_linked : (name : NameBytes) (holder : Holder) → here.meanings name ≡ Some (knowns.Set holder) → (referent : SetMeant) × (set_of t locals (Name name) ≡ Some referent) × IsSetOf here locals s holder referent
   set_linked name holder e =
-      let global = meaning_found t signatures is k s h locals modes (told_of t.names name) (knowns.Set holder) e in
+      let global = meaning_found t signatures is k s h locals modes (value_for t.names name) (knowns.Set holder) e in
       let n = set_numbered t signatures is k s h locals modes global.0 name holder global.1 global.2 in
-      let is_set : told_of t.names name ≡ Some (globals.Set n.0) = global.1 ∙ ap Some n.1 in
+      let is_set : value_for t.names name ≡ Some (globals.Set n.0) = global.1 ∙ ap Some n.1 in
       let set = is.names name (globals.Set n.0) is_set in
       let meant = set_meant t signatures is k s h locals modes n.0 set.0 set.1 in
       let held : Some (knowns.Set (whole.owner_holder t set.0.owner)) ≡ Some (knowns.Set holder) =
       ap (λ o. Some (knowns.Set (whole.set_holder t o))) (sym set.1) ∙ sym (ap (whole.meaning_of t) is_set) ∙ e in
       let same : whole.owner_holder t set.0.owner ≡ holder = cc in (
         meant.0,
-        goes (told_of t.names name) (λ x. global_set t locals x) (globals.Set n.0) meant.0 is_set
+        goes (value_for t.names name) (λ x. global_set t locals x) (globals.Set n.0) meant.0 is_set
             (goes (slice_get t.sets n.0) (λ x. x.owner >>= λ o. set_owned t locals n.0 o) set.0 meant.0 set.1 meant.1),
         subst (λ x. IsSetOf here locals s x meant.0) same meant.2,
       )
@@ -100,16 +100,16 @@ module _ (t : Table) (signatures : List Signed) (is : IsTable t) (k : IsKept t) 
     kind = class_kind c.kind;
     attributes = length (get_or t.fields class []);
     variable = variable_of locals name n;
-    count = count_behind t class n;
+    count = count_of_class t class n;
   }
 
   count_linked : (class n : ℕ) (name : NameBytes) (v : VariableSaid) (c : Class) (kind : ClassWord) → slice_get (values_of t.variables) n ≡ Some v → v.kind ≡ kinds.OfClass class → slice_get (values_of t.classes) class ≡ Some c → c.kind ≡ kind → HasCount s kind (class_made class n name c)
   count_linked class n name v c class_words.Permanent e f g p =
-      let next = k.said.counts_behind n class v c e f g p in
+      let next = k.said.counts_follow n class v c e f g p in
       let count : Counted = record { class = class; variable = n + 1 } in
       (n + 1, following next.0 next.1 next.2, count_there t is k s.program h (n + 1) class next.0 count next.1 next.2 refl)
     where
-      following : (v : VariableSaid) → slice_get (values_of t.variables) (n + 1) ≡ Some v → v.kind ≡ kinds.CountOf class → count_behind t class n ≡ Some (n + 1)
+      following : (v : VariableSaid) → slice_get (values_of t.variables) (n + 1) ≡ Some v → v.kind ≡ kinds.CountOf class → count_of_class t class n ≡ Some (n + 1)
       following v q r =
           goes (slice_get (values_of t.variables) (n + 1)) (λ x. count_kind class (n + 1) x.kind) v (n + 1) q
           (ap (count_kind class (n + 1)) r ∙ holds (class == class) (n + 1) (same_number class))
@@ -118,11 +118,11 @@ module _ (t : Table) (signatures : List Signed) (is : IsTable t) (k : IsKept t) 
 
   class_linked : (name : NameBytes) (kind : ClassWord) → here.meanings name ≡ Some (knowns.Class kind) → (referent : ClassMeant) × (class_of t locals name ≡ Some referent) × IsClass here locals s name kind referent
   class_linked name kind e =
-      let global = meaning_found t signatures is k s h locals modes (told_of t.names name) (knowns.Class kind) e in
+      let global = meaning_found t signatures is k s h locals modes (value_for t.names name) (knowns.Class kind) e in
       let m = class_numbered t signatures is k s h locals modes global.0 name kind global.1 global.2 in
       let class = m.0 in
       let n = m.1 in
-      let is_class : told_of t.names name ≡ Some (globals.Class class n) = global.1 ∙ ap Some m.2 in
+      let is_class : value_for t.names name ≡ Some (globals.Class class n) = global.1 ∙ ap Some m.2 in
       let c = is.names name (globals.Class class n) is_class in
       let value : slice_get (values_of t.classes) class ≡ Some c.0 = value_at t.classes class name c.0 c.2 in
       let variable : slice_get (values_of t.variables) n ≡ Some c.1 = value_at t.variables n name c.1 c.3 in
@@ -133,7 +133,7 @@ module _ (t : Table) (signatures : List Signed) (is : IsTable t) (k : IsKept t) 
       let known = class_known t is k s.program h class c.0 value in
       let referent = class_made class n name c.0 in (
         referent,
-        goes (told_of t.names name) (λ x. global_class t locals name x) (globals.Class class n) referent is_class
+        goes (value_for t.names name) (λ x. global_class t locals name x) (globals.Class class n) referent is_class
             (goes (slice_get (values_of t.classes) class) (λ x. Some (class_made class n name x)) c.0 referent value refl),
         record {
           kind_meant = kinds_same c.0.kind ∙ ap kind_said same;
@@ -153,17 +153,17 @@ module _ (t : Table) (signatures : List Signed) (is : IsTable t) (k : IsKept t) 
 
   routine_linked : AreSigned t signatures s.program → (name : NameBytes) → here.meanings name ≡ Some knowns.Routine → (referent : RoutineMeant) × (routine_of t name ≡ Some referent) × IsRoutine here s name referent
   routine_linked a name e =
-      let global = meaning_found t signatures is k s h locals modes (told_of t.names name) knowns.Routine e in
+      let global = meaning_found t signatures is k s h locals modes (value_for t.names name) knowns.Routine e in
       let n = routine_numbered t signatures is k s h locals modes global.0 name global.1 global.2 in
-      let is_routine : told_of t.names name ≡ Some (globals.Routine n.0) = global.1 ∙ ap Some n.1 in
+      let is_routine : value_for t.names name ≡ Some (globals.Routine n.0) = global.1 ∙ ap Some n.1 in
       let r = is.names name (globals.Routine n.0) is_routine in
       let value : slice_get (values_of t.routines) n.0 ≡ Some r.0 = value_at t.routines n.0 name r.0 r.1 in
       let signed = a n.0 r.0 value in
       let referent : RoutineMeant = record { routine = n.0; given = r.0.given; yielding = r.0.yielding } in
-      let signature : whole.routine_signed t signatures (told_of t.names name) ≡ Some signed.signed =
+      let signature : whole.routine_signed t signatures (value_for t.names name) ≡ Some signed.signed =
       ap (whole.routine_signed t signatures) is_routine ∙ ap (whole.signed_by signatures) value ∙ signed.section in (
         referent,
-        goes (told_of t.names name) (λ x. global_routine t x) (globals.Routine n.0) referent is_routine
+        goes (value_for t.names name) (λ x. global_routine t x) (globals.Routine n.0) referent is_routine
             (goes (slice_get (values_of t.routines) n.0) (λ x. Some (record { routine = n.0; given = x.given; yielding = x.yielding })) r.0 referent value refl),
         record {
           resolved = signed.resolved;
@@ -199,7 +199,7 @@ module _ (t : Table) (signatures : List Signed) (is : IsTable t) (k : IsKept t) 
     pub alone : lookup (same_name name) locals ≡ None
     pub there : slice_get t.histories i ≡ Some history
 
-  variable_watched : (name : NameBytes) (i n : ℕ) (history : History) → HasHistory name i history → told_of t.names name ≡ Some (globals.Variable n) → history.subject ≡ Some (subjects.Variable n) → Subjected name
+  variable_watched : (name : NameBytes) (i n : ℕ) (history : History) → HasHistory name i history → value_for t.names name ≡ Some (globals.Variable n) → history.subject ≡ Some (subjects.Variable n) → Subjected name
   variable_watched name i n history f e g =
       let v = is.names name (globals.Variable n) e in
       let value : slice_get (values_of t.variables) n ≡ Some v.0 = value_at t.variables n name v.0 v.1 in
@@ -213,7 +213,7 @@ module _ (t : Table) (signatures : List Signed) (is : IsTable t) (k : IsKept t) 
         variable_alone t signatures is k s h locals modes i n history f.there g,
       )
 
-  attribute_watched : (name : NameBytes) (i n : ℕ) (history : History) → HasHistory name i history → told_of t.names name ≡ Some (globals.Attribute n) → history.subject ≡ Some (subjects.Attribute n) → Subjected name
+  attribute_watched : (name : NameBytes) (i n : ℕ) (history : History) → HasHistory name i history → value_for t.names name ≡ Some (globals.Attribute n) → history.subject ≡ Some (subjects.Attribute n) → Subjected name
   attribute_watched name i n history f e g =
       let a = is.names name (globals.Attribute n) e in
       let value : slice_get (values_of t.attributes) n ≡ Some a.0 = value_at t.attributes n name a.0 a.1 in
@@ -230,7 +230,7 @@ module _ (t : Table) (signatures : List Signed) (is : IsTable t) (k : IsKept t) 
         (attribute_of_each t signatures is k s h locals modes i n history f.there g, class.4),
       )
 
-  count_watched : (name : NameBytes) (i n : ℕ) (history : History) → HasHistory name i history → told_of t.names name ≡ Some (globals.Derived derived.MemberCount n) → history.subject ≡ Some (subjects.MemberCount n) → Subjected name
+  count_watched : (name : NameBytes) (i n : ℕ) (history : History) → HasHistory name i history → value_for t.names name ≡ Some (globals.Derived derived.MemberCount n) → history.subject ≡ Some (subjects.MemberCount n) → Subjected name
   count_watched name i n history f e g =
       let set = is.names name (globals.Derived derived.MemberCount n) e in
       let o = owner_there t signatures is k s h locals modes n set.0 set.1 in
@@ -270,7 +270,7 @@ module _ (t : Table) (signatures : List Signed) (is : IsTable t) (k : IsKept t) 
             (count_of_each t signatures is k s h locals modes i n class history f.there g r, c.4),
           )
 
-  subject_watched : (name : NameBytes) (i : ℕ) (history : History) (number : SubjectNumber) → HasHistory name i history → told_of t.names name ≡ Some (named number) → history.subject ≡ Some number → Subjected name
+  subject_watched : (name : NameBytes) (i : ℕ) (history : History) (number : SubjectNumber) → HasHistory name i history → value_for t.names name ≡ Some (named number) → history.subject ≡ Some number → Subjected name
   subject_watched name i history (subjects.Variable n) f e g = variable_watched name i n history f e g
   subject_watched name i history (subjects.Attribute n) f e g = attribute_watched name i n history f e g
   subject_watched name i history (subjects.MemberCount n) f e g = count_watched name i n history f e g
@@ -282,11 +282,11 @@ module _ (t : Table) (signatures : List Signed) (is : IsTable t) (k : IsKept t) 
       by None l f g b = absurd cc
       by (Some i) (Some mode) f g b = absurd cc
       by (Some i) None f g b =
-          let weighting = told_by_place t.weighings name i f in
+          let weighting = value_by_place t.weighings name i f in
           let history = histories.history_of t.names (name, weighting.0) in
           let there = is.histories i name weighting.0 weighting.2 in
           let number = k.subjects i history there in
-          subject_watched name i history number.0 (record { place = f; alone = g; there = there }) (subject_named (told_of t.names name) number.0 number.1) number.1
+          subject_watched name i history number.0 (record { place = f; alone = g; there = there }) (subject_named (value_for t.names name) number.0 number.1) number.1
 
   pub linked : KeepsLocals here locals → AreSigned t signatures s.program → Linked here locals (context_in t locals) s
   unfolding context_in

@@ -15,7 +15,7 @@ use Rattle.ss_names_meaning.specs.Contexts.{Context, permanent_class}
 use Rattle.ss_names_meaning.specs.Expressions.{expression, subscript, target, set_named}
 use Rattle.ss_names_meaning.specs.Conditions.{one_test, conjunction, condition}
 use Rattle.ss_names_meaning.specs.Heads.{called_variable, guard, head, loop_variable, phrase, phrases_of, start}
-use Rattle.ss_names_meaning.specs.Statements.{entity_called, mode_of, new_place, position, reader, restart, told_of, when}
+use Rattle.ss_names_meaning.specs.Statements.{entity_called, mode_of, new_place, position, reader, restart, owner_of_statistic, when}
 use Rattle.ss_check_laws.proofs.Within.{Within, up, change, after, after_lookup, plain_small, there_small, each_small}
 use Rattle.ss_check_laws.proofs.ExpressionSizes.{entity_small, small, subscript_small, target_small, set_small}
 
@@ -53,7 +53,7 @@ own_and_phrases (over_range variable from to step phrases) = omega arith
 own_and_phrases (over_members variable set from reverse phrases) = omega arith
 own_and_phrases (over_class class called phrases) = omega arith
 
-reset_small : (m : Meaning) (e : Option Expression) (n : ℕ) → option_nodes expression_nodes e ≤ n → Within (option_nodes subscript_nodes) n (told_of m e)
+reset_small : (m : Meaning) (e : Option Expression) (n : ℕ) → option_nodes expression_nodes e ≤ n → Within (option_nodes subscript_nodes) n (owner_of_statistic m e)
 reset_small (meanings.Variable (Global k) mode) e n h = plain_small (option_nodes subscript_nodes) n e None (omega arith)
 reset_small (meanings.Variable (Local k) mode) e n h = tt
 reset_small (meanings.Attribute class field mode implied) e n h = entity_small implied e n h
@@ -141,7 +141,7 @@ module _ (c : Context) where
   restart_small n =
       after (option_nodes expression_nodes) restart_nodes (tree.row_nodes n.subscripts) (tree.named_nodes n) (subscript c n.subscripts) _ (subscript_small c n.subscripts) (λ e lt.
       after_lookup restart_nodes (tree.named_nodes n) (c.meaning n.designator) _ (λ m.
-      after (option_nodes subscript_nodes) restart_nodes (tree.row_nodes n.subscripts) (tree.named_nodes n) (told_of m e) _ (reset_small m e (tree.row_nodes n.subscripts) lt) (λ of lt2.
+      after (option_nodes subscript_nodes) restart_nodes (tree.row_nodes n.subscripts) (tree.named_nodes n) (owner_of_statistic m e) _ (reset_small m e (tree.row_nodes n.subscripts) lt) (λ of lt2.
       after_lookup restart_nodes (tree.named_nodes n) (c.statistic n.designator) _ (λ k. omega (arith, lt2)))))
 
   pub position_small : (t : PositionTree) → Within position_nodes (tree.position_nodes t) (position c t)

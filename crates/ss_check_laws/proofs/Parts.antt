@@ -12,7 +12,7 @@ use Rattle.ss_names_declarations.specs.Sayings.{NameBytes, sayings}
 use Rattle.ss_names.specs.declared.entry.Class.{Class}
 use Rattle.ss_names.specs.declared.meaning.Meaning.TheVariants as globals
 use Rattle.ss_names.specs.declared.entry.Routine.{Routine as RoutineSaid}
-use Rattle.ss_names_declarations.specs.Firsts.{same_name, told_of}
+use Rattle.ss_names_declarations.specs.Firsts.{same_name, value_for}
 use Rattle.ss_names.specs.Table.{Table, table}
 use Rattle.ss_check_scopes.specs.declared.known.Known.TheVariants as knowns
 use Rattle.ss_check_scopes.specs.Locals.{Moded, mode_of}
@@ -226,9 +226,9 @@ module _ (p : tree.ProgramTree) (k : IsKept (table p)) (g : KeepsAllRules (whole
       let modes = modes_there s r in
       let sc = scope_of outline s modes.0 in
       let tables = has_tables sketches.0 [] [] Done in
-      let found = meaning_found t signatures is k sc tables (locals_of w s) modes.1.resolved (told_of t.names name) (knowns.Class class_words.EventNotice) e in
+      let found = meaning_found t signatures is k sc tables (locals_of w s) modes.1.resolved (value_for t.names name) (knowns.Class class_words.EventNotice) e in
       let m = class_numbered t signatures is k sc tables (locals_of w s) modes.1.resolved found.0 name class_words.EventNotice found.1 found.2 in
-      let is_class : told_of t.names name ≡ Some (globals.Class m.0 m.1) = found.1 ∙ ap Some m.2 in
+      let is_class : value_for t.names name ≡ Some (globals.Class m.0 m.1) = found.1 ∙ ap Some m.2 in
       let c = is.names name (globals.Class m.0 m.1) is_class in
       let known : Some (knowns.Class c.0.kind) ≡ Some (knowns.Class class_words.EventNotice) =
       sym (ap class_meaning (value_at t.classes m.0 name c.0 c.2)) ∙ sym (ap (meaning_of t) is_class) ∙ e in

@@ -18,9 +18,9 @@ use Rattle.ss_names.specs.declared.entry.Class.{Class}
 use Rattle.ss_names.specs.declared.entry.Event.{Event as EventSection}
 use Rattle.ss_names.specs.declared.entry.Routine.{Routine as RoutineSection}
 use Rattle.ss_names.specs.Entities.{classes}
-use Rattle.ss_names_declarations.specs.Firsts.{entry_if, place_in, same_name, told_of}
+use Rattle.ss_names_declarations.specs.Firsts.{entry_if, place_in, same_name, value_for}
 use Rattle.ss_names.specs.Table.{Table, table}
-use Rattle.ss_names.specs.Variables.{declared_by, declared_told, event_by, is_notice_class, notice, priority_by, priority_told, ranks, routine_by}
+use Rattle.ss_names.specs.Variables.{declared_by, declared_entries, event_by, is_notice_class, notice, priority_by, priority_entries, ranks, routine_by}
 use Rattle.ss_program.specs.Program.{Program}
 use Rattle.ss_program.specs.Nodes.{total, option_nodes, block_nodes, routine_nodes, event_nodes, nodes}
 use Rattle.ss_names_meaning.specs.Answers.{◌>>=◌, each, upto, where_holds}
@@ -64,7 +64,7 @@ module _ (t : Table) (w : Whole) where
     routines_small = each_numbered routine_weight routine_nodes (values_of t.routines) (length t.routines) (resolved_routine t w sections) (sym (length-values_of t.routines)) routine_small
 
     abbrev named_weight : NameBytes → ℕ
-    named_weight name = option_nodes event_weight (told_of t.events name)
+    named_weight name = option_nodes event_weight (value_for t.events name)
 
     abbrev class_weight : ℕ → ℕ
     class_weight class = option_nodes named_weight (slice_get (keys_of t.classes) class)
@@ -80,7 +80,7 @@ module _ (t : Table) (w : Whole) where
     event_small n =
         there_within class_weight event_nodes (slice_get (values_of t.ranks) n) _ (λ class.
         there_within named_weight event_nodes (slice_get (keys_of t.classes) class) _ (λ name.
-        there_within event_weight event_nodes (told_of t.events name) _ (λ k. class_event_small class name k)))
+        there_within event_weight event_nodes (value_for t.events name) _ (λ k. class_event_small class name k)))
 
     events_small : Within (total event_nodes) (total class_weight (values_of t.ranks)) (each (resolved_event t w sections) (upto (length t.ranks)))
     events_small = each_numbered class_weight event_nodes (values_of t.ranks) (length t.ranks) (resolved_event t w sections) (sym (length-values_of t.ranks)) event_small
@@ -105,13 +105,13 @@ if_numbered cs true es h = h
 if_numbered cs false es h = tt
 
 notice_numbered : (cs : List (NameBytes × Class)) (name : NameBytes) → Every (IsNumbered cs) (notice cs name)
-notice_numbered cs name = if_numbered cs (is_notice_class (told_of cs name)) (entry_if name (place_in cs name)) (entry_numbered cs name (place_in cs name) refl)
+notice_numbered cs name = if_numbered cs (is_notice_class (value_for cs name)) (entry_if name (place_in cs name)) (entry_numbered cs name (place_in cs name) refl)
 
-priority_numbered : (cs : List (NameBytes × Class)) (what : Said) (name : Option NameBytes) → Every (IsNumbered cs) (priority_told cs what name)
+priority_numbered : (cs : List (NameBytes × Class)) (what : Said) (name : Option NameBytes) → Every (IsNumbered cs) (priority_entries cs what name)
 priority_numbered cs said.Priority (Some name) = notice_numbered cs name
 priority_numbered cs _ _ = tt
 
-declared_numbered : (cs : List (NameBytes × Class)) (what : Said) (name : Option NameBytes) → Every (IsNumbered cs) (declared_told cs what name)
+declared_numbered : (cs : List (NameBytes × Class)) (what : Said) (name : Option NameBytes) → Every (IsNumbered cs) (declared_entries cs what name)
 declared_numbered cs (said.Class kind) (Some name) = notice_numbered cs name
 declared_numbered cs _ _ = tt
 

@@ -16,14 +16,14 @@ use Rattle.ss_names_declarations.specs.declared.saying.Saying.{Saying}
 use Rattle.ss_names_declarations.specs.Sayings.{NameBytes, definition_says, head_says, preambles_say, section_says, sections_say, sayings}
 use Rattle.ss_names.specs.declared.entry.Class.{Class}
 use Rattle.ss_names.specs.declared.entry.Event.{Event}
-use Rattle.ss_names.specs.Entities.{class_by, class_told, classes}
-use Rattle.ss_names_declarations.specs.Firsts.{entry_beside, entry_if, firsts, place_in, same_name, told_of, with_first}
+use Rattle.ss_names.specs.Entities.{class_by, class_entries, classes}
+use Rattle.ss_names_declarations.specs.Firsts.{entry_beside, entry_if, firsts, place_in, same_name, value_for, with_first}
 use Rattle.ss_names.specs.Table.{table}
-use Rattle.ss_names.specs.Variables.{declared_by, declared_told, event_by, is_notice_class, is_notice_kind, notice, priority_by, priority_told, ranks_among}
+use Rattle.ss_names.specs.Variables.{declared_by, declared_entries, event_by, is_notice_class, is_notice_kind, notice, priority_by, priority_entries, ranks_among}
 use Rattle.ss_names_laws.specs.Lists.{Somewhere}
 use Rattle.ss_names_laws.specs.Uses.{IsEventOf}
-use Rattle.ss_names_laws.proofs.Entries.{Entries, first_of_entries, flat, told_entry}
-use Rattle.ss_names_declarations.proofs.Entries.{firsts_once, key_at, place_of_told, told_by_place, told_from_place}
+use Rattle.ss_names_laws.proofs.Entries.{Entries, first_of_entries, flat, entry_holds}
+use Rattle.ss_names_declarations.proofs.Entries.{firsts_once, key_at, place_of_value, value_by_place, value_from_place}
 use Rattle.ss_names_laws.proofs.Steps.{every_append, every_at, somewhere_left, somewhere_right}
 
 same : (name : NameBytes) → same_name name name ≡ true
@@ -36,11 +36,11 @@ module _ {V : Type 0} where
   either None p q = refl
   either (Some x) p q = refl
 
-  pub told_append : (xs ys : List (NameBytes × V)) (name : NameBytes) → told_of (xs ++ ys) name ≡ option_or (told_of xs name) (told_of ys name)
+  pub told_append : (xs ys : List (NameBytes × V)) (name : NameBytes) → value_for (xs ++ ys) name ≡ option_or (value_for xs name) (value_for ys name)
   told_append [] ys name = refl
   told_append (x ∷ xs) ys name = by (same_name name x.0) (told_append xs ys name)
     where
-      by : (b : Bool) → told_of (xs ++ ys) name ≡ option_or (told_of xs name) (told_of ys name) → cond b (Some x.1) (told_of (xs ++ ys) name) ≡ option_or (cond b (Some x.1) (told_of xs name)) (told_of ys name)
+      by : (b : Bool) → value_for (xs ++ ys) name ≡ option_or (value_for xs name) (value_for ys name) → cond b (Some x.1) (value_for (xs ++ ys) name) ≡ option_or (cond b (Some x.1) (value_for xs name)) (value_for ys name)
       by true e = refl
       by false e = e
 
@@ -52,26 +52,26 @@ module _ {V : Type 0} where
   none_or None = refl
   none_or (Some x) = refl
 
-  found_beside : (es : List (NameBytes × V)) (e : NameBytes × V) (known : Option V) (name : NameBytes) → told_of es e.0 ≡ known → told_of (entry_beside es e known) name ≡ option_or (told_of es name) (told_of (e ∷ []) name)
+  found_beside : (es : List (NameBytes × V)) (e : NameBytes × V) (known : Option V) (name : NameBytes) → value_for es e.0 ≡ known → value_for (entry_beside es e known) name ≡ option_or (value_for es name) (value_for (e ∷ []) name)
   found_beside es e None name h = told_append es (e ∷ []) name
   found_beside es e (Some v) name h = by (same_name name e.0) refl
     where
-      by : (b : Bool) → same_name name e.0 ≡ b → told_of es name ≡ option_or (told_of es name) (cond b (Some e.1) None)
+      by : (b : Bool) → same_name name e.0 ≡ b → value_for es name ≡ option_or (value_for es name) (cond b (Some e.1) None)
       by true is =
           let at : name ≡ e.0 = (bytes_decides name e.0).0 is in
-          known_first (told_of es name) v (ap (told_of es) at ∙ h) (Some e.1)
-      by false is = none_or (told_of es name)
+          known_first (value_for es name) v (ap (value_for es) at ∙ h) (Some e.1)
+      by false is = none_or (value_for es name)
 
-  told_folded : (start all : List (NameBytes × V)) (name : NameBytes) → told_of (fold with_first start all) name ≡ option_or (told_of start name) (told_of all name)
-  told_folded start [] name = none_or (told_of start name)
+  told_folded : (start all : List (NameBytes × V)) (name : NameBytes) → value_for (fold with_first start all) name ≡ option_or (value_for start name) (value_for all name)
+  told_folded start [] name = none_or (value_for start name)
   told_folded start (e ∷ es) name =
       told_folded (with_first start e) es name
-      ∙ ap (λ o. option_or o (told_of es name)) (found_beside start e (told_of start e.0) name refl)
-      ∙ sym (either (told_of start name) (told_of (e ∷ []) name) (told_of es name))
-      ∙ ap (option_or (told_of start name)) (sym (told_append (e ∷ []) es name))
+      ∙ ap (λ o. option_or o (value_for es name)) (found_beside start e (value_for start e.0) name refl)
+      ∙ sym (either (value_for start name) (value_for (e ∷ []) name) (value_for es name))
+      ∙ ap (option_or (value_for start name)) (sym (told_append (e ∷ []) es name))
 
   -- a name is found among the first entries as among all
-  pub found_in_firsts : (all : List (NameBytes × V)) (name : NameBytes) → told_of (firsts all) name ≡ told_of all name
+  pub found_in_firsts : (all : List (NameBytes × V)) (name : NameBytes) → value_for (firsts all) name ≡ value_for all name
   found_in_firsts all name = told_folded [] all name
 
   apart : (es : List (NameBytes × V)) (e : NameBytes × V) (j : ℕ) (name : NameBytes) (v : V) → Every (λ k. same_name e.0 k ≡ false) (keys_of es) → e.0 ≡ name → slice_get es j ≡ Some (name, v) → ⊥
@@ -91,8 +91,8 @@ module _ {V : Type 0} where
   -- where names are distinct, an entry's place is found by its name
   pub place_from_place : (es : List (NameBytes × V)) (i : ℕ) (name : NameBytes) (v : V) → IsDistinct same_name (keys_of es) → slice_get es i ≡ Some (name, v) → place_in es name ≡ Some i
   place_from_place es i name v d h =
-      let found = told_from_place es i name v d h in
-      let place = place_of_told es name v found in
+      let found = value_from_place es i name v d h in
+      let place = place_of_value es name v found in
       place.1.0 ∙ ap Some (once es place.0 i name v v d place.1.1 h)
 
 -- ---- ranks
@@ -107,22 +107,22 @@ is_notice class_kinds.Temporary e = absurd cc
 is_notice class_kinds.EventNotice e = refl
 
 module _ (cs : List (NameBytes × Class)) where
-  notice_placed : (name : NameBytes) (b : Bool) (place : Option ℕ) → is_notice_class (told_of cs name) ≡ b → place_in cs name ≡ place → Entries (IsNotice cs) (if b then entry_if name place else [])
+  notice_placed : (name : NameBytes) (b : Bool) (place : Option ℕ) → is_notice_class (value_for cs name) ≡ b → place_in cs name ≡ place → Entries (IsNotice cs) (if b then entry_if name place else [])
   notice_placed name false place e f = tt
   notice_placed name true None e f = tt
   notice_placed name true (Some i) e f =
-      let c = told_by_place cs name i f in
+      let c = value_by_place cs name i f in
       let kind : is_notice_kind c.0.kind ≡ true = sym (ap is_notice_class c.1) ∙ e in
       ((c.0, c.2, is_notice c.0.kind kind, f), tt)
 
   notice_of : (name : NameBytes) → Entries (IsNotice cs) (notice cs name)
-  notice_of name = notice_placed name (is_notice_class (told_of cs name)) (place_in cs name) refl refl
+  notice_of name = notice_placed name (is_notice_class (value_for cs name)) (place_in cs name) refl refl
 
-  priority_of : (what : Said) (name : Option NameBytes) → Entries (IsNotice cs) (priority_told cs what name)
+  priority_of : (what : Said) (name : Option NameBytes) → Entries (IsNotice cs) (priority_entries cs what name)
   priority_of said.Priority (Some name) = notice_of name
   priority_of _ _ = tt
 
-  declared_of : (what : Said) (name : Option NameBytes) → Entries (IsNotice cs) (declared_told cs what name)
+  declared_of : (what : Said) (name : Option NameBytes) → Entries (IsNotice cs) (declared_entries cs what name)
   declared_of (said.Class kind) (Some name) = notice_of name
   declared_of _ _ = tt
 
@@ -140,11 +140,11 @@ module _ (cs : List (NameBytes × Class)) where
       (first_of_entries (IsNotice cs) (flat_map (priority_by cs) says ++ flat_map (declared_by cs) says) (all_ranks says)) h
 
   -- a class that is one of notices
-  module _ (name : NameBytes) (class : ℕ) (is_one : is_notice_class (told_of cs name) ≡ true) (placed : place_in cs name ≡ Some class) where
-    notice_found : told_of (notice cs name) name ≡ Some class
+  module _ (name : NameBytes) (class : ℕ) (is_one : is_notice_class (value_for cs name) ≡ true) (placed : place_in cs name ≡ Some class) where
+    notice_found : value_for (notice cs name) name ≡ Some class
     notice_found = rw (is_one, placed) (ap (λ b. cond b (Some class) None) (same name))
 
-    none_of_other : (n : NameBytes) (b : Bool) (o : Option ℕ) → same_name name n ≡ false → told_of (if b then entry_if n o else []) name ≡ None
+    none_of_other : (n : NameBytes) (b : Bool) (o : Option ℕ) → same_name name n ≡ false → value_for (if b then entry_if n o else []) name ≡ None
     none_of_other n false o e = refl
     none_of_other n true None e = refl
     none_of_other n true (Some i) e = ap (λ b. cond b (Some i) None) e
@@ -152,7 +152,7 @@ module _ (cs : List (NameBytes × Class)) where
     -- a saying that declares the class ranks it, and one that ranks no other thing declares it not
     abbrev Declares : Line → Said → Option NameBytes → Type 0
     Declares line what n =
-        (told_of (declared_told cs what n) name ≡ Some class) ⊎ ((told_of (class_told line what n) name ≡ None) × (told_of (declared_told cs what n) name ≡ None))
+        (value_for (declared_entries cs what n) name ≡ Some class) ⊎ ((value_for (class_entries line what n) name ≡ None) × (value_for (declared_entries cs what n) name ≡ None))
 
     declares : (line : Line) (what : Said) (n : Option NameBytes) → Declares line what n
     declares line (said.Class kind) (Some n) = by (same_name name n) refl
@@ -160,33 +160,33 @@ module _ (cs : List (NameBytes × Class)) where
         by : (b : Bool) → same_name name n ≡ b → Declares line (said.Class kind) (Some n)
         by true is =
             let at : name ≡ n = (bytes_decides name n).0 is in
-            inl (subst (λ m. told_of (notice cs m) name ≡ Some class) at notice_found)
-        by false is = inr (ap (λ b. cond b (Some (record { kind = kind; line = line })) None) is, none_of_other n (is_notice_class (told_of cs n)) (place_in cs n) is)
+            inl (subst (λ m. value_for (notice cs m) name ≡ Some class) at notice_found)
+        by false is = inr (ap (λ b. cond b (Some (record { kind = kind; line = line })) None) is, none_of_other n (is_notice_class (value_for cs n)) (place_in cs n) is)
     declares line what n = inr (refl, refl)
 
-    class_declared : (says : List Saying) (v : Class) → told_of (flat_map class_by says) name ≡ Some v → told_of (flat_map (declared_by cs) says) name ≡ Some class
+    class_declared : (says : List Saying) (v : Class) → value_for (flat_map class_by says) name ≡ Some v → value_for (flat_map (declared_by cs) says) name ≡ Some class
     class_declared [] v h = absurd cc
     class_declared (s ∷ ss) v h =
-        let split : option_or (told_of (class_by s) name) (told_of (flat_map class_by ss) name) ≡ Some v = sym (told_append (class_by s) (flat_map class_by ss) name) ∙ h in
+        let split : option_or (value_for (class_by s) name) (value_for (flat_map class_by ss) name) ≡ Some v = sym (told_append (class_by s) (flat_map class_by ss) name) ∙ h in
         told_append (declared_by cs s) (flat_map (declared_by cs) ss) name
-        ∙ elim (declares s.line s.said s.name) as (λ x. option_or (told_of (declared_by cs s) name) (told_of (flat_map (declared_by cs) ss) name) ≡ Some class) [
-          | inl e ↦ ap (λ o. option_or o (told_of (flat_map (declared_by cs) ss) name)) e
+        ∙ elim (declares s.line s.said s.name) as (λ x. option_or (value_for (declared_by cs s) name) (value_for (flat_map (declared_by cs) ss) name) ≡ Some class) [
+          | inl e ↦ ap (λ o. option_or o (value_for (flat_map (declared_by cs) ss) name)) e
           | inr e ↦
-              let rest : told_of (flat_map class_by ss) name ≡ Some v = sym (ap (λ o. option_or o (told_of (flat_map class_by ss) name)) e.0) ∙ split in
-              ap (λ o. option_or o (told_of (flat_map (declared_by cs) ss) name)) e.1 ∙ class_declared ss v rest
+              let rest : value_for (flat_map class_by ss) name ≡ Some v = sym (ap (λ o. option_or o (value_for (flat_map class_by ss) name)) e.0) ∙ split in
+              ap (λ o. option_or o (value_for (flat_map (declared_by cs) ss) name)) e.1 ∙ class_declared ss v rest
         ]
 
-    rank_found : (says : List Saying) (v : Class) → told_of (flat_map class_by says) name ≡ Some v → told_of (ranks_among cs says) name ≡ Some class
+    rank_found : (says : List Saying) (v : Class) → value_for (flat_map class_by says) name ≡ Some v → value_for (ranks_among cs says) name ≡ Some class
     rank_found says v h =
         found_in_firsts (flat_map (priority_by cs) says ++ flat_map (declared_by cs) says) name
         ∙ told_append (flat_map (priority_by cs) says) (flat_map (declared_by cs) says) name
-        ∙ ap (option_or (told_of (flat_map (priority_by cs) says) name)) (class_declared says v h)
-        ∙ by (told_of (flat_map (priority_by cs) says) name) refl
+        ∙ ap (option_or (value_for (flat_map (priority_by cs) says) name)) (class_declared says v h)
+        ∙ by (value_for (flat_map (priority_by cs) says) name) refl
       where
-        by : (o : Option ℕ) → told_of (flat_map (priority_by cs) says) name ≡ o → option_or o (Some class) ≡ Some class
+        by : (o : Option ℕ) → value_for (flat_map (priority_by cs) says) name ≡ o → option_or o (Some class) ≡ Some class
         by None e = refl
         by (Some i) e =
-            let is = told_entry (IsNotice cs) (flat_map (priority_by cs) says) name i (first_ranks says) e in
+            let is = entry_holds (IsNotice cs) (flat_map (priority_by cs) says) name i (first_ranks says) e in
             let place = is.3 in
             cc
 
@@ -196,30 +196,30 @@ module _ (p : tree.ProgramTree) where
   rank_known i name class h = ranked (classes (sayings p)) (sayings p) i name class h
 
   -- each class of notices has a rank
-  pub rank_there : (name : NameBytes) (class : ℕ) (c : Class) → slice_get (table p).classes class ≡ Some (name, c) → c.kind ≡ class_kinds.EventNotice → told_of (table p).ranks name ≡ Some class
+  pub rank_there : (name : NameBytes) (class : ℕ) (c : Class) → slice_get (table p).classes class ≡ Some (name, c) → c.kind ≡ class_kinds.EventNotice → value_for (table p).ranks name ≡ Some class
   rank_there name class c h kind =
       let cs = classes (sayings p) in
       let once = firsts_once (flat_map class_by (sayings p)) in
-      let found = told_from_place cs class name c once h in
+      let found = value_from_place cs class name c once h in
       let place = place_from_place cs class name c once h in
-      let is_one : is_notice_class (told_of cs name) ≡ true = ap is_notice_class found ∙ ap is_notice_kind kind in
+      let is_one : is_notice_class (value_for cs name) ≡ true = ap is_notice_class found ∙ ap is_notice_kind kind in
       rank_found cs name class is_one place (sayings p) c (sym (found_in_firsts (flat_map class_by (sayings p)) name) ∙ found)
 
   -- ---- EVENT sections
 
   abbrev HasEvent : NameBytes → Saying → Type 0
-  HasEvent name s = (e : Event) × (told_of (event_by s) name ≡ Some e)
+  HasEvent name s = (e : Event) × (value_for (event_by s) name ≡ Some e)
 
-  event_said : (name : NameBytes) (says : List Saying) → Somewhere (HasEvent name) says → (e : Event) × (told_of (flat_map event_by says) name ≡ Some e)
+  event_said : (name : NameBytes) (says : List Saying) → Somewhere (HasEvent name) says → (e : Event) × (value_for (flat_map event_by says) name ≡ Some e)
   event_said name [] h = absurd h
-  event_said name (s ∷ ss) h = by (told_of (event_by s) name) refl h (event_said name ss)
+  event_said name (s ∷ ss) h = by (value_for (event_by s) name) refl h (event_said name ss)
     where
-      by : (o : Option Event) → told_of (event_by s) name ≡ o → ((e : Event) × (told_of (event_by s) name ≡ Some e)) ⊎ Somewhere (HasEvent name) ss → (Somewhere (HasEvent name) ss → (e : Event) × (told_of (flat_map event_by ss) name ≡ Some e)) → (e : Event) × (told_of (event_by s ++ flat_map event_by ss) name ≡ Some e)
-      by (Some e) f g next = (e, told_append (event_by s) (flat_map event_by ss) name ∙ ap (λ o. option_or o (told_of (flat_map event_by ss) name)) f)
+      by : (o : Option Event) → value_for (event_by s) name ≡ o → ((e : Event) × (value_for (event_by s) name ≡ Some e)) ⊎ Somewhere (HasEvent name) ss → (Somewhere (HasEvent name) ss → (e : Event) × (value_for (flat_map event_by ss) name ≡ Some e)) → (e : Event) × (value_for (event_by s ++ flat_map event_by ss) name ≡ Some e)
+      by (Some e) f g next = (e, told_append (event_by s) (flat_map event_by ss) name ∙ ap (λ o. option_or o (value_for (flat_map event_by ss) name)) f)
       by None f (inl g) next = absurd cc
       by None f (inr g) next =
           let rest = next g in
-          (rest.0, told_append (event_by s) (flat_map event_by ss) name ∙ ap (λ o. option_or o (told_of (flat_map event_by ss) name)) f ∙ rest.1)
+          (rest.0, told_append (event_by s) (flat_map event_by ss) name ∙ ap (λ o. option_or o (value_for (flat_map event_by ss) name)) f ∙ rest.1)
 
   head_said : (name : NameBytes) (number : ℕ) (s : tree.SectionTree) → IsEventOf name s → Somewhere (HasEvent name) (section_says number s)
   head_said name number s h =
@@ -234,7 +234,7 @@ module _ (p : tree.ProgramTree) where
   sections_said name number (s ∷ ss) (inr h) = somewhere_right (HasEvent name) (section_says number s) (sections_say (number + 1) ss) (sections_said name (number + 1) ss h)
 
   -- an EVENT section is found by its name
-  pub event_there : (name : NameBytes) → Somewhere (IsEventOf name) p.sections → (e : Event) × (told_of (table p).events name ≡ Some e)
+  pub event_there : (name : NameBytes) → Somewhere (IsEventOf name) p.sections → (e : Event) × (value_for (table p).events name ≡ Some e)
   event_there name h =
       let said = event_said name (sayings p) (somewhere_right (HasEvent name) (preambles_say 0 p.preamble) (sections_say 0 p.sections) (sections_said name 0 p.sections h)) in
       (said.0, found_in_firsts (flat_map event_by (sayings p)) name ∙ said.1)

@@ -23,7 +23,7 @@ use Rattle.ss_names_meaning.specs.declared.meaning.Meaning.TheVariants as meanin
 use Rattle.ss_names_meaning.specs.Answers.{◌>>=◌, each}
 use Rattle.ss_names_meaning.specs.Contexts.{Context}
 use Rattle.ss_names_meaning.specs.Expressions.{entity_of, subscript}
-use Rattle.ss_names_meaning.specs.Statements.{told_of, restart, statement}
+use Rattle.ss_names_meaning.specs.Statements.{owner_of_statistic, restart, statement}
 use Rattle.ss_names_laws.specs.Rules.{KeptMention, KeptDemand, KeptMentions, KeptDemands}
 use Rattle.ss_check_laws.specs.Links.{Linked, IsSubject}
 use Rattle.ss_check_laws.proofs.Steps.{left_of, right_of, step, two_steps, of_not}
@@ -36,7 +36,7 @@ use Rattle.ss_check_laws.proofs.Statements.{StatementResolves}
 module _ (w : Whole) (locals : Moded) (s : Scope) where
   -- whose statistic starts afresh
   abbrev Restarts : Meaning → ℕ → Option Expression → Type 0
-  Restarts referent k e = (of : Option Expression) × (told_of referent e ≡ Some of) × GoodRestart s k of
+  Restarts referent k e = (of : Option Expression) × (owner_of_statistic referent e ≡ Some of) × GoodRestart s k of
 
   variable_restarts : (m : Mode) (referent : Meaning) (k : ℕ) (e : Option Expression) → IsSubject w locals s (knowns.Variable m) referent k → Alone w locals s e → Restarts referent k e
   variable_restarts m (meanings.Variable (Global n) mode) k None f a = (None, refl, f)
@@ -78,8 +78,8 @@ module _ (w : Whole) (locals : Moded) (c : Context) (s : Scope) (linked : Linked
       let r = subject_restarts w locals s watched.0 watched.1 watched.2 e.0 watched.6 e.2 in
       let made : Restart = record { statistic = watched.2; of = r.0 } in (
         made,
-        two_steps (subscript c es) (c.meaning (Name name)) (λ y u. told_of u y >>= λ of. c.statistic (Name name) >>= λ k. Some (record { statistic = k; of = of })) e.0 watched.1 made e.1 watched.4
-            (two_steps (told_of watched.1 e.0) (c.statistic (Name name)) (λ of k. Some (record { statistic = k; of = of })) r.0 watched.2 made r.1 watched.5 refl),
+        two_steps (subscript c es) (c.meaning (Name name)) (λ y u. owner_of_statistic u y >>= λ of. c.statistic (Name name) >>= λ k. Some (record { statistic = k; of = of })) e.0 watched.1 made e.1 watched.4
+            (two_steps (owner_of_statistic watched.1 e.0) (c.statistic (Name name)) (λ of k. Some (record { statistic = k; of = of })) r.0 watched.2 made r.1 watched.5 refl),
         r.2,
       )
   restart_by TimeV es m d n = absurd cc

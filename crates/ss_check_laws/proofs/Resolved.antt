@@ -17,7 +17,7 @@ use Rattle.ss_check_scopes.specs.Locals.{mode_of}
 use Rattle.ss_tree.specs.Tree as tree
 use Rattle.ss_names_declarations.specs.Sayings.{NameBytes}
 use Rattle.ss_names.specs.declared.meaning.Meaning.TheVariants as globals
-use Rattle.ss_names_declarations.specs.Firsts.{told_of}
+use Rattle.ss_names_declarations.specs.Firsts.{value_for}
 use Rattle.ss_names.specs.Table.{table}
 use Rattle.ss_check_scopes.specs.Meanings.{value_mode}
 use Rattle.ss_check_scopes.specs.Signatures.{given_to, signature}
@@ -36,7 +36,7 @@ use Rattle.ss_check_laws.specs.Programs.{KeepsAllRules}
 use Rattle.ss_names_laws.specs.LaidOut.{HasTables}
 use Rattle.ss_check_laws.specs.Signed.{AreSigned}
 use Rattle.ss_check_laws.proofs.Known.{class_variable_whole, mode_agrees}
-use Rattle.ss_names_declarations.proofs.Entries.{key_at, place_of_told, there, value_at}
+use Rattle.ss_names_declarations.proofs.Entries.{key_at, place_of_value, there, value_at}
 use Rattle.ss_check_laws.proofs.Parts.{Laws, body_typed, has_tables, is, laid, program_with, scope_of, section_of, signatures, w}
 use Rattle.ss_check_laws.proofs.Ranks.{rank_there}
 use Rattle.ss_names_laws.proofs.Steps.{contains_at, each_map, goes, holds, numbers_at, numbers_every}
@@ -66,7 +66,7 @@ module _ (p : tree.ProgramTree) (k : IsKept (table p)) (g : KeepsAllRules (whole
 
   -- ---- event routines
 
-  saved_good : (i : ℕ) (e : Event) (f : EventFacts p k g laws i e) (o : Option ℕ) → IfSome o (λ v. told_of (table p).names f.name ≡ Some (globals.Class e.class v)) → IfSome o (λ v. (slice_get q.globals v ≡ Some Integer) × typed.IsPlain q (Global v))
+  saved_good : (i : ℕ) (e : Event) (f : EventFacts p k g laws i e) (o : Option ℕ) → IfSome o (λ v. value_for (table p).names f.name ≡ Some (globals.Class e.class v)) → IfSome o (λ v. (slice_get q.globals v ≡ Some Integer) × typed.IsPlain q (Global v))
   saved_good i e f None h = tt
   saved_good i e f (Some v) h =
       let c = (is p k g laws).names f.name (globals.Class e.class v) h in
@@ -126,7 +126,7 @@ module _ (p : tree.ProgramTree) (k : IsKept (table p)) (g : KeepsAllRules (whole
       let made : PlainClass = record { kind = class_kind c.0.1.kind; fields = known.0 } in
       let same_class : made ≡ laid_class.0 = same_Some made laid_class.0 (sym known.1 ∙ laid_class.1) in
       let notice = notice_word c.0.1.kind (ap (λ (x : PlainClass). x.kind) same_class ∙ laid_class.2) in
-      let place = place_of_told (table p).ranks c.0.0 class (rank_there p c.0.0 class c.0.1 c.1 notice) in
+      let place = place_of_value (table p).ranks c.0.0 class (rank_there p c.0.0 class c.0.1 c.1 notice) in
       let lt_rank = slice_get_within (table p).ranks place.0 (c.0.0, class) place.1.1 in
       let at = numbers_at (resolved_event (table p) (w p k g laws) p.sections) (length (table p).ranks) (events p k g laws).0 place.0 (events p k g laws).1 lt_rank in
       let facts = event_facts p k g laws place.0 at.0 lt_rank at.2 in

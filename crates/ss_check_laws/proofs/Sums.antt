@@ -6,7 +6,7 @@ use Rattle.std.specs.Map.{values_of}
 use Rattle.std.specs.Cmp.Lexicographic.{bytes_decides}
 use Rattle.std.proofs.lemmas.List.Sums.{sum_by-append, sum_by-cons}
 use Rattle.ss_names_declarations.specs.Sayings.{NameBytes}
-use Rattle.ss_names_declarations.specs.Firsts.{entry_beside, firsts, same_name, told_of, with_first}
+use Rattle.ss_names_declarations.specs.Firsts.{entry_beside, firsts, same_name, value_for, with_first}
 use Rattle.ss_program.specs.Nodes.{total, option_nodes}
 use Rattle.ss_names_meaning.specs.Answers.{◌>>=◌, each, upto}
 use Rattle.ss_check_laws.proofs.Within.{Within, up, each_small}
@@ -79,7 +79,7 @@ beside_less g acc e (Some v) = omega arith
 fold_less : {V : Type 0} (g : NameBytes × V → ℕ) (es acc : List (NameBytes × V)) → total g (fold with_first acc es) ≤ total g acc + total g es
 fold_less g [] acc = omega arith
 fold_less g (e ∷ es) acc =
-    let a = beside_less g acc e (told_of acc e.0) in
+    let a = beside_less g acc e (value_for acc e.0) in
     let i = fold_less g es (with_first acc e) in
     omega (arith, a, i)
 
@@ -94,7 +94,7 @@ every_beside P (a ∷ acc) e None h p = (h.0, every_beside P acc e None h.1 p)
 
 every_fold : {V : Type 0} (P : NameBytes × V → Type 0) (es acc : List (NameBytes × V)) → Every P acc → Every P es → Every P (fold with_first acc es)
 every_fold P [] acc h k = h
-every_fold P (e ∷ es) acc h k = every_fold P es (with_first acc e) (every_beside P acc e (told_of acc e.0) h k.0) k.1
+every_fold P (e ∷ es) acc h k = every_fold P es (with_first acc e) (every_beside P acc e (value_for acc e.0) h k.0) k.1
 
 pub every_first : {V : Type 0} (P : NameBytes × V → Type 0) (es : List (NameBytes × V)) → Every P es → Every P (firsts es)
 every_first P es h = every_fold P es [] tt h
@@ -104,7 +104,7 @@ every_first P es h = every_fold P es [] tt h
 -- each name has one entry
 abbrev pub Once : {V : Type 0} → List (NameBytes × V) → Type 0
 Once [] = Unit {0}
-Once (e ∷ es) = (told_of es e.0 ≡ None) × Once es
+Once (e ∷ es) = (value_for es e.0 ≡ None) × Once es
 
 same_back : (a b : NameBytes) → same_name b a ≡ false → same_name a b ≡ false
 same_back a b h = back (same_name a b) refl where
@@ -119,51 +119,51 @@ missed : {V : Type 0} (b : Bool) (v : V) (rest : Option V) → cond b (Some v) r
 missed true v rest h = absurd cc
 missed false v rest h = (refl, h)
 
-none_more : {V : Type 0} (acc : List (NameBytes × V)) (e : NameBytes × V) (name : NameBytes) → told_of acc name ≡ None → same_name name e.0 ≡ false → told_of (acc ++ e ∷ []) name ≡ None
+none_more : {V : Type 0} (acc : List (NameBytes × V)) (e : NameBytes × V) (name : NameBytes) → value_for acc name ≡ None → same_name name e.0 ≡ false → value_for (acc ++ e ∷ []) name ≡ None
 none_more [] e name h other = ap (λ b. cond b (Some e.1) None) other
 none_more (a ∷ acc) e name h other =
-    let m = missed (same_name name a.0) a.1 (told_of acc name) h in
-    ap (λ b. cond b (Some a.1) (told_of (acc ++ e ∷ []) name)) m.0 ∙ none_more acc e name m.1 other
+    let m = missed (same_name name a.0) a.1 (value_for acc name) h in
+    ap (λ b. cond b (Some a.1) (value_for (acc ++ e ∷ []) name)) m.0 ∙ none_more acc e name m.1 other
 
-once_more : {V : Type 0} (acc : List (NameBytes × V)) (e : NameBytes × V) → told_of acc e.0 ≡ None → Once acc → Once (acc ++ e ∷ [])
+once_more : {V : Type 0} (acc : List (NameBytes × V)) (e : NameBytes × V) → value_for acc e.0 ≡ None → Once acc → Once (acc ++ e ∷ [])
 once_more [] e h o = (refl, tt)
 once_more (a ∷ acc) e h o =
-    let m = missed (same_name e.0 a.0) a.1 (told_of acc e.0) h in
+    let m = missed (same_name e.0 a.0) a.1 (value_for acc e.0) h in
     (none_more acc e a.0 o.0 (same_back a.0 e.0 m.0), once_more acc e m.1 o.1)
 
-once_beside : {V : Type 0} (acc : List (NameBytes × V)) (e : NameBytes × V) (known : Option V) → told_of acc e.0 ≡ known → Once acc → Once (entry_beside acc e known)
+once_beside : {V : Type 0} (acc : List (NameBytes × V)) (e : NameBytes × V) (known : Option V) → value_for acc e.0 ≡ known → Once acc → Once (entry_beside acc e known)
 once_beside acc e None h o = once_more acc e h o
 once_beside acc e (Some v) h o = o
 
 once_fold : {V : Type 0} (es acc : List (NameBytes × V)) → Once acc → Once (fold with_first acc es)
 once_fold [] acc o = o
-once_fold (e ∷ es) acc o = once_fold es (with_first acc e) (once_beside acc e (told_of acc e.0) refl o)
+once_fold (e ∷ es) acc o = once_fold es (with_first acc e) (once_beside acc e (value_for acc e.0) refl o)
 
 pub firsts_once : {V : Type 0} (es : List (NameBytes × V)) → Once (firsts es)
 firsts_once es = once_fold es [] tt
 
 module _ {V U : Type 0} (h : V → ℕ) where
   abbrev found_sum : List (NameBytes × V) → List (NameBytes × U) → ℕ
-  found_sum es xs = total (λ x. option_nodes h (told_of es x.0)) xs
+  found_sum es xs = total (λ x. option_nodes h (value_for es x.0)) xs
 
   -- names that differ from one
-  untouched : (f : NameBytes × V) (es : List (NameBytes × V)) (xs : List (NameBytes × U)) → told_of xs f.0 ≡ None → found_sum (f ∷ es) xs ≡ found_sum es xs
+  untouched : (f : NameBytes × V) (es : List (NameBytes × V)) (xs : List (NameBytes × U)) → value_for xs f.0 ≡ None → found_sum (f ∷ es) xs ≡ found_sum es xs
   untouched f es [] none = refl
   untouched f es (x ∷ xs) none =
-      let m = missed (same_name f.0 x.0) x.1 (told_of xs f.0) none in
-      let here = ap (λ b. option_nodes h (cond b (Some f.1) (told_of es x.0))) (same_back x.0 f.0 m.0) in
+      let m = missed (same_name f.0 x.0) x.1 (value_for xs f.0) none in
+      let here = ap (λ b. option_nodes h (cond b (Some f.1) (value_for es x.0))) (same_back x.0 f.0 m.0) in
       let rest = untouched f es xs m.1 in
       omega (arith, here, rest)
 
-  found_step : (f : NameBytes × V) (es : List (NameBytes × V)) (x : NameBytes × U) (xs : List (NameBytes × U)) (b : Bool) → same_name x.0 f.0 ≡ b → told_of xs x.0 ≡ None →
+  found_step : (f : NameBytes × V) (es : List (NameBytes × V)) (x : NameBytes × U) (xs : List (NameBytes × U)) (b : Bool) → same_name x.0 f.0 ≡ b → value_for xs x.0 ≡ None →
       found_sum (f ∷ es) xs ≤ h f.1 + found_sum es xs → found_sum (f ∷ es) (x ∷ xs) ≤ h f.1 + found_sum es (x ∷ xs)
   found_step f es x xs true e none i =
       let same : x.0 ≡ f.0 = (bytes_decides x.0 f.0).0 e in
-      let rest = untouched f es xs (subst (λ n. told_of xs n ≡ None) same none) in
-      let here = ap (λ b. option_nodes h (cond b (Some f.1) (told_of es x.0))) e in
+      let rest = untouched f es xs (subst (λ n. value_for xs n ≡ None) same none) in
+      let here = ap (λ b. option_nodes h (cond b (Some f.1) (value_for es x.0))) e in
       omega (arith, here, rest)
   found_step f es x xs false e none i =
-      let here = ap (λ b. option_nodes h (cond b (Some f.1) (told_of es x.0))) e in
+      let here = ap (λ b. option_nodes h (cond b (Some f.1) (value_for es x.0))) e in
       omega (arith, here, i)
 
   one_more_found : (f : NameBytes × V) (es : List (NameBytes × V)) (xs : List (NameBytes × U)) → Once xs → found_sum (f ∷ es) xs ≤ h f.1 + found_sum es xs
@@ -175,6 +175,6 @@ module _ {V U : Type 0} (h : V → ℕ) where
   nothing_found (x ∷ xs) = let e = nothing_found xs in omega (arith, e)
 
   -- the entries that are found by distinct names have no more nodes than all entries
-  pub entries_less : (es : List (NameBytes × V)) (xs : List (NameBytes × U)) → Once xs → total (λ x. option_nodes h (told_of es x.0)) xs ≤ total (λ e. h e.1) es
+  pub entries_less : (es : List (NameBytes × V)) (xs : List (NameBytes × U)) → Once xs → total (λ x. option_nodes h (value_for es x.0)) xs ≤ total (λ e. h e.1) es
   entries_less [] xs o = let e = nothing_found xs in omega (arith, e)
   entries_less (f ∷ es) xs o = omega (arith, one_more_found f es xs o, entries_less es xs o)

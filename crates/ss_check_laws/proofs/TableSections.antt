@@ -13,12 +13,12 @@ use Rattle.ss_names.specs.declared.entry.Class.{Class}
 use Rattle.ss_names.specs.declared.entry.Event.{Event}
 use Rattle.ss_names.specs.declared.entry.Routine.{Routine}
 use Rattle.ss_names.specs.Entities.{class_by, classes}
-use Rattle.ss_names_declarations.specs.Firsts.{told_of}
+use Rattle.ss_names_declarations.specs.Firsts.{value_for}
 use Rattle.ss_names.specs.Table.{table}
 use Rattle.ss_names.specs.Variables.{event_by, routine_by}
 use Rattle.ss_names_laws.specs.Lists.{Somewhere}
 use Rattle.ss_names_laws.specs.Uses.{notice_named, notices_in}
-use Rattle.ss_names_laws.proofs.Entries.{Entries, first_of_every, told_entry}
+use Rattle.ss_names_laws.proofs.Entries.{Entries, first_of_every, entry_holds}
 use Rattle.ss_names_laws.proofs.Steps.{every_append, every_at, every_map, somewhere_left, somewhere_right}
 
 -- the section of a routine, and of an event routine
@@ -130,9 +130,9 @@ module _ (p : tree.ProgramTree) where
       every_at (λ (e : NameBytes × Routine). IsRoutineSection p.sections e.0 e.1) (table p).routines n (name, r)
       (first_of_every (IsRoutineSection p.sections) routine_by (sayings p) (every_map (Good p.sections (flat_map notices_in p.preamble)) (λ s. Entries (IsRoutineSection p.sections) (routine_by s)) (sayings p) (λ s g. g.0) all_good)) h
 
-  pub event_section : (name : NameBytes) (e : Event) → told_of (table p).events name ≡ Some e → IsEventSection p.sections name e
+  pub event_section : (name : NameBytes) (e : Event) → value_for (table p).events name ≡ Some e → IsEventSection p.sections name e
   event_section name e h =
-      told_entry (IsEventSection p.sections) (table p).events name e
+      entry_holds (IsEventSection p.sections) (table p).events name e
       (first_of_every (IsEventSection p.sections) event_by (sayings p) (every_map (Good p.sections (flat_map notices_in p.preamble)) (λ s. Entries (IsEventSection p.sections) (event_by s)) (sayings p) (λ s g. g.1) all_good)) h
 
   pub notice_said : (n : ℕ) (name : NameBytes) (c : Class) → slice_get (table p).classes n ≡ Some (name, c) → IsNoticeSaid (flat_map notices_in p.preamble) name c

@@ -16,7 +16,7 @@ use Rattle.ss_names.specs.declared.meaning.Meaning.{Meaning as Global}
 use Rattle.ss_names.specs.declared.meaning.Meaning.TheVariants as globals
 use Rattle.ss_names.specs.declared.entry.Set.{Set}
 use Rattle.ss_names.specs.declared.entry.VariableKind.TheVariants as kinds
-use Rattle.ss_names_declarations.specs.Firsts.{same_name, told_of}
+use Rattle.ss_names_declarations.specs.Firsts.{same_name, value_for}
 use Rattle.ss_names.specs.Table.{Table}
 use Rattle.ss_check_scopes.specs.declared.known.Holder.{Holder}
 use Rattle.ss_check_scopes.specs.declared.known.Known.{Known}
@@ -67,7 +67,7 @@ module _ (t : Table) (signatures : List Signed) (is : IsTable t) (k : IsKept t) 
   abbrev KnownAs : Global → Type 0
   KnownAs m = (known : Known) × (whole.meaning_by t m ≡ Some known) × Agrees m known
 
-  variable_known : (n : ℕ) (name : NameBytes) → told_of t.names name ≡ Some (globals.Variable n) → KnownAs (globals.Variable n)
+  variable_known : (n : ℕ) (name : NameBytes) → value_for t.names name ≡ Some (globals.Variable n) → KnownAs (globals.Variable n)
   variable_known n name e =
       let v = is.names name (globals.Variable n) e in
       let value : slice_get (values_of t.variables) n ≡ Some v.0 = value_at t.variables n name v.0 v.1 in
@@ -85,7 +85,7 @@ module _ (t : Table) (signatures : List Signed) (is : IsTable t) (k : IsKept t) 
         ),
       )
 
-  class_named : (class n : ℕ) (name : NameBytes) → told_of t.names name ≡ Some (globals.Class class n) → KnownAs (globals.Class class n)
+  class_named : (class n : ℕ) (name : NameBytes) → value_for t.names name ≡ Some (globals.Class class n) → KnownAs (globals.Class class n)
   class_named class n name e =
       let c = is.names name (globals.Class class n) e in (
         knowns.Class c.0.kind,
@@ -97,7 +97,7 @@ module _ (t : Table) (signatures : List Signed) (is : IsTable t) (k : IsKept t) 
         ),
       )
 
-  count_known : (class n : ℕ) (name : NameBytes) → told_of t.names name ≡ Some (globals.Count class n) → KnownAs (globals.Count class n)
+  count_known : (class n : ℕ) (name : NameBytes) → value_for t.names name ≡ Some (globals.Count class n) → KnownAs (globals.Count class n)
   count_known class n name e =
       let v = is.names name (globals.Count class n) e in
       let value : slice_get (values_of t.variables) n ≡ Some v.0 = value_at t.variables n name v.0 v.1 in
@@ -115,7 +115,7 @@ module _ (t : Table) (signatures : List Signed) (is : IsTable t) (k : IsKept t) 
         ),
       )
 
-  attribute_known : (n : ℕ) (name : NameBytes) → told_of t.names name ≡ Some (globals.Attribute n) → KnownAs (globals.Attribute n)
+  attribute_known : (n : ℕ) (name : NameBytes) → value_for t.names name ≡ Some (globals.Attribute n) → KnownAs (globals.Attribute n)
   attribute_known n name e =
       let a = is.names name (globals.Attribute n) e in
       let value : slice_get (values_of t.attributes) n ≡ Some a.0 = value_at t.attributes n name a.0 a.1 in
@@ -162,7 +162,7 @@ module _ (t : Table) (signatures : List Signed) (is : IsTable t) (k : IsKept t) 
         ),
       )
 
-  derived_known : (what : Derived) (n : ℕ) (name : NameBytes) → told_of t.names name ≡ Some (globals.Derived what n) → KnownAs (globals.Derived what n)
+  derived_known : (what : Derived) (n : ℕ) (name : NameBytes) → value_for t.names name ≡ Some (globals.Derived what n) → KnownAs (globals.Derived what n)
   derived_known derived.FirstMember n name e =
       let set = is.names name (globals.Derived derived.FirstMember n) e in
       query_of_owner derived.FirstMember FirstMember n set.0 set.1 refl knowns.Membership (λ holder referent f. f) refl
@@ -190,7 +190,7 @@ module _ (t : Table) (signatures : List Signed) (is : IsTable t) (k : IsKept t) 
   asked_known statistics.Minimum holder referent f = f
   asked_known statistics.Mean holder referent f = f
 
-  statistic_known : (n : ℕ) (name : NameBytes) → told_of t.names name ≡ Some (globals.Statistic n) → KnownAs (globals.Statistic n)
+  statistic_known : (n : ℕ) (name : NameBytes) → value_for t.names name ≡ Some (globals.Statistic n) → KnownAs (globals.Statistic n)
   statistic_known n name e =
       let x = is.names name (globals.Statistic n) e in
       let value : slice_get (values_of t.statistics) n ≡ Some x.0 = value_at t.statistics n name x.0 x.1 in
@@ -218,7 +218,7 @@ module _ (t : Table) (signatures : List Signed) (is : IsTable t) (k : IsKept t) 
       let same : f.0 ≡ known = same_Some f.0 known (sym f.1 ∙ e) in
       subst (Agrees m) same f.2
 
-  global_fits : (m : Global) (name : NameBytes) (known : Known) → told_of t.names name ≡ Some m → whole.meaning_by t m ≡ Some known → has_value known ≡ true → Agrees m known
+  global_fits : (m : Global) (name : NameBytes) (known : Known) → value_for t.names name ≡ Some m → whole.meaning_by t m ≡ Some known → has_value known ≡ true → Agrees m known
   global_fits (globals.Variable n) name known e f v = value_by (globals.Variable n) known (variable_known n name e) f
   global_fits (globals.Class class n) name known e f v = value_by (globals.Class class n) known (class_named class n name e) f
   global_fits (globals.Count class n) name known e f v = value_by (globals.Count class n) known (count_known class n name e) f
@@ -237,10 +237,10 @@ module _ (t : Table) (signatures : List Signed) (is : IsTable t) (k : IsKept t) 
   meaning_found (Some m) known e = (m, refl, e)
 
   -- what a name that isn't local refers to
-  pub meant : (name : NameBytes) (m : Global) (referent : Meaning) → lookup (same_name name) locals ≡ None → told_of t.names name ≡ Some m → global_meaning t locals m ≡ Some referent → meaning_of t locals (Name name) ≡ Some referent
+  pub meant : (name : NameBytes) (m : Global) (referent : Meaning) → lookup (same_name name) locals ≡ None → value_for t.names name ≡ Some m → global_meaning t locals m ≡ Some referent → meaning_of t locals (Name name) ≡ Some referent
   meant name m referent e f g =
       ap (λ o. meaning_or t locals o name) (no_place locals name e)
-      ∙ goes (told_of t.names name) (λ x. global_meaning t locals x) m referent f g
+      ∙ goes (value_for t.names name) (λ x. global_meaning t locals x) m referent f g
 
   local_fits : (name : NameBytes) (mode : Option ModeWord) (known : Known) → lookup (same_name name) locals ≡ Some mode → meaning_in here.meanings locals name ≡ Some known → (referent : Meaning) × (meaning_of t locals (Name name) ≡ Some referent) × Fits here locals s known referent
   local_fits name mode known e f =
@@ -260,8 +260,8 @@ module _ (t : Table) (signatures : List Signed) (is : IsTable t) (k : IsKept t) 
       by : (o : Option (Option ModeWord)) → lookup (same_name name) locals ≡ o → (referent : Meaning) × (meaning_of t locals (Name name) ≡ Some referent) × Fits here locals s known referent
       by (Some mode) f = local_fits name mode known f e
       by None f =
-          let global : whole.meaning_of t (told_of t.names name) ≡ Some known = sym (ap (λ o. local_or o (here.meanings name)) f) ∙ e in
-          let found = meaning_found (told_of t.names name) known global in
+          let global : whole.meaning_of t (value_for t.names name) ≡ Some known = sym (ap (λ o. local_or o (here.meanings name)) f) ∙ e in
+          let found = meaning_found (value_for t.names name) known global in
           let referent = global_fits found.0 name known found.1 found.2 v in
           (referent.0, meant name found.0 referent.0 f found.1 referent.1, referent.2)
 
@@ -269,7 +269,7 @@ module _ (t : Table) (signatures : List Signed) (is : IsTable t) (k : IsKept t) 
 
   -- ---- sets, classes and routines
 
-  pub set_numbered : (m : Global) (name : NameBytes) (holder : Holder) → told_of t.names name ≡ Some m → whole.meaning_by t m ≡ Some (knowns.Set holder) → (n : ℕ) × (m ≡ globals.Set n)
+  pub set_numbered : (m : Global) (name : NameBytes) (holder : Holder) → value_for t.names name ≡ Some m → whole.meaning_by t m ≡ Some (knowns.Set holder) → (n : ℕ) × (m ≡ globals.Set n)
   set_numbered (globals.Variable n) name holder e f = absurd (value_by (globals.Variable n) (knowns.Set holder) (variable_known n name e) f).2
   set_numbered (globals.Class class n) name holder e f = absurd (value_by (globals.Class class n) (knowns.Set holder) (class_named class n name e) f).2
   set_numbered (globals.Count class n) name holder e f = absurd (value_by (globals.Count class n) (knowns.Set holder) (count_known class n name e) f).2
@@ -279,7 +279,7 @@ module _ (t : Table) (signatures : List Signed) (is : IsTable t) (k : IsKept t) 
   set_numbered (globals.Statistic n) name holder e f = absurd (value_by (globals.Statistic n) (knowns.Set holder) (statistic_known n name e) f).2
   set_numbered (globals.Routine n) name holder e f = absurd cc
 
-  pub class_numbered : (m : Global) (name : NameBytes) (kind : ClassWord) → told_of t.names name ≡ Some m → whole.meaning_by t m ≡ Some (knowns.Class kind) → (class n : ℕ) × (m ≡ globals.Class class n)
+  pub class_numbered : (m : Global) (name : NameBytes) (kind : ClassWord) → value_for t.names name ≡ Some m → whole.meaning_by t m ≡ Some (knowns.Class kind) → (class n : ℕ) × (m ≡ globals.Class class n)
   class_numbered (globals.Variable n) name kind e f =
       let v = is.names name (globals.Variable n) e in
       let known : whole.variable_meaning (slice_get (values_of t.variables) n) ≡ Some (knowns.Variable (value_mode (Some v.0.mode))) = ap whole.variable_meaning (value_at t.variables n name v.0 v.1) in
@@ -303,7 +303,7 @@ module _ (t : Table) (signatures : List Signed) (is : IsTable t) (k : IsKept t) 
       absurd (of_statistic (λ known. Some known ≡ Some (knowns.Class kind) → ⊥) (λ holder g. absurd cc) (λ holder g. absurd cc) t (slice_get (values_of t.statistics) n) f)
   class_numbered (globals.Routine n) name kind e f = absurd cc
 
-  pub routine_numbered : (m : Global) (name : NameBytes) → told_of t.names name ≡ Some m → whole.meaning_by t m ≡ Some knowns.Routine → (n : ℕ) × (m ≡ globals.Routine n)
+  pub routine_numbered : (m : Global) (name : NameBytes) → value_for t.names name ≡ Some m → whole.meaning_by t m ≡ Some knowns.Routine → (n : ℕ) × (m ≡ globals.Routine n)
   routine_numbered (globals.Variable n) name e f = absurd (value_by (globals.Variable n) knowns.Routine (variable_known n name e) f).2
   routine_numbered (globals.Class class n) name e f = absurd (value_by (globals.Class class n) knowns.Routine (class_named class n name e) f).2
   routine_numbered (globals.Count class n) name e f = absurd (value_by (globals.Count class n) knowns.Routine (count_known class n name e) f).2

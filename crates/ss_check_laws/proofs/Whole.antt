@@ -16,7 +16,7 @@ use Rattle.ss_names.specs.declared.entry.Class.{Class}
 use Rattle.ss_names.specs.declared.entry.Event.{Event as EventSaid}
 use Rattle.ss_names.specs.declared.meaning.Meaning.TheVariants as globals
 use Rattle.ss_names.specs.declared.entry.Routine.{Routine as RoutineSaid}
-use Rattle.ss_names_declarations.specs.Firsts.{told_of}
+use Rattle.ss_names_declarations.specs.Firsts.{value_for}
 use Rattle.ss_names.specs.Table.{table}
 use Rattle.ss_check_scopes.specs.Signatures.{given_to, yielded_by}
 use Rattle.ss_check_scopes.specs.WholeOf as whole
@@ -33,7 +33,7 @@ use Rattle.ss_names_laws.specs.ValidTables.{IsKept}
 use Rattle.ss_check_laws.specs.Programs.{KeepsAllRules, KeepsRules}
 use Rattle.ss_check_laws.specs.Signed.{AreSigned}
 use Rattle.ss_names_laws.proofs.Laid.{ties_there}
-use Rattle.ss_names_declarations.proofs.Entries.{entry_of_value, key_at, place_of_told, there, value_at}
+use Rattle.ss_names_declarations.proofs.Entries.{entry_of_value, key_at, place_of_value, there, value_at}
 use Rattle.ss_check_laws.proofs.Parts.{HasParts, Laws, is, notice_known, parts_there, section_of, signatures, signed, w}
 use Rattle.ss_check_laws.proofs.Ranks.{event_there, rank_known, rank_there}
 use Rattle.ss_check_laws.proofs.TableSections.{event_section, notice_said, routine_section}
@@ -153,13 +153,13 @@ module _ (p : tree.ProgramTree) (k : IsKept (table p)) (g : KeepsAllRules (whole
     pub takes : made.given ≡ take (length given) parts.modes
     pub others : made.others ≡ drop (length given) parts.modes
     pub body : made.body ≡ parts.body
-    pub saved : IfSome made.saved (λ v. told_of (table p).names name ≡ Some (globals.Class made.class v))
+    pub saved : IfSome made.saved (λ v. value_for (table p).names name ≡ Some (globals.Class made.class v))
 
-  saved_there : (name : NameBytes) (class : ℕ) (b : Bool) → slice_get (keys_of (table p).classes) class ≡ Some name → (o : Option ℕ) × (saved (table p) name b ≡ Some o) × IfSome o (λ v. told_of (table p).names name ≡ Some (globals.Class class v))
+  saved_there : (name : NameBytes) (class : ℕ) (b : Bool) → slice_get (keys_of (table p).classes) class ≡ Some name → (o : Option ℕ) × (saved (table p) name b ≡ Some o) × IfSome o (λ v. value_for (table p).names name ≡ Some (globals.Class class v))
   saved_there name class false e = (None, refl, tt)
   saved_there name class true e =
       let v = k.said.class_names class name e in
-      (Some v.0, goes (told_of (table p).names name) (λ x. class_variable x) (globals.Class class v.0) (Some v.0) v.1 refl, v.1)
+      (Some v.0, goes (value_for (table p).names name) (λ x. class_variable x) (globals.Class class v.0) (Some v.0) v.1 refl, v.1)
 
   class_event_is : (class : ℕ) (name : NameBytes) (known : EventSaid) (keys : List RankKey) (variable : Option ℕ) (parts : Parts) →
       nat_le known.given (length (get_or (table p).fields class [])) ≡ true → tie_keys (table p) class name ≡ Some keys → saved (table p) name known.saving ≡ Some variable →
@@ -200,9 +200,9 @@ module _ (p : tree.ProgramTree) (k : IsKept (table p)) (g : KeepsAllRules (whole
       let at : parts_at (table p) (w p k g laws) p.sections known.0.section ≡ Some parts.0 = goes (slice_get p.sections known.0.section) (λ s. parts_of (table p) (w p k g laws) s) section.0 parts.0 section.2 parts.1.resolved in
       let made : Event = event_of class ties.0 known.0.given variable.0 parts.0 in (
         made,
-        goes (slice_get (values_of (table p).ranks) i) (λ c. slice_get (keys_of (table p).classes) c >>= λ n. told_of (table p).events n >>= λ x. class_event (table p) (w p k g laws) p.sections c n x) class made ranked
-            (goes (slice_get (keys_of (table p).classes) class) (λ n. told_of (table p).events n >>= λ x. class_event (table p) (w p k g laws) p.sections class n x) name made key
-            (goes (told_of (table p).events name) (λ x. class_event (table p) (w p k g laws) p.sections class name x) known.0 made known.1
+        goes (slice_get (values_of (table p).ranks) i) (λ c. slice_get (keys_of (table p).classes) c >>= λ n. value_for (table p).events n >>= λ x. class_event (table p) (w p k g laws) p.sections c n x) class made ranked
+            (goes (slice_get (keys_of (table p).classes) class) (λ n. value_for (table p).events n >>= λ x. class_event (table p) (w p k g laws) p.sections class n x) name made key
+            (goes (value_for (table p).events name) (λ x. class_event (table p) (w p k g laws) p.sections class name x) known.0 made known.1
             (class_event_is class name known.0 ties.0 variable.0 parts.0 (no_more known.0.given (length (get_or (table p).fields class [])) limit) ties.1 variable.1 at))),
         record {
           name = name;
@@ -266,7 +266,7 @@ module _ (p : tree.ProgramTree) (k : IsKept (table p)) (g : KeepsAllRules (whole
   kind_known s (tree.event name given saving) r e =
       let c = notice_known p k g laws s r name e.0 in
       let rank_is = rank_there p name c.0 c.1 c.2 c.3 in
-      let place = place_of_told (table p).ranks name c.0 rank_is in
+      let place = place_of_value (table p).ranks name c.0 rank_is in
       ap is_some place.1.0
 
   pub all_known : list_all (is_known (table p)) p.sections ≡ true

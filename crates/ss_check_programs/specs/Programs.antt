@@ -16,7 +16,7 @@ use Rattle.ss_tree.specs.declared.preamble.StatisticKind.TheVariants as folds
 use Rattle.ss_tree.specs.declared.preamble.Weighting.TheVariants as weighting_words
 use Rattle.ss_tree.specs.Tree.{ExpressionTree, number, named, no_expression, StatementTree, let_statement, has, owns, belongs_to, lifo, ranked, permanent_entities, temporary_entities, event_notices, every, normally, system_owns, define_variables, define_sets, priority_order, break_ties, statistics, main, routine, event, ProgramTree, SectionTree}
 use Rattle.ss_names_declarations.specs.Sayings.{NameBytes}
-use Rattle.ss_names_declarations.specs.Firsts.{told_of}
+use Rattle.ss_names_declarations.specs.Firsts.{value_for}
 use Rattle.ss_names.specs.Table.{table}
 use Rattle.ss_check_scopes.specs.declared.known.Known.TheVariants as meanings
 use Rattle.ss_check_scopes.specs.Whole.{Whole}
@@ -113,7 +113,7 @@ yard = record {
 abbrev yard_whole : Whole
 yard_whole = record {
   usual = Some mode_words.Integer;
-  meanings = λ name. if is_some (told_of (table yard).names name) then Some meanings.Routine else None;
+  meanings = λ name. if is_some (value_for (table yard).names name) then Some meanings.Routine else None;
   is_watched = λ name. false;
   attributes = λ name. None;
   given = λ name. None;

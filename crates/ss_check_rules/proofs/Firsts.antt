@@ -9,7 +9,7 @@ use Rattle.ss_base.specs.declared.line.Line.{Line}
 use Rattle.ss_base.specs.declared.layout.Mode.TheVariants as modes
 use Rattle.ss_names_uses.specs.Mentions.{NameBytes}
 use Rattle.ss_names_uses.specs.declared.demand.Noted.TheVariants.{Number}
-use Rattle.ss_names_uses.specs.Noted.{stands_for}
+use Rattle.ss_names_uses.specs.Noted.{noted_demands}
 use Rattle.ss_check_scopes.specs.declared.known.Known.{Known}
 use Rattle.ss_check_scopes.specs.Locals.{Moded}
 use Rattle.ss_check_scopes.specs.Meanings.{meaning_in}
@@ -61,7 +61,7 @@ meant_lines : (w : Whole) (locals : Moded) (line : Line) (o : Option Known) → 
 meant_lines w locals line None = refl
 meant_lines w locals line (Some m) = three_lines (differ (mode_of m) (Some modes.Integer)) (is_mean m) (differ (class_mode w locals (class_implied m)) (Some modes.Integer)) line
 
-pub number_lines : (w : Whole) (u : Uses) (line : Line) (name : NameBytes) → first_of (line_if (is_no_number w u.locals name) line) ≡ first_of (demand_lines (demand_breaks rules.Mode w u) (stands_for (Number line name)))
+pub number_lines : (w : Whole) (u : Uses) (line : Line) (name : NameBytes) → first_of (line_if (is_no_number w u.locals name) line) ≡ first_of (demand_lines (demand_breaks rules.Mode w u) (noted_demands (Number line name)))
 number_lines w u line name = meant_lines w u.locals line (meaning_in w.meanings u.locals name)
 
 -- ---- rules one after another

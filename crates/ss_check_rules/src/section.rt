@@ -10,7 +10,7 @@ ghost use Rattle.ss_check_scopes.specs.Whole.{Whole};
 ghost use Rattle.ss_names_uses.specs.declared.mention.Mention.{Mention as MentionSeen};
 ghost use Rattle.ss_names_uses.specs.declared.demand.Demand.{Demand as DemandSeen};
 ghost use Rattle.ss_names_uses.specs.declared.demand.Noted.TheVariants.{Number};
-ghost use Rattle.ss_names_uses.specs.Noted.{stands_for};
+ghost use Rattle.ss_names_uses.specs.Noted.{noted_demands};
 
 use crate::arguments::miscounts;
 use crate::events::is_misplaced;
@@ -96,7 +96,7 @@ fn number_line<G: Globals>(
     line: Line,
     name: Name,
 ) -> Option<Line>
-    ensures { result ≡ first_of (demand_lines (demand_breaks rule (G.whole globals.now) (uses_seen uses.now)) (stands_for (Number line name))) }
+    ensures { result ≡ first_of (demand_lines (demand_breaks rule (G.whole globals.now) (uses_seen uses.now)) (noted_demands (Number line name))) }
 {
     match rule {
         Rule::Mode => line_if(is_no_number(globals, &uses.locals, name), line),
@@ -111,7 +111,7 @@ fn noted_line<G: Globals>(
     uses: &SectionUses,
     noted: &Noted,
 ) -> Option<Line>
-    ensures { result ≡ first_of (demand_lines (demand_breaks rule (G.whole globals.now) (uses_seen uses.now)) (stands_for noted.now)) }
+    ensures { result ≡ first_of (demand_lines (demand_breaks rule (G.whole globals.now) (uses_seen uses.now)) (noted_demands noted.now)) }
 {
     match noted {
         Noted::One {

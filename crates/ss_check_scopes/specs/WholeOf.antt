@@ -23,7 +23,7 @@ use Rattle.ss_names.specs.declared.entry.Statistic.{Statistic as StatisticSaid}
 use Rattle.ss_names.specs.declared.meaning.Subject.{Subject}
 use Rattle.ss_names.specs.declared.meaning.Subject.TheVariants as subjects
 use Rattle.ss_names.specs.declared.entry.Variable.{Variable as VariableSaid}
-use Rattle.ss_names_declarations.specs.Firsts.{place_in, told_of}
+use Rattle.ss_names_declarations.specs.Firsts.{place_in, value_for}
 use Rattle.ss_names.specs.Table.{Table, table}
 use Rattle.ss_check_scopes.specs.declared.known.Holder.{Holder}
 use Rattle.ss_check_scopes.specs.declared.known.Holder.TheVariants.{Program, Entity}
@@ -173,11 +173,11 @@ abbrev pub whole_in : Table → List Signed → Whole
 whole_in t signatures =
     record {
       usual = t.usual;
-      meanings = λ name. meaning_of t (told_of t.names name);
+      meanings = λ name. meaning_of t (value_for t.names name);
       is_watched = λ name. is_some (place_in t.weighings name);
-      attributes = λ name. attributes_of t (told_of t.names name);
-      given = λ name. given_modes (routine_signed t signatures (told_of t.names name));
-      yielding = λ name. yielded_modes (routine_signed t signatures (told_of t.names name));
+      attributes = λ name. attributes_of t (value_for t.names name);
+      given = λ name. given_modes (routine_signed t signatures (value_for t.names name));
+      yielding = λ name. yielded_modes (routine_signed t signatures (value_for t.names name));
     }
 
 -- what names mean in a program

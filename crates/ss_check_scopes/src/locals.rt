@@ -12,7 +12,7 @@ ghost use Rattle.ss_check_scopes.specs.Whole.{is_global, locals_of};
 use crate::globals::Globals;
 use crate::modes::{mode_in, modes_of};
 use ss_base::Name;
-use ss_names_declarations::{Seed, Table, insert_first, is_told, key_at};
+use ss_names_declarations::{Seed, Table, insert_first, has_entry, key_at};
 use ss_names_uses::{Mention, Mentioned, Role};
 use ss_tree::preamble::Mode;
 use ss_tree::program::Section;
@@ -90,7 +90,7 @@ fn add_mentioned<G: Globals>(
 {
     match mention.what {
         Mentioned::Name(name) => {
-            if is_told(entries, &name) {
+            if has_entry(entries, &name) {
                 return Ok(());
             }
             if is_local_at(globals, mention, name) {

@@ -3,7 +3,7 @@
 ghost use Rattle.std.specs.Prelude.{◌≡◌, map, length, option_map, slice_get, IfOk};
 ghost use Rattle.std.specs.Option.{option_copied};
 ghost use Rattle.ss_tree.specs.View.{view_program, view_section};
-ghost use Rattle.ss_names_declarations.specs.Firsts.{told_of};
+ghost use Rattle.ss_names_declarations.specs.Firsts.{value_for};
 ghost use Rattle.ss_names.specs.Table.{table};
 ghost use Rattle.ss_check_scopes.specs.Signatures.{signature};
 ghost use Rattle.ss_check_scopes.specs.Whole.{mode_at};
@@ -45,7 +45,7 @@ fn signatures_of(
 
 // The fields of the class of a name. None where it is no class.
 fn fields_of(names: &Names, class: Name) -> Option<&[Name]>
-    ensures { option_map (λ fields. map (field_mode names.now) fields.now) result ≡ attributes_of names.now (told_of names.now.names class) }
+    ensures { option_map (λ fields. map (field_mode names.now) fields.now) result ≡ attributes_of names.now (value_for names.now.names class) }
 {
     match names.meaning(&class) {
         Some(Numbered::Class { class, .. }) => Some(names.fields(class)),
@@ -80,7 +80,7 @@ impl ProgramGlobals {
 
     // The signature of the routine of a name. None where it is no routine.
     fn signed(&self, routine: Name) -> Option<&Signature>
-        ensures { option_copied result ≡ routine_signed self.now.names self.now.signatures.items (told_of self.now.names.names routine) }
+        ensures { option_copied result ≡ routine_signed self.now.names self.now.signatures.items (value_for self.now.names.names routine) }
     {
         match self.names.meaning(&routine) {
             Some(Numbered::Routine(routine)) => match self.names.routine(routine) {

@@ -7,7 +7,7 @@ use Rattle.ss_program.specs.Program.{Block, Routine, Event, Program}
 use Rattle.ss_code_instructions.specs.declared.instruction.Instruction.{Instruction}
 use Rattle.ss_code_instructions.specs.declared.instruction.Instruction.TheVariants as i
 use Rattle.ss_meaning.specs.Values.{Trouble, Fails, Misfit}
-use Rattle.ss_meaning.specs.Store.{Store, behind, opened, front, yielded}
+use Rattle.ss_meaning.specs.Store.{Store, prepended, opened, front, yielded}
 use Rattle.ss_meaning.specs.Events.{Beginning, Coming, next_event, begun}
 use Rattle.ss_meaning.specs.Parts.{World, Returned, Stopped, Faulted, OutOfTicks, Wrong, Outcome, WentOn, Left, Part, and_then, then_nothing, needed, looked, tick_from}
 use Rattle.ss_meaning.specs.Statements.{Calls, effects}
@@ -30,7 +30,7 @@ front_length zero vs = refl
 front_length (suc k) [] = tt
 front_length (suc k) (v ∷ vs) = longer (front k vs) (front_length k vs)
   where
-    longer : (o : Option (List Value)) → IfThere (λ us. k ≡ length us) o → IfThere (λ us. suc k ≡ length us) (behind v o)
+    longer : (o : Option (List Value)) → IfThere (λ us. k ≡ length us) o → IfThere (λ us. suc k ≡ length us) (prepended v o)
     longer None h = tt
     longer (Some us) h = ap suc h
 

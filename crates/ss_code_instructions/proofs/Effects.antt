@@ -17,7 +17,7 @@ use Rattle.ss_meaning.specs.Values.{Trouble, Fails, Misfit, if_ok, sure, calcula
 use Rattle.ss_meaning.specs.Store.{Store}
 use Rattle.ss_meaning.specs.Entities.{made_all, without}
 use Rattle.ss_meaning.specs.Places.{Spot, held, written}
-use Rattle.ss_meaning.specs.Sets.{Filing as FilingAt, ByRule, Foremost, Hindmost, Ahead, Behind, filed_in, removed_from, removed_at}
+use Rattle.ss_meaning.specs.Sets.{Filing as FilingAt, ByRule, Foremost, Hindmost, JustBefore, JustAfter, filed_in, removed_from, removed_at}
 use Rattle.ss_meaning.specs.Events.{time_at, AtTime, Later, AtOnce, made_notice, filed_notice, rescheduled, unscheduled}
 use Rattle.ss_meaning.specs.Statistics.{reset}
 use Rattle.ss_meaning.specs.Expressions.{value, values, member_value, owner_value, filing, time_value}
@@ -39,8 +39,8 @@ abbrev filing_on : FilingAt → List Value → List Value
 filing_on ByRule stack = stack
 filing_on Foremost stack = stack
 filing_on Hindmost stack = stack
-filing_on (Ahead y) stack = y ∷ stack
-filing_on (Behind y) stack = y ∷ stack
+filing_on (JustBefore y) stack = y ∷ stack
+filing_on (JustAfter y) stack = y ∷ stack
 
 record Sited (kind : Filing) (f : FilingAt) : Type 0 where
   pub by : (stack : List Value) (go : FilingAt → List Value → Moved) → with_filing kind (filing_on f stack) go ≡ go f stack
@@ -132,11 +132,11 @@ module _ (code : Code) (n : ℕ) where
   filing_seq l set AsFirst below c m r = r filings.First Foremost (record { by = λ stack go. refl })
   filing_seq l set AsLast below c m r = r filings.Last Hindmost (record { by = λ stack go. refl })
   filing_seq l set (BeforeMember e) below c m r =
-      alike code n (λ w. turned_then l (member_value set e w.store) Ahead m w)
-      (seq code n (above code n below (member_runs code n l set e)) (λ y. r filings.Before (Ahead y) (record { by = λ stack go. refl })))
+      alike code n (λ w. turned_then l (member_value set e w.store) JustBefore m w)
+      (seq code n (above code n below (member_runs code n l set e)) (λ y. r filings.Before (JustBefore y) (record { by = λ stack go. refl })))
   filing_seq l set (AfterMember e) below c m r =
-      alike code n (λ w. turned_then l (member_value set e w.store) Behind m w)
-      (seq code n (above code n below (member_runs code n l set e)) (λ y. r filings.After (Behind y) (record { by = λ stack go. refl })))
+      alike code n (λ w. turned_then l (member_value set e w.store) JustAfter m w)
+      (seq code n (above code n below (member_runs code n l set e)) (λ y. r filings.After (JustAfter y) (record { by = λ stack go. refl })))
 
   pub file_runs : (l : Line) (set : ℕ) (e : Expression) (position : Position) (owner : SetOwner) → Runs code n same (file_code l set e position owner) done (file l set e position owner)
   file_runs l set e position owner =

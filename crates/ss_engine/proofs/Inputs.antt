@@ -5,7 +5,7 @@ use Rattle.ss_input.specs.Blocks.{KnowsEnd}
 use Rattle.ss_input.specs.declared.source.Source.{Source}
 use Rattle.std.specs.declared.option.Option.{Option}
 use Rattle.std.specs.Io.KnownBytes.{Consumes, IsAtEnd}
-use Rattle.ss_input.specs.Inputs.{source_block, source_reader, Stands, Reads, Finds, IsFresh}
+use Rattle.ss_input.specs.Inputs.{source_block, source_reader, IsAhead, Reads, Finds, IsFresh}
 use Rattle.ss_engine.specs.Headline.{Gave}
 
 none_more : (xs more : List ℕ) → xs ≡ [] → more ≡ [] → xs ++ more ≡ []
@@ -19,8 +19,8 @@ module _ {R : Type 0} (remaining : R → Option (List ℕ)) (a b c : Source R) w
     consumed = Consumes-trans (remaining (source_reader a)) (remaining (source_reader b)) (remaining (source_reader c)) h.got g.got h.consumed g.consumed;
     after_end = λ e. let u = h.after_end e in let v = g.after_end u.1 in (none_more h.got g.got u.0 v.0, v.1);
     says = λ more input e st.
-        let first = h.says (g.got ++ more) input (λ q. let v = g.after_end q in none_more g.got more v.0 (e v.1)) (subst (λ l. Stands a l input) (append_assoc h.got g.got more) st) in
-        join input first.rest first.says (g.says more first.rest e first.stands);
+        let first = h.says (g.got ++ more) input (λ q. let v = g.after_end q in none_more g.got more v.0 (e v.1)) (subst (λ l. IsAhead a l input) (append_assoc h.got g.got more) st) in
+        join input first.rest first.says (g.says more first.rest e first.ahead);
   }
 
   -- a call that read, and another
@@ -30,13 +30,13 @@ module _ {R : Type 0} (remaining : R → Option (List ℕ)) (a b c : Source R) w
     consumed = Consumes-trans (remaining (source_reader a)) (remaining (source_reader b)) (remaining (source_reader c)) h.got g.got h.consumed g.consumed;
     after_end = λ e. let u = h.after_end e in let v = g.after_end u.1 in (none_more h.got g.got u.0 v.0, v.1);
     says = λ more input e st.
-        let first = h.says (g.got ++ more) input (λ q. let v = g.after_end q in none_more g.got more v.0 (e v.1)) (subst (λ l. Stands a l input) (append_assoc h.got g.got more) st) in
-        let last = g.says more first.rest e first.stands in
-        record { rest = last.rest; stands = last.stands; says = join input first.rest last.rest first.says last.says };
+        let first = h.says (g.got ++ more) input (λ q. let v = g.after_end q in none_more g.got more v.0 (e v.1)) (subst (λ l. IsAhead a l input) (append_assoc h.got g.got more) st) in
+        let last = g.says more first.rest e first.ahead in
+        record { rest = last.rest; ahead = last.ahead; says = join input first.rest last.rest first.says last.says };
   }
 
 -- a fresh source has what its reader gives
-pub fresh_start : {R : Type 0} (reader : R) (s : Source R) (input : List ℕ) → IsFresh reader s → Stands s input input
+pub fresh_start : {R : Type 0} (reader : R) (s : Source R) (input : List ℕ) → IsFresh reader s → IsAhead s input input
 fresh_start reader s input f = record {
   gap = [];
   separators = refl;

@@ -104,7 +104,7 @@ module _ {R W : Type 0} (remaining : R → Option (List ℕ)) (read_faults : R �
       after_end = λ e. (refl, e);
       says = λ more input e there. record {
         rest = input;
-        stands = there;
+        ahead = there;
         says = λ report ticks.
             let t : (session_machine s).used + ticks ≡ ticks = omega (arith, b.first.used) in
             ap (λ m. steps code m (state_of (session_machine s).working input report ((session_machine s).used + ticks))) b.first.steps ∙ ap (λ n. Underway (state_of (session_machine s).working input report n)) t ∙

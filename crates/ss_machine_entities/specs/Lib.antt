@@ -1,5 +1,5 @@
 pub use Rattle.ss_records.specs.State
 pub mod Layouts
 pub mod Ranks
-pub mod Told
+pub mod Answered
 pub mod Counts

@@ -1,7 +1,7 @@
 //! Why an operation gives nothing.
 
 ghost use Rattle.std.specs.Prelude.{◌≡◌};
-ghost use Rattle.ss_machine_entities.specs.Told.{told};
+ghost use Rattle.ss_machine_entities.specs.Answered.{to_meaning};
 ghost use Rattle.ss_meaning.specs.Values.{number_of as number_meant, due};
 
 use ss_base::{FaultKind, Refused, Value};
@@ -29,7 +29,7 @@ pub enum Unmade {
 /// The number that a value is.
 #[inline(always)]
 pub fn number_of(value: Value) -> Result<i64, Trouble>
-    ensures { told result ≡ number_meant value }
+    ensures { to_meaning result ≡ number_meant value }
 {
     match value {
         Value::Whole(number) => Ok(number),
@@ -40,7 +40,7 @@ pub fn number_of(value: Value) -> Result<i64, Trouble>
 /// The answer of a call that may have a fault.
 #[inline(always)]
 pub fn or_trouble(answer: Result<(), FaultKind>) -> Result<(), Trouble>
-    ensures { told result ≡ due answer }
+    ensures { to_meaning result ≡ due answer }
 {
     match answer {
         Ok(()) => Ok(()),

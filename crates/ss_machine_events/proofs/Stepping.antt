@@ -17,7 +17,7 @@ use Rattle.ss_machine_entities.specs.declared.trouble.Trouble.{Trouble}
 use Rattle.ss_machine_entities.specs.declared.trouble.Trouble.TheVariants.{Fault, Misfit}
 use Rattle.ss_machine_entities.specs.declared.trouble.Unmade.{Unmade}
 use Rattle.ss_machine_entities.specs.declared.trouble.Unmade.TheVariants as unmade
-use Rattle.ss_machine_entities.specs.Told.{told, meant}
+use Rattle.ss_machine_entities.specs.Answered.{to_meaning, meant}
 use Rattle.ss_machine_world.specs.AtOnce.{Does}
 use Rattle.ss_machine_world.specs.Seen.{Seen, with_seen, Changes, Makes, Grows}
 use Rattle.ss_machine_events.specs.Scheduled.{Leads, Forms, Goes, Finds, put_there, lacking, key_ranked, key_meant, IsUntied, scheduled_known, scheduled_anew}
@@ -30,15 +30,15 @@ leads_on f g old mid new (Ok u) e h = λ s. ap (λ r. if_ok r g) (e s) ∙ h s
 leads_on f g old mid new (Err t) e h = λ s. ap (λ r. if_ok r g) (e s) ∙ h.0 s
 
 -- a trouble in some step
-pub forms_not : {A : Type 0} (f : Store → OkOr (A × Store) Meant) (old new : Seen) (t : Trouble) → ((s : Store) → f (with_seen s old) ≡ told {A = A × Store} (Err t)) → Forms f old new (Err (lacking t))
+pub forms_not : {A : Type 0} (f : Store → OkOr (A × Store) Meant) (old new : Seen) (t : Trouble) → ((s : Store) → f (with_seen s old) ≡ to_meaning {A = A × Store} (Err t)) → Forms f old new (Err (lacking t))
 forms_not f old new (Fault kind) e = e
 forms_not f old new Misfit e = e
 
-pub goes_not : (f first : Store → OkOr Store Meant) (old new : Seen) (t : Trouble) → ((s : Store) → f (with_seen s old) ≡ told {A = Store} (Err t)) → Goes f first old new (Err (lacking t))
+pub goes_not : (f first : Store → OkOr Store Meant) (old new : Seen) (t : Trouble) → ((s : Store) → f (with_seen s old) ≡ to_meaning {A = Store} (Err t)) → Goes f first old new (Err (lacking t))
 goes_not f first old new (Fault kind) e = e
 goes_not f first old new Misfit e = e
 
-pub finds_not : {A : Type 0} (f : Store → OkOr A Meant) (e : Seen) (a : A) (t : Trouble) → ((s : Store) → f (with_seen s e) ≡ told {A = A} (Err t)) → Finds f e (put_there a (Err (lacking t)))
+pub finds_not : {A : Type 0} (f : Store → OkOr A Meant) (e : Seen) (a : A) (t : Trouble) → ((s : Store) → f (with_seen s e) ≡ to_meaning {A = A} (Err t)) → Finds f e (put_there a (Err (lacking t)))
 finds_not f e a (Fault kind) h = h
 finds_not f e a Misfit h = h
 
@@ -113,7 +113,7 @@ module _ (class : ℕ) (x : Value) (t : ℤ) where
       sides (Err t) = refl
 
   -- the notice is not found
-  pub not_found : (e : Seen) (trouble : Trouble) → ((s : Store) → entity class x (with_seen s e) ≡ told {A = ℤ} (Err trouble)) → Grows (filed_notice class x t) e e (Err (lacking trouble))
+  pub not_found : (e : Seen) (trouble : Trouble) → ((s : Store) → entity class x (with_seen s e) ≡ to_meaning {A = ℤ} (Err trouble)) → Grows (filed_notice class x t) e e (Err (lacking trouble))
   not_found e (Fault kind) h = (λ s. filed_is (with_seen s e) ∙ ap (λ r. if_ok r (λ n. if_ok (key_meant class x t (with_seen s e)) (λ key. scheduled_known key n (with_seen s e)))) (h s), refl)
   not_found e Misfit h = (λ s. filed_is (with_seen s e) ∙ ap (λ r. if_ok r (λ n. if_ok (key_meant class x t (with_seen s e)) (λ key. scheduled_known key n (with_seen s e)))) (h s), refl)
 

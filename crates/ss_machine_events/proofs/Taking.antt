@@ -19,13 +19,13 @@ use Rattle.ss_meaning.specs.Events.{ranked_from, ranked_as, attributes}
 use Rattle.ss_machine_entities.specs.declared.trouble.Trouble.TheVariants.{Fault, Misfit}
 use Rattle.ss_machine_entities.specs.declared.trouble.Unmade.{Unmade}
 use Rattle.ss_machine_entities.specs.declared.trouble.Unmade.TheVariants as unmade
-use Rattle.ss_machine_entities.specs.Told.{meant}
+use Rattle.ss_machine_entities.specs.Answered.{meant}
 use Rattle.ss_machine_events.specs.declared.coming.Event.{Event}
 use Rattle.ss_machine_events.specs.Scheduled.{Finds}
 use Rattle.ss_machine_entities.specs.Ranks.{ranked_at}
 use Rattle.ss_machine_entities.specs.Layouts.{kind_at}
 use Rattle.ss_records.specs.Classed.{HasClass}
-use Rattle.ss_machine_events.specs.Events.{ranked_meant, ties_in, ties_at, is_notice_kind, is_there, is_of, first_of, First, Told}
+use Rattle.ss_machine_events.specs.Events.{ranked_meant, ties_in, ties_at, is_notice_kind, is_there, is_of, first_of, First, IsEventOf}
 use Rattle.ss_machine_world.specs.Seen.{Seen, with_seen}
 
 -- ## The class of a notice
@@ -143,9 +143,9 @@ module _ (h : State) (n : ℤ) where
         ap (λ (c : Event). c.notice) e,
       )
 
-pub told_first : (e : Seen) (n : ℤ) (r : Option Event) → First e.heap e.notices n r → Told e n r
-told_first e n None f = λ s. first_is e.heap n (with_seen s e) ∙ f
-told_first e n (Some c) f = (λ s. first_is e.heap n (with_seen s e) ∙ f.0, f.1)
+pub event_of_first : (e : Seen) (n : ℤ) (r : Option Event) → First e.heap e.notices n r → IsEventOf e n r
+event_of_first e n None f = λ s. first_is e.heap n (with_seen s e) ∙ f
+event_of_first e n (Some c) f = (λ s. first_is e.heap n (with_seen s e) ∙ f.0, f.1)
 
 -- the event of a number whose class is known
 module _ (e : Seen) (n : ℤ) (class rank : ℕ) (said : Notices) (c : Event) (has : HasClass e.heap n class) (kind : is_notice_kind (kind_at e.heap.layout class) ≡ true) where
@@ -156,7 +156,7 @@ module _ (e : Seen) (n : ℤ) (class rank : ℕ) (said : Notices) (c : Event) (h
       ∙ ap (λ b. if b then Ok has.seen else Err WrongClass) (ap (λ k. is_notice (kind_of h.layout k)) has.class ∙ sym (noticed (slice_get h.layout.classes class)) ∙ kind)
 
   pub near_event : ranked_from 0 e.notices class ≡ ranked_at e.notices (Some rank) → slice_get e.notices rank ≡ Some said
-      → c ≡ record { rank = rank; class = said.class; line = said.line; given = said.given; saved = said.saved; notice = n } → Told e n (Some c)
+      → c ≡ record { rank = rank; class = said.class; line = said.line; given = said.given; saved = said.saved; notice = n } → IsEventOf e n (Some c)
   near_event at here is =
       let es = e.notices in
       let d : Event = record { rank = rank; class = said.class; line = said.line; given = said.given; saved = said.saved; notice = n } in (

@@ -19,7 +19,7 @@ use Rattle.ss_machine_events.specs.declared.coming.Fate.TheVariants.{Saved, Gone
 use Rattle.ss_machine_entities.specs.declared.trouble.Trouble.TheVariants.{Fault, Misfit}
 use Rattle.ss_machine_entities.specs.declared.trouble.Unmade.{Unmade}
 use Rattle.ss_machine_entities.specs.declared.trouble.Unmade.TheVariants as unmade
-use Rattle.ss_machine_entities.specs.Told.{told}
+use Rattle.ss_machine_entities.specs.Answered.{to_meaning}
 use Rattle.ss_machine_entities.specs.Layouts.{kind_at}
 use Rattle.ss_machine_events.specs.Scheduled.{Finds}
 use Rattle.ss_machine_world.specs.Seen.{Seen, with_seen}
@@ -95,9 +95,9 @@ First h es n None = first_of h n 0 es ≡ None
 First h es n (Some c) = (first_of h n 0 es ≡ Some (ranked_meant c (ties_at es c.rank))) × (c.notice ≡ n)
 
 -- the event of a number of which the meaning knows the class
-abbrev pub Told : Seen → (number : ℤ) → Option Event → Type 0
-Told e n None = (s : Store) → ranked_as (notice e.heap n) (with_seen s e) ≡ None
-Told e n (Some c) = ((s : Store) → ranked_as (notice e.heap n) (with_seen s e) ≡ Some (ranked_meant c (ties_at e.notices c.rank))) × (c.notice ≡ n)
+abbrev pub IsEventOf : Seen → (number : ℤ) → Option Event → Type 0
+IsEventOf e n None = (s : Store) → ranked_as (notice e.heap n) (with_seen s e) ≡ None
+IsEventOf e n (Some c) = ((s : Store) → ranked_as (notice e.heap n) (with_seen s e) ≡ Some (ranked_meant c (ties_at e.notices c.rank))) × (c.notice ≡ n)
 
 -- ## Beginning
 
@@ -121,8 +121,8 @@ Lets c old new (Ok (Saved k)) =
     × (new ≡ old)
 Lets c old new (Ok Gone) = (s : Store) → saved_or_gone c.saved c.class (Whole c.notice) (with_seen s old) ≡ Ok (with_seen s new)
 Lets c old new (Err (unmade.Fault kind)) =
-    ((s : Store) → saved_or_gone c.saved c.class (Whole c.notice) (with_seen s old) ≡ told {A = Store} (Err (Fault kind))) × (new ≡ old)
-Lets c old new (Err unmade.Misfit) = ((s : Store) → saved_or_gone c.saved c.class (Whole c.notice) (with_seen s old) ≡ told {A = Store} (Err Misfit)) × (new ≡ old)
+    ((s : Store) → saved_or_gone c.saved c.class (Whole c.notice) (with_seen s old) ≡ to_meaning {A = Store} (Err (Fault kind))) × (new ≡ old)
+Lets c old new (Err unmade.Misfit) = ((s : Store) → saved_or_gone c.saved c.class (Whole c.notice) (with_seen s old) ≡ to_meaning {A = Store} (Err Misfit)) × (new ≡ old)
 Lets c old new (Err unmade.Memory) = new ≡ old
 
 -- an event begins with values; its notice is gone, or it is still to be assigned to a global variable
@@ -132,6 +132,6 @@ Begins c ties vs old new (Ok (Saved k)) =
     × (new ≡ old)
 Begins c ties vs old new (Ok Gone) = (s : Store) → begun (coming_meant c ties (with_seen s old)) ≡ Ok (beginning c.rank vs (with_seen s new))
 Begins c ties vs old new (Err (unmade.Fault kind)) =
-    ((s : Store) → begun (coming_meant c ties (with_seen s old)) ≡ told {A = Beginning} (Err (Fault kind))) × (new ≡ old)
-Begins c ties vs old new (Err unmade.Misfit) = ((s : Store) → begun (coming_meant c ties (with_seen s old)) ≡ told {A = Beginning} (Err Misfit)) × (new ≡ old)
+    ((s : Store) → begun (coming_meant c ties (with_seen s old)) ≡ to_meaning {A = Beginning} (Err (Fault kind))) × (new ≡ old)
+Begins c ties vs old new (Err unmade.Misfit) = ((s : Store) → begun (coming_meant c ties (with_seen s old)) ≡ to_meaning {A = Beginning} (Err Misfit)) × (new ≡ old)
 Begins c ties vs old new (Err unmade.Memory) = new ≡ old

@@ -18,7 +18,7 @@ use Rattle.ss_machine_entities.specs.declared.trouble.Trouble.{Trouble}
 use Rattle.ss_machine_entities.specs.declared.trouble.Trouble.TheVariants.{Fault, Misfit}
 use Rattle.ss_machine_entities.specs.declared.trouble.Unmade.{Unmade}
 use Rattle.ss_machine_entities.specs.declared.trouble.Unmade.TheVariants as unmade
-use Rattle.ss_machine_entities.specs.Told.{told}
+use Rattle.ss_machine_entities.specs.Answered.{to_meaning}
 use Rattle.ss_machine_events.specs.declared.scheduling.Filed.{Filed}
 use Rattle.ss_machine_events.specs.declared.scheduling.Filed.TheVariants as filings
 use Rattle.ss_machine_events.specs.declared.scheduling.Filed.TheVariants.{Done, Wanting}
@@ -29,27 +29,27 @@ use Rattle.ss_machine_world.specs.Seen.{Seen, with_seen}
 -- an operation leads to what is seen afterwards, or it fails after some of its steps
 abbrev pub Leads : (Store → Result Store Meant) → (old new : Seen) → Result (Unit {0}) Trouble → Type 0
 Leads f old new (Ok u) = (s : Store) → f (with_seen s old) ≡ Ok (with_seen s new)
-Leads f old new (Err t) = (s : Store) → f (with_seen s old) ≡ told {A = Store} (Err t)
+Leads f old new (Err t) = (s : Store) → f (with_seen s old) ≡ to_meaning {A = Store} (Err t)
 
 -- an operation that gives a value as well and needs memory: it fails after some steps, and out of memory it changes nothing
 abbrev pub Forms : {A : Type 0} → (Store → Result (A × Store) Meant) → (old new : Seen) → Result A Unmade → Type 0
 Forms f old new (Ok a) = (s : Store) → f (with_seen s old) ≡ Ok (a, with_seen s new)
-Forms {A} f old new (Err (unmade.Fault kind)) = (s : Store) → f (with_seen s old) ≡ told {A = A × Store} (Err (Fault kind))
-Forms {A} f old new (Err unmade.Misfit) = (s : Store) → f (with_seen s old) ≡ told {A = A × Store} (Err Misfit)
+Forms {A} f old new (Err (unmade.Fault kind)) = (s : Store) → f (with_seen s old) ≡ to_meaning {A = A × Store} (Err (Fault kind))
+Forms {A} f old new (Err unmade.Misfit) = (s : Store) → f (with_seen s old) ≡ to_meaning {A = A × Store} (Err Misfit)
 Forms f old new (Err unmade.Memory) = new ≡ old
 
 -- an operation that gives no value and needs memory: out of memory it has done what it does first
 abbrev pub Goes : (f first : Store → Result Store Meant) → (old new : Seen) → Result (Unit {0}) Unmade → Type 0
 Goes f first old new (Ok u) = (s : Store) → f (with_seen s old) ≡ Ok (with_seen s new)
-Goes f first old new (Err (unmade.Fault kind)) = (s : Store) → f (with_seen s old) ≡ told {A = Store} (Err (Fault kind))
-Goes f first old new (Err unmade.Misfit) = (s : Store) → f (with_seen s old) ≡ told {A = Store} (Err Misfit)
+Goes f first old new (Err (unmade.Fault kind)) = (s : Store) → f (with_seen s old) ≡ to_meaning {A = Store} (Err (Fault kind))
+Goes f first old new (Err unmade.Misfit) = (s : Store) → f (with_seen s old) ≡ to_meaning {A = Store} (Err Misfit)
 Goes f first old new (Err unmade.Memory) = (s : Store) → first (with_seen s old) ≡ Ok (with_seen s new)
 
 -- an operation looks, and needs memory for what it finds
 abbrev pub Finds : {A : Type 0} → (Store → Result A Meant) → Seen → Result A Unmade → Type 0
 Finds f e (Ok a) = (s : Store) → f (with_seen s e) ≡ Ok a
-Finds {A} f e (Err (unmade.Fault kind)) = (s : Store) → f (with_seen s e) ≡ told {A = A} (Err (Fault kind))
-Finds {A} f e (Err unmade.Misfit) = (s : Store) → f (with_seen s e) ≡ told {A = A} (Err Misfit)
+Finds {A} f e (Err (unmade.Fault kind)) = (s : Store) → f (with_seen s e) ≡ to_meaning {A = A} (Err (Fault kind))
+Finds {A} f e (Err unmade.Misfit) = (s : Store) → f (with_seen s e) ≡ to_meaning {A = A} (Err Misfit)
 Finds f e (Err unmade.Memory) = Unit {0}
 
 -- the answer of an operation whose value is put somewhere, which needs memory

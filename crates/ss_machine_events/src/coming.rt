@@ -10,7 +10,7 @@ ghost use Rattle.ss_records.specs.Classed.{HasClass};
 ghost use Rattle.ss_machine_entities.specs.Layouts.{kind_at};
 ghost use Rattle.ss_machine_world.specs.Seen.{with_seen};
 ghost use Rattle.ss_machine_events.specs.Scheduled.{Finds, put_there};
-ghost use Rattle.ss_machine_events.specs.Events.{Comes, Nears, passed_on, Begins, Lets, First, Told, Adds, IsPut, is_of, is_notice_kind};
+ghost use Rattle.ss_machine_events.specs.Events.{Comes, Nears, passed_on, Begins, Lets, First, IsEventOf, Adds, IsPut, is_of, is_notice_kind};
 
 use crate::scheduling::lacking;
 use ss_base::{ClassKind, Line, Value};
@@ -83,8 +83,8 @@ fn event_among(scene: &Scene, notices: &[NoticeClass], known: Known) -> Option<E
 
 // The event of a notice, by its number.
 #[inline(always)]
-fn event_told(scene: &Scene, known: Known) -> Option<Event>
-    ensures { Told scene.now known.number result }
+fn numbered_event(scene: &Scene, known: Known) -> Option<Event>
+    ensures { IsEventOf scene.now known.number result }
 {
     event_among(scene, &scene.notices, known)
 }
@@ -92,9 +92,9 @@ fn event_told(scene: &Scene, known: Known) -> Option<Event>
 // The event of a notice, by its number, out of line.
 #[inline(never)]
 fn event_apart(scene: &Scene, known: Known) -> Option<Event>
-    ensures { Told scene.now known.number result }
+    ensures { IsEventOf scene.now known.number result }
 {
-    event_told(scene, known)
+    numbered_event(scene, known)
 }
 
 // The event of a notice of a class, by its number.
@@ -102,7 +102,7 @@ fn event_apart(scene: &Scene, known: Known) -> Option<Event>
 fn event_in(scene: &Scene, class: usize, known: Known) -> Option<Event>
     requires class { HasClass scene.now.heap known.number class }
     requires kind { is_notice_kind (kind_at scene.now.heap.layout class) ≡ true }
-    ensures { IfSome result (λ event. Told scene.now known.number (Some event)) }
+    ensures { IfSome result (λ event. IsEventOf scene.now known.number (Some event)) }
 {
     match rank_of(&scene.notices, class) {
         None => None,
@@ -116,7 +116,7 @@ fn event_in(scene: &Scene, class: usize, known: Known) -> Option<Event>
 // The event of a notice, by its number, where it is found at once.
 #[inline(always)]
 fn event_near(scene: &Scene, known: Known) -> Option<Event>
-    ensures { IfSome result (λ event. Told scene.now known.number (Some event)) }
+    ensures { IfSome result (λ event. IsEventOf scene.now known.number (Some event)) }
 {
     match scene.population.class_near(known.number) {
         None => None,
@@ -130,7 +130,7 @@ fn event_near(scene: &Scene, known: Known) -> Option<Event>
 // The event of a notice, by its number, which is remembered, so that it is found sooner.
 #[inline(always)]
 fn met_event(scene: &mut Scene, known: Known) -> Option<Event>
-    ensures value { Told scene.old known.number result }
+    ensures value { IsEventOf scene.old known.number result }
     ensures same { scene.new ≡ scene.old }
 {
     scene.population.meet(known.number);

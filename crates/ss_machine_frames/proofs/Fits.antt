@@ -5,7 +5,7 @@ use Rattle.ss_base.specs.declared.layout.Mode.{Mode}
 use Rattle.ss_base.specs.declared.value.Value.{Value}
 use Rattle.ss_base.specs.Layout.{mode_of}
 use Rattle.ss_meaning.specs.Values.{same_mode}
-use Rattle.ss_meaning.specs.Store.{taken, behind}
+use Rattle.ss_meaning.specs.Store.{taken, prepended}
 use Rattle.ss_machine_frames.specs.Frames.{if_taken}
 
 -- as many as are taken
@@ -15,11 +15,11 @@ taken_short [] (v ∷ vs) h = refl
 taken_short (m ∷ ms) [] h = refl
 taken_short (m ∷ ms) (v ∷ vs) h = by (same_mode (mode_of v) m) (taken_short ms vs (λ e. h (ap suc e)))
   where
-    by : (b : Bool) → taken ms vs ≡ None → (if b then behind v (taken ms vs) else None) ≡ None
-    by true e = ap (behind v) e
+    by : (b : Bool) → taken ms vs ≡ None → (if b then prepended v (taken ms vs) else None) ≡ None
+    by true e = ap (prepended v) e
     by false e = refl
 
-appended_taken : (v : Value) (b : Bool) (vs : List Value) → behind v (if_taken b vs) ≡ if_taken b (v ∷ vs)
+appended_taken : (v : Value) (b : Bool) (vs : List Value) → prepended v (if_taken b vs) ≡ if_taken b (v ∷ vs)
 appended_taken v true vs = refl
 appended_taken v false vs = refl
 
@@ -35,8 +35,8 @@ taken_all [] (v ∷ vs) h = absurd (omega (arith, h))
 taken_all (m ∷ ms) [] h = absurd (omega (arith, h))
 taken_all (m ∷ ms) (v ∷ vs) h = by (same_mode (mode_of v) m) (taken_all ms vs (omega (arith, h)))
   where
-    by : (b : Bool) → taken ms vs ≡ if_taken (all_of ms vs) vs → (if b then behind v (taken ms vs) else None) ≡ if_taken (b && all_of ms vs) (v ∷ vs)
-    by true e = ap (behind v) e ∙ appended_taken v (all_of ms vs) vs
+    by : (b : Bool) → taken ms vs ≡ if_taken (all_of ms vs) vs → (if b then prepended v (taken ms vs) else None) ≡ if_taken (b && all_of ms vs) (v ∷ vs)
+    by true e = ap (prepended v) e ∙ appended_taken v (all_of ms vs) vs
     by false e = refl
 
 -- one more

@@ -3,7 +3,7 @@
 ghost use Rattle.std.specs.Prelude.{◌≡◌};
 ghost use Rattle.ss_meaning.specs.Values.{turned, due, made, calculated, operator_of, signed, distance, absolute, allows, related};
 ghost use Rattle.ss_base.specs.declared.value.Value.TheVariants.{Whole};
-ghost use Rattle.ss_machine_entities.specs.Told.{told};
+ghost use Rattle.ss_machine_entities.specs.Answered.{to_meaning};
 
 use ss_base::{FaultKind, Value, div_f, minus, mod_f, plus, times};
 use ss_machine_entities::trouble::Trouble;
@@ -30,7 +30,7 @@ fn made(operator: Operator, x: i64, y: i64) -> Result<i64, FaultKind>
 // A number or a fault.
 #[inline(always)]
 fn as_value(answer: Result<i64, FaultKind>) -> Result<Value, Trouble>
-    ensures { told result ≡ turned Whole (due answer) }
+    ensures { to_meaning result ≡ turned Whole (due answer) }
 {
     match answer {
         Ok(number) => Ok(Value::Whole(number)),
@@ -41,7 +41,7 @@ fn as_value(answer: Result<i64, FaultKind>) -> Result<Value, Trouble>
 /// What an operator makes of two values.
 #[inline(always)]
 pub fn calculated(operator: Operator, x: Value, y: Value) -> Result<Value, Trouble>
-    ensures { told result ≡ calculated operator x y }
+    ensures { to_meaning result ≡ calculated operator x y }
 {
     match (x, y) {
         (Value::Whole(x), Value::Whole(y)) => as_value(made(operator, x, y)),
@@ -65,7 +65,7 @@ pub fn operator_of(sign: Sign) -> Operator
 /// 0 plus or 0 minus a value.
 #[inline(always)]
 pub fn signed(sign: Sign, value: Value) -> Result<Value, Trouble>
-    ensures { told result ≡ signed sign value }
+    ensures { to_meaning result ≡ signed sign value }
 {
     calculated(operator_of(sign), Value::Whole(0), value)
 }
@@ -84,7 +84,7 @@ fn distance(number: i64) -> Result<i64, FaultKind>
 /// The distance of a value from 0.
 #[inline(always)]
 pub fn absolute(value: Value) -> Result<Value, Trouble>
-    ensures { told result ≡ absolute value }
+    ensures { to_meaning result ≡ absolute value }
 {
     match value {
         Value::Whole(number) => as_value(distance(number)),

@@ -5,7 +5,7 @@ ghost use Rattle.ss_base.specs.declared.value.Value.TheVariants.{Whole};
 ghost use Rattle.ss_meaning.specs.Values.{turned};
 ghost use Rattle.ss_meaning.specs.Store.{Store as StoreSeen};
 ghost use Rattle.ss_code_instructions.specs.Machine.{Code as CodeSeen, act, due_at};
-ghost use Rattle.ss_machine_entities.specs.Told.{told};
+ghost use Rattle.ss_machine_entities.specs.Answered.{to_meaning};
 ghost use Rattle.ss_machine_world.specs.Seen.{with_seen};
 ghost use Rattle.ss_machine_instructions.specs.Holding.{core_of, IsOutcome};
 
@@ -126,7 +126,7 @@ pub fn next_event(working: &mut Working, back: usize) -> Outcome
 // The time for which a notice is scheduled.
 #[inline(always)]
 fn due_at(scene: &Scene, later: bool, value: Value) -> Result<Value, Trouble>
-    ensures { (s : StoreSeen) → turned Whole (due_at later value (with_seen s scene.now)) ≡ told result }
+    ensures { (s : StoreSeen) → turned Whole (due_at later value (with_seen s scene.now)) ≡ to_meaning result }
 {
     match time_at(scene, later, value) {
         Ok(time) => Ok(Value::Whole(time)),

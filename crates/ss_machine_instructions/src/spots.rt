@@ -8,7 +8,7 @@ ghost use Rattle.ss_meaning.specs.Store.{put};
 ghost use Rattle.ss_meaning.specs.Histories.{noted};
 ghost use Rattle.ss_meaning.specs.Places.{held, written, assigned_variable};
 ghost use Rattle.ss_code_instructions.specs.Machine.{Code as CodeSeen, act, changed};
-ghost use Rattle.ss_machine_entities.specs.Told.{told};
+ghost use Rattle.ss_machine_entities.specs.Answered.{to_meaning};
 ghost use Rattle.ss_machine_instructions.specs.Effects.{Came, Rests};
 ghost use Rattle.ss_machine_frames.specs.Spots.{spot_seen};
 ghost use Rattle.ss_machine_instructions.specs.Holding.{store_of, core_of, IsOutcome};
@@ -109,7 +109,7 @@ impl Working {
     // What a place holds.
     #[inline(always)]
     fn held(&self, spot: &Spot) -> Result<Value, Trouble>
-        ensures { (input : List ℕ) → held (spot_seen spot.now) (store_of self.now input) ≡ told result }
+        ensures { (input : List ℕ) → held (spot_seen spot.now) (store_of self.now input) ≡ to_meaning result }
     {
         match *spot {
             Spot::Variable(variable) => sure(self.value_of(variable)),
@@ -153,7 +153,7 @@ impl Working {
     // What a place holds with a value added or taken away.
     #[inline(always)]
     fn sum_at(&self, sign: Sign, spot: &Spot, value: Value) -> Result<Value, Trouble>
-        ensures { (input : List ℕ) → if_ok (held (spot_seen spot.now) (store_of self.now input)) (λ x. calculated (operator_of sign) x value) ≡ told result }
+        ensures { (input : List ℕ) → if_ok (held (spot_seen spot.now) (store_of self.now input)) (λ x. calculated (operator_of sign) x value) ≡ to_meaning result }
     {
         match self.held(spot) {
             Err(trouble) => Err(trouble),
@@ -227,7 +227,7 @@ impl Working {
 // What has to be there.
 #[inline(always)]
 fn sure(value: Option<Value>) -> Result<Value, Trouble>
-    ensures { told result ≡ sure value }
+    ensures { to_meaning result ≡ sure value }
 {
     match value {
         None => Err(Trouble::Misfit),

@@ -13,7 +13,7 @@ use Rattle.ss_meaning.specs.Values.{Trouble as Meant, if_ok, turned, due, where_
 use Rattle.ss_meaning.specs.Store.{Store}
 use Rattle.ss_meaning.specs.Sets.{is_one, of_member, owner_by}
 use Rattle.ss_machine_entities.specs.Layouts.{set_in}
-use Rattle.ss_machine_world.specs.Seen.{Seen, with_seen, told_of_member}
+use Rattle.ss_machine_world.specs.Seen.{Seen, with_seen, member_answer}
 
 asked_once : {B : Type 0} (r : OkOr ℤ Meant) (b : Bool) (j : ℤ → OkOr ℕ FaultKind) (go : ℤ → ℕ → OkOr B FaultKind) (f : B → Value) → if_ok (if_ok r (λ n. where_fit b (turned (λ _. n) (due (j n))))) (λ n. turned f (due (S.and_then (j n) (go n)))) ≡ if_ok r (λ n. where_fit b (turned f (due (S.and_then (j n) (go n)))))
 asked_once (Err t) b j go f = refl
@@ -24,7 +24,7 @@ asked_once {B} (Ok n) b j go f = fits b (j n) refl
     fits true (Ok m) e = ap (λ q. turned f (due (S.and_then q (go n)))) e
     fits true (Err k) e = refl
 
-pub asked_is : (query : MemberQuery) (set : ℕ) (x : Value) (e : Seen) (s : Store) → of_member query set x (with_seen s e) ≡ if_ok (number_of x) (λ n. where_fit (is_some (set_in e.heap.layout set)) (told_of_member query e.heap set n))
+pub asked_is : (query : MemberQuery) (set : ℕ) (x : Value) (e : Seen) (s : Store) → of_member query set x (with_seen s e) ≡ if_ok (number_of x) (λ n. where_fit (is_some (set_in e.heap.layout set)) (member_answer query e.heap set n))
 asked_is Predecessor set x e s = asked_once (number_of x) (is_some (set_in e.heap.layout set)) (joiner e.heap set) _ Whole
 asked_is Successor set x e s = asked_once (number_of x) (is_some (set_in e.heap.layout set)) (joiner e.heap set) _ Whole
 asked_is Membership set x e s = asked_once (number_of x) (is_some (set_in e.heap.layout set)) (joiner e.heap set) _ (λ o. Whole (is_one o))

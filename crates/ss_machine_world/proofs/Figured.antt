@@ -13,7 +13,7 @@ use Rattle.ss_meaning.specs.Histories.{figure_kept, mean_kept}
 use Rattle.ss_meaning.specs.Statistics.{subject_of, bearer, present, figure, mean, reset}
 use Rattle.ss_machine_entities.specs.declared.known.Known.{Known}
 use Rattle.ss_machine_entities.specs.declared.trouble.Trouble.{Trouble}
-use Rattle.ss_machine_entities.specs.Told.{told}
+use Rattle.ss_machine_entities.specs.Answered.{to_meaning}
 use Rattle.ss_machine_world.specs.Seen.{Seen, with_seen, Looks, Changes, ChangesWhere}
 use Rattle.ss_machine_time.specs.Figures.{subject_in, variable_in, held_in, held_by, present_with, renewed_known, reset_of}
 
@@ -29,13 +29,13 @@ pub figured_of : (fold : Fold) (j : ℕ) (whose : Option Value) (e f : Seen) (t 
 figured_of fold j whose e f t k r is found same kept s =
     ap (λ q. if_ok q (λ t. if_ok (bearer t whose (with_seen s e)) (λ n. figure_kept fold j n (with_seen s e)))) (subject_there e j t s is)
     ∙ ap (λ q. if_ok q (λ n. figure_kept fold j n (with_seen s e))) (found s)
-    ∙ subst (λ (e : Seen). figure_kept fold j k.number (with_seen s e) ≡ told r) same (kept s)
+    ∙ subst (λ (e : Seen). figure_kept fold j k.number (with_seen s e) ≡ to_meaning r) same (kept s)
 
 pub mean_found : (j : ℕ) (whose : Option Value) (e f : Seen) (t : Subject) (k : Known) (r : OkOr (ℤ × ℤ) Trouble) → Some t ≡ subject_in e.statistics j → ((s : Store) → bearer t whose (with_seen s e) ≡ Ok k.number) → f ≡ e → Looks (mean_kept j k.number) f r → Looks (mean j whose) e r
 mean_found j whose e f t k r is found same kept s =
     ap (λ q. if_ok q (λ t. if_ok (bearer t whose (with_seen s e)) (λ n. mean_kept j n (with_seen s e)))) (subject_there e j t s is)
     ∙ ap (λ q. if_ok q (λ n. mean_kept j n (with_seen s e))) (found s)
-    ∙ subst (λ (e : Seen). mean_kept j k.number (with_seen s e) ≡ told r) same (kept s)
+    ∙ subst (λ (e : Seen). mean_kept j k.number (with_seen s e) ≡ to_meaning r) same (kept s)
 
 -- ## RESET
 

@@ -7,7 +7,7 @@ use Rattle.ss_world.specs.Disciplines.{filed}
 use Rattle.ss_meaning.specs.Values.{if_ok, due, sure, where_fit}
 use Rattle.ss_meaning.specs.Sets.{Filing, ByRule, Hindmost, is_fit, filed_by}
 use Rattle.ss_machine_entities.specs.declared.trouble.Trouble.{Trouble}
-use Rattle.ss_machine_entities.specs.Told.{meant}
+use Rattle.ss_machine_entities.specs.Answered.{meant}
 use Rattle.ss_machine_world.specs.Seen.{Seen}
 use Rattle.ss_machine_world.specs.Filed.{GoesLast, Resettles}
 

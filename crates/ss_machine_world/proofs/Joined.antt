@@ -9,7 +9,7 @@ use Rattle.ss_world.specs.Sets.{joiner, owner, member_class, put_in, put_beside,
 use Rattle.ss_world.specs.Disciplines.{put_ranked, filed}
 use Rattle.ss_meaning.specs.Values.{if_ok, due, sure, where_fit}
 use Rattle.ss_meaning.specs.Store.{Store}
-use Rattle.ss_meaning.specs.Sets.{Filing, ByRule, Foremost, Hindmost, Ahead, Behind, is_fit, member, filed_by}
+use Rattle.ss_meaning.specs.Sets.{Filing, ByRule, Foremost, Hindmost, JustBefore, JustAfter, is_fit, member, filed_by}
 use Rattle.ss_machine_world.specs.Filed.{out_of, tested}
 use Rattle.ss_machine_world.proofs.Late.{if_ok_ok}
 use Rattle.ss_machine_entities.proofs.Refiled.{and_then_ok}
@@ -42,8 +42,8 @@ by_joined ByRule set o x s h e = ruled (slice_get s.scene.setting.disciplines se
     ruled (Some d) e = fits d (is_fit s.scene.heap.layout set d) e
 by_joined Foremost set o x s h e = put_joined s.scene.heap h set o x (λ y l. y ∷ l) e
 by_joined Hindmost set o x s h e = put_joined s.scene.heap h set o x (λ y l. l ++ y ∷ []) e
-by_joined (Ahead y) set o x s h e = let k = if_ok_ok (member set y s) (λ k. due (filed_before s.scene.heap set o x k)) h e in beside_joined s.scene.heap h set o x put_before k.0 k.2
-by_joined (Behind y) set o x s h e = let k = if_ok_ok (member set y s) (λ k. due (filed_after s.scene.heap set o x k)) h e in beside_joined s.scene.heap h set o x put_after k.0 k.2
+by_joined (JustBefore y) set o x s h e = let k = if_ok_ok (member set y s) (λ k. due (filed_before s.scene.heap set o x k)) h e in beside_joined s.scene.heap h set o x put_before k.0 k.2
+by_joined (JustAfter y) set o x s h e = let k = if_ok_ok (member set y s) (λ k. due (filed_after s.scene.heap set o x k)) h e in beside_joined s.scene.heap h set o x put_after k.0 k.2
 
 pub out_joined : (set : ℕ) (o x : ℤ) (s : Store) (h : State) → out_of set o x s ≡ Ok h → (i : ℕ) × (joiner s.scene.heap set x ≡ Ok i)
 out_joined set o x s h e = looked s.scene.heap set x (λ n. and_then (owner s.scene.heap set o) (λ m. taken_out s.scene.heap set m n)) h e

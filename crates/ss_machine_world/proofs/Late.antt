@@ -8,7 +8,7 @@ use Rattle.ss_meaning.specs.Values.{Trouble as Meant, Fails, Misfit as IsMisfit,
 use Rattle.ss_meaning.specs.Store.{Store}
 use Rattle.ss_meaning.specs.Sets.{member, owner_number}
 use Rattle.ss_machine_entities.specs.declared.trouble.Trouble.{Trouble}
-use Rattle.ss_machine_entities.specs.Told.{meant}
+use Rattle.ss_machine_entities.specs.Answered.{meant}
 use Rattle.ss_machine_entities.specs.Layouts.{set_in}
 use Rattle.ss_machine_world.specs.Seen.{Seen, with_seen}
 use Rattle.ss_machine_world.specs.Filed.{with_owner, IsEarliest}

@@ -17,7 +17,7 @@ use Rattle.ss_world.specs.State.{assigned}
 use Rattle.ss_meaning.specs.Histories.{same_subject, with_history, noting_in, noting, all_noting, noted}
 use Rattle.ss_machine_entities.specs.declared.trouble.Trouble.{Trouble}
 use Rattle.ss_machine_entities.specs.declared.trouble.Trouble.TheVariants.{Fault}
-use Rattle.ss_machine_entities.specs.Told.{told}
+use Rattle.ss_machine_entities.specs.Answered.{to_meaning}
 use Rattle.ss_machine_world.specs.Seen.{Seen, with_seen, Changes, Stays, Notes, mode_at}
 use Rattle.ss_machine_world.specs.Filed.{IsCountable, recounted_now}
 use Rattle.ss_machine_world.proofs.Once.{set_once}
@@ -82,7 +82,7 @@ no_store e = record {
 pub noting_stays : (subject : Subject) (x : ℤ) (v : Value) (old mid new : Seen) (t : Trouble) → Changes (noted subject x v) mid new (Err t) → Stays t old new
 noting_stays subject x v old mid new t h kind e ne =
     let s : Store = with_seen (no_store mid) mid in
-    absurd (ne (noted_full kind subject x v s (subst (λ (t : Trouble). noted subject x v s ≡ told {A = Store} (Err t)) e (h.0 (no_store mid)))))
+    absurd (ne (noted_full kind subject x v s (subst (λ (t : Trouble). noted subject x v s ≡ to_meaning {A = Store} (Err t)) e (h.0 (no_store mid)))))
 
 pub recounting_stays : (set : ℕ) (o : ℤ) (old mid new : Seen) (t : Trouble) → IsCountable mid.heap set o → Changes (recounted_now set o) mid new (Err t) → Stays t old new
 recounting_stays set o old mid new t c h =
@@ -107,5 +107,5 @@ assigned_notes class field n v old mid new r fits done same h =
     r (λ t h. noting_stays (OfAttribute class field) n v old mid new t h) h
 
 -- an attribute of one that is not there is not
-pub assigned_not : (class field : ℕ) (n : ℤ) (v : Value) (e : Seen) (k : FaultKind) (s : Store) → is_of_mode v (mode_at e.heap.layout class field) ≡ true → assigned e.heap class field n v ≡ Err k → assigned_attribute class field (Whole n) v (with_seen s e) ≡ told {A = Store} (Err (Fault k))
+pub assigned_not : (class field : ℕ) (n : ℤ) (v : Value) (e : Seen) (k : FaultKind) (s : Store) → is_of_mode v (mode_at e.heap.layout class field) ≡ true → assigned e.heap class field n v ≡ Err k → assigned_attribute class field (Whole n) v (with_seen s e) ≡ to_meaning {A = Store} (Err (Fault k))
 assigned_not class field n v e k s fits miss = set_once e class field n v s fits ∙ ap (λ r. if_ok (due r) (λ h. noted (OfAttribute class field) n v (with_heap (with_seen s e) h))) miss

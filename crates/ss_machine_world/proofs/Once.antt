@@ -17,7 +17,7 @@ use Rattle.ss_meaning.specs.Places.{is_of_mode, assigned_attribute}
 use Rattle.ss_program.specs.declared.sections.Subject.TheVariants.{OfAttribute}
 use Rattle.ss_machine_entities.specs.declared.trouble.Trouble.{Trouble}
 use Rattle.ss_machine_entities.specs.declared.trouble.Trouble.TheVariants.{Fault, Misfit}
-use Rattle.ss_machine_entities.specs.Told.{meant}
+use Rattle.ss_machine_entities.specs.Answered.{meant}
 use Rattle.ss_machine_entities.specs.Layouts.{class_in, mode_in}
 use Rattle.ss_machine_world.specs.Seen.{Seen, with_seen, mode_at, IsEarlier}
 use Rattle.ss_machine_world.proofs.Late.{look_first}

@@ -19,7 +19,7 @@ use Rattle.ss_world.specs.Disciplines.{filed}
 use Rattle.ss_meaning.specs.Values.{Trouble as Meant, if_ok, turned, due, sure, where_fit}
 use Rattle.ss_meaning.specs.Store.{Column, Store, with_histories}
 use Rattle.ss_meaning.specs.Histories.{same_subject, noting, all_noting, noted}
-use Rattle.ss_meaning.specs.Sets.{Filing, ByRule, Foremost, Hindmost, Ahead, Behind, is_fit, member, owner_number, filed_by, recounted, end_removed, removed_at}
+use Rattle.ss_meaning.specs.Sets.{Filing, ByRule, Foremost, Hindmost, JustBefore, JustAfter, is_fit, member, owner_number, filed_by, recounted, end_removed, removed_at}
 use Rattle.ss_machine_entities.specs.declared.trouble.Trouble.{Trouble}
 use Rattle.ss_machine_world.specs.Seen.{Seen, with_seen, Changes, Gains}
 use Rattle.ss_machine_world.specs.Filed.{IsCountable, CountsWatched, recounted_now, end_counted}
@@ -78,10 +78,10 @@ by_refiled ByRule set o x s h e = ruled (slice_get s.scene.setting.disciplines s
     ruled (Some d) e = fits d (is_fit s.scene.heap.layout set d) e
 by_refiled Foremost set o x s h e = first_refiled s.scene.heap h set o x (due_ok (filed_first s.scene.heap set o x) h e)
 by_refiled Hindmost set o x s h e = last_refiled s.scene.heap h set o x (due_ok (filed_last s.scene.heap set o x) h e)
-by_refiled (Ahead y) set o x s h e =
+by_refiled (JustBefore y) set o x s h e =
     let k = if_ok_ok (member set y s) (λ k. due (filed_before s.scene.heap set o x k)) h e in
     before_refiled s.scene.heap h set o x k.0 (due_ok (filed_before s.scene.heap set o x k.0) h k.2)
-by_refiled (Behind y) set o x s h e =
+by_refiled (JustAfter y) set o x s h e =
     let k = if_ok_ok (member set y s) (λ k. due (filed_after s.scene.heap set o x k)) h e in
     after_refiled s.scene.heap h set o x k.0 (due_ok (filed_after s.scene.heap set o x k.0) h k.2)
 

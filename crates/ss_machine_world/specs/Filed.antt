@@ -12,13 +12,13 @@ use Rattle.ss_machine_time.specs.Records.{IsOnly, Takes, columns_of}
 use Rattle.ss_meaning.specs.Histories.{noted}
 use Rattle.ss_meaning.specs.Values.{Trouble as Meant, if_ok, turned, due, where_fit, unless_fault}
 use Rattle.ss_meaning.specs.Store.{Store}
-use Rattle.ss_meaning.specs.Sets.{Filing as MeantFiling, ByRule, Foremost, Hindmost, Ahead, Behind, recounted, set_at, member, owner_number, filed_by, end_removed, from_or_after}
+use Rattle.ss_meaning.specs.Sets.{Filing as MeantFiling, ByRule, Foremost, Hindmost, JustBefore, JustAfter, recounted, set_at, member, owner_number, filed_by, end_removed, from_or_after}
 use Rattle.ss_machine_world.specs.declared.filing.Filing.{Filing}
 use Rattle.ss_machine_world.specs.declared.filing.Filing.TheVariants.{ByDiscipline, First, Last, Before, After}
 use Rattle.ss_machine_entities.specs.declared.known.Known.{Known}
 use Rattle.ss_machine_entities.specs.declared.known.Membership.{Membership}
 use Rattle.ss_machine_entities.specs.declared.trouble.Trouble.{Trouble}
-use Rattle.ss_machine_entities.specs.Told.{told}
+use Rattle.ss_machine_entities.specs.Answered.{to_meaning}
 use Rattle.ss_machine_entities.specs.Layouts.{set_in}
 use Rattle.ss_machine_world.specs.Seen.{Seen, with_seen}
 
@@ -27,8 +27,8 @@ abbrev pub filing_meant : Filing → MeantFiling
 filing_meant ByDiscipline = ByRule
 filing_meant First = Foremost
 filing_meant Last = Hindmost
-filing_meant (Before y) = Ahead y
-filing_meant (After y) = Behind y
+filing_meant (Before y) = JustBefore y
+filing_meant (After y) = JustAfter y
 
 -- what is filed goes last in a set
 abbrev pub GoesLast : MeantFiling → (set : ℕ) → Seen → Type 0
@@ -37,7 +37,7 @@ GoesLast filing set e = (o x : ℤ) (s : Store) → filed_by filing set o x (wit
 -- an operation gives other entities, which are those that are seen afterwards, or it fails and changes nothing
 abbrev pub Resettles : (Store → Result State Meant) → (old new : Seen) → Result (Unit {0}) Trouble → Type 0
 Resettles f old new (Ok u) = ((s : Store) → f (with_seen s old) ≡ Ok new.heap) × (new ≡ record old { heap = new.heap })
-Resettles f old new (Err t) = ((s : Store) → f (with_seen s old) ≡ told {A = State} (Err t)) × (new ≡ old)
+Resettles f old new (Err t) = ((s : Store) → f (with_seen s old) ≡ to_meaning {A = State} (Err t)) × (new ≡ old)
 
 -- N. of the set of an owner can be counted
 abbrev pub IsCountable : State → (set : ℕ) → (owner : ℤ) → Type 0
@@ -64,7 +64,7 @@ with_owner set o go s = if_ok (owner_number set o s) (λ m. go m s)
 abbrev pub Rehomes : (set : ℕ) → Option Value → (ℤ → Store → Result State Meant) → (old new : Seen) → Result Known Trouble → Type 0
 Rehomes set o f old new (Ok k) =
     ((s : Store) → (owner_number set o (with_seen s old) ≡ Ok k.number) × (f k.number (with_seen s old) ≡ Ok new.heap)) × (new ≡ record old { heap = new.heap })
-Rehomes set o f old new (Err t) = ((s : Store) → with_owner set o f (with_seen s old) ≡ told {A = State} (Err t)) × (new ≡ old)
+Rehomes set o f old new (Err t) = ((s : Store) → with_owner set o f (with_seen s old) ≡ to_meaning {A = State} (Err t)) × (new ≡ old)
 
 -- the numbers of the owner of a set and of an entity that may be a member of it
 abbrev pub both_known : (set : ℕ) → Value → Option Value → Store → Result (ℤ × ℤ) Meant
@@ -79,7 +79,7 @@ paired (Err t) = Err t
 -- the trouble of a look at a member, or else one that came later
 abbrev pub IsEarliest : State → (set : ℕ) → (member : ℤ) → (later first : Trouble) → Type 0
 IsEarliest h set x later first =
-    if_ok {B = ℤ} (where_fit (is_some (set_in h.layout set)) (turned (λ _. x) (due (joiner h set x)))) (λ _. told (Err later)) ≡ told (Err first)
+    if_ok {B = ℤ} (where_fit (is_some (set_in h.layout set)) (turned (λ _. x) (due (joiner h set x)))) (λ _. to_meaning (Err later)) ≡ to_meaning (Err first)
 
 -- the test of membership
 abbrev pub tested : (set : ℕ) → (member owner : ℤ) → Store → Result Bool Meant
@@ -92,7 +92,7 @@ out_of set o x s = due (removed s.scene.heap set o x)
 -- an operation gives a value and other entities, or fails and changes nothing
 abbrev pub Gives : {A : Type 0} → (Store → Result (A × State) Meant) → (old new : Seen) → Result A Trouble → Type 0
 Gives f old new (Ok a) = ((s : Store) → f (with_seen s old) ≡ Ok (a, new.heap)) × (new ≡ record old { heap = new.heap })
-Gives {A} f old new (Err t) = ((s : Store) → f (with_seen s old) ≡ told {A = A × State} (Err t)) × (new ≡ old)
+Gives {A} f old new (Err t) = ((s : Store) → f (with_seen s old) ≡ to_meaning {A = A × State} (Err t)) × (new ≡ old)
 
 -- removing at an end
 abbrev pub end_out : End → (set : ℕ) → (owner : ℤ) → Store → Result (Value × State) Meant

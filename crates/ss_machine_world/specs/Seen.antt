@@ -20,7 +20,7 @@ use Rattle.ss_world.specs.Sets.{next_in, previous_in, owner_of_member}
 use Rattle.ss_program.specs.declared.expression.MemberQuery.{MemberQuery}
 use Rattle.ss_program.specs.declared.expression.MemberQuery.TheVariants.{Predecessor, Successor, Membership}
 use Rattle.ss_program.specs.declared.sections.Statistic.{Statistic}
-use Rattle.ss_machine_entities.specs.Told.{told}
+use Rattle.ss_machine_entities.specs.Answered.{to_meaning}
 use Rattle.ss_machine_entities.specs.declared.trouble.Trouble.{Trouble}
 use Rattle.ss_machine_entities.specs.declared.trouble.Trouble.TheVariants.{Fault, Misfit}
 use Rattle.ss_machine_entities.specs.declared.trouble.Unmade.{Unmade}
@@ -55,12 +55,12 @@ with_seen s e = record s {
 
 -- an operation looks: in each store with what is seen it has this answer
 abbrev pub Looks : {A : Type 0} → (Store → Result A Meant) → Seen → Result A Trouble → Type 0
-Looks f e answer = (s : Store) → f (with_seen s e) ≡ told answer
+Looks f e answer = (s : Store) → f (with_seen s e) ≡ to_meaning answer
 
 -- an operation changes what is seen, or fails and changes nothing
 abbrev pub Changes : (Store → Result Store Meant) → (old new : Seen) → Result (Unit {0}) Trouble → Type 0
 Changes f old new (Ok u) = (s : Store) → f (with_seen s old) ≡ Ok (with_seen s new)
-Changes f old new (Err t) = ((s : Store) → f (with_seen s old) ≡ told {A = Store} (Err t)) × (new ≡ old)
+Changes f old new (Err t) = ((s : Store) → f (with_seen s old) ≡ to_meaning {A = Store} (Err t)) × (new ≡ old)
 
 -- what is seen stays as it was after a fault, unless that is of a history which is full: a value is noted last
 abbrev pub Stays : Trouble → (old new : Seen) → Type 0
@@ -69,17 +69,17 @@ Stays t old new = (kind : FaultKind) → t ≡ Fault kind → (kind ≡ Overflow
 -- an operation changes what is seen, and histories note it; or it fails, and changes nothing where no history does
 abbrev pub Notes : (Store → Result Store Meant) → (old new : Seen) → Result (Unit {0}) Trouble → Type 0
 Notes f old new (Ok u) = (s : Store) → f (with_seen s old) ≡ Ok (with_seen s new)
-Notes f old new (Err t) = ((s : Store) → f (with_seen s old) ≡ told {A = Store} (Err t)) × Stays t old new
+Notes f old new (Err t) = ((s : Store) → f (with_seen s old) ≡ to_meaning {A = Store} (Err t)) × Stays t old new
 
 -- an operation that gives a value changes what is seen, and histories note it; or it fails
 abbrev pub Gains : {A : Type 0} → (Store → Result (A × Store) Meant) → (old new : Seen) → Result A Trouble → Type 0
 Gains f old new (Ok a) = (s : Store) → f (with_seen s old) ≡ Ok (a, with_seen s new)
-Gains {A} f old new (Err t) = ((s : Store) → f (with_seen s old) ≡ told {A = A × Store} (Err t)) × Stays t old new
+Gains {A} f old new (Err t) = ((s : Store) → f (with_seen s old) ≡ to_meaning {A = A × Store} (Err t)) × Stays t old new
 
 -- an operation changes what is seen or fails and changes nothing, in each store of which something holds
 abbrev pub ChangesWhere : (Store → Type 0) → (Store → Result Store Meant) → (old new : Seen) → Result (Unit {0}) Trouble → Type 0
 ChangesWhere P f old new (Ok u) = (s : Store) → P (with_seen s old) → f (with_seen s old) ≡ Ok (with_seen s new)
-ChangesWhere P f old new (Err t) = ((s : Store) → P (with_seen s old) → f (with_seen s old) ≡ told {A = Store} (Err t)) × (new ≡ old)
+ChangesWhere P f old new (Err t) = ((s : Store) → P (with_seen s old) → f (with_seen s old) ≡ to_meaning {A = Store} (Err t)) × (new ≡ old)
 
 -- no trouble is due to an operation: it goes well in each store with what is seen
 abbrev pub GoesWell : {A : Type 0} → (Store → Result A Meant) → Seen → Type 0
@@ -88,15 +88,15 @@ GoesWell f e = (s : Store) → IsOk (f (with_seen s e))
 -- an operation that needs memory changes what is seen and gives a value, or fails and changes nothing; out of memory it changes nothing
 abbrev pub Makes : {A : Type 0} → (Store → Result (A × Store) Meant) → (old new : Seen) → Result A Unmade → Type 0
 Makes f old new (Ok a) = (s : Store) → f (with_seen s old) ≡ Ok (a, with_seen s new)
-Makes {A} f old new (Err (unmade.Fault kind)) = ((s : Store) → f (with_seen s old) ≡ told {A = A × Store} (Err (Fault kind))) × (new ≡ old)
-Makes {A} f old new (Err unmade.Misfit) = ((s : Store) → f (with_seen s old) ≡ told {A = A × Store} (Err Misfit)) × (new ≡ old)
+Makes {A} f old new (Err (unmade.Fault kind)) = ((s : Store) → f (with_seen s old) ≡ to_meaning {A = A × Store} (Err (Fault kind))) × (new ≡ old)
+Makes {A} f old new (Err unmade.Misfit) = ((s : Store) → f (with_seen s old) ≡ to_meaning {A = A × Store} (Err Misfit)) × (new ≡ old)
 Makes f old new (Err unmade.Memory) = new ≡ old
 
 -- and of one that gives no value
 abbrev pub Grows : (Store → Result Store Meant) → (old new : Seen) → Result (Unit {0}) Unmade → Type 0
 Grows f old new (Ok u) = (s : Store) → f (with_seen s old) ≡ Ok (with_seen s new)
-Grows f old new (Err (unmade.Fault kind)) = ((s : Store) → f (with_seen s old) ≡ told {A = Store} (Err (Fault kind))) × (new ≡ old)
-Grows f old new (Err unmade.Misfit) = ((s : Store) → f (with_seen s old) ≡ told {A = Store} (Err Misfit)) × (new ≡ old)
+Grows f old new (Err (unmade.Fault kind)) = ((s : Store) → f (with_seen s old) ≡ to_meaning {A = Store} (Err (Fault kind))) × (new ≡ old)
+Grows f old new (Err unmade.Misfit) = ((s : Store) → f (with_seen s old) ≡ to_meaning {A = Store} (Err Misfit)) × (new ≡ old)
 Grows f old new (Err unmade.Memory) = new ≡ old
 
 -- a new entity by its number, or why there is none, as a value
@@ -124,17 +124,17 @@ mode_at l class field = slice_get (modes_of l class) field
 
 -- the trouble of a look at an entity, by its number, or else one that came later
 abbrev pub IsEarlier : (class : ℕ) → (number : ℤ) → Seen → (later first : Trouble) → Type 0
-IsEarlier class n e later first = (s : Store) → if_ok {B = ℤ} (entity class (Whole n) (with_seen s e)) (λ _. told (Err later)) ≡ told (Err first)
+IsEarlier class n e later first = (s : Store) → if_ok {B = ℤ} (entity class (Whole n) (with_seen s e)) (λ _. to_meaning (Err later)) ≡ to_meaning (Err first)
 
 -- what CANCEL does once the number of the notice is known
 abbrev pub cancelled_known : (number : ℤ) → Store → Result Store Meant
 cancelled_known n s = turned (with_pending s) (due (cancelled n s.scene.pending))
 
 -- what is asked of a member, once its number is known
-abbrev pub told_of_member : MemberQuery → State → (set : ℕ) → (number : ℤ) → Result Value Meant
-told_of_member Predecessor h set n = turned Whole (due (previous_in h set n))
-told_of_member Successor h set n = turned Whole (due (next_in h set n))
-told_of_member Membership h set n = turned (λ o. Whole (is_one o)) (due (owner_of_member h set n))
+abbrev pub member_answer : MemberQuery → State → (set : ℕ) → (number : ℤ) → Result Value Meant
+member_answer Predecessor h set n = turned Whole (due (previous_in h set n))
+member_answer Successor h set n = turned Whole (due (next_in h set n))
+member_answer Membership h set n = turned (λ o. Whole (is_one o)) (due (owner_of_member h set n))
 
 -- what CREATE EVERY does once the number of entities is known
 abbrev pub created_all_known : (class : ℕ) → (number : ℤ) → Store → Result Store Meant

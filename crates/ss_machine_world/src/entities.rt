@@ -6,7 +6,7 @@ ghost use Rattle.ss_meaning.specs.Entities.{is_single, is_permanent, entity, att
 ghost use Rattle.ss_meaning.specs.Events.{with_time};
 ghost use Rattle.ss_meaning.specs.Store.{Store as StoreSeen};
 ghost use Rattle.ss_meaning.specs.Places.{is_of_mode, assigned_attribute};
-ghost use Rattle.ss_machine_entities.specs.Told.{numbered};
+ghost use Rattle.ss_machine_entities.specs.Answered.{numbered};
 ghost use Rattle.ss_machine_entities.specs.declared.trouble.Unmade.TheVariants.{Memory};
 ghost use Rattle.ss_machine_entities.specs.Layouts.{class_in, kind_at};
 ghost use Rattle.ss_machine_world.specs.Seen.{Looks, Changes, Notes, Makes, Grows, GoesWell, IsEarlier, as_value, count_open, number_made, created_all_known, mode_at, with_seen};

@@ -2,7 +2,7 @@
 
 ghost use Rattle.std.specs.Prelude.{◌≡◌, ◌<◌, length, true, Some, IfOk, slice_get};
 ghost use Rattle.ss_base.specs.declared.layout.Discipline.TheVariants.{Fifo};
-ghost use Rattle.ss_meaning.specs.Sets.{ByRule, Hindmost, Ahead, Behind, filed_by, filed_in};
+ghost use Rattle.ss_meaning.specs.Sets.{ByRule, Hindmost, JustBefore, JustAfter, filed_by, filed_in};
 ghost use Rattle.ss_machine_world.specs.Seen.{Notes};
 ghost use Rattle.ss_machine_world.specs.Filed.{GoesLast, Resettles, Rehomes, IsCountable, filing_meant};
 
@@ -76,7 +76,7 @@ impl Scene {
     #[inline(never)]
     fn file_before(&mut self, set: usize, both: Membership, y: Value) -> Result<(), Trouble>
         requires set { set < length self.old.heap.layout.sets }
-        ensures { Resettles (filed_by (Ahead y) set both.owner.number both.member.number) self.old self.new result }
+        ensures { Resettles (filed_by (JustBefore y) set both.owner.number both.member.number) self.old self.new result }
     {
         match self.find_member(set, y) {
             Ok(beside) => or_trouble(
@@ -91,7 +91,7 @@ impl Scene {
     #[inline(never)]
     fn file_after(&mut self, set: usize, both: Membership, y: Value) -> Result<(), Trouble>
         requires set { set < length self.old.heap.layout.sets }
-        ensures { Resettles (filed_by (Behind y) set both.owner.number both.member.number) self.old self.new result }
+        ensures { Resettles (filed_by (JustAfter y) set both.owner.number both.member.number) self.old self.new result }
     {
         match self.find_member(set, y) {
             Ok(beside) => or_trouble(

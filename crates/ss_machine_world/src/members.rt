@@ -5,7 +5,7 @@ ghost use Rattle.ss_world.specs.Sets.{joiner, owner};
 ghost use Rattle.ss_world.specs.Disciplines.{member_test};
 ghost use Rattle.ss_meaning.specs.Sets.{member, known_owner, is_in, outset, beside, begun, coming, from_or_after, begun_at, or_gone, goes_on};
 ghost use Rattle.ss_meaning.specs.Values.{due, turned, where_fit};
-ghost use Rattle.ss_machine_entities.specs.Told.{told, numbered};
+ghost use Rattle.ss_machine_entities.specs.Answered.{to_meaning, numbered};
 ghost use Rattle.ss_machine_entities.specs.Layouts.{set_in};
 ghost use Rattle.ss_machine_world.specs.Seen.{Looks};
 ghost use Rattle.ss_machine_world.specs.Filed.{both_known, paired, with_owner, tested, IsEarliest, begun_from};
@@ -20,7 +20,7 @@ impl Scene {
     // A number as that of an entity that may be a member of a set.
     #[inline(always)]
     fn look_member(&mut self, set: usize, known: Known) -> Result<Known, Trouble>
-        ensures value { where_fit (is_some (set_in self.old.heap.layout set)) (turned (λ _. known.number) (due (joiner self.old.heap set known.number))) ≡ told (numbered result) }
+        ensures value { where_fit (is_some (set_in self.old.heap.layout set)) (turned (λ _. known.number) (due (joiner self.old.heap set known.number))) ≡ to_meaning (numbered result) }
         ensures there { IfOk result (λ _. set < length self.old.heap.layout.sets) }
         ensures same { self.new ≡ self.old }
     {
@@ -61,7 +61,7 @@ impl Scene {
     // A number as that of an owner of a set, where the layout has the set.
     #[inline(always)]
     fn look_owner(&mut self, set: usize, known: Known) -> Result<Known, Trouble>
-        ensures value { where_fit (is_some (set_in self.old.heap.layout set)) (turned (λ _. known.number) (due (owner self.old.heap set known.number))) ≡ told (numbered result) }
+        ensures value { where_fit (is_some (set_in self.old.heap.layout set)) (turned (λ _. known.number) (due (owner self.old.heap set known.number))) ≡ to_meaning (numbered result) }
         ensures same { self.new ≡ self.old }
     {
         if !self.has_set(set) {
@@ -121,7 +121,7 @@ impl Scene {
     #[inline(always)]
     fn is_in_known(&mut self, set: usize, both: Membership) -> Result<bool, Trouble>
         requires set { set < length self.old.heap.layout.sets }
-        ensures value { due (member_test self.old.heap set both.owner.number both.member.number) ≡ told result }
+        ensures value { due (member_test self.old.heap set both.owner.number both.member.number) ≡ to_meaning result }
         ensures same { self.new ≡ self.old }
     {
         match self
@@ -178,7 +178,7 @@ impl Scene {
     // The member of the set of an owner that comes first, by the owner's number, where the layout has the set.
     #[inline(always)]
     fn outset(&mut self, reverse: bool, set: usize, known: Known) -> Result<i64, Trouble>
-        ensures value { where_fit (is_some (set_in self.old.heap.layout set)) (due (outset reverse self.old.heap set known.number)) ≡ told result }
+        ensures value { where_fit (is_some (set_in self.old.heap.layout set)) (due (outset reverse self.old.heap set known.number)) ≡ to_meaning result }
         ensures same { self.new ≡ self.old }
     {
         if !self.has_set(set) {
@@ -302,7 +302,7 @@ impl Scene {
 // A member that has to be there is gone where it is in the set no longer, or where a look at it has a fault.
 #[inline(always)]
 fn or_gone(answer: Result<bool, Trouble>) -> Result<bool, Trouble>
-    ensures { or_gone (told answer) ≡ told result }
+    ensures { or_gone (to_meaning answer) ≡ to_meaning result }
 {
     match answer {
         Ok(true) => Ok(true),

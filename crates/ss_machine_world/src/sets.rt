@@ -2,12 +2,12 @@
 
 ghost use Rattle.std.specs.Prelude.{◌≡◌, ◌<◌, length, is_some, IsTrue};
 ghost use Rattle.ss_base.specs.declared.value.Value.TheVariants.{Whole};
-ghost use Rattle.ss_meaning.specs.Sets.{told_of_set, owner_number, of_set, of_member, is_none, is_empty};
+ghost use Rattle.ss_meaning.specs.Sets.{set_answer, owner_number, of_set, of_member, is_none, is_empty};
 ghost use Rattle.ss_world.specs.Sets.{count_in};
 ghost use Rattle.ss_meaning.specs.Values.{due, turned, where_fit};
-ghost use Rattle.ss_machine_entities.specs.Told.{told, numbered};
+ghost use Rattle.ss_machine_entities.specs.Answered.{to_meaning, numbered};
 ghost use Rattle.ss_machine_entities.specs.Layouts.{set_in};
-ghost use Rattle.ss_machine_world.specs.Seen.{Looks, told_of_member};
+ghost use Rattle.ss_machine_world.specs.Seen.{Looks, member_answer};
 
 use crate::scene::Scene;
 use ss_base::{FaultKind, Value};
@@ -40,7 +40,7 @@ impl Scene {
     // What is asked of the set of an owner by its number, where the layout has the set.
     #[inline(always)]
     fn asked(&mut self, query: SetQuery, set: usize, known: Known) -> Result<Value, Trouble>
-        ensures value { where_fit (is_some (set_in self.old.heap.layout set)) (turned Whole (due (told_of_set query self.old.heap set known.number))) ≡ told result }
+        ensures value { where_fit (is_some (set_in self.old.heap.layout set)) (turned Whole (due (set_answer query self.old.heap set known.number))) ≡ to_meaning result }
         ensures same { self.new ≡ self.old }
     {
         if !self.has_set(set) {
@@ -77,7 +77,7 @@ impl Scene {
     // Whether the set of an owner has no member, by the owner's number, where the layout has the set.
     #[inline(always)]
     fn is_empty_known(&mut self, set: usize, known: Known) -> Result<bool, Trouble>
-        ensures value { where_fit (is_some (set_in self.old.heap.layout set)) (turned is_none (due (count_in self.old.heap set known.number))) ≡ told result }
+        ensures value { where_fit (is_some (set_in self.old.heap.layout set)) (turned is_none (due (count_in self.old.heap set known.number))) ≡ to_meaning result }
         ensures same { self.new ≡ self.old }
     {
         if !self.has_set(set) {
@@ -109,7 +109,7 @@ impl Scene {
         set: usize,
         known: Known,
     ) -> Result<Value, Trouble>
-        ensures value { where_fit (is_some (set_in self.old.heap.layout set)) (told_of_member query self.old.heap set known.number) ≡ told result }
+        ensures value { where_fit (is_some (set_in self.old.heap.layout set)) (member_answer query self.old.heap set known.number) ≡ to_meaning result }
         ensures same { self.new ≡ self.old }
     {
         if !self.has_set(set) {
@@ -150,7 +150,7 @@ pub(crate) fn is_none(number: i64) -> bool
 // A number that was asked for.
 #[inline(always)]
 fn number_answer(answer: Result<i64, FaultKind>) -> Result<Value, Trouble>
-    ensures { turned Whole (due answer) ≡ told result }
+    ensures { turned Whole (due answer) ≡ to_meaning result }
 {
     match answer {
         Ok(number) => Ok(Value::Whole(number)),

@@ -7,7 +7,7 @@ ghost use Rattle.ss_meaning.specs.Histories.{noted, figure_kept, mean_kept};
 ghost use Rattle.ss_meaning.specs.Statistics.{bearer, figure, mean, reset};
 ghost use Rattle.ss_picture.specs.Suited.{IsMean};
 ghost use Rattle.ss_machine_time.specs.Records.{figured};
-ghost use Rattle.ss_machine_entities.specs.Told.{told, numbered};
+ghost use Rattle.ss_machine_entities.specs.Answered.{to_meaning, numbered};
 ghost use Rattle.ss_program.specs.declared.sections.Subject.TheVariants.{OfVariable, OfAttribute, OfCount};
 ghost use Rattle.ss_base.specs.declared.value.Value.TheVariants.{Whole};
 ghost use Rattle.ss_machine_time.specs.Figures.{subject_in, variable_in, variable_of, held_by, present_with, renewed_known, reset_of};
@@ -380,7 +380,7 @@ fn or_unnoted(answer: Result<(), Unnoted>) -> Result<(), Trouble>
 
 // What was asked of a history, if there is one.
 fn figure_answer(answer: Option<Result<i64, FaultKind>>) -> Result<Value, Trouble>
-    ensures { figured answer ≡ told result }
+    ensures { figured answer ≡ to_meaning result }
 {
     match answer {
         None => Err(Trouble::Misfit),

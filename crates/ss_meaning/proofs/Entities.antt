@@ -26,7 +26,7 @@ use Rattle.ss_program.specs.declared.sections.Subject.TheVariants.{OfVariable, O
 use Rattle.ss_program.specs.declared.sections.Statistic.{Statistic}
 use Rattle.ss_program.specs.declared.statement.Counted.{Counted}
 use Rattle.ss_program.specs.Program.{Program}
-use Rattle.ss_program.specs.WellTyped.{WellTyped, mode_at, field_mode, kind_of as kind_said, comes_alone, GoodSubject, GoodCount}
+use Rattle.ss_program.specs.WellTyped.{WellTyped, mode_at, field_mode, kind_of as kind_said, is_created_singly, GoodSubject, GoodCount}
 use Rattle.ss_meaning.specs.Values.{if_ok, turned, due, sure, where_fit, unless_fault, number_of, same_mode}
 use Rattle.ss_meaning.specs.Store.{Store, with_heap, fetched, put_at, put}
 use Rattle.ss_meaning.specs.Histories.{noted, ending}
@@ -66,15 +66,15 @@ field_said p c f m q = by (slice_get p.layout.classes c) refl q
     by (Some d) g h = record { class = d; there = g; field = ap (λ o. slice_get (Rattle.ss_world.specs.State.modes_in o) f) g ∙ h }
 
 -- the kind of a class whose entities are created one by one
-pub single_said : (p : Program) (c : ℕ) → comes_alone (kind_said p c) ≡ true → (cl : ClassLayout) × (slice_get p.layout.classes c ≡ Some cl) × (comes_singly cl.kind ≡ true)
+pub single_said : (p : Program) (c : ℕ) → is_created_singly (kind_said p c) ≡ true → (cl : ClassLayout) × (slice_get p.layout.classes c ≡ Some cl) × (comes_singly cl.kind ≡ true)
 single_said p c q = by (slice_get p.layout.classes c) refl q
   where
-    same : (k : ClassKind) → comes_alone (Some k) ≡ true → comes_singly k ≡ true
+    same : (k : ClassKind) → is_created_singly (Some k) ≡ true → comes_singly k ≡ true
     same Permanent h = h
     same Temporary h = h
     same Notice h = h
 
-    by : (o : Option ClassLayout) → slice_get p.layout.classes c ≡ o → comes_alone (option_map (λ (d : ClassLayout). d.kind) o) ≡ true → (cl : ClassLayout) × (slice_get p.layout.classes c ≡ Some cl) × (comes_singly cl.kind ≡ true)
+    by : (o : Option ClassLayout) → slice_get p.layout.classes c ≡ o → is_created_singly (option_map (λ (d : ClassLayout). d.kind) o) ≡ true → (cl : ClassLayout) × (slice_get p.layout.classes c ≡ Some cl) × (comes_singly cl.kind ≡ true)
     by None g h = absurd cc
     by (Some d) g h = (d, g, same d.kind h)
 
@@ -121,7 +121,7 @@ module _ (p : Program) (typed : WellTyped p) (ms : List Mode) where
 
   -- ## Creating and destroying
 
-  pub made_one_fine : (c : ℕ) (s : Store) → comes_alone (kind_said p c) ≡ true → Fits p ms s → Fine (λ b. (mode_of b.0 ≡ Integer) × Fits p ms b.1) (made_one c s)
+  pub made_one_fine : (c : ℕ) (s : Store) → is_created_singly (kind_said p c) ≡ true → Fits p ms s → Fine (λ b. (mode_of b.0 ≡ Integer) × Fits p ms b.1) (made_one c s)
   made_one_fine c s q f =
       let cl = single_said p c q in
       fit_fine (λ b. (mode_of b.0 ≡ Integer) × Fits p ms b.1) (is_single (class_at c s)) (turned (with_new c s) (due (created s.scene.heap c))) (ap is_single (class_here s c cl.0 f cl.1) ∙ cl.2)
@@ -174,7 +174,7 @@ module _ (p : Program) (typed : WellTyped p) (ms : List Mode) where
       live (e ∷ es) h g = ((h.0.0, gone.kept e.notice h.0.0 g.0 h.0.1, ap (λ l. kind_of l h.0.0) gone.layout ∙ h.0.2), live es h.1 g.1)
 
   -- an entity goes that isn't pending
-  pub gone_fine : (c : ℕ) (n : ℤ) (s : Store) → comes_alone (kind_said p c) ≡ true → Every (λ (e : PendingNotice). n ≡ e.notice → ⊥) s.scene.pending.entries → Fits p ms s → Fine (Fits p ms) (gone c (Whole n) s)
+  pub gone_fine : (c : ℕ) (n : ℤ) (s : Store) → is_created_singly (kind_said p c) ≡ true → Every (λ (e : PendingNotice). n ≡ e.notice → ⊥) s.scene.pending.entries → Fits p ms s → Fine (Fits p ms) (gone c (Whole n) s)
   gone_fine c n s q apart f =
       let cl = single_said p c q in
       fit_fine (Fits p ms) (is_single (class_at c s)) (turned (with_none c n s) (due (destroyed s.scene.heap c n))) (ap is_single (class_here s c cl.0 f cl.1) ∙ cl.2)
@@ -189,7 +189,7 @@ module _ (p : Program) (typed : WellTyped p) (ms : List Mode) where
       by true g h later = absurd cc
       by false g h later = ((λ same. let yes_it_is : int_eq n e.notice ≡ true = (Decides-int_eq n e.notice).1 same in absurd cc), later h)
 
-  pub without_fine : (c : ℕ) (x : Value) (s : Store) → comes_alone (kind_said p c) ≡ true → mode_of x ≡ Integer → Fits p ms s → Fine (Fits p ms) (without c x s)
+  pub without_fine : (c : ℕ) (x : Value) (s : Store) → is_created_singly (kind_said p c) ≡ true → mode_of x ≡ Integer → Fits p ms s → Fine (Fits p ms) (without c x s)
   without_fine c x s q g f =
       let cl = single_said p c q in
       fine_then (Fits p ms) (entity c x s) (λ n. unless_fault (is_pending n s.scene.pending.entries) Scheduled (gone c x s)) (entity_fine c cl.0 x s cl.1 g f) (λ n r.

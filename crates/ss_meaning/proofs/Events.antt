@@ -25,7 +25,7 @@ use Rattle.ss_world.specs.Order.{comes_before}
 use Rattle.ss_world.specs.PendingList.{PendingList, scheduling_limit, is_pending, without, earlier, least, with_entry, scheduled, cancelled}
 use Rattle.ss_program.specs.declared.expression.Variable.TheVariants.{Global}
 use Rattle.ss_program.specs.Program.{Event, Program}
-use Rattle.ss_program.specs.WellTyped.{WellTyped, field_mode, fields_of, kind_of as kind_said, comes_alone, GoodKeys, GoodEvent, IsPlain}
+use Rattle.ss_program.specs.WellTyped.{WellTyped, field_mode, fields_of, kind_of as kind_said, is_created_singly, GoodKeys, GoodEvent, IsPlain}
 use Rattle.ss_meaning.specs.Values.{if_ok, turned, due, sure, unless_fault, number_of}
 use Rattle.ss_meaning.specs.Store.{Notices, Store, with_heap, with_pending}
 use Rattle.ss_meaning.specs.Entities.{entity, attribute, made_one}
@@ -135,8 +135,8 @@ module _ (p : Program) (typed : WellTyped p) (ms : List Mode) where
   good_event : (k : ℕ) (e : Event) → slice_get p.events k ≡ Some e → GoodEvent p e
   good_event k e q = every_get (GoodEvent p) p.events k e typed.events q
 
-  alone : (c : ℕ) → kind_said p c ≡ Some Notice → comes_alone (kind_said p c) ≡ true
-  alone c q = ap comes_alone q
+  alone : (c : ℕ) → kind_said p c ≡ Some Notice → is_created_singly (kind_said p c) ≡ true
+  alone c q = ap is_created_singly q
 
   -- ## Time
 

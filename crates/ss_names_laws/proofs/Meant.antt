@@ -17,7 +17,7 @@ use Rattle.ss_names_declarations.specs.Sayings.{NameBytes}
 use Rattle.ss_tables_rules.specs.declared.topic.Topic.TheVariants as topics
 use Rattle.ss_tables_rules.specs.declared.globals.Standing.{Standing}
 use Rattle.ss_tables_rules.specs.declared.globals.Standing.TheVariants as standings
-use Rattle.ss_tables_rules.specs.Declarations.{Declaration, declaration, class_declares, set_declares, named_declares, saying_declares, is_attribute, declarations, declares, standing_told, standing_of}
+use Rattle.ss_tables_rules.specs.Declarations.{Declaration, declaration, class_declares, set_declares, named_declares, saying_declares, is_attribute, declarations, declares, standing_declared, standing_of}
 use Rattle.ss_tables_rules.specs.Topics.{global, is_about, is_said_by, section_of}
 use Rattle.ss_names.specs.declared.entry.Attribute.{Attribute}
 use Rattle.ss_names.specs.declared.meaning.Meaning.{Meaning}
@@ -194,7 +194,7 @@ module _ (says : List Saying) (f : Facts says) where
   unfolding HasMeaning
   name_known name standing h = by (find (declares name) (declarations says)) refl h
     where
-      by : (o : Option Declaration) → find (declares name) (declarations says) ≡ o → standing_told o ≡ Some standing → (m : Meaning) × (value_for (meanings_in (numbered says) says) name ≡ Some m)
+      by : (o : Option Declaration) → find (declares name) (declarations says) ≡ o → standing_declared o ≡ Some standing → (m : Meaning) × (value_for (meanings_in (numbered says) says) name ≡ Some m)
       by None e g = absurd cc
       by (Some d) e g =
           let first = found_first (declares name) (declarations says) d e in

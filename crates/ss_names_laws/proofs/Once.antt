@@ -14,7 +14,7 @@ use Rattle.ss_tables_rules.specs.declared.topic.Topic.{Topic}
 use Rattle.ss_tables_rules.specs.declared.topic.Topic.TheVariants as topics
 use Rattle.ss_tables_rules.specs.declared.globals.Standing.TheVariants as standings
 use Rattle.ss_tables_rules.specs.Declarations.{Declaration, declaration, class_declares, said_declares, named_declares, saying_declares, is_attribute}
-use Rattle.ss_tables_rules.specs.Lines.{line_if, lines_behind}
+use Rattle.ss_tables_rules.specs.Lines.{line_if, lines_after}
 use Rattle.ss_tables_rules.specs.Topics.{Thing, global, thing_of, section_of, line_of, is_about, is_said_by, is_said}
 use Rattle.ss_tables_rules.specs.Twice.{is_again, again, anything}
 use Rattle.ss_names_laws.specs.Lists.{Pairwise}
@@ -30,10 +30,10 @@ abbrev pub EachAfter : {A : Type 0} → (List A → A → Type 0) → List A →
 EachAfter P before [] = Unit
 EachAfter P before (x ∷ xs) = P before x × EachAfter P (before ++ x ∷ []) xs
 
-pub none_after : {A : Type 0} (line_at : A → Line) (test : List A → A → Bool) (before xs : List A) → lines_behind line_at test before xs ≡ [] → EachAfter (λ b x. test b x ≡ false) before xs
+pub none_after : {A : Type 0} (line_at : A → Line) (test : List A → A → Bool) (before xs : List A) → lines_after line_at test before xs ≡ [] → EachAfter (λ b x. test b x ≡ false) before xs
 none_after line_at test before [] h = tt
 none_after line_at test before (x ∷ xs) h =
-    let parts = both_empty (line_if (test before x) (line_at x)) (lines_behind line_at test (before ++ x ∷ []) xs) h in
+    let parts = both_empty (line_if (test before x) (line_at x)) (lines_after line_at test (before ++ x ∷ []) xs) h in
     (no_line (test before x) (line_at x) parts.0, none_after line_at test (before ++ x ∷ []) xs parts.1)
 
 -- if each item fits each before it, all pairs fit

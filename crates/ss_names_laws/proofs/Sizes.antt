@@ -15,7 +15,7 @@ use Rattle.ss_names_declarations.specs.declared.saying.Said.TheVariants as said
 use Rattle.ss_names_declarations.specs.declared.saying.Saying.{Saying}
 use Rattle.ss_names_declarations.specs.Sayings.{NameBytes}
 use Rattle.ss_tables_rules.specs.declared.topic.Topic.TheVariants as topics
-use Rattle.ss_tables_rules.specs.Lines.{line_if, lines_behind}
+use Rattle.ss_tables_rules.specs.Lines.{line_if, lines_after}
 use Rattle.ss_tables_rules.specs.TooMany.{attribute_class, is_class, is_new_set, is_of, sets as new_sets}
 use Rattle.ss_tables_rules.specs.Topics.{is_about, is_said, line_of, section_of, thing_of}
 use Rattle.ss_names.specs.declared.entry.Class.{Class}
@@ -173,12 +173,12 @@ one_more before line (said.MemberSet class) (Some name) = more_by (each_once (fl
 one_more before line _ _ = omega arith
 
 names_after : (before xs : List Saying) →
-    length (fold with_name (each_once (flat_map set_by before)) (flat_map set_by xs)) ≤ length (each_once (flat_map set_by before)) + length (lines_behind line_of is_new_set before xs)
+    length (fold with_name (each_once (flat_map set_by before)) (flat_map set_by xs)) ≤ length (each_once (flat_map set_by before)) + length (lines_after line_of is_new_set before xs)
 names_after before [] = omega arith
 names_after before (s ∷ xs) =
     let names = each_once (flat_map set_by before) in
     let more = fold with_name names (set_by s) in
-    let later = lines_behind line_of is_new_set (before ++ s ∷ []) xs in
+    let later = lines_after line_of is_new_set (before ++ s ∷ []) xs in
     let here = line_if (is_new_set before s) s.line in
     let single : flat_map set_by (s ∷ []) ≡ set_by s = append-nil (set_by s) in
     let next : each_once (flat_map set_by (before ++ s ∷ [])) ≡ more =

@@ -10,7 +10,7 @@ use Rattle.ss_names_declarations.specs.Sayings.{NameBytes}
 use Rattle.ss_tables_rules.specs.declared.topic.Topic.TheVariants as topics
 use Rattle.ss_tables_rules.specs.declared.globals.Standing.{Standing}
 use Rattle.ss_tables_rules.specs.declared.globals.Standing.TheVariants as standings
-use Rattle.ss_tables_rules.specs.Declarations.{Declaration, declarations, declares, standing_told, standing_of}
+use Rattle.ss_tables_rules.specs.Declarations.{Declaration, declarations, declares, standing_declared, standing_of}
 use Rattle.ss_tables_rules.specs.Topics.{is_about}
 use Rattle.ss_tables_rules.specs.Twice.{is_another, is_clash, declared_at, clashes, may_hide, may_be_hidden, hides}
 use Rattle.ss_names_laws.specs.Declarations.{IsOfSet, Agree, NamesDeclaredOnce, KindsAgree, MayBeHidden, HidesLittle, LocalsHideLittle}
@@ -20,7 +20,7 @@ use Rattle.ss_names_laws.proofs.Once.{EachAfter, none_after, pairs_after}
 -- ---- the kind of a name among more declarations
 
 first_of_more : (b : Bool) (d : Declaration) (xs ys : List Declaration) (name : NameBytes) → standing_of (xs ++ ys) name ≡ option_or (standing_of xs name) (standing_of ys name) →
-    standing_told (cond b (Some d) (find (declares name) (xs ++ ys))) ≡ option_or (standing_told (cond b (Some d) (find (declares name) xs))) (standing_of ys name)
+    standing_declared (cond b (Some d) (find (declares name) (xs ++ ys))) ≡ option_or (standing_declared (cond b (Some d) (find (declares name) xs))) (standing_of ys name)
 first_of_more true d xs ys name h = refl
 first_of_more false d xs ys name h = h
 
@@ -29,7 +29,7 @@ standing_more [] ys name = refl
 standing_more (d ∷ xs) ys name = first_of_more (declares name d) d xs ys name (standing_more xs ys name)
 
 one_agrees : (d : Declaration) → standing_of (d ∷ []) d.name ≡ Some d.standing
-one_agrees d = ap (λ b. standing_told (cond b (Some d) None)) (same_as_itself d.name)
+one_agrees d = ap (λ b. standing_declared (cond b (Some d) None)) (same_as_itself d.name)
 
 -- ---- another thing
 

@@ -40,7 +40,7 @@ use Rattle.ss_check_scopes.specs.declared.known.Known.TheVariants as knowns
 use Rattle.ss_check_scopes.specs.Meanings.{value_mode}
 use Rattle.ss_check_scopes.specs.WholeOf.{attribute_meaning, attribute_of_class, class_meaning as known_class, derived_meaning, set_holder, statistic_meaning, meaning_by, meaning_of, variable_meaning, whole_of}
 use Rattle.ss_check_rules.specs.Modes.{mode_of}
-use Rattle.ss_check_rules.specs.Unknown.{may_be_told}
+use Rattle.ss_check_rules.specs.Unknown.{may_be_watched}
 use Rattle.ss_names_laws.specs.Declarations.{KeepsDeclarations}
 use Rattle.ss_names_laws.specs.Uses.{KeepsUses, SubjectFits}
 use Rattle.ss_names_laws.proofs.Lists.{at_item, each, pick, some_equal}
@@ -58,7 +58,7 @@ use Rattle.ss_names_laws.proofs.EntriesOfSaying.{weighing_entry_from}
 
 -- a name that may have a history, and is a whole number
 abbrev IsSubject : ProgramTree → NameBytes → Type 0
-IsSubject p name = (meant : Known) × ((whole_of p).meanings name ≡ Some meant) × (may_be_told meant ≡ true) × (mode_of meant ≡ Some values.Integer)
+IsSubject p name = (meant : Known) × ((whole_of p).meanings name ≡ Some meant) × (may_be_watched meant ≡ true) × (mode_of meant ≡ Some values.Integer)
 
 subject_well : (p : ProgramTree) (s : PreambleTree) → SubjectFits (whole_of p) s → SubjectWell (IsSubject p) (λ k. Unit) s
 subject_well p (trees.statistics line weighting value subject) h = h
@@ -95,10 +95,10 @@ placed_variable None k h = absurd cc
 placed_variable (Some n) k h = cc
 
 -- a meaning that may not have a history
-has_no_history : (meant known : Known) → Some known ≡ Some meant → may_be_told known ≡ false → may_be_told meant ≡ true → ⊥
-has_no_history meant known e h g = both_ways (may_be_told meant) (ap may_be_told (sym (some_equal known meant e)) ∙ h) g
+has_no_history : (meant known : Known) → Some known ≡ Some meant → may_be_watched known ≡ false → may_be_watched meant ≡ true → ⊥
+has_no_history meant known e h g = both_ways (may_be_watched meant) (ap may_be_watched (sym (some_equal known meant e)) ∙ h) g
 
-no_class : (o : Option Class) (meant : Known) → known_class o ≡ Some meant → may_be_told meant ≡ true → ⊥
+no_class : (o : Option Class) (meant : Known) → known_class o ≡ Some meant → may_be_watched meant ≡ true → ⊥
 no_class None meant e g = absurd cc
 no_class (Some c) meant e g = has_no_history meant (knowns.Class c.kind) e refl g
 
@@ -168,7 +168,7 @@ module _ (p : ProgramTree) (h : KeepsDeclarations p) where
       let made = set_of (set_owners (sayings p)) (set_members (sayings p)) (orderings (sayings p)) in
       (made named.0, slice_get-map made (table p).set_names k ∙ ap (option_map made) named.1)
 
-  of_meaning : (name : NameBytes) (m : Meaning) (meant : Known) → value_for (table p).names name ≡ Some m → meaning_by (table p) m ≡ Some meant → may_be_told meant ≡ true → mode_of meant ≡ Some values.Integer →
+  of_meaning : (name : NameBytes) (m : Meaning) (meant : Known) → value_for (table p).names name ≡ Some m → meaning_by (table p) m ≡ Some meant → may_be_watched meant ≡ true → mode_of meant ≡ Some values.Integer →
       (subject : Subject) × (subject_of (Some m) ≡ Some subject) × IsWhole (table p) subject
   of_meaning name (meanings.Variable k) meant t e may mode = (subjects.Variable k, refl, of_variable name k (slice_get (values_of (table p).variables) k) meant t refl e mode)
   of_meaning name (meanings.Attribute k) meant t e may mode = (subjects.Attribute k, refl, of_attribute k (slice_get (values_of (table p).attributes) k) meant refl e mode)
@@ -179,10 +179,10 @@ module _ (p : ProgramTree) (h : KeepsDeclarations p) where
   of_meaning name (meanings.Set set) meant t e may mode = absurd (has_no_history meant (knowns.Set (set_holder (table p) (slice_get (table p).sets set))) e refl may)
   of_meaning name (meanings.Statistic k) meant t e may mode =
       let o = slice_get (values_of (table p).statistics) k in
-      absurd (has_no_history meant (statistic_meaning (table p) o) e (of_statistic (λ known. may_be_told known ≡ false) (λ holder. refl) (λ holder. refl) (table p) o) may)
+      absurd (has_no_history meant (statistic_meaning (table p) o) e (of_statistic (λ known. may_be_watched known ≡ false) (λ holder. refl) (λ holder. refl) (table p) o) may)
   of_meaning name (meanings.Routine s) meant t e may mode = absurd (has_no_history meant knowns.Routine e refl may)
 
-  of_known : (name : NameBytes) (o : Option Meaning) (meant : Known) → value_for (table p).names name ≡ o → meaning_of (table p) o ≡ Some meant → may_be_told meant ≡ true → mode_of meant ≡ Some values.Integer →
+  of_known : (name : NameBytes) (o : Option Meaning) (meant : Known) → value_for (table p).names name ≡ o → meaning_of (table p) o ≡ Some meant → may_be_watched meant ≡ true → mode_of meant ≡ Some values.Integer →
       (subject : Subject) × (subject_of o ≡ Some subject) × IsWhole (table p) subject
   of_known name None meant t e may mode = absurd cc
   of_known name (Some m) meant t e may mode = of_meaning name m meant t e may mode

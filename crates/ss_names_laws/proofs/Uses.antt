@@ -27,9 +27,9 @@ use Rattle.ss_check_rules.specs.declared.rule.Broken.{Broken}
 use Rattle.ss_check_rules.specs.Arguments.{argument_count, is_other, is_more, is_miscounted, counts_differ, miscounts}
 use Rattle.ss_check_rules.specs.Events.{is_main_section, has_main, event_named, event_in, event_names, lacks_event, eventless, declares_eventless, is_start}
 use Rattle.ss_check_rules.specs.Lines.{line_if, first_of, mention_line, mention_lines, demand_line, demand_lines}
-use Rattle.ss_check_rules.specs.Modes.{mixes, misplaces, breaks_modes, differ, known_mode, mode_of, tells_of_text}
+use Rattle.ss_check_rules.specs.Modes.{mixes, misplaces, breaks_modes, differ, known_mode, mode_of, text_subjects}
 use Rattle.ss_check_rules.specs.Refusal.{in_preamble, mention_breaks, demand_breaks, in_section, in_program, lines, rules_in_order, or_next, first_broken}
-use Rattle.ss_check_rules.specs.Unknown.{is_unknown, is_notice, if_known, may_be_told, tells_of_unknown}
+use Rattle.ss_check_rules.specs.Unknown.{is_unknown, is_notice, if_known, may_be_watched, unknown_subjects}
 use Rattle.ss_check_rules.specs.Subscripts.{has_wrong_subscripts}
 use Rattle.ss_check_rules.specs.Targets.{is_not_assignable}
 use Rattle.ss_check_rules.specs.Fields.{misfits}
@@ -270,8 +270,8 @@ events_fit w p h =
 
 -- ---- statistics
 
-subject_has_number : (o : Option Known) → not (if_known may_be_told o) ≡ false → differ (known_mode o) (Some modes.Integer) ≡ false →
-    (meant : Known) × (o ≡ Some meant) × (may_be_told meant ≡ true) × (mode_of meant ≡ Some modes.Integer)
+subject_has_number : (o : Option Known) → not (if_known may_be_watched o) ≡ false → differ (known_mode o) (Some modes.Integer) ≡ false →
+    (meant : Known) × (o ≡ Some meant) × (may_be_watched meant ≡ true) × (mode_of meant ≡ Some modes.Integer)
 subject_has_number None h g = absurd cc
 subject_has_number (Some (meanings.Variable modes.Integer)) h g = (meanings.Variable modes.Integer, refl, refl, refl)
 subject_has_number (Some (meanings.Attribute class modes.Integer)) h g = (meanings.Attribute class modes.Integer, refl, refl, refl)
@@ -280,12 +280,12 @@ subject_has_number (Some (meanings.Variable modes.Alpha)) h g = absurd cc
 subject_has_number (Some (meanings.Attribute class modes.Alpha)) h g = absurd cc
 subject_has_number (Some _) h g = absurd cc
 
-subject_fits : (w : Whole) (s : PreambleTree) → tells_of_unknown w s ≡ [] → tells_of_text w s ≡ [] → SubjectFits w s
+subject_fits : (w : Whole) (s : PreambleTree) → unknown_subjects w s ≡ [] → text_subjects w s ≡ [] → SubjectFits w s
 subject_fits w (statistics line weighting statistics_found subject) h g =
-    subject_has_number (w.meanings subject) (no_line (not (if_known may_be_told (w.meanings subject))) line h) (no_line (differ (known_mode (w.meanings subject)) (Some modes.Integer)) line g)
+    subject_has_number (w.meanings subject) (no_line (not (if_known may_be_watched (w.meanings subject))) line h) (no_line (differ (known_mode (w.meanings subject)) (Some modes.Integer)) line g)
 subject_fits w _ h g = tt
 
 pub subjects_fit : (w : Whole) (p : ProgramTree) → KeepsUses w p → Every (SubjectFits w) p.preamble
 subjects_fit w p h =
-    each_of_two (λ s. tells_of_unknown w s ≡ []) (λ s. tells_of_text w s ≡ []) (SubjectFits w) (subject_fits w) p.preamble
+    each_of_two (λ s. unknown_subjects w s ≡ []) (λ s. text_subjects w s ≡ []) (SubjectFits w) (subject_fits w) p.preamble
     (all_unbroken w p h).unknown.preamble (all_unbroken w p h).mode.preamble

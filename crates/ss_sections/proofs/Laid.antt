@@ -15,7 +15,7 @@ use Rattle.ss_program.specs.declared.statement.End.{End}
 use Rattle.ss_program.specs.declared.statement.End.TheVariants as ends
 use Rattle.ss_meaning.specs.Values.{due, sure, where_fit}
 use Rattle.ss_meaning.specs.Store.{Store}
-use Rattle.ss_meaning.specs.Sets.{Filing, ByRule, Foremost, Hindmost, Ahead, Behind, is_fit, member, filed_by, end_removed}
+use Rattle.ss_meaning.specs.Sets.{Filing, ByRule, Foremost, Hindmost, JustBefore, JustAfter, is_fit, member, filed_by, end_removed}
 use Rattle.ss_sections.proofs.Only.{Only, only_each, only_fit}
 
 -- if it gives a heap, it has the layout of another
@@ -156,9 +156,9 @@ filing_laid ByRule set o x s =
     (laid_due s.scene.heap (filed s.scene.heap d set o x) (discipline_laid s.scene.heap d set o x)))
 filing_laid Foremost set o x s = laid_due s.scene.heap (filed_first s.scene.heap set o x) (first_laid s.scene.heap set o x)
 filing_laid Hindmost set o x s = laid_due s.scene.heap (filed_last s.scene.heap set o x) (last_laid s.scene.heap set o x)
-filing_laid (Ahead y) set o x s =
+filing_laid (JustBefore y) set o x s =
     only_each (λ (h : State). h.layout ≡ s.scene.heap.layout) (member set y s) _ (λ k.
     laid_due s.scene.heap (filed_before s.scene.heap set o x k) (before_laid s.scene.heap set o x k))
-filing_laid (Behind y) set o x s =
+filing_laid (JustAfter y) set o x s =
     only_each (λ (h : State). h.layout ≡ s.scene.heap.layout) (member set y s) _ (λ k.
     laid_due s.scene.heap (filed_after s.scene.heap set o x k) (after_laid s.scene.heap set o x k))

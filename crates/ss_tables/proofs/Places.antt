@@ -10,7 +10,7 @@ use Rattle.ss_names_declarations.specs.Sayings.{NameBytes}
 use Rattle.ss_names.specs.declared.meaning.Meaning.{Meaning}
 use Rattle.ss_names.specs.declared.names.NameId.{NameId}
 use Rattle.ss_names_declarations.specs.Firsts.{place_among, place_in, same_name}
-use Rattle.ss_names.specs.Laws.{NamesStandOnce}
+use Rattle.ss_names.specs.Laws.{NamesHaveOneEntry}
 use Rattle.ss_names.specs.Table.{Table, table}
 
 is_there : (names : List NameBytes) (name : NameBytes) (n : ℕ) → place_among names name ≡ Some n → slice_get names n ≡ Some name
@@ -24,6 +24,6 @@ pub found_is_there : (found : Option NameId) (entries : List (NameBytes × Meani
 found_is_there None entries name h = tt
 found_is_there (Some id) entries name h = is_there (keys_of entries) name id.0 (sym h)
 
-pub there_is_found : NamesStandOnce → (p : ProgramTree) (t : Table) → t ≡ table p → (n : ℕ) (name : NameBytes) →
+pub there_is_found : NamesHaveOneEntry → (p : ProgramTree) (t : Table) → t ≡ table p → (n : ℕ) (name : NameBytes) →
     slice_get (keys_of t.names) n ≡ Some name → place_in t.names name ≡ Some n
 there_is_found once p t e n name h = subst (λ z. place_in z.names name ≡ Some n) (sym e) (once p n name (subst (λ z. slice_get (keys_of z.names) n ≡ Some name) e h))

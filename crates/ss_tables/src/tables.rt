@@ -11,7 +11,7 @@ ghost use Rattle.ss_tables.specs.Tables.{AreTables, AreTablesOf, Reports};
 
 use crate::error::{TableError, error_of};
 use ss_base::Layout;
-use ss_names::laws::names_stand_once;
+use ss_names::laws::names_have_one_entry;
 use ss_names::{NameId, Names};
 use ss_names_declarations::{Saying, sayings_of};
 use ss_names_laws::layout_laws::layouts_are_there;
@@ -89,7 +89,7 @@ impl Tables {
         ensures spelled { slice_get (keys_of self.now.names) id.0 ≡ Some result.now }
         ensures found { place_in self.now.names result.now ≡ Some id.0 }
     {
-        names_stand_once();
+        names_have_one_entry();
         self.names.name(id)
     }
 

@@ -4,7 +4,7 @@ ghost use Rattle.std.specs.Prelude.{◌≡◌, ◌<◌, ◌≤◌, ◌^◌, leng
 ghost use Rattle.ss_base.specs.declared.layout.Mode.TheVariants.{Integer};
 ghost use Rattle.ss_meaning.specs.Sets.{beside, is_fit, end_removed};
 ghost use Rattle.ss_meaning.specs.Values.{due, where_fit};
-ghost use Rattle.ss_machine_entities.specs.Told.{meant};
+ghost use Rattle.ss_machine_entities.specs.Answered.{meant};
 ghost use Rattle.ss_records.specs.Sets.{count_in, filed_first, filed_last, filed_before, filed_after, removed};
 ghost use Rattle.ss_records.specs.Skimming.{IsSkimmed};
 ghost use Rattle.ss_records.specs.State.{modes_of};

@@ -3,7 +3,7 @@ use Rattle.ss_meaning.specs.Values.{if_ok}
 use Rattle.ss_meaning.specs.Store.{Store}
 use Rattle.ss_meaning.specs.Events.{prepared, filed_notice}
 use Rattle.ss_machine_entities.specs.declared.trouble.Unmade.{Unmade}
-use Rattle.ss_machine_entities.specs.Told.{told}
+use Rattle.ss_machine_entities.specs.Answered.{to_meaning}
 use Rattle.ss_machine_world.specs.Seen.{Grows, with_seen}
 use Rattle.ss_machine_events.specs.Scheduled.{Goes, scheduled_anew}
 use Rattle.ss_machine_events.proofs.Stepping.{goes_not, goes_on}
@@ -16,7 +16,7 @@ returns-in-Err c =
     let t = c.in-Err.trouble in
     subst (λ (u : Unmade). Goes (scheduled_anew class x given time) (prepared class x given time) e c.prepare.new.scene (Err u)) (sym c.lacking.ensures)
     (goes_not (scheduled_anew class x given time) (prepared class x given time) e c.prepare.new.scene t
-    (λ s. ap (λ r. if_ok r (filed_notice class x time)) (subst (λ (z : ℤ). prepared class x given z (with_seen s e) ≡ told {A = Store} (Err t)) same (c.in-Err.ensures s))))
+    (λ s. ap (λ r. if_ok r (filed_notice class x time)) (subst (λ (z : ℤ). prepared class x given z (with_seen s e) ≡ to_meaning {A = Store} (Err t)) same (c.in-Err.ensures s))))
 
 pub returns-in-Ok : goal.returns-in-Ok
 returns-in-Ok c =

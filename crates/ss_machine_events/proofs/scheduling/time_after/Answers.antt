@@ -2,7 +2,7 @@ use Rattle.std.proofs.Common.{rules, ◌≡◌, ℤ, Ok, ap, ◌∙◌, subst, t
 use Rattle.ss_base.specs.Arithmetic.{plus_of}
 use Rattle.ss_meaning.specs.Values.{if_ok, due}
 use Rattle.ss_meaning.specs.Events.{not_past}
-use Rattle.ss_machine_entities.specs.Told.{told}
+use Rattle.ss_machine_entities.specs.Answered.{to_meaning}
 use Rattle.ss_machine_world.specs.Seen.{with_seen}
 use Rattle.ss_machine_events.proofs.scheduling.time_after.Goals as goal
 
@@ -12,4 +12,4 @@ returns-in-Ok c = λ s.
     let sum : plus_of e.time c.args.units ≡ Ok c.in-Ok.time = search rules in
     let same : to_z w64 (of_z w64 c.in-Ok.time) ≡ c.in-Ok.time = search rules in
     ap (λ r. if_ok (due r) (λ t. not_past t (with_seen s e))) sum
-    ∙ subst (λ (t : ℤ). not_past t (with_seen s e) ≡ told c.not_past.result) same (c.not_past.ensures s)
+    ∙ subst (λ (t : ℤ). not_past t (with_seen s e) ≡ to_meaning c.not_past.result) same (c.not_past.ensures s)

@@ -4,7 +4,7 @@ use Rattle.std.specs.Int.{int_min}
 use Rattle.ss_base.specs.declared.value.Value.TheVariants.{Whole}
 use Rattle.ss_meaning.specs.Entities.{class_at, is_permanent, made_count}
 use Rattle.ss_meaning.specs.Loops.{Range, indices, greatest}
-use Rattle.ss_machine_entities.specs.Told.{told}
+use Rattle.ss_machine_entities.specs.Answered.{to_meaning}
 use Rattle.ss_code_instructions.specs.States.{To, did, past, core_of as core_with}
 use Rattle.ss_code_instructions.specs.Machine.{begins}
 use Rattle.ss_machine_frames.specs.Frames.{Stacked, frames_seen}
@@ -19,13 +19,13 @@ pub returns-in-Err-Fault : goal.returns-in-Err-Fault
 returns-in-Err-Fault c = λ code input.
     let s = store_of c.args.working.now input in
     let class = c.args.class in
-    breaks c.args.line _ (indices_err (is_permanent (class_at class s)) (pos (made_count class s)) _ _ (c.number_made.ensures s ∙ ap told c.in-Err-Fault.is ∙ ap (λ t. told {A = ℤ} (Err t)) c.in-Err-Fault.field-0-is)) refl
+    breaks c.args.line _ (indices_err (is_permanent (class_at class s)) (pos (made_count class s)) _ _ (c.number_made.ensures s ∙ ap to_meaning c.in-Err-Fault.is ∙ ap (λ t. to_meaning {A = ℤ} (Err t)) c.in-Err-Fault.field-0-is)) refl
 
 pub returns-in-Err-Misfit : goal.returns-in-Err-Misfit
 returns-in-Err-Misfit c = λ code input.
     let s = store_of c.args.working.now input in
     let class = c.args.class in
-    lost c.args.line _ (indices_err (is_permanent (class_at class s)) (pos (made_count class s)) _ _ (c.number_made.ensures s ∙ ap told c.in-Err-Misfit.is ∙ ap (λ t. told {A = ℤ} (Err t)) c.in-Err-Misfit.field-0-is)) refl
+    lost c.args.line _ (indices_err (is_permanent (class_at class s)) (pos (made_count class s)) _ _ (c.number_made.ensures s ∙ ap to_meaning c.in-Err-Misfit.is ∙ ap (λ t. to_meaning {A = ℤ} (Err t)) c.in-Err-Misfit.field-0-is)) refl
 
 pub returns-in_ok-push_bounds-in-Ok : goal.returns-in_ok-push_bounds-in-Ok
 returns-in_ok-push_bounds-in-Ok c = λ code input.
@@ -39,7 +39,7 @@ returns-in_ok-push_bounds-in-Ok c = λ code input.
     let same : to_z w64 (of_z w64 n) ≡ n = search rules in
     let range : Range = record { first = pos 1; limit = n; step = pos 1 } in
     let bounds : range_said b ≡ range = ap range_said c.indices-bounds.ensures.value ∙ ap (λ z. record { first = pos 1; limit = z; step = pos 1 }) same in
-    let said : indices class s ≡ Ok (range_said b) = indices_ok (is_permanent (class_at class s)) (pos (made_count class s)) n (c.number_made.ensures s ∙ ap told c.in-Ok.is) ∙ ap (λ r. Ok r) (sym bounds) in
+    let said : indices class s ≡ Ok (range_said b) = indices_ok (is_permanent (class_at class s)) (pos (made_count class s)) n (c.number_made.ensures s ∙ ap to_meaning c.in-Ok.is) ∙ ap (λ r. Ok r) (sym bounds) in
     let least : int_min b.limit greatest ≡ b.limit = c.indices-bounds.ensures.limit in
     let goes = past skip (int_le b.first b.limit) place in
     let whole = ap (λ r. did c.args.line r (λ r. begins skip r old.operands.here (core_of old input))) said ∙

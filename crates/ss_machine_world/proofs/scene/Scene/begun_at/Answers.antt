@@ -4,7 +4,7 @@ use Rattle.ss_world.specs.Sets.{joiner}
 use Rattle.ss_world.specs.Disciplines.{member_test}
 use Rattle.ss_meaning.specs.Values.{due, number_of}
 use Rattle.ss_meaning.specs.Sets.{member, owner_number, from_or_after}
-use Rattle.ss_machine_entities.specs.Told.{told}
+use Rattle.ss_machine_entities.specs.Answered.{to_meaning}
 use Rattle.ss_machine_entities.specs.Layouts.{set_in}
 use Rattle.ss_machine_world.specs.Seen.{Seen, with_seen}
 use Rattle.ss_machine_world.specs.Filed.{begun_from}
@@ -18,4 +18,4 @@ returns-in-Ok-clause-value c = λ s.
     (λ m n. due (member_test e.heap c.args.set m n)) (λ n. from_or_after c.args.reverse c.args.after c.args.set n (with_seen s e))
     ∙ found_both (member c.args.set c.args.y (with_seen s e)) (owner_number c.args.set c.args.owner (with_seen s e)) (λ m n. begun_from c.args.reverse c.args.after c.args.set m n (with_seen s e))
     c.in-Ok.both.owner.number c.in-Ok.both.member.number (c.in-Ok.ensures.value s)
-    ∙ subst (λ (e : Seen). begun_from c.args.reverse c.args.after c.args.set c.in-Ok.both.owner.number c.in-Ok.both.member.number (with_seen s e) ≡ told c.begun_from.result) c.in-Ok.ensures.same (c.begun_from.ensures.value s)
+    ∙ subst (λ (e : Seen). begun_from c.args.reverse c.args.after c.args.set c.in-Ok.both.owner.number c.in-Ok.both.member.number (with_seen s e) ≡ to_meaning c.begun_from.result) c.in-Ok.ensures.same (c.begun_from.ensures.value s)

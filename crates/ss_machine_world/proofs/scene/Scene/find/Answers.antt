@@ -1,7 +1,7 @@
 use Rattle.std.proofs.Common.{sym, subst}
 use Rattle.ss_base.specs.declared.value.Value.{Value}
 use Rattle.ss_meaning.specs.Entities.{entity}
-use Rattle.ss_machine_entities.specs.Told.{numbered}
+use Rattle.ss_machine_entities.specs.Answered.{numbered}
 use Rattle.ss_machine_world.specs.Seen.{Looks}
 use Rattle.ss_machine_world.proofs.Once.{whole_is}
 use Rattle.ss_machine_world.proofs.scene.Scene.find.Goals as goal

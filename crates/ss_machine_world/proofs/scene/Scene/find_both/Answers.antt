@@ -1,6 +1,6 @@
 use Rattle.std.proofs.Common.{◌≡◌, Ok, Err, subst}
 use Rattle.ss_meaning.specs.Sets.{member, owner_number}
-use Rattle.ss_machine_entities.specs.Told.{meant}
+use Rattle.ss_machine_entities.specs.Answered.{meant}
 use Rattle.ss_machine_world.specs.Seen.{Seen, with_seen}
 use Rattle.ss_machine_world.proofs.Belonging.{both_made}
 use Rattle.ss_machine_world.proofs.scene.Scene.find_both.Goals as goal

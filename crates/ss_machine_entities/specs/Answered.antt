@@ -10,9 +10,9 @@ abbrev pub meant : Trouble → Meant
 meant (Fault kind) = Fails kind
 meant Misfit = IsMisfit
 
-abbrev pub told : {A : Type 0} → Result A Trouble → Result A Meant
-told (Ok a) = Ok a
-told (Err t) = Err (meant t)
+abbrev pub to_meaning : {A : Type 0} → Result A Trouble → Result A Meant
+to_meaning (Ok a) = Ok a
+to_meaning (Err t) = Err (meant t)
 
 -- the number of what was looked at
 abbrev pub numbered : Result Known Trouble → Result ℤ Trouble
