@@ -24,12 +24,12 @@ pub fn write_whole<O: Write + Drop>(output: O, bytes: &[u8]) -> Result<(), Troub
     }
 }
 
-/// Tells of what stopped the program, and answers the exit status.
+/// Says what stopped the program, and answers the exit status. The line is one write, so that it stays whole where several programs
+/// share their errors.
 pub fn tell_trouble<E: Write + Drop>(trouble: Trouble, mut errors: E) -> u8
     ensures { result ≡ trouble_status trouble }
 {
-    let text = trouble.text();
-    let _ = writeln!(errors, "{text}");
+    let _ = errors.write_all(trouble.line().as_bytes());
     trouble.status()
 }
 

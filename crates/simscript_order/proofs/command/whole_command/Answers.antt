@@ -1,6 +1,6 @@
 use Rattle.std.proofs.Common.{◌≡◌, ◌∙◌, ap}
 use Rattle.std.proofs.lemmas.Result.{IfOk-weaker}
-use Rattle.clap.specs.Words.{App, app_of, with_subcommand}
+use Rattle.clap.specs.Words.{App, with_subcommand}
 use Rattle.simscript_order.specs.CommandLine.{bare_words, check_words, list_words, run_words}
 use Rattle.simscript_order.proofs.command.whole_command.Goals as goal
 
