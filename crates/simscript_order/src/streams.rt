@@ -33,7 +33,7 @@ pub fn tell_trouble<E: Write + Drop>(trouble: Trouble, mut errors: E) -> u8
     trouble.status()
 }
 
-/// Gives the help that was asked for, or says what is wrong with the words, and answers the exit status.
+/// Gives the help or the version that was asked for, or says what is wrong with the words, and answers the exit status.
 pub fn explain<O: Write + Drop, E: Write + Drop>(misuse: &Misuse, output: O, mut errors: E) -> u8 {
     if misuse.status() != 0 {
         let _ = write!(errors, "{misuse}");
