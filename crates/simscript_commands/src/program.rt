@@ -17,8 +17,9 @@ use std::io::{BufReader, BufWriter, Read, Write};
 const TICKS: u64 = 1_000_000;
 
 /// Does what the words of a command line ask for, the program's name first, and answers the exit
-/// status: 0 where it was done or help was asked for, 1 for a refused text, 2 for wrong words, 3 for
-/// a fault of the run, 4 for a pause, 5 where it ran out of memory, 6 where a file or a stream failed.
+/// status: 0 where it was done, or the help or the version was asked for, 1 for a refused text, 2 for
+/// wrong words, 3 for a fault of the run, 4 for a pause, 5 where it ran out of memory, 6 where a file or
+/// a stream failed.
 ///
 /// What is asked for goes to the output, in blocks; one line on the errors says why the status isn't
 /// 0.

@@ -15,6 +15,10 @@ use Rattle.simscript_order.specs.declared.misuse.Misuse.TheVariants as misuse
 
 -- ---- what the command line may have
 
+-- `Command::version`
+abbrev pub with_version : App → App
+with_version line = record line { top = record line.top { has_version = true } }
+
 -- FILE, which must be there
 abbrev pub file_rule : Rule
 file_rule = record (new_rule (codes "FILE")) { action = Some Set; required = true }
@@ -53,10 +57,14 @@ check_words = with_rule (new_app (codes "check")) file_rule
 abbrev pub list_words : App
 list_words = with_rule (new_app (codes "list")) file_rule
 
--- simscript, alone or with one of the three
+-- simscript alone, or with --version
+abbrev pub bare_words : App
+bare_words = with_version (new_app (codes "simscript"))
+
+-- simscript alone, or with one of the three
 abbrev pub command_line : App
 command_line = with_subcommand (with_subcommand (with_subcommand
-    (new_app (codes "simscript")) run_words.top) check_words.top) list_words.top
+    bare_words run_words.top) check_words.top) list_words.top
 
 -- ---- what it asks for
 

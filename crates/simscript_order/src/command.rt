@@ -2,7 +2,7 @@
 ghost use Rattle.std.specs.Prelude.{◌≡◌, IfOk, codes, false};
 ghost use Rattle.clap.specs.Words.{App, app_of, new_app, rule_of, with_rule, with_subcommand};
 ghost use Rattle.clap.specs.declared.builder.command.Command.TheViews.{out-Command};
-ghost use Rattle.simscript_order.specs.CommandLine.{check_words, command_line, file_rule, input_rule, list_words, run_words, ticks_rule};
+ghost use Rattle.simscript_order.specs.CommandLine.{bare_words, check_words, command_line, file_rule, input_rule, list_words, run_words, ticks_rule};
 
 use clap::builder::ValueParser;
 use clap::{Arg, ArgAction, Command};
@@ -14,7 +14,7 @@ fn model_file<'a>(alloc: Global) -> Arg<'a>
     ensures own { result.global ≡ false }
 {
     Arg::new(alloc, "FILE")
-        .help("The file with the model's text")
+        .help("The file with the model's text, /dev/stdin for a pipe")
         .action(ArgAction::Set)
         .required(true)
 }
@@ -27,7 +27,9 @@ fn input_file<'a>(alloc: Global) -> Arg<'a>
     Arg::new(alloc, "input")
         .long("input")
         .value_name("FILE")
-        .help("The file with the input data that READ takes; no data without it")
+        .help(
+            "The file with the input data that READ takes, /dev/stdin for a pipe; no data without it",
+        )
         .action(ArgAction::Set)
 }
 
@@ -53,7 +55,7 @@ fn run_of_file<'a>(alloc: Global) -> Result<Command<'a>, AllocError>
     Command::new(alloc, "run")
         .about("Runs a model and writes its report to the standard output")
         .after_help(
-            "Example: simscript run shop.sim --input shop.data --ticks 50000\n\nThe exit status is 0 where the run ended, 1 for a refused text, 2 for a wrong command line, 3 for a fault, 4 where the ticks were used up, 5 for want of memory and 6 where a file, the input or the output failed.",
+            "A tick is one turn of a loop, one CALL or one event. A small model takes up to some thousands, a long run millions. A million mostly take well under a second.\n\nExamples:\n  simscript run shop.sim --input shop.data --ticks 50000\n  generate | simscript run model.sim --input /dev/stdin\n\nThe exit status is 0 where the run ended, 1 for a refused text, 2 for a wrong command line, 3 for a fault, 4 where the ticks were used up, 5 where memory ran out and 6 where a file, the input or the output failed.",
         )
         .arg(model_file(alloc))
 }
@@ -98,9 +100,10 @@ fn list_command<'a>(alloc: Global) -> Result<Command<'a>, AllocError>
 
 // The command line with none of its commands.
 fn bare_line<'a>(alloc: Global) -> Command<'a>
-    ensures { app_of result ≡ new_app (codes "simscript") }
+    ensures { app_of result ≡ bare_words }
 {
     Command::new(alloc, "simscript")
+        .version("1.0.0")
         .about(
             "Compiles and runs models written in a profile of SIMSCRIPT II. Without a command it runs the model on the standard input, with no input data and 1,000,000 ticks",
         )

@@ -8,7 +8,7 @@ use std::fmt;
 /// Why the words of a command line give no order.
 #[derive(Debug, Drop)]
 pub enum Misuse {
-    /// A word that can't be there, or a call for help; its text is for the user.
+    /// A word that can't be there, or a call for the help or the version; its text is for the user.
     Words(Error),
     /// A file or a number isn't there, though the words have no fault. `clap` refuses those before.
     Incomplete,
@@ -17,7 +17,7 @@ pub enum Misuse {
 }
 
 impl Misuse {
-    /// The exit status: 0 for help, 2 for wrong words, 5 for memory.
+    /// The exit status: 0 for the help and the version, 2 for wrong words, 5 for memory.
     pub fn status(&self) -> u8
         ensures { result ≡ misuse_status self.now }
     {

@@ -104,8 +104,8 @@ impl<'a> Order<'a> {
     ///
     /// The order is what the words' matches by `clap` ask for: the command, its files, and the
     /// ticks, a whole number up to 18446744073709551615, or 1,000,000 where none are given. Words
-    /// that are no command line are refused with the status 2, a call for help with 0, and for lack
-    /// of memory with 5.
+    /// that are no command line are refused with the status 2, a call for the help or the version with
+    /// 0, and where memory ran out with 5.
     pub fn of<S: AsStr>(alloc: Global, words: &'a [S]) -> Result<Order<'a>, Misuse>
         ensures order { IfOk result (λ order. asked (map S.text words.entry.now) ≡ Some (asked_of order)) }
         ensures refused { IfErr result (λ misuse. IsRefusedFor (map S.text words.entry.now) misuse) }

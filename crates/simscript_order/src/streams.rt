@@ -24,16 +24,16 @@ pub fn write_whole<O: Write + Drop>(output: O, bytes: &[u8]) -> Result<(), Troub
     }
 }
 
-/// Reports what stopped the program, and answers the exit status.
+/// Reports what stopped the program, and answers the exit status. The line is one write, so that it
+/// stays whole where several programs share their errors.
 pub fn report_trouble<E: Write + Drop>(trouble: Trouble, mut errors: E) -> u8
     ensures { result ≡ trouble_status trouble }
 {
-    let text = trouble.text();
-    let _ = writeln!(errors, "{text}");
+    let _ = errors.write_all(trouble.line().as_bytes());
     trouble.status()
 }
 
-/// Gives the help that was asked for, or says what is wrong with the words, and answers the exit status.
+/// Gives the help or the version that was asked for, or says what is wrong with the words, and answers the exit status.
 pub fn explain<O: Write + Drop, E: Write + Drop>(misuse: &Misuse, output: O, mut errors: E) -> u8 {
     if misuse.status() != 0 {
         let _ = write!(errors, "{misuse}");

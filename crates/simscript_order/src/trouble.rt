@@ -26,13 +26,13 @@ impl Trouble {
         }
     }
 
-    /// The line that reports it, without its end.
-    pub fn text(self) -> &'static str {
+    /// The line that reports it, with its end.
+    pub fn line(self) -> &'static str {
         match self {
-            Trouble::Source => "cannot read source",
-            Trouble::Input => "cannot read input",
-            Trouble::Report => "cannot write report",
-            Trouble::Memory => "out of memory",
+            Trouble::Source => "cannot read source\n",
+            Trouble::Input => "cannot read input\n",
+            Trouble::Report => "cannot write report\n",
+            Trouble::Memory => "out of memory\n",
         }
     }
 }
