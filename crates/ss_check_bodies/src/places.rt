@@ -186,7 +186,10 @@ pub(crate) fn resolve_set<S: Scope>(
 
 // The entity whose statistic starts afresh; None where the statistic is of no entity.
 #[tactic(auto, using(crate::proofs::Seen::plain_seen))]
-fn owner_of_statistic(meaning: Meaning, subscript: Option<Resolved>) -> Result<Option<Resolved>, ResolveError>
+fn owner_of_statistic(
+    meaning: Meaning,
+    subscript: Option<Resolved>,
+) -> Result<Option<Resolved>, ResolveError>
     ensures { Gives (option_seen view_resolved) result (owner_of_statistic meaning (option_seen view_resolved subscript)) }
 {
     match meaning {

@@ -12,7 +12,7 @@ ghost use Rattle.ss_check_scopes.specs.Whole.{is_global, locals_of};
 use crate::globals::Globals;
 use crate::modes::{mode_in, modes_of};
 use ss_base::Name;
-use ss_names_declarations::{Seed, Table, insert_first, has_entry, key_at};
+use ss_names_declarations::{Seed, Table, has_entry, insert_first, key_at};
 use ss_names_uses::{Mention, Mentioned, Role};
 use ss_tree::preamble::Mode;
 use ss_tree::program::Section;

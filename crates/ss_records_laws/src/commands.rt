@@ -201,7 +201,9 @@ fn make(heap: &mut Heap, command: &Command) -> Result<Answer, AllocError>
             member,
             beside,
         } => Ok(outcome_of(heap.file_after(*set, *owner, *member, *beside))),
-        Command::Remove { set, owner, member } => Ok(outcome_of(heap.remove(*set, *owner, *member))),
+        Command::Remove { set, owner, member } => Ok(outcome_of(heap.remove(
+            *set, *owner, *member,
+        ))),
     }
 }
 
