@@ -6,9 +6,9 @@ ghost use Rattle.ss_tree.specs.View.{view_expression};
 ghost use Rattle.ss_program.specs.Program.{AValue};
 ghost use Rattle.ss_program.specs.View.{view_expression as view_resolved, view_item, view_option};
 ghost use Rattle.ss_names_meaning.specs.Answers.{Gives, each};
-ghost use Rattle.ss_names_meaning.specs.Expressions.{expression, item, item_of, value_of};
+ghost use Rattle.ss_names_meaning.specs.Expressions.{expression, item, item_of, resolved_value};
 
-use crate::expressions::{entity_of, plain, resolve_expression, resolve_subscript, value_of};
+use crate::expressions::{entity_of, without_subscript, resolve_expression, resolve_subscript, resolved_value};
 use ss_names_meaning::{Meaning, ResolveError, Scope};
 use ss_program::expression::Expression as Resolved;
 use ss_program::statement::Item;
@@ -23,9 +23,9 @@ fn named_value(
     meaning: Meaning,
     subscript: Option<Resolved>,
 ) -> Result<Item, ResolveError>
-    ensures { Gives view_item result (option_map AValue (value_of meaning (view_option view_resolved subscript))) }
+    ensures { Gives view_item result (option_map AValue (resolved_value meaning (view_option view_resolved subscript))) }
 {
-    let value = value_of(alloc, meaning, subscript)?;
+    let value = resolved_value(alloc, meaning, subscript)?;
     Ok(Item::Value { value })
 }
 
@@ -39,7 +39,7 @@ fn item_of(
     ensures { Gives view_item result (item_of meaning (view_option view_resolved subscript)) }
 {
     match meaning {
-        Meaning::Mean { statistic } => plain(subscript, Item::Mean { statistic }),
+        Meaning::Mean { statistic } => without_subscript(subscript, Item::Mean { statistic }),
         Meaning::MeanOf { statistic, implied } => {
             let entity = entity_of(implied, subscript);
             Ok(Item::MeanOf { statistic, entity })

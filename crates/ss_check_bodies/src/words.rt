@@ -2,7 +2,7 @@
 
 ghost use Rattle.std.specs.Prelude.{◌≡◌};
 ghost use Rattle.ss_names_meaning.specs.Conditions.{relation_of};
-ghost use Rattle.ss_names_meaning.specs.Expressions.{operator_of, sign_of};
+ghost use Rattle.ss_names_meaning.specs.Expressions.{operator_of, resolved_sign};
 ghost use Rattle.ss_names_meaning.specs.Heads.{guard_kind_of, phrase_kind_of};
 ghost use Rattle.ss_names_meaning.specs.Statements.{end_of};
 
@@ -16,8 +16,8 @@ use ss_tree::head::{GuardKind as GuardWord, PhraseKind as PhraseWord};
 use ss_tree::statement::SetEnd as EndWord;
 
 // The sign before a term.
-pub(crate) fn sign_of(sign: SignWord) -> Sign
-    ensures { result ≡ sign_of sign }
+pub(crate) fn resolved_sign(sign: SignWord) -> Sign
+    ensures { result ≡ resolved_sign sign }
 {
     match sign {
         SignWord::Plus => Sign::Plus,

@@ -16,7 +16,7 @@ use Rattle.ss_names_uses.specs.Demands as demanded
 use Rattle.ss_check_scopes.specs.declared.known.Known.{Known}
 use Rattle.ss_check_scopes.specs.declared.known.Known.TheVariants as knowns
 use Rattle.ss_check_scopes.specs.Locals.{Moded}
-use Rattle.ss_check_scopes.specs.Whole.{Whole, mode_at}
+use Rattle.ss_check_scopes.specs.Whole.{Whole, mode_in_place}
 use Rattle.ss_check_rules.specs.Unknown.{is_routine}
 use Rattle.ss_check_rules.specs.Arguments.{is_other}
 use Rattle.ss_program.specs.Program.{Statement, Call}
@@ -43,10 +43,10 @@ counted count o modes e h =
     let k : not (count == length modes) ≡ false = subst (λ p. is_other count (option_map length p) ≡ false) e h in
     same_number count (length modes) k
 
-pub from_first : (o : Option (List Mode)) (modes : List Mode) → o ≡ Some modes → Follow (λ i. mode_at o i) 0 modes
+pub from_first : (o : Option (List Mode)) (modes : List Mode) → o ≡ Some modes → Follow (λ i. mode_in_place o i) 0 modes
 from_first o modes e k =
     let n : 0 + k ≡ k = omega arith in
-    ap (λ i. mode_at o i) n ∙ ap (λ p. mode_at p k) e
+    ap (λ i. mode_in_place o i) n ∙ ap (λ p. mode_in_place p k) e
 
 both_same : (a b x y : ℕ) → a ≡ x → b ≡ y → ((a == x) && (b == y)) ≡ true
 both_same a b x y h g = rw (eq-eqb a x h, eq-eqb b y g) refl

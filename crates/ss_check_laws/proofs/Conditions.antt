@@ -63,8 +63,8 @@ module _ (w : Whole) (locals : Moded) (c : Context) (s : Scope) (linked : Linked
       let y = resolves w locals c s linked line right
       (right_of (KeptMention w locals) (mentioned.in_expression line left) (mentioned.in_expression line right) m)
       (right_of (KeptDemand w locals) (demanded.in_expression line left) (demanded.in_expression line right) d.1) in
-      let one : differ (Some x.1) (aspect_mode w locals (demanded.mode_of right)) ≡ false =
-      subst (λ o. differ o (aspect_mode w locals (demanded.mode_of right)) ≡ false) x.3 d.0.0 in
+      let one : differ (Some x.1) (aspect_mode w locals (demanded.mode_of_expression right)) ≡ false =
+      subst (λ o. differ o (aspect_mode w locals (demanded.mode_of_expression right)) ≡ false) x.3 d.0.0 in
       let both : differ (Some x.1) (Some y.1) ≡ false = subst (λ o. differ (Some x.1) o ≡ false) y.3 one in
       let made : Test = Compare (relation_of relation) x.0 y.0 in (
         made,

@@ -13,7 +13,7 @@ use Rattle.ss_names_meaning.specs.declared.meaning.Meaning.TheVariants as meanin
 use Rattle.ss_names_meaning.specs.declared.meaning.SetMeant.{SetMeant}
 use Rattle.ss_names_meaning.specs.declared.meaning.SetMeant.TheVariants.{OfSystem, OfEntity}
 use Rattle.ss_names_meaning.specs.Contexts.{Context}
-use Rattle.ss_names_meaning.specs.Expressions.{entity_of, value_of, item_of, place_of, owned_by, operator_of, expression, subscript, one, two, factors, terms, item, target, set_named}
+use Rattle.ss_names_meaning.specs.Expressions.{entity_of, resolved_value, item_of, place_of, resolved_set, operator_of, expression, subscript, one, two, factors, terms, item, target, set_named}
 use Rattle.ss_check_laws.proofs.Within.{Within, up, after, after_lookup, plain_small}
 
 plain_less : (e : Expression) (n : ℕ) → unless_plain e n ≤ n
@@ -25,7 +25,7 @@ pub entity_small : (implied : Variable) (e : Option Expression) (n : ℕ) → op
 entity_small implied None n h = omega arith
 entity_small implied (Some e) n h = omega (arith, plain_less e (expression_nodes e), h)
 
-value_small : (m : Meaning) (e : Option Expression) (n : ℕ) → option_nodes expression_nodes e ≤ n → Within expression_nodes (1 + n) (value_of m e)
+value_small : (m : Meaning) (e : Option Expression) (n : ℕ) → option_nodes expression_nodes e ≤ n → Within expression_nodes (1 + n) (resolved_value m e)
 value_small (meanings.Variable x mode) e n h = plain_small expression_nodes (1 + n) e _ (omega arith)
 value_small (meanings.Count k) e n h = plain_small expression_nodes (1 + n) e _ (omega arith)
 value_small (meanings.Attribute class field mode implied) e n h = omega (arith, entity_small implied e n h)
@@ -48,7 +48,7 @@ shown_small n (Some e) h = h
 named_item_small : (m : Meaning) (e : Option Expression) (n : ℕ) → option_nodes expression_nodes e ≤ n → Within item_nodes (1 + n) (item_of m e)
 named_item_small (meanings.Mean statistic) e n h = plain_small item_nodes (1 + n) e _ (omega arith)
 named_item_small (meanings.MeanOf statistic implied) e n h = omega (arith, entity_small implied e n h)
-named_item_small m e n h = shown_small (1 + n) (value_of m e) (value_small m e n h)
+named_item_small m e n h = shown_small (1 + n) (resolved_value m e) (value_small m e n h)
 
 place_small : (m : Meaning) (e : Option Expression) (n : ℕ) → option_nodes expression_nodes e ≤ n → Within place_nodes (1 + n) (place_of m e)
 place_small (meanings.Variable x mode) e n h = plain_small place_nodes (1 + n) e _ (omega arith)
@@ -56,7 +56,7 @@ place_small (meanings.Count k) e n h = plain_small place_nodes (1 + n) e _ (omeg
 place_small (meanings.Attribute class field mode implied) e n h = omega (arith, entity_small implied e n h)
 place_small _ e n h = tt
 
-owner_small : (s : SetMeant) (e : Option Expression) (n : ℕ) → option_nodes expression_nodes e ≤ n → Within (λ (p : ℕ × SetOwner). set_nodes p.1) (1 + n) (owned_by s e)
+owner_small : (s : SetMeant) (e : Option Expression) (n : ℕ) → option_nodes expression_nodes e ≤ n → Within (λ (p : ℕ × SetOwner). set_nodes p.1) (1 + n) (resolved_set s e)
 owner_small (OfSystem set) e n h = plain_small (λ (p : ℕ × SetOwner). set_nodes p.1) (1 + n) e _ (omega arith)
 owner_small (OfEntity set implied) e n h = omega (arith, entity_small implied e n h)
 

@@ -27,7 +27,7 @@ use Rattle.ss_program.specs.WellTyped.{Scope, HasMode}
 use Rattle.ss_names_meaning.specs.declared.meaning.Meaning.TheVariants as meanings
 use Rattle.ss_names_meaning.specs.Answers.{◌>>=◌}
 use Rattle.ss_names_meaning.specs.Contexts.{Context}
-use Rattle.ss_names_meaning.specs.Expressions.{expression, subscript, one, two, factors, terms, value_of, sign_of, operator_of}
+use Rattle.ss_names_meaning.specs.Expressions.{expression, subscript, one, two, factors, terms, resolved_value, resolved_sign, operator_of}
 use Rattle.ss_names_laws.specs.Rules.{KeptMention, KeptDemand, KeptMentions, KeptDemands}
 use Rattle.ss_check_laws.specs.Links.{Linked}
 use Rattle.ss_check_laws.specs.BodyLaws.{Resolves}
@@ -49,13 +49,13 @@ module _ (w : Whole) (locals : Moded) (c : Context) (s : Scope) where
   NumberTerms (and_term sign e es) = Number e × NumberTerms es
 
   -- what is a number by a demand
-  pub as_number : (line : Line) (e : ExpressionTree) → Resolves w locals c s e → KeptDemand w locals (demanded.a_number line (demanded.mode_of e)) → Number e
+  pub as_number : (line : Line) (e : ExpressionTree) → Resolves w locals c s e → KeptDemand w locals (demanded.a_number line (demanded.mode_of_expression e)) → Number e
   as_number line e r d =
       let k : differ (Some r.1) (Some modes.Integer) ≡ false = subst (λ o. differ o (Some modes.Integer) ≡ false) r.3 d.0 in
       (r.0, r.2, subst (HasMode s r.0) (is_integer r.1 k) r.4)
 
   -- a number has the mode of a number
-  from_number : (e : ExpressionTree) → Number e → aspect_mode w locals (demanded.mode_of e) ≡ Some modes.Integer → Resolves w locals c s e
+  from_number : (e : ExpressionTree) → Number e → aspect_mode w locals (demanded.mode_of_expression e) ≡ Some modes.Integer → Resolves w locals c s e
   from_number e n h = (n.0, modes.Integer, n.1, h, n.2)
 
   -- ---- single forms
@@ -75,8 +75,8 @@ module _ (w : Whole) (locals : Moded) (c : Context) (s : Scope) where
   signed_resolves : (sign : _) (e : ExpressionTree) → Number e → Resolves w locals c s (signed sign e)
   unfolding expression
   signed_resolves sign e n =
-      let x : Expression = Signed (sign_of sign) n.0 in
-      (x, modes.Integer, step (expression c e) (λ y. Some (Signed (sign_of sign) y)) n.0 x n.1 refl, refl, (refl, n.2))
+      let x : Expression = Signed (resolved_sign sign) n.0 in
+      (x, modes.Integer, step (expression c e) (λ y. Some (Signed (resolved_sign sign) y)) n.0 x n.1 refl, refl, (refl, n.2))
 
   -- ---- products and sums
 
@@ -168,7 +168,7 @@ module _ (w : Whole) (locals : Moded) (c : Context) (s : Scope) where
         let r = known_value w locals s known referent.0 e referent.2 f i in (
           r.2.0,
           r.0,
-          two_steps (subscript c es) (c.meaning (Name name)) (λ y m. value_of m y) e referent.0 r.2.0 h referent.1 r.2.1,
+          two_steps (subscript c es) (c.meaning (Name name)) (λ y m. resolved_value m y) e referent.0 r.2.0 h referent.1 r.2.1,
           ap known_mode k ∙ r.1,
           r.2.2,
         )
@@ -196,12 +196,12 @@ module _ (w : Whole) (locals : Moded) (c : Context) (s : Scope) where
         (subst (λ o. if_known is_mean o ≡ false) known.1 v.0.3)
     named_resolves (Name name) (and_expression e (and_expression f es)) m v d n = absurd cc
     named_resolves TimeV no_expression m v d n =
-        (Clock, modes.Integer, two_steps (subscript c no_expression) (c.meaning TimeV) (λ y m. value_of m y) None meanings.Clock Clock no_subscript linked.clock refl, refl, refl)
+        (Clock, modes.Integer, two_steps (subscript c no_expression) (c.meaning TimeV) (λ y m. resolved_value m y) None meanings.Clock Clock no_subscript linked.clock refl, refl, refl)
     named_resolves TimeV (and_expression e es) m v d n = absurd cc
     named_resolves TimeA no_expression m v d n = absurd cc
     named_resolves TimeA (and_expression e no_expression) m v d n =
         let x : Expression = TimeOf n.0.0 in
-        (x, modes.Integer, two_steps (subscript c (and_expression e no_expression)) (c.meaning TimeA) (λ y m. value_of m y) (Some n.0.0) meanings.NoticeTime x (one_subscript e n.0) linked.notice_time refl, refl, (refl, n.0.2))
+        (x, modes.Integer, two_steps (subscript c (and_expression e no_expression)) (c.meaning TimeA) (λ y m. resolved_value m y) (Some n.0.0) meanings.NoticeTime x (one_subscript e n.0) linked.notice_time refl, refl, (refl, n.0.2))
     named_resolves TimeA (and_expression e (and_expression f es)) m v d n = absurd cc
 
     -- ---- expressions

@@ -73,7 +73,7 @@ module _ (w : Whole) (locals : Moded) (c : Context) (s : Scope) (linked : Linked
 
   -- a value, and a target, of the mode of what is in its place
   abbrev pub handed : (ℕ → Aspect) → ℕ → ExpressionTree → List Demand
-  handed by i e = demanded.demand line (demanded.mode_of e) (by i) ∷ demanded.in_expression line e
+  handed by i e = demanded.demand line (demanded.mode_of_expression e) (by i) ∷ demanded.in_expression line e
 
   abbrev pub taken : (ℕ → Aspect) → ℕ → NamedTree → List Demand
   taken by i t = demanded.demand line (demanded.target_mode t) (by i) ∷ demanded.in_named line t

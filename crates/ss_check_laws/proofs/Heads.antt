@@ -23,8 +23,8 @@ use Rattle.ss_check_scopes.specs.declared.known.Known.TheVariants as knowns
 use Rattle.ss_check_scopes.specs.Locals.{Moded}
 use Rattle.ss_check_scopes.specs.Meanings.{meaning_in}
 use Rattle.ss_check_scopes.specs.Whole.{Whole}
-use Rattle.ss_check_rules.specs.Unknown.{has_value, is_variable, is_permanent}
-use Rattle.ss_check_rules.specs.Modes.{mode_of, mode_in, known_mode, differ}
+use Rattle.ss_check_rules.specs.Unknown.{has_value, is_variable, is_known_permanent}
+use Rattle.ss_check_rules.specs.Modes.{mode_of_known, mode_in, known_mode, differ}
 use Rattle.ss_program.specs.declared.expression.Variable.{Variable}
 use Rattle.ss_program.specs.Program.{ToVariable, AtEnd, From, After, Head, Numbers, Members, Each, Phrase, Guard}
 use Rattle.ss_program.specs.WellTyped.{Scope, HasMode, TakesMode, GoodStart, GoodPhrase, GoodCondition}
@@ -35,7 +35,7 @@ use Rattle.ss_names_meaning.specs.Answers.{◌>>=◌, each, if_there}
 use Rattle.ss_names_meaning.specs.Contexts.{Context, permanent_class, if_permanent}
 use Rattle.ss_names_meaning.specs.Expressions.{expression, set_named}
 use Rattle.ss_names_meaning.specs.Conditions.{condition}
-use Rattle.ss_names_meaning.specs.Heads.{phrase_kind_of, guard_kind_of, phrase, guard, if_variable, loop_variable, start, called_variable, head}
+use Rattle.ss_names_meaning.specs.Heads.{phrase_kind_of, guard_kind_of, phrase, guard, if_variable, loop_variable, resolved_start, called_variable, head}
 use Rattle.ss_names_laws.specs.Rules.{KeptMention, KeptDemand, KeptMentions, KeptDemands}
 use Rattle.ss_check_laws.specs.Links.{Linked, IsVariable, IsClass, Fits}
 use Rattle.ss_check_laws.specs.BodyLaws.{ForResolves, HeadResolves}
@@ -61,7 +61,7 @@ variable_is_value (knowns.Variable m) h = refl
 variable_is_value (knowns.Class kind) h = refl
 variable_is_value _ h = absurd cc
 
-pub known_permanent : (known : Known) → is_permanent known ≡ true → known ≡ knowns.Class class_words.Permanent
+pub known_permanent : (known : Known) → is_known_permanent known ≡ true → known ≡ knowns.Class class_words.Permanent
 known_permanent (knowns.Class class_words.Permanent) h = refl
 known_permanent _ h = absurd cc
 
@@ -79,7 +79,7 @@ module _ (w : Whole) (locals : Moded) (s : Scope) where
   variable_loops m _ f = absurd f
 
   abbrev KnownLoops : Known → Meaning → Type 0
-  KnownLoops known referent = (m : Mode) × (mode_of known ≡ Some m) × Loops m referent
+  KnownLoops known referent = (m : Mode) × (mode_of_known known ≡ Some m) × Loops m referent
 
   known_loops : (known : Known) (referent : Meaning) → Fits w locals s known referent → is_variable known ≡ true → KnownLoops known referent
   known_loops (knowns.Local m) referent f h = (m, refl, variable_loops m referent f)
@@ -107,7 +107,7 @@ module _ (w : Whole) (locals : Moded) (c : Context) (s : Scope) (linked : Linked
   abbrev pub TakesNumbers : Option Variable → Type 0
   TakesNumbers o = (x : Variable) × (o ≡ Some x) × TakesMode s (ToVariable x) modes.Integer
 
-  pub loops : (name : NameBytes) → KeptMention w locals (mentioned.plain line roles.LoopVariable name) → KeptDemand w locals (demanded.a_number line (aspects.Named name)) → TakesNumbers (loop_variable c name)
+  pub loops : (name : NameBytes) → KeptMention w locals (mentioned.plain_mention line roles.LoopVariable name) → KeptDemand w locals (demanded.a_number line (aspects.Named name)) → TakesNumbers (loop_variable c name)
   loops name m d =
       let known = known_of (meaning_in w.meanings locals name) is_variable m.0 in
       let referent = linked.value name known.0 known.1 (variable_is_value known.0 known.2) in
@@ -124,7 +124,7 @@ module _ (w : Whole) (locals : Moded) (c : Context) (s : Scope) (linked : Linked
       subst (λ m. TakesMode s (ToVariable referent.variable) m) (is_integer there.0 fits) there.2
 
   called_takes : (name : NameBytes) (kind : ClassWord) (referent : ClassMeant) → IsClass w locals s name kind referent → (called : Option NameBytes) →
-      KeptMentions w locals (mentioned.in_option (λ n. mentioned.plain line roles.LoopVariable n ∷ []) called) →
+      KeptMentions w locals (mentioned.in_option (λ n. mentioned.plain_mention line roles.LoopVariable n ∷ []) called) →
       KeptDemands w locals (demanded.in_class_variable line name called) → TakesNumbers (called_variable c referent.variable called)
   called_takes name kind referent k None m d = (referent.variable, refl, class_takes name kind referent k d.0)
   called_takes name kind referent k (Some n) m d = loops n m.0 d.0
@@ -156,7 +156,7 @@ module _ (w : Whole) (locals : Moded) (c : Context) (s : Scope) (linked : Linked
       let n = number_kept w locals c s linked line e m d in
       (Some n.0, step (expression c e) (λ x. Some (Some x)) n.0 (Some n.0) n.1 refl, n.2)
 
-  start_resolves : (t : StartTree) → KeptMentions w locals (mentioned.in_start line t) → KeptDemands w locals (demanded.in_start line t) → GoesWell w locals (GoodStart s) (start c t)
+  start_resolves : (t : StartTree) → KeptMentions w locals (mentioned.in_start line t) → KeptDemands w locals (demanded.in_start line t) → GoesWell w locals (GoodStart s) (resolved_start c t)
   start_resolves from_end m d = (AtEnd, refl, tt)
   start_resolves (from_member e) m d =
       let n = number_kept w locals c s linked line e m d in
@@ -210,18 +210,18 @@ module _ (w : Whole) (locals : Moded) (c : Context) (s : Scope) (linked : Linked
       let ps = phrases_resolve phrases m3 d3 in
       let made : Head = Members v.0 p.0.0 p.0.1 x.0 reverse in (
         made,
-        three_steps (loop_variable c variable) (set_named c set) (start c from) (λ a b e. Some (Members a b.0 b.1 e reverse)) v.0 p.0 x.0 made v.1 p.1 x.1 refl,
+        three_steps (loop_variable c variable) (set_named c set) (resolved_start c from) (λ a b e. Some (Members a b.0 b.1 e reverse)) v.0 p.0 x.0 made v.1 p.1 x.1 refl,
         (v.2, p.2, x.2),
         ps.0,
         ps.1,
         ps.2,
       )
   for_resolves (over_class name called phrases) m d =
-      let m1 = ml w locals s (mentioned.in_option (λ n. mentioned.plain line roles.LoopVariable n ∷ []) called) (mentioned.in_phrases line phrases) m.1 in
-      let m2 = mr w locals s (mentioned.in_option (λ n. mentioned.plain line roles.LoopVariable n ∷ []) called) (mentioned.in_phrases line phrases) m.1 in
+      let m1 = ml w locals s (mentioned.in_option (λ n. mentioned.plain_mention line roles.LoopVariable n ∷ []) called) (mentioned.in_phrases line phrases) m.1 in
+      let m2 = mr w locals s (mentioned.in_option (λ n. mentioned.plain_mention line roles.LoopVariable n ∷ []) called) (mentioned.in_phrases line phrases) m.1 in
       let d1 = dl w locals s (demanded.in_class_variable line name called) (demanded.in_phrases line phrases) d in
       let d2 = dr w locals s (demanded.in_class_variable line name called) (demanded.in_phrases line phrases) d in
-      let known = known_of (w.meanings name) is_permanent m.0.0 in
+      let known = known_of (w.meanings name) is_known_permanent m.0.0 in
       let class = linked.class name class_words.Permanent (known.1 ∙ ap Some (known_permanent known.0 known.2)) in
       let found : permanent_class c name ≡ Some class.0 = step (c.class name) (λ k. if_permanent k k.kind) class.0 class.0 class.1 (permanent_is class.0 class.0.kind class.2.kind_meant) in
       let v = called_takes name class_words.Permanent class.0 class.2 called m1 d1 in

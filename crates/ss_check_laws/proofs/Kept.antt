@@ -14,12 +14,12 @@ use Rattle.ss_names_laws.specs.Tables.{TablesAreKept}
 use Rattle.ss_check_scopes.specs.Signatures.{given_to, yielded_by}
 use Rattle.ss_check_scopes.specs.Whole.{Whole, locals_of}
 use Rattle.ss_check_laws.specs.Parameters.{AreDistinct, parameters}
-use Rattle.ss_names_laws.specs.ValidTables.{IsKept}
+use Rattle.ss_names_laws.specs.ValidTables.{IsValidTable}
 use Rattle.ss_check_laws.specs.Programs.{KeepsAllRules, KeepsRules}
 
 -- ---- the table
 
-pub table_kept : TablesAreKept → SubjectsAreWhole → (p : ProgramTree) → declarations.KeepsDeclarations p → uses.KeepsUses (whole_of p) p → IsKept (table p)
+pub table_kept : TablesAreKept → SubjectsAreWhole → (p : ProgramTree) → declarations.KeepsDeclarations p → uses.KeepsUses (whole_of p) p → IsValidTable (table p)
 table_kept tables subjects p d u = record { said = tables p d; subjects = subjects p d u }
 
 -- ---- sections

@@ -17,7 +17,7 @@ use Rattle.ss_names.specs.declared.entry.VariableKind.TheVariants as kinds
 use Rattle.ss_names_declarations.specs.Firsts.{place_in, same_name, value_for}
 use Rattle.ss_names.specs.Table.{Table}
 use Rattle.ss_check_scopes.specs.declared.known.Known.TheVariants as knowns
-use Rattle.ss_check_scopes.specs.Locals.{Moded, number_of}
+use Rattle.ss_check_scopes.specs.Locals.{Moded, number_of_local}
 use Rattle.ss_check_scopes.specs.Meanings.{local_or, meaning_in, value_mode}
 use Rattle.ss_check_scopes.specs.Signatures.{Signed}
 use Rattle.ss_check_scopes.specs.Whole.{Whole}
@@ -34,7 +34,7 @@ use Rattle.ss_names_meaning.specs.Resolved.{local_mode, local_modes}
 use Rattle.ss_names_meaning.specs.Words.{mode_given, mode_said}
 use Rattle.ss_check_laws.specs.Links.{IsImplied}
 use Rattle.ss_names_laws.specs.Tables.{standing_of}
-use Rattle.ss_names_laws.specs.ValidTables.{IsKept}
+use Rattle.ss_names_laws.specs.ValidTables.{IsValidTable}
 use Rattle.ss_names_laws.specs.LaidOut.{HasTables}
 use Rattle.ss_names_declarations.proofs.Entries.{key_at, no_place, place_of_value, value_at}
 use Rattle.ss_names_laws.proofs.Steps.{got, numbers_at}
@@ -84,7 +84,7 @@ mode_agrees t name m e =
     let a = got (attribute_named t name) (λ x. mode_given x.mode) m e in
     ap whole.mode_of_attribute (attribute_found t (place_in t.attributes name) a.0 a.1) ∙ value_is a.0.mode m a.2
 
-module _ (t : Table) (signatures : List Signed) (is : IsTable t) (k : IsKept t) (s : Scope) (h : HasTables t s.program)
+module _ (t : Table) (signatures : List Signed) (is : IsTable t) (k : IsValidTable t) (s : Scope) (h : HasTables t s.program)
     (locals : Moded) (modes : local_modes locals ≡ Some s.locals) where
   abbrev pub w : Whole
   w = whole.whole_in t signatures
@@ -98,7 +98,7 @@ module _ (t : Table) (signatures : List Signed) (is : IsTable t) (k : IsKept t) 
   pub unhidden : (name : NameBytes) (m : Global) → lookup (same_name name) locals ≡ None → value_for t.names name ≡ Some m → meaning_in w.meanings locals name ≡ whole.meaning_by t m
   unhidden name m e f = ap (λ o. local_or o (w.meanings name)) e ∙ ap (whole.meaning_of t) f
 
-  pub local_known : (name : NameBytes) (mode : Option ModeWord) → lookup (same_name name) locals ≡ Some mode → (n : ℕ) × (m : Mode) × (number_of locals name ≡ Some n) × (mode_given mode ≡ Some m) × (slice_get s.locals n ≡ Some m)
+  pub local_known : (name : NameBytes) (mode : Option ModeWord) → lookup (same_name name) locals ≡ Some mode → (n : ℕ) × (m : Mode) × (number_of_local locals name ≡ Some n) × (mode_given mode ≡ Some m) × (slice_get s.locals n ≡ Some m)
   local_known name mode e =
       let place = place_of_value locals name mode e in
       let at = numbers_at (local_mode locals) (length locals) s.locals place.0 modes (slice_get_within locals place.0 (name, mode) place.1.1) in
@@ -132,7 +132,7 @@ module _ (t : Table) (signatures : List Signed) (is : IsTable t) (k : IsKept t) 
           let l = local_known name mode f in
           (l.1, ap known_mode (hidden name mode f) ∙ ap Some (value_is mode l.1 l.3), subst (λ o. TakesMode s (ToVariable (hidden_by locals o n)) l.1) (sym l.2) (l.4, tt))
       by None f =
-          let number : number_of locals name ≡ None = no_place locals name f in
+          let number : number_of_local locals name ≡ None = no_place locals name f in
           let numbered = is.names name (globals.Class class n) e in
           let known : whole.meaning_by t (globals.Class class n) ≡ Some (knowns.Class numbered.0.kind) = ap whole.class_meaning (value_at t.classes class name numbered.0 numbered.2) in
           (Integer, ap known_mode (unhidden name (globals.Class class n) f e ∙ known), subst (λ o. TakesMode s (ToVariable (hidden_by locals o n)) Integer) (sym number) (class_variable_whole class n name numbered.1 e numbered.3))

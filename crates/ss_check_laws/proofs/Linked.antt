@@ -52,7 +52,7 @@ use Rattle.ss_names_meaning.specs.Words.{class_kind, mode_given, mode_said}
 use Rattle.ss_check_laws.specs.Links.{HasCount, IsClass, IsRoutine, IsSetOf, IsSubject, Linked, kind_said}
 use Rattle.ss_names_laws.specs.Tables.{standing_of}
 use Rattle.ss_names_laws.specs.Locals.{KeepsLocals}
-use Rattle.ss_names_laws.specs.ValidTables.{IsKept}
+use Rattle.ss_names_laws.specs.ValidTables.{IsValidTable}
 use Rattle.ss_names_laws.specs.LaidOut.{HasTables}
 use Rattle.ss_check_laws.specs.Signed.{AreSigned}
 use Rattle.ss_check_laws.proofs.Known.{mode_agrees, class_variable_typed, kind_of_class, unhidden, w}
@@ -68,7 +68,7 @@ kinds_same class_words.Permanent = refl
 kinds_same class_words.Temporary = refl
 kinds_same class_words.EventNotice = refl
 
-module _ (t : Table) (signatures : List Signed) (is : IsTable t) (k : IsKept t) (s : Scope) (h : HasTables t s.program)
+module _ (t : Table) (signatures : List Signed) (is : IsTable t) (k : IsValidTable t) (s : Scope) (h : HasTables t s.program)
     (locals : Moded) (modes : local_modes locals ≡ Some s.locals) where
   abbrev here : Whole
   here = w t signatures is k s h locals modes

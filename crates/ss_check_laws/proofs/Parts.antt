@@ -15,7 +15,7 @@ use Rattle.ss_names.specs.declared.entry.Routine.{Routine as RoutineSaid}
 use Rattle.ss_names_declarations.specs.Firsts.{same_name, value_for}
 use Rattle.ss_names.specs.Table.{Table, table}
 use Rattle.ss_check_scopes.specs.declared.known.Known.TheVariants as knowns
-use Rattle.ss_check_scopes.specs.Locals.{Moded, mode_of}
+use Rattle.ss_check_scopes.specs.Locals.{Moded, mode_of_local}
 use Rattle.ss_check_scopes.specs.Meanings.{value_mode}
 use Rattle.ss_check_scopes.specs.Signatures.{Signed, given_to, signature, yielded_by}
 use Rattle.ss_check_scopes.specs.Whole.{Whole, locals_of}
@@ -29,7 +29,7 @@ use Rattle.ss_names_meaning.specs.Resolved.{Parts, body, local_mode, local_modes
 use Rattle.ss_names_meaning.specs.Words.{mode_given}
 use Rattle.ss_check_laws.specs.BodyLaws.{BodyResolves, KeptSectionsResolve}
 use Rattle.ss_check_laws.specs.Parameters as parameters
-use Rattle.ss_names_laws.specs.ValidTables.{IsKept}
+use Rattle.ss_names_laws.specs.ValidTables.{IsValidTable}
 use Rattle.ss_check_laws.specs.Programs.{KeepsAllRules, KeepsRules}
 use Rattle.ss_names_laws.specs.LaidOut.{HasTables, LaysOut}
 use Rattle.ss_check_laws.specs.Signed.{AreSigned, IsSigned}
@@ -55,7 +55,7 @@ local_step locals i name mode m e f g =
     goes (slice_get (keys_of locals) i) (λ x. lookup (same_name x) locals >>= λ y. mode_given y) name m (key_at locals i name mode e)
     (goes (lookup (same_name name) locals) (λ y. mode_given y) mode m f g)
 
-module _ (p : tree.ProgramTree) (k : IsKept (table p)) (g : KeepsAllRules (whole_of p) p) (laws : Laws) where
+module _ (p : tree.ProgramTree) (k : IsValidTable (table p)) (g : KeepsAllRules (whole_of p) p) (laws : Laws) where
   abbrev pub t : Table
   t = table p
 
@@ -125,8 +125,8 @@ module _ (p : tree.ProgramTree) (k : IsKept (table p)) (g : KeepsAllRules (whole
         there = h;
         given = (λ i. take (given i) (m i)) ∙ first.0;
         yielding = (λ i. take (yielding i) (drop (given i) (m i))) ∙ first.1;
-        given_counted = given ∙ sym (length-map (given_to s.kind) (mode_of t.usual s.definitions));
-        yielding_counted = yielding ∙ sym (length-map (yielded_by s.kind) (mode_of t.usual s.definitions));
+        given_counted = given ∙ sym (length-map (given_to s.kind) (mode_of_local t.usual s.definitions));
+        yielding_counted = yielding ∙ sym (length-map (yielded_by s.kind) (mode_of_local t.usual s.definitions));
       }
 
   -- ---- a program with the same tables and no statements, by which those of all sections resolve

@@ -21,7 +21,7 @@ use Rattle.ss_check_scopes.specs.Whole.{Whole}
 use Rattle.ss_check_rules.specs.Unknown.{has_value, is_set, if_known}
 use Rattle.ss_check_rules.specs.Subscripts.{is_single, are_wrong}
 use Rattle.ss_check_rules.specs.Targets.{takes_values}
-use Rattle.ss_check_rules.specs.Modes.{mode_of as known_mode_of, class_mode, known_class, known_mode, differ}
+use Rattle.ss_check_rules.specs.Modes.{mode_of_known as known_mode_of, class_mode, known_class, known_mode, differ}
 use Rattle.ss_program.specs.Program.{Expression, Place, ToVariable, ToAttribute, ToCount, SetOwner, TheSystem, Entity}
 use Rattle.ss_program.specs.WellTyped.{Scope, TakesMode, OwnerFits}
 use Rattle.ss_names_meaning.specs.declared.meaning.Meaning.{Meaning}
@@ -29,8 +29,8 @@ use Rattle.ss_names_meaning.specs.declared.meaning.Meaning.TheVariants as meanin
 use Rattle.ss_names_meaning.specs.declared.meaning.SetMeant.{SetMeant}
 use Rattle.ss_names_meaning.specs.declared.meaning.SetMeant.TheVariants.{OfSystem, OfEntity}
 use Rattle.ss_names_meaning.specs.Contexts.{Context}
-use Rattle.ss_names_meaning.specs.Expressions.{entity_of, subscript, place_of, owned_by}
-use Rattle.ss_names_meaning.specs.Statements.{mode_of}
+use Rattle.ss_names_meaning.specs.Expressions.{entity_of, subscript, place_of, resolved_set}
+use Rattle.ss_names_meaning.specs.Statements.{mode_of_target}
 use Rattle.ss_names_laws.specs.Rules.{KeptMention, KeptDemand, KeptMentions, KeptDemands}
 use Rattle.ss_check_laws.specs.Links.{Linked, IsVariable, IsAttribute, IsCount, IsSetOf, Fits}
 use Rattle.ss_check_laws.specs.BodyLaws.{TargetResolves, SetResolves}
@@ -42,7 +42,7 @@ module _ (w : Whole) (locals : Moded) (s : Scope) where
   -- ---- what is assigned to
 
   abbrev TakesValues : Mode → Meaning → Option Expression → Type 0
-  TakesValues m referent e = (x : Place) × (mode_of referent ≡ Some m) × (place_of referent e ≡ Some x) × TakesMode s x m
+  TakesValues m referent e = (x : Place) × (mode_of_target referent ≡ Some m) × (place_of referent e ≡ Some x) × TakesMode s x m
 
   variable_place : (m : Mode) (referent : Meaning) (e : Option Expression) → IsVariable w locals s m referent → Alone w locals s e → TakesValues m referent e
   variable_place m (meanings.Variable x mode) None f a = (ToVariable x, f.0, refl, f.1)
@@ -74,7 +74,7 @@ module _ (w : Whole) (locals : Moded) (s : Scope) where
   -- ---- sets
 
   abbrev Owned : SetMeant → Option Expression → Type 0
-  Owned referent e = (p : ℕ × SetOwner) × (owned_by referent e ≡ Some p) × OwnerFits s p.0 p.1
+  Owned referent e = (p : ℕ × SetOwner) × (resolved_set referent e ≡ Some p) × OwnerFits s p.0 p.1
 
   system_owned : (referent : SetMeant) (e : Option Expression) → IsSetOf w locals s TheProgram referent → Alone w locals s e → Owned referent e
   system_owned (OfSystem set) None f a = ((set, TheSystem), refl, f)
@@ -147,7 +147,7 @@ module _ (w : Whole) (locals : Moded) (c : Context) (s : Scope) (linked : Linked
       let meant = linked.set name holder.0 (known.1 ∙ ap Some holder.1) in
       let e = subscripted name es (knowns.Set holder.0) meant.1 m.1 d n in
       let r = set_owned w locals s holder.0 meant.0 e.0 meant.3 e.2 in
-      (r.0, two_steps (subscript c es) (c.set (Name name)) (λ y u. owned_by u y) e.0 meant.0 r.0 e.1 meant.2 r.1, r.2)
+      (r.0, two_steps (subscript c es) (c.set (Name name)) (λ y u. resolved_set u y) e.0 meant.0 r.0 e.1 meant.2 r.1, r.2)
   set_by TimeV es m d n = absurd cc
   set_by TimeA es m d n = absurd cc
 

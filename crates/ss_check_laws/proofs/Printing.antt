@@ -30,7 +30,7 @@ module _ (w : Whole) (locals : Moded) (c : Context) (s : Scope) (linked : Linked
       StatementResolves w locals c s linked line (print_statement line items pictures)
   unfolding statement
   print_resolves items pictures m d =
-      let fields = demanded.fields_of pictures in
+      let fields = demanded.fields_of_pictures pictures in
       let places = demanded.in_places (demanded.in_field_at line fields) 0 items in
       let long : length items ≡ length fields = same_number (length items) (length fields) d.0.2 in
       let r = items_resolve w locals c s linked line items fields long m

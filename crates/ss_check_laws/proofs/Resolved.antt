@@ -13,7 +13,7 @@ use Rattle.ss_base.specs.Plain.{PlainClass, PlainLayout}
 use Rattle.ss_program.specs.declared.sections.Statistic.{Statistic}
 use Rattle.ss_program.specs.declared.statement.Counted.{Counted}
 use Rattle.ss_check_laws.specs.Parameters as parameters
-use Rattle.ss_check_scopes.specs.Locals.{mode_of}
+use Rattle.ss_check_scopes.specs.Locals.{mode_of_local}
 use Rattle.ss_tree.specs.Tree as tree
 use Rattle.ss_names_declarations.specs.Sayings.{NameBytes}
 use Rattle.ss_names.specs.declared.meaning.Meaning.TheVariants as globals
@@ -31,7 +31,7 @@ use Rattle.ss_names_meaning.specs.Answers.{◌>>=◌, each, upto, where_holds}
 use Rattle.ss_names_meaning.specs.Layouts.{Laid, counts, disciplines, field_mode, global_mode, laid_out, layout, statistic_kept}
 use Rattle.ss_names_meaning.specs.Resolved.{Parts, is_known, main_parts, resolved, resolved_event, resolved_routine}
 use Rattle.ss_names_meaning.specs.Words.{class_kind}
-use Rattle.ss_names_laws.specs.ValidTables.{IsKept}
+use Rattle.ss_names_laws.specs.ValidTables.{IsValidTable}
 use Rattle.ss_check_laws.specs.Programs.{KeepsAllRules}
 use Rattle.ss_names_laws.specs.LaidOut.{HasTables}
 use Rattle.ss_check_laws.specs.Signed.{AreSigned}
@@ -43,7 +43,7 @@ use Rattle.ss_names_laws.proofs.Steps.{contains_at, each_map, goes, holds, numbe
 use Rattle.ss_names_laws.proofs.Typed.{are_well_typed, class_count, class_known}
 use Rattle.ss_check_laws.proofs.Whole.{EventFacts, RoutineFacts, all_known, attributes_known, event_facts, events, main_facts, main_kind, notice_word, routine_facts, routines, routines_signed}
 
-module _ (p : tree.ProgramTree) (k : IsKept (table p)) (g : KeepsAllRules (whole.whole_of p) p) (laws : Laws)
+module _ (p : tree.ProgramTree) (k : IsValidTable (table p)) (g : KeepsAllRules (whole.whole_of p) p) (laws : Laws)
     (q : Program) (tables : HasTables (table p) q) (same_routines : q.routines ≡ (routines p k g laws).0) (same_events : q.events ≡ (events p k g laws).0) where
   are_signed : AreSigned (table p) (signatures p k g laws) q
   are_signed = routines_signed p k g laws q same_routines
@@ -89,7 +89,7 @@ module _ (p : tree.ProgramTree) (k : IsKept (table p)) (g : KeepsAllRules (whole
       let counted : length e.given ≡ count =
       ap length takes
       ∙ length-map (signature (table p).usual f.section).given value_mode
-      ∙ length-map (given_to f.section.kind) (mode_of (table p).usual f.section.definitions)
+      ∙ length-map (given_to f.section.kind) (mode_of_local (table p).usual f.section.definitions)
       ∙ ap length given_is in
       let block = body_typed p k g laws f.section f.parts f.keeps f.has q tables are_signed in
       let not_main : uses.is_main f.section.kind ≡ false = ap uses.is_main f.kind in
@@ -116,7 +116,7 @@ module _ (p : tree.ProgramTree) (k : IsKept (table p)) (g : KeepsAllRules (whole
   kind_there (Some c) kind e = (c, refl, same_Some c.kind kind e)
 
   -- each class of notices has its event routine
-  served : (class : ℕ) → typed.kind_of q class ≡ Some Notice → Contains (map (λ e. e.class) q.events) class
+  served : (class : ℕ) → typed.kind_of_class q class ≡ Some Notice → Contains (map (λ e. e.class) q.events) class
   served class e =
       let laid_class = kind_there (slice_get q.layout.classes class) Notice e in
       let within = slice_get_within q.layout.classes class laid_class.0 laid_class.1 in
@@ -158,7 +158,7 @@ module _ (p : tree.ProgramTree) (k : IsKept (table p)) (g : KeepsAllRules (whole
         main = main;
       }
 
-module _ (p : tree.ProgramTree) (k : IsKept (table p)) (g : KeepsAllRules (whole.whole_of p) p) (laws : Laws) where
+module _ (p : tree.ProgramTree) (k : IsValidTable (table p)) (g : KeepsAllRules (whole.whole_of p) p) (laws : Laws) where
   laid_known : (l : PlainLayout) (o : List Discipline) (m : List Mode) (c : List Counted) (s : List Statistic) →
       layout (table p) ≡ Some l → disciplines (table p) ≡ Some o → each (global_mode (table p)) (upto (length (table p).variables)) ≡ Some m → counts (table p) ≡ Some c →
       each (statistic_kept (table p)) (upto (length (table p).histories)) ≡ Some s → laid_out (table p) ≡ Some (record { layout = l; disciplines = o; globals = m; counts = c; statistics = s })

@@ -35,7 +35,7 @@ use Rattle.ss_names_meaning.specs.Meanings.{class_variable, figure, figure_alone
 use Rattle.ss_names_meaning.specs.Resolved.{local_modes}
 use Rattle.ss_check_laws.specs.Links.{IsFigure, IsImplied, IsMean, IsSetOf, IsQuery}
 use Rattle.ss_names_laws.specs.Subjects.{IsWhole}
-use Rattle.ss_names_laws.specs.ValidTables.{IsKept}
+use Rattle.ss_names_laws.specs.ValidTables.{IsValidTable}
 use Rattle.ss_names_laws.specs.LaidOut.{HasTables}
 use Rattle.ss_check_laws.proofs.Known.{implied_known, w}
 use Rattle.ss_names_declarations.proofs.Entries.{entry_of_value, key_at, there}
@@ -43,7 +43,7 @@ use Rattle.ss_names_laws.proofs.Steps.{goes, numbers_at}
 use Rattle.ss_names_laws.proofs.Structure.{IsTable}
 use Rattle.ss_names_laws.proofs.Typed.{laid, set_known, statistic_known}
 
-module _ (t : Table) (signatures : List Signed) (is : IsTable t) (k : IsKept t) (s : Scope) (h : HasTables t s.program)
+module _ (t : Table) (signatures : List Signed) (is : IsTable t) (k : IsValidTable t) (s : Scope) (h : HasTables t s.program)
     (locals : Moded) (modes : local_modes locals ≡ Some s.locals) where
   abbrev Implied : NameBytes → Variable → Type 0
   Implied = IsImplied (w t signatures is k s h locals modes) locals s

@@ -16,7 +16,7 @@ use Rattle.ss_program.specs.WellTyped.{Scope, HasMode, TakesMode, GoodPosition, 
 use Rattle.ss_names_meaning.specs.Answers.{◌>>=◌, each}
 use Rattle.ss_names_meaning.specs.Contexts.{Context}
 use Rattle.ss_names_meaning.specs.Expressions.{expression, target, set_named}
-use Rattle.ss_names_meaning.specs.Statements.{end_of, mode_of, position, reader, statement}
+use Rattle.ss_names_meaning.specs.Statements.{end_of, mode_of_target, position, reader, statement}
 use Rattle.ss_names_laws.specs.Rules.{KeptMentions, KeptDemands}
 use Rattle.ss_check_laws.specs.Links.{Linked}
 use Rattle.ss_check_laws.proofs.Steps.{step, two_steps, is_integer}
@@ -47,8 +47,8 @@ module _ (w : Whole) (locals : Moded) (c : Context) (s : Scope) (linked : Linked
       let y = resolves w locals c s linked line e
       (mr w locals s (mentioned.in_named line roles.Target t) (mentioned.in_expression line e) m)
       (dr w locals s (demanded.in_named line t) (demanded.in_expression line e) d.1) in
-      let one : differ (Some x.1) (aspect_mode w locals (demanded.mode_of e)) ≡ false =
-      subst (λ o. differ o (aspect_mode w locals (demanded.mode_of e)) ≡ false) x.3 d.0.0 in
+      let one : differ (Some x.1) (aspect_mode w locals (demanded.mode_of_expression e)) ≡ false =
+      subst (λ o. differ o (aspect_mode w locals (demanded.mode_of_expression e)) ≡ false) x.3 d.0.0 in
       let both : differ (Some x.1) (Some y.1) ≡ false = subst (λ o. differ (Some x.1) o ≡ false) y.3 one in
       let made : Statement = Let line x.0 y.0 in (
         made,
@@ -145,8 +145,8 @@ module _ (w : Whole) (locals : Moded) (c : Context) (s : Scope) (linked : Linked
       let r = target_resolves w locals c s linked line t m d in
       let made : Target = record { place = r.0; mode = r.1 } in (
         made,
-        two_steps (target c t) (c.meaning t.designator) (λ u v. mode_of v >>= λ z. Some (record { place = u; mode = z })) r.0 r.5 made r.2 r.6
-            (step (mode_of r.5) (λ z. Some (record { place = r.0; mode = z })) r.1 made r.7 refl),
+        two_steps (target c t) (c.meaning t.designator) (λ u v. mode_of_target v >>= λ z. Some (record { place = u; mode = z })) r.0 r.5 made r.2 r.6
+            (step (mode_of_target r.5) (λ z. Some (record { place = r.0; mode = z })) r.1 made r.7 refl),
         r.4,
       )
 

@@ -42,7 +42,7 @@ use Rattle.ss_names_meaning.specs.Resolved.{local_modes}
 use Rattle.ss_names_meaning.specs.Words.{fold_of, mode_given, mode_said}
 use Rattle.ss_check_laws.specs.Links.{Fits, IsQuery}
 use Rattle.ss_names_laws.specs.Tables.{standing_of}
-use Rattle.ss_names_laws.specs.ValidTables.{IsKept}
+use Rattle.ss_names_laws.specs.ValidTables.{IsValidTable}
 use Rattle.ss_names_laws.specs.LaidOut.{HasTables}
 use Rattle.ss_names_laws.proofs.Statistics.{of_statistic}
 use Rattle.ss_check_laws.proofs.Known.{class_variable_whole, kind_of_count, defined_is_no_count, hidden, local_known, value_is, kind_of_variable, w}
@@ -52,7 +52,7 @@ use Rattle.ss_names_laws.proofs.Structure.{IsClassMode, IsTable}
 use Rattle.ss_check_laws.proofs.SetsAndStatistics.{IsAsked, attribute_there, figure_known, of_member_known, of_set_known}
 use Rattle.ss_names_laws.proofs.Typed.{count_there, field_known, global_known, plain}
 
-module _ (t : Table) (signatures : List Signed) (is : IsTable t) (k : IsKept t) (s : Scope) (h : HasTables t s.program)
+module _ (t : Table) (signatures : List Signed) (is : IsTable t) (k : IsValidTable t) (s : Scope) (h : HasTables t s.program)
     (locals : Moded) (modes : local_modes locals ≡ Some s.locals) where
   abbrev here : Whole
   here = w t signatures is k s h locals modes

@@ -29,7 +29,7 @@ use Rattle.ss_names_meaning.specs.Layouts.{tie_keys}
 use Rattle.ss_names_meaning.specs.Resolved.{Parts, class_event, class_variable, event_of, is_known, is_known_kind, is_main, is_main_kind, main_parts, parts_at, parts_of, resolved_event, resolved_routine, routine_of, saved}
 use Rattle.ss_names_meaning.specs.Words.{class_kind}
 use Rattle.ss_check_laws.specs.Parameters as parameters
-use Rattle.ss_names_laws.specs.ValidTables.{IsKept}
+use Rattle.ss_names_laws.specs.ValidTables.{IsValidTable}
 use Rattle.ss_check_laws.specs.Programs.{KeepsAllRules, KeepsRules}
 use Rattle.ss_check_laws.specs.Signed.{AreSigned}
 use Rattle.ss_names_laws.proofs.Laid.{ties_there}
@@ -72,7 +72,7 @@ main_found (s ∷ ss) h = by (is_main s) refl (main_found ss) h
         let found = next f in
         (suc found.0, found.1, found.2, ap (λ b. cond b (Some s) (find is_main ss)) e ∙ found.3, found.4)
 
-module _ (p : tree.ProgramTree) (k : IsKept (table p)) (g : KeepsAllRules (whole.whole_of p) p) (laws : Laws) where
+module _ (p : tree.ProgramTree) (k : IsValidTable (table p)) (g : KeepsAllRules (whole.whole_of p) p) (laws : Laws) where
   -- ---- routines
 
   pub record RoutineFacts (n : ℕ) (made : Routine) : Type 0 where

@@ -20,7 +20,7 @@ use Rattle.ss_names_meaning.specs.Expressions.{expression, item, target, set_nam
 use Rattle.ss_names_meaning.specs.Conditions.{condition}
 use Rattle.ss_names_meaning.specs.Answers.{each}
 use Rattle.ss_names_meaning.specs.Heads.{head, phrase, guard, phrases_of}
-use Rattle.ss_names_meaning.specs.Statements.{mode_of, statements}
+use Rattle.ss_names_meaning.specs.Statements.{mode_of_target, statements}
 use Rattle.ss_names_laws.specs.Rules.{KeptMentions, KeptDemands}
 use Rattle.ss_names_laws.specs.Uses.{KeptSection}
 use Rattle.ss_check_laws.specs.Rules.{KeptStarts}
@@ -28,13 +28,13 @@ use Rattle.ss_check_laws.specs.Links.{Linked}
 
 -- the expression has a resolved form, of the mode that the rules give it
 abbrev pub Resolves : Whole → Moded → Context → Scope → ExpressionTree → Type 0
-Resolves w locals c s e = (x : Expression) × (m : Mode) × (expression c e ≡ Some x) × (aspect_mode w locals (demanded.mode_of e) ≡ Some m) × HasMode s x m
+Resolves w locals c s e = (x : Expression) × (m : Mode) × (expression c e ≡ Some x) × (aspect_mode w locals (demanded.mode_of_expression e) ≡ Some m) × HasMode s x m
 
 -- the target has a resolved form, which takes values of the mode that the rules give it; READ finds the same mode
 abbrev pub TargetResolves : Whole → Moded → Context → Scope → NamedTree → Type 0
 TargetResolves w locals c s n =
     (x : Place) × (m : Mode) × (target c n ≡ Some x) × (aspect_mode w locals (demanded.target_mode n) ≡ Some m) × TakesMode s x m ×
-    (referent : Meaning) × (c.meaning n.designator ≡ Some referent) × (mode_of referent ≡ Some m)
+    (referent : Meaning) × (c.meaning n.designator ≡ Some referent) × (mode_of_target referent ≡ Some m)
 
 -- the set has a resolved form, with an owner such as its sets have
 abbrev pub SetResolves : Context → Scope → NamedTree → Type 0

@@ -22,7 +22,7 @@ use Rattle.ss_program.specs.declared.expression.Variable.{Variable}
 use Rattle.ss_program.specs.declared.expression.Variable.TheVariants.{Global}
 use Rattle.ss_program.specs.declared.statement.Counted.{Counted}
 use Rattle.ss_program.specs.Program.{ToVariable, Routine}
-use Rattle.ss_program.specs.WellTyped.{Scope, mode_at, kind_of, fields_of, field_mode, owner_of, IsOwned, IsSet, IsAlone, IsOfEntities, HasSubject, TakesMode}
+use Rattle.ss_program.specs.WellTyped.{Scope, mode_at, kind_of_class, fields_of, field_mode, owner_of, IsOwned, IsSet, IsAlone, IsOfEntities, HasSubject, TakesMode}
 use Rattle.ss_names_meaning.specs.declared.meaning.Meaning.{Meaning}
 use Rattle.ss_names_meaning.specs.declared.meaning.Meaning.TheVariants as meanings
 use Rattle.ss_names_meaning.specs.declared.meaning.SetMeant.{SetMeant}
@@ -109,19 +109,19 @@ kind_said class_words.Temporary = class_kinds.Temporary
 kind_said class_words.EventNotice = class_kinds.Notice
 
 -- N. of a class, by its variable
-abbrev pub count_of : ClassMeant → (variable : ℕ) → Counted
-count_of referent variable = record { class = referent.class; variable = variable }
+abbrev pub counted_class : ClassMeant → (variable : ℕ) → Counted
+counted_class referent variable = record { class = referent.class; variable = variable }
 
 -- a permanent class has its N.
 abbrev pub HasCount : Scope → ClassWord → ClassMeant → Type 0
-HasCount s class_words.Permanent referent = (variable : ℕ) × (referent.count ≡ Some variable) × Contains s.program.counts (count_of referent variable)
+HasCount s class_words.Permanent referent = (variable : ℕ) × (referent.count ≡ Some variable) × Contains s.program.counts (counted_class referent variable)
 HasCount s class_words.Temporary referent = Unit {0}
 HasCount s class_words.EventNotice referent = Unit {0}
 
 -- the class of a name and a kind: what its name means as a variable in the section, and its attributes
 pub record IsClass (w : Whole) (locals : Moded) (s : Scope) (name : NameBytes) (kind : ClassWord) (referent : ClassMeant) : Type 0 where
   pub kind_meant : referent.kind ≡ kind_said kind
-  pub kind_there : kind_of s.program referent.class ≡ Some (kind_said kind)
+  pub kind_there : kind_of_class s.program referent.class ≡ Some (kind_said kind)
   pub variable_there : (m : Mode) × (mode_in w locals name ≡ Some m) × TakesMode s (ToVariable referent.variable) m
   pub fields_there : (modes : List Mode) × (fields_of s.program referent.class ≡ Some modes) × (w.attributes name ≡ Some modes) × (referent.attributes ≡ length modes)
   pub count_there : HasCount s kind referent

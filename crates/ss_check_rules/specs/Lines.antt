@@ -11,9 +11,9 @@ line_if true line = line ∷ []
 line_if false line = []
 
 -- the first of some lines
-abbrev pub first_of : List Line → Option Line
-first_of [] = None
-first_of (line ∷ lines) = Some line
+abbrev pub first_of_lines : List Line → Option Line
+first_of_lines [] = None
+first_of_lines (line ∷ lines) = Some line
 
 -- the line of a mention that breaks a rule
 abbrev pub mention_line : (Mention → Bool) → Mention → List Line

@@ -13,28 +13,28 @@ use Rattle.ss_check_scopes.specs.declared.known.Holder.TheVariants.{Program, Ent
 use Rattle.ss_check_scopes.specs.declared.known.Known.{Known}
 use Rattle.ss_check_scopes.specs.declared.known.Known.TheVariants as meanings
 use Rattle.ss_check_scopes.specs.Locals.{Moded}
-use Rattle.ss_check_scopes.specs.Whole.{Whole, mode_at}
+use Rattle.ss_check_scopes.specs.Whole.{Whole, mode_in_place}
 use Rattle.ss_check_scopes.specs.Meanings.{meaning_in}
 use Rattle.ss_check_rules.specs.Lines.{line_if}
 use Rattle.ss_check_rules.specs.Unknown.{if_known}
 
 -- the mode of what a name means; a set and a routine have none
-abbrev pub mode_of : Known → Option Mode
-mode_of (meanings.Local mode) = Some mode
-mode_of (meanings.Variable mode) = Some mode
-mode_of (meanings.Class kind) = Some modes.Integer
-mode_of (meanings.Attribute class mode) = Some mode
-mode_of (meanings.Set holder) = None
-mode_of (meanings.MemberCount holder) = Some modes.Integer
-mode_of (meanings.Membership holder) = Some modes.Integer
-mode_of meanings.EntityCount = Some modes.Integer
-mode_of (meanings.Statistic holder) = Some modes.Integer
-mode_of (meanings.Mean holder) = Some modes.Integer
-mode_of meanings.Routine = None
+abbrev pub mode_of_known : Known → Option Mode
+mode_of_known (meanings.Local mode) = Some mode
+mode_of_known (meanings.Variable mode) = Some mode
+mode_of_known (meanings.Class kind) = Some modes.Integer
+mode_of_known (meanings.Attribute class mode) = Some mode
+mode_of_known (meanings.Set holder) = None
+mode_of_known (meanings.MemberCount holder) = Some modes.Integer
+mode_of_known (meanings.Membership holder) = Some modes.Integer
+mode_of_known meanings.EntityCount = Some modes.Integer
+mode_of_known (meanings.Statistic holder) = Some modes.Integer
+mode_of_known (meanings.Mean holder) = Some modes.Integer
+mode_of_known meanings.Routine = None
 
 abbrev pub known_mode : Option Known → Option Mode
 known_mode None = None
-known_mode (Some meaning) = mode_of meaning
+known_mode (Some meaning) = mode_of_known meaning
 
 -- the mode of what a name means in a section
 abbrev pub mode_in : Whole → Moded → NameBytes → Option Mode
@@ -69,9 +69,9 @@ aspect_mode w locals Integer = Some modes.Integer
 aspect_mode w locals Alpha = Some modes.Alpha
 aspect_mode w locals (Named name) = mode_in w locals name
 aspect_mode w locals (Implied name) = class_mode w locals (known_class (meaning_in w.meanings locals name))
-aspect_mode w locals (Given routine place) = mode_at (w.given routine) place
-aspect_mode w locals (Yielded routine place) = mode_at (w.yielding routine) place
-aspect_mode w locals (Attribute class number) = mode_at (w.attributes class) number
+aspect_mode w locals (Given routine place) = mode_in_place (w.given routine) place
+aspect_mode w locals (Yielded routine place) = mode_in_place (w.yielding routine) place
+aspect_mode w locals (Attribute class number) = mode_in_place (w.attributes class) number
 aspect_mode w locals _ = None
 
 abbrev pub are_two : Mode → Mode → Bool

@@ -7,13 +7,13 @@ use Rattle.ss_check_scopes.specs.Locals.{Moded}
 use Rattle.ss_check_scopes.specs.Whole.{Whole}
 use Rattle.ss_check_scopes.specs.Meanings.{meaning_in}
 use Rattle.ss_check_rules.specs.Unknown.{if_known}
-use Rattle.ss_check_rules.specs.Modes.{class_implied, class_mode, differ, is_mean, mode_of}
+use Rattle.ss_check_rules.specs.Modes.{class_implied, class_mode, differ, is_mean, mode_of_known}
 
 -- whether a meaning breaks the rule where a number has to be and no subscript is written: it is no number, or a MEAN, or
 -- of an entity in a variable of texts
 abbrev pub means_no_number : Whole → Moded → Known → Bool
 means_no_number w locals meaning =
-    differ (mode_of meaning) (Some modes.Integer) || is_mean meaning || differ (class_mode w locals (class_implied meaning)) (Some modes.Integer)
+    differ (mode_of_known meaning) (Some modes.Integer) || is_mean meaning || differ (class_mode w locals (class_implied meaning)) (Some modes.Integer)
 
 -- whether a name, if it means anything, breaks the rule there
 abbrev pub is_no_number : Whole → Moded → NameBytes → Bool

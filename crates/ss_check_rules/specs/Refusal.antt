@@ -10,7 +10,7 @@ use Rattle.ss_check_scopes.specs.Whole.{Whole}
 use Rattle.ss_check_rules.specs.declared.rule.Rule.{Rule}
 use Rattle.ss_check_rules.specs.declared.rule.Rule.TheVariants.{NoMain, NoEventRoutine, StartPlace, Unknown, Subscript, NotAssignable, Arguments, Mode, Fields}
 use Rattle.ss_check_rules.specs.declared.rule.Broken.{Broken}
-use Rattle.ss_check_rules.specs.Lines.{first_of, mention_lines, demand_lines}
+use Rattle.ss_check_rules.specs.Lines.{first_of_lines, mention_lines, demand_lines}
 use Rattle.ss_check_rules.specs.Uses.{Uses, uses_of}
 use Rattle.ss_check_rules.specs.Events.{has_main, event_names, lacks_event, declares_eventless, is_misplaced}
 use Rattle.ss_check_rules.specs.Unknown.{is_unknown, unknown_subjects}
@@ -76,7 +76,7 @@ or_next rule None rest = rest
 -- the first of some rules that has a line, with its first line
 abbrev pub first_broken : (Rule → List Line) → List Rule → Option Broken
 first_broken lines [] = None
-first_broken lines (rule ∷ rules) = or_next rule (first_of (lines rule)) (first_broken lines rules)
+first_broken lines (rule ∷ rules) = or_next rule (first_of_lines (lines rule)) (first_broken lines rules)
 
 -- the first rule that a program breaks, with the line of its first place
 abbrev pub refusal : Whole → ProgramTree → Option Broken

@@ -38,9 +38,9 @@ abbrev pub is_routine : Known → Bool
 is_routine Routine = true
 is_routine _ = false
 
-abbrev pub is_permanent : Known → Bool
-is_permanent (Class Permanent) = true
-is_permanent _ = false
+abbrev pub is_known_permanent : Known → Bool
+is_known_permanent (Class Permanent) = true
+is_known_permanent _ = false
 
 abbrev pub is_notice : Known → Bool
 is_notice (Class EventNotice) = true
@@ -71,8 +71,8 @@ abbrev pub suits_there : Role → Known → Bool
 suits_there roles.Set meaning = is_set meaning
 suits_there roles.Create meaning = is_transient meaning
 suits_there roles.Destroy meaning = is_transient meaning
-suits_there roles.CreateEvery meaning = is_permanent meaning
-suits_there roles.ForEach meaning = is_permanent meaning
+suits_there roles.CreateEvery meaning = is_known_permanent meaning
+suits_there roles.ForEach meaning = is_known_permanent meaning
 suits_there roles.Call meaning = is_routine meaning
 suits_there roles.Schedule meaning = is_notice meaning
 suits_there roles.Cancel meaning = is_notice meaning

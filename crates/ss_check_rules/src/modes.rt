@@ -2,7 +2,7 @@
 
 ghost use Rattle.std.specs.Prelude.{◌≡◌};
 ghost use Rattle.ss_check_scopes.specs.Meanings.{meaning_in};
-ghost use Rattle.ss_check_rules.specs.Modes.{are_two, aspect_mode, breaks_modes, class_implied, class_mode, differ, held_by, is_mean, known_class, known_mode, misplaces, mixes, mode_in, mode_of, names_mean};
+ghost use Rattle.ss_check_rules.specs.Modes.{are_two, aspect_mode, breaks_modes, class_implied, class_mode, differ, held_by, is_mean, known_class, known_mode, misplaces, mixes, mode_in, mode_of_known, names_mean};
 ghost use Rattle.ss_check_rules.specs.Numbers.{is_no_number, means_no_number};
 
 use ss_base::{Mode, Name};
@@ -10,8 +10,8 @@ use ss_check_scopes::{Globals, Holder, Known, Locals, meaning_in};
 use ss_names_uses::{Aspect, Demand};
 
 // The mode of what a name means. None for a set and a routine.
-fn mode_of(meaning: &Known) -> Option<Mode>
-    ensures { result ≡ mode_of meaning.now }
+fn mode_of_known(meaning: &Known) -> Option<Mode>
+    ensures { result ≡ mode_of_known meaning.now }
 {
     match meaning {
         Known::Local(mode) | Known::Variable(mode) | Known::Attribute { mode, .. } => {
@@ -32,7 +32,7 @@ pub(crate) fn global_mode<G: Globals>(globals: &G, name: Name) -> Option<Mode>
     ensures { result ≡ known_mode ((G.whole globals.now).meanings name) }
 {
     match globals.meaning_of(name) {
-        Some(meaning) => mode_of(&meaning),
+        Some(meaning) => mode_of_known(&meaning),
         None => None,
     }
 }
@@ -42,7 +42,7 @@ fn mode_in<G: Globals>(globals: &G, locals: &Locals, name: Name) -> Option<Mode>
     ensures { result ≡ mode_in (G.whole globals.now) locals.now name }
 {
     match meaning_in(globals, locals, name) {
-        Some(meaning) => mode_of(&meaning),
+        Some(meaning) => mode_of_known(&meaning),
         None => None,
     }
 }
@@ -187,7 +187,7 @@ fn misplaces<G: Globals>(globals: &G, locals: &Locals, demand: &Demand) -> bool
 fn means_no_number<G: Globals>(globals: &G, locals: &Locals, meaning: &Known) -> bool
     ensures { result ≡ means_no_number (G.whole globals.now) locals.now meaning.now }
 {
-    differ(mode_of(meaning), Some(Mode::Integer))
+    differ(mode_of_known(meaning), Some(Mode::Integer))
         || is_mean(meaning)
         || differ(
             class_mode(globals, locals, class_implied(meaning)),

@@ -1,7 +1,7 @@
 //! Names that are not of the kind that their place needs.
 
 ghost use Rattle.std.specs.Prelude.{◌≡◌};
-ghost use Rattle.ss_check_rules.specs.Unknown.{has_value, if_known, is_notice, is_permanent, is_routine, is_set, is_watched_here, is_transient, is_unknown, is_variable, may_be_watched, suits, suits_here, suits_there, suits_times};
+ghost use Rattle.ss_check_rules.specs.Unknown.{has_value, if_known, is_notice, is_known_permanent, is_routine, is_set, is_watched_here, is_transient, is_unknown, is_variable, may_be_watched, suits, suits_here, suits_there, suits_times};
 
 use ss_base::Name;
 use ss_check_scopes::{Globals, Known, Locals, meaning_in};
@@ -40,8 +40,8 @@ fn is_routine(meaning: &Known) -> bool
 }
 
 // Whether it is a permanent class.
-fn is_permanent(meaning: &Known) -> bool
-    ensures { result ≡ is_permanent meaning.now }
+fn is_known_permanent(meaning: &Known) -> bool
+    ensures { result ≡ is_known_permanent meaning.now }
 {
     matches!(meaning, Known::Class(ClassKind::Permanent))
 }
@@ -107,7 +107,7 @@ fn suits_there(role: Role, meaning: &Known) -> bool
     match role {
         Role::Set => is_set(meaning),
         Role::Create | Role::Destroy => is_transient(meaning),
-        Role::CreateEvery | Role::ForEach => is_permanent(meaning),
+        Role::CreateEvery | Role::ForEach => is_known_permanent(meaning),
         Role::Call => is_routine(meaning),
         Role::Schedule | Role::Cancel | Role::Event => is_notice(meaning),
         _ => false,

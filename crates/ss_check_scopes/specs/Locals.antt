@@ -34,11 +34,11 @@ or_usual usual (Some mode) = mode
 or_usual usual None = usual
 
 -- the mode of a local variable: that of its first DEFINE in the section, or else the usual one, which NORMALLY gives
-abbrev pub mode_of : Option Mode → List DefinitionTree → NameBytes → Option Mode
-mode_of usual definitions name = or_usual usual (lookup (same_name name) (all_defined definitions))
+abbrev pub mode_of_local : Option Mode → List DefinitionTree → NameBytes → Option Mode
+mode_of_local usual definitions name = or_usual usual (lookup (same_name name) (all_defined definitions))
 
 abbrev pub moded : Option Mode → List DefinitionTree → NameBytes → NameBytes × Option Mode
-moded usual definitions name = (name, mode_of usual definitions name)
+moded usual definitions name = (name, mode_of_local usual definitions name)
 
 -- a name with its mode by the names that are given one
 abbrev pub moded_in : Option Mode → Moded → NameBytes → NameBytes × Option Mode
@@ -80,5 +80,5 @@ abbrev pub locals : (NameBytes → Bool) → Option Mode → SectionTree → Mod
 locals is_global usual s = firsts (map (moded usual s.definitions) (flat_map (local_mentioned is_global) (mentions s)))
 
 -- the number of a local variable: its place
-abbrev pub number_of : Moded → NameBytes → Option ℕ
-number_of entries name = position (same_name name) (keys_of entries)
+abbrev pub number_of_local : Moded → NameBytes → Option ℕ
+number_of_local entries name = position (same_name name) (keys_of entries)

@@ -6,7 +6,7 @@ ghost use Rattle.std.specs.Map.{lookup, keys_of};
 ghost use Rattle.ss_tree.specs.View.{view_definition, view_section};
 ghost use Rattle.ss_names_uses.specs.Mentions.{mentions};
 ghost use Rattle.ss_names_declarations.specs.Firsts.{firsts, same_name, with_first};
-ghost use Rattle.ss_check_scopes.specs.Locals.{declares, is_local_at, is_variable, local_mentioned, moded_in, number_of};
+ghost use Rattle.ss_check_scopes.specs.Locals.{declares, is_local_at, is_variable, local_mentioned, moded_in, number_of_local};
 ghost use Rattle.ss_check_scopes.specs.Whole.{is_global, locals_of};
 
 use crate::globals::Globals;
@@ -140,7 +140,7 @@ impl Locals {
 
     /// The number of a local variable. None where the name isn't one.
     pub fn number(&self, name: Name) -> Option<usize>
-        ensures { result ≡ number_of self.now name }
+        ensures { result ≡ number_of_local self.now name }
     {
         self.entries.place(&name)
     }

@@ -6,7 +6,7 @@ ghost use Rattle.ss_tree.specs.View.{view_program, view_section};
 ghost use Rattle.ss_names_declarations.specs.Firsts.{value_for};
 ghost use Rattle.ss_names.specs.Table.{table};
 ghost use Rattle.ss_check_scopes.specs.Signatures.{signature};
-ghost use Rattle.ss_check_scopes.specs.Whole.{mode_at};
+ghost use Rattle.ss_check_scopes.specs.Whole.{mode_in_place};
 ghost use Rattle.ss_check_scopes.specs.WholeOf.{attributes_of, field_mode, routine_signed, whole_in, whole_of};
 
 use crate::globals::Globals;

@@ -1,4 +1,4 @@
--- The code of PRINT: its items, of which means are looked at in their place, and its lines.
+-- The code of PRINT: its shown_items, of which means are looked at in their place, and its lines.
 use Rattle.std.proofs.Common.{◌≡◌, ℕ, suc, ◌+◌, true, false, List, [], ◌∷◌, ◌++◌, length, Option, Some, None, Ok, Err, refl, sym, ap, ◌∙◌, subst, arith, map}
 use Rattle.std.specs.Prelude.{slice_get, Result as OkOr, ℤ}
 use Rattle.ss_base.specs.declared.line.Line.{Line}
@@ -13,23 +13,23 @@ use Rattle.ss_code_instructions.specs.declared.item.ItemKind.TheVariants as show
 use Rattle.ss_meaning.specs.Values.{Trouble, Fails, Misfit, if_ok, turned, sure, printed}
 use Rattle.ss_meaning.specs.Store.{Store}
 use Rattle.ss_meaning.specs.Statistics.{mean}
-use Rattle.ss_meaning.specs.Expressions.{value, mean_shown, items}
+use Rattle.ss_meaning.specs.Expressions.{value, mean_shown, shown_items}
 use Rattle.ss_meaning.specs.Parts.{World, and_then, looked, look, send}
 use Rattle.ss_meaning.specs.Statements.{print}
 use Rattle.ss_code_instructions.specs.States.{Moved, Sends, did, fit, core_of, with_taken, take_off}
 use Rattle.ss_code_instructions.specs.Machine.{Code, mean_item, item_before, shown}
-use Rattle.ss_code_instructions.specs.Translation.{expression_code, shown_code, values_taken, item_kind, lines_of}
+use Rattle.ss_code_instructions.specs.Translation.{expression_code, shown_code, values_taken, item_kind, print_lines}
 use Rattle.ss_code_instructions.proofs.Parts.{Runs, at_end, IfWentOn, same, done, put_on, onto, take_them, seq_such, seq_look, above, none, alike, look_lands, fit_did}
 use Rattle.ss_code_instructions.proofs.Expressions.{AsMany, one_more, many_looked, mapped, turned_lands, value_runs}
 use Rattle.ss_code_instructions.proofs.Effects.{output_runs}
 
--- ## What items take off the stack
+-- ## What shown_items take off the stack
 
 -- a reference to the entity of a mean, which is looked at
 abbrev mean_of_value : (statistic : ℕ) → Expression → Store → OkOr Value Trouble
 mean_of_value j e s = if_ok (value e s) (λ x. turned (λ m. x) (mean j (Some x) s))
 
--- the values that items take, each mean looked at in its place
+-- the values that shown_items take, each mean looked at in its place
 abbrev values_looked : List Item → Store → OkOr (List Value) Trouble
 values_looked [] s = Ok []
 values_looked (AValue e ∷ xs) s = if_ok (value e s) (λ v. turned (λ vs. v ∷ vs) (values_looked xs s))
@@ -40,7 +40,7 @@ no_more : {A : Type 0} (r : OkOr A Trouble) (o : OkOr (List Value) Trouble) (k :
 no_more (Ok a) o k h = h
 no_more (Err t) o k h = tt
 
--- they are as many as the items take
+-- they are as many as the shown_items take
 as_many_taken : (xs : List Item) (s : Store) → AsMany (values_taken xs) (values_looked xs s)
 as_many_taken [] s = refl
 as_many_taken (AValue e ∷ xs) s =
@@ -56,7 +56,7 @@ as_many_taken (AMeanOf j e ∷ xs) s =
 taken_length : (l : Line) (xs : List Item) (w : World) → IfWentOn (λ vs. values_taken xs ≡ length vs) (look l (values_looked xs) w)
 taken_length l xs w = many_looked l (values_taken xs) (values_looked xs w.store) w (as_many_taken xs w.store)
 
--- ## The items that are made of them
+-- ## The shown_items that are made of them
 
 -- an item before others
 before_sure : (x : Shown) (o : Option (List Shown)) → sure (item_before (Some x) o) ≡ turned (λ xs. x ∷ xs) (sure o)
@@ -64,7 +64,7 @@ before_sure x None = refl
 before_sure x (Some xs) = refl
 
 module _ (s : Store) (ks : List ItemKind) (others : OkOr (List Shown) Trouble) where
-  -- the items after one are those that are shown
+  -- the shown_items after one are those that are shown
   abbrev IsShown : OkOr (List Value) Trouble → Type 0
   IsShown o = if_ok o (λ vs. sure (shown ks vs s)) ≡ others
 
@@ -93,12 +93,12 @@ module _ (s : Store) (ks : List ItemKind) (others : OkOr (List Shown) Trouble) w
           ap (λ q. sure (item_before (mean_item q) (shown ks vs s))) e
           ∙ (before_sure (Mean m.0 m.1) (shown ks vs s) ∙ ap (turned (λ xs. Mean m.0 m.1 ∷ xs)) h)
 
--- of the values that items take, what their kinds show is what the items mean
-items_shown : (xs : List Item) (s : Store) → if_ok (values_looked xs s) (λ vs. sure (shown (map item_kind xs) vs s)) ≡ items xs s
+-- of the values that shown_items take, what their kinds show is what the shown_items mean
+items_shown : (xs : List Item) (s : Store) → if_ok (values_looked xs s) (λ vs. sure (shown (map item_kind xs) vs s)) ≡ shown_items xs s
 items_shown [] s = refl
-items_shown (AValue e ∷ xs) s = value_shown s (map item_kind xs) (items xs s) (value e s) (values_looked xs s) (items_shown xs s)
-items_shown (AMean j ∷ xs) s = mean_alone_shown s (map item_kind xs) (items xs s) (mean j None s) (values_looked xs s) (items_shown xs s)
-items_shown (AMeanOf j e ∷ xs) s = mean_of_shown s (map item_kind xs) (items xs s) j (value e s) (values_looked xs s) (items_shown xs s)
+items_shown (AValue e ∷ xs) s = value_shown s (map item_kind xs) (shown_items xs s) (value e s) (values_looked xs s) (items_shown xs s)
+items_shown (AMean j ∷ xs) s = mean_alone_shown s (map item_kind xs) (shown_items xs s) (mean j None s) (values_looked xs s) (items_shown xs s)
+items_shown (AMeanOf j e ∷ xs) s = mean_of_shown s (map item_kind xs) (shown_items xs s) j (value e s) (values_looked xs s) (items_shown xs s)
 
 -- ## PRINT
 
@@ -106,11 +106,11 @@ if_twice : {A B D : Type 0} (r : OkOr A Trouble) (f : A → OkOr B Trouble) (g :
 if_twice (Ok a) f g = refl
 if_twice (Err t) f g = refl
 
--- the lines with the items that kinds and values make
+-- the lines with the shown_items that kinds and values make
 abbrev lines_shown : List ItemKind → List (List ℕ) → List Value → Store → OkOr (List ℕ) Trouble
 lines_shown ks pictures vs s = if_ok (sure (shown ks vs s)) (λ xs. sure (printed pictures xs))
 
-lines_meant : (xs : List Item) (pictures : List (List ℕ)) (s : Store) → if_ok (values_looked xs s) (λ vs. lines_shown (map item_kind xs) pictures vs s) ≡ if_ok (items xs s) (λ ys. sure (printed pictures ys))
+lines_meant : (xs : List Item) (pictures : List (List ℕ)) (s : Store) → if_ok (values_looked xs s) (λ vs. lines_shown (map item_kind xs) pictures vs s) ≡ if_ok (shown_items xs s) (λ ys. sure (printed pictures ys))
 lines_meant xs pictures s =
     sym (if_twice (values_looked xs s) (λ vs. sure (shown (map item_kind xs) vs s)) (λ ys. sure (printed pictures ys)))
     ∙ ap (λ o. if_ok o (λ ys. sure (printed pictures ys))) (items_shown xs s)
@@ -127,7 +127,7 @@ module _ (code : Code) (n : ℕ) where
       seq_look code n l (value e) (λ x s. turned (λ m. x) (mean j (Some x) s)) (value_runs code n l e) (λ x.
       turned_lands code n (i.LookMean j false l) l (put_on x) at_end put_on (mean j (Some x)) (λ m. x) refl (λ place stack frames s. refl))
 
-  -- items leave the values that they take
+  -- shown_items leave the values that they take
   items_run : (l : Line) (xs : List Item) → Runs code n same (shown_code l xs) onto (look l (values_looked xs))
   items_run l [] = none code n []
   items_run l (AValue e ∷ xs) =
@@ -145,7 +145,7 @@ module _ (code : Code) (n : ℕ) where
   fit_lines l None pictures go = refl
   fit_lines l (Some xs) pictures go = fit_did code l (printed pictures xs) go
 
-  pub print_runs : (l : Line) (first : ℕ) (xs : List Item) (pictures : List (List ℕ)) → slice_get code.prints first ≡ Some (lines_of xs pictures) → Runs code n same (shown_code l xs ++ i.Print first (values_taken xs) ∷ []) done (print l xs pictures)
+  pub print_runs : (l : Line) (first : ℕ) (xs : List Item) (pictures : List (List ℕ)) → slice_get code.prints first ≡ Some (print_lines xs pictures) → Runs code n same (shown_code l xs ++ i.Print first (values_taken xs) ∷ []) done (print l xs pictures)
   print_runs l first xs pictures has =
       let ks = map item_kind xs in
       alike code n (λ w. then_sent l (values_looked xs w.store) (lines_shown ks pictures) w ∙ ap (λ o. and_then (looked l o w) send) (lines_meant xs pictures w.store))

@@ -4,7 +4,7 @@ use Rattle.std.specs.List.{prefix_len, list_all}
 use Rattle.std.proofs.lemmas.Bool.{eqb-true}
 use Rattle.std.proofs.lemmas.List.{append-nil, drop-drop}
 use Rattle.ss_base.specs.Values.{is_text_byte}
-use Rattle.ss_lex.specs.Pieces.{Piece, separator, word, comment, open_comment, quoted, open_quoted, single, spelled, is_separator, is_word_byte, is_quotable, is_apostrophe, begins, opens_comment, is_apart, is_closed, Fits, IsCut, meaning}
+use Rattle.ss_lex.specs.Pieces.{Piece, separator, word, comment, open_comment, quoted, open_quoted, single, spelled, is_separator, is_word_byte, is_quotable, is_apostrophe, passes_first, opens_comment, is_apart, is_closed, FitsBefore, IsCut, meaning}
 use Rattle.ss_lex.specs.declared.meaning.Meaning.TheVariants as meanings
 use Rattle.ss_lex.specs.Reading.{longer, comment_at, quotable_length, quoted_at, run_length, piece_at, cut, pieces}
 
@@ -18,7 +18,7 @@ both_true false b e = absurd cc
 
 -- ---- the longest run of bytes that pass a test
 
-run_splits : (test : ℕ → Bool) (bs : List ℕ) → (bs ≡ take (prefix_len test bs) bs ++ drop (prefix_len test bs) bs) × (list_all test (take (prefix_len test bs) bs) ≡ true) × (begins test (drop (prefix_len test bs) bs) ≡ false)
+run_splits : (test : ℕ → Bool) (bs : List ℕ) → (bs ≡ take (prefix_len test bs) bs ++ drop (prefix_len test bs) bs) × (list_all test (take (prefix_len test bs) bs) ≡ true) × (passes_first test (drop (prefix_len test bs) bs) ≡ false)
 run_splits test [] = (refl, refl, refl)
 run_splits test (b ∷ bs) =
     let h = run_splits test bs in
@@ -29,7 +29,7 @@ run_splits test (b ∷ bs) =
       | inr p ↦ rw p (refl, refl, p)
     ]
 
-run_again : (test : ℕ → Bool) (w rest : List ℕ) → list_all test w ≡ true → begins test rest ≡ false → (take (prefix_len test (w ++ rest)) (w ++ rest) ≡ w) × (drop (prefix_len test (w ++ rest)) (w ++ rest) ≡ rest)
+run_again : (test : ℕ → Bool) (w rest : List ℕ) → list_all test w ≡ true → passes_first test rest ≡ false → (take (prefix_len test (w ++ rest)) (w ++ rest) ≡ w) × (drop (prefix_len test (w ++ rest)) (w ++ rest) ≡ rest)
 run_again test [] [] all stop = (refl, refl)
 run_again test [] (r ∷ rest) all stop = rw stop (refl, refl)
 run_again test (b ∷ w) rest all stop =
@@ -51,7 +51,7 @@ IsComment bs (open_comment body, rest) = (bs ≡ body) × (is_apart body ≡ tru
 IsComment bs (_, rest) = ⊥
 
 -- the first byte is that of the body with an apostrophe after it
-quote_same : (body bs rest : List ℕ) → bs ≡ body ++ 39 ∷ 39 ∷ rest → begins is_apostrophe (body ++ 39 ∷ []) ≡ begins is_apostrophe bs
+quote_same : (body bs rest : List ℕ) → bs ≡ body ++ 39 ∷ 39 ∷ rest → passes_first is_apostrophe (body ++ 39 ∷ []) ≡ passes_first is_apostrophe bs
 quote_same [] bs rest e = rw e refl
 quote_same (c ∷ body) bs rest e = rw e refl
 
@@ -68,7 +68,7 @@ longer_comment b bs (quoted w, rest) e h = absurd h
 longer_comment b bs (open_quoted w, rest) e h = absurd h
 longer_comment b bs (single c, rest) e h = absurd h
 
-apostrophe_there : (bs : List ℕ) → begins is_apostrophe bs ≡ true → bs ≡ 39 ∷ drop 1 bs
+apostrophe_there : (bs : List ℕ) → passes_first is_apostrophe bs ≡ true → bs ≡ 39 ∷ drop 1 bs
 apostrophe_there [] e = absurd cc
 apostrophe_there (c ∷ bs) e = ap (λ x. x ∷ bs) (eqb-true c 39 e)
 
@@ -79,11 +79,11 @@ comment_is (b ∷ bs) = go (opens_comment b bs) refl (comment_is bs)
   where
     go : (t : Bool) → opens_comment b bs ≡ t → IsComment bs (comment_at bs) → IsComment (b ∷ bs) (comment_at (b ∷ bs))
     go true e ih =
-        let two = both_true (is_apostrophe b) (begins is_apostrophe bs) e in
+        let two = both_true (is_apostrophe b) (passes_first is_apostrophe bs) e in
         rw e (λ i. eqb-true b 39 two.0 i ∷ apostrophe_there bs two.1 i, refl)
     go false e ih = rw e (longer_comment b bs (comment_at bs) e ih)
 
-comment_fits : (bs : List ℕ) (c : Piece × List ℕ) → IsComment bs c → (39 ∷ 39 ∷ bs ≡ spelled c.0 ++ c.1) × Fits c.0 c.1
+comment_fits : (bs : List ℕ) (c : Piece × List ℕ) → IsComment bs c → (39 ∷ 39 ∷ bs ≡ spelled c.0 ++ c.1) × FitsBefore c.0 c.1
 comment_fits bs (comment body, rest) (h, k) = (ap (λ l. 39 ∷ 39 ∷ l) (h ∙ sym (append_assoc body (39 ∷ 39 ∷ []) rest)), k)
 comment_fits bs (open_comment body, rest) (h, k, r) = (ap (λ l. 39 ∷ 39 ∷ l) (h ∙ sym (append-nil body) ∙ ap (λ r. body ++ r) (sym r)), (k, r))
 comment_fits bs (separator c, rest) h = absurd h
@@ -120,7 +120,7 @@ quote_not_quotable : (b : ℕ) → (b == 34) ≡ true → is_quotable b ≡ fals
 quote_not_quotable b e = let same = eqb-true b 34 e in ap is_quotable same
 
 -- a text is closed where a quote follows its quotable bytes
-pub closed_is : (bs : List ℕ) → is_closed bs ≡ begins (λ b. b == 34) (drop (quotable_length bs) bs)
+pub closed_is : (bs : List ℕ) → is_closed bs ≡ passes_first (λ b. b == 34) (drop (quotable_length bs) bs)
 closed_is [] = refl
 closed_is (b ∷ bs) =
     let ih = closed_is bs in
@@ -133,11 +133,11 @@ closed_is (b ∷ bs) =
       ]
     ]
 
-quote_there : (bs : List ℕ) → begins (λ b. b == 34) bs ≡ true → bs ≡ 34 ∷ drop 1 bs
+quote_there : (bs : List ℕ) → passes_first (λ b. b == 34) bs ≡ true → bs ≡ 34 ∷ drop 1 bs
 quote_there [] e = absurd cc
 quote_there (c ∷ bs) e = ap (λ x. x ∷ bs) (eqb-true c 34 e)
 
-quoted_fits : (bs : List ℕ) → (34 ∷ bs ≡ spelled (quoted_at bs).0 ++ (quoted_at bs).1) × Fits (quoted_at bs).0 (quoted_at bs).1
+quoted_fits : (bs : List ℕ) → (34 ∷ bs ≡ spelled (quoted_at bs).0 ++ (quoted_at bs).1) × FitsBefore (quoted_at bs).0 (quoted_at bs).1
 unfolding quoted_at
 quoted_fits bs =
     elim (which (is_closed bs)) [
@@ -153,7 +153,7 @@ quoted_fits bs =
 closed_body : (body rest : List ℕ) → list_all is_quotable body ≡ true → is_closed (body ++ 34 ∷ rest) ≡ true
 closed_body body rest all =
     let h = run_again is_quotable body (34 ∷ rest) all refl in
-    closed_is (body ++ 34 ∷ rest) ∙ ap (begins (λ b. b == 34)) h.1
+    closed_is (body ++ 34 ∷ rest) ∙ ap (passes_first (λ b. b == 34)) h.1
 
 quoted_again : (body rest : List ℕ) → list_all is_quotable body ≡ true → quoted_at (body ++ 34 ∷ rest) ≡ (quoted body, rest)
 unfolding quoted_at
@@ -176,7 +176,7 @@ open_again body rest f b bs e =
 
 -- ---- a line
 
-piece_fits : (b : ℕ) (bs : List ℕ) → ((b ∷ bs) ≡ spelled (piece_at b bs).0 ++ (piece_at b bs).1) × Fits (piece_at b bs).0 (piece_at b bs).1
+piece_fits : (b : ℕ) (bs : List ℕ) → ((b ∷ bs) ≡ spelled (piece_at b bs).0 ++ (piece_at b bs).1) × FitsBefore (piece_at b bs).0 (piece_at b bs).1
 unfolding piece_at
 piece_fits b bs =
     elim (which (is_separator b)) [
@@ -187,7 +187,7 @@ piece_fits b bs =
             | inr q ↦
                 elim (which (opens_comment b bs)) [
                   | inl r ↦
-                      let two = both_true (is_apostrophe b) (begins is_apostrophe bs) r in
+                      let two = both_true (is_apostrophe b) (passes_first is_apostrophe bs) r in
                       let h = comment_fits (drop 1 bs) (comment_at (drop 1 bs)) (comment_is (drop 1 bs)) in
                       rw (p, q, r) ((λ i. eqb-true b 39 two.0 i ∷ apostrophe_there bs two.1 i) ∙ h.0, h.1)
                   | inr r ↦
@@ -200,7 +200,7 @@ piece_fits b bs =
     ]
 
 -- a piece takes a byte at least
-spelled_some : (p : Piece) (rest : List ℕ) → Fits p rest → 0 < length (spelled p)
+spelled_some : (p : Piece) (rest : List ℕ) → FitsBefore p rest → 0 < length (spelled p)
 spelled_some (separator b) rest f = omega arith
 spelled_some (word w) rest f = f.0
 spelled_some (comment body) rest f = omega arith
@@ -238,7 +238,7 @@ word_no_separator b w = go (is_separator b) refl
               ]
         ]
 
-piece_again : (p : Piece) (rest : List ℕ) → Fits p rest → (b : ℕ) (bs : List ℕ) → b ∷ bs ≡ spelled p ++ rest → piece_at b bs ≡ (p, rest)
+piece_again : (p : Piece) (rest : List ℕ) → FitsBefore p rest → (b : ℕ) (bs : List ℕ) → b ∷ bs ≡ spelled p ++ rest → piece_at b bs ≡ (p, rest)
 unfolding piece_at
 piece_again (separator c) rest f b bs e =
     let h = split b c bs rest e in

@@ -6,22 +6,22 @@ use Rattle.ss_lex.specs.declared.meaning.Meaning.{Meaning}
 use Rattle.ss_lex.specs.declared.meaning.Meaning.TheVariants as meanings
 use Rattle.ss_lex.specs.declared.meaning.Fault.TheVariants.{OpenText}
 use Rattle.ss_lex.specs.Words.{without_end_periods, word_meaning}
-use Rattle.ss_lex.specs.Pieces.{begins, is_separator, is_word_byte, opens_comment, is_closed, text_meaning}
+use Rattle.ss_lex.specs.Pieces.{passes_first, is_separator, is_word_byte, opens_comment, is_closed, text_meaning}
 use Rattle.ss_lex.specs.Reading.{quotable_length, quoted_at, quote_step_of, run_length, comment_at, piece_at, step_of}
 use Rattle.ss_lex.proofs.Cutting.{closed_is, comment_meaning}
 
-pub quote_closed : (bytes body after rest : List ℕ) (n : ℕ) → n ≡ quotable_length bytes → body ≡ take n bytes → after ≡ drop n bytes → begins (λ b. b == 34) after ≡ true → rest ≡ drop 1 after → (text_meaning (text_of body) (length body + 2), rest) ≡ quote_step_of bytes
+pub quote_closed : (bytes body after rest : List ℕ) (n : ℕ) → n ≡ quotable_length bytes → body ≡ take n bytes → after ≡ drop n bytes → passes_first (λ b. b == 34) after ≡ true → rest ≡ drop 1 after → (text_meaning (text_of body) (length body + 2), rest) ≡ quote_step_of bytes
 unfolding quote_step_of quoted_at
 quote_closed bytes body after rest n m e f t g =
-    let closed : is_closed bytes ≡ true = closed_is bytes ∙ (ap (λ k. begins (λ b. b == 34) (drop k bytes)) (sym m) ∙ (ap (begins (λ b. b == 34)) (sym f) ∙ t)) in
+    let closed : is_closed bytes ≡ true = closed_is bytes ∙ (ap (λ k. passes_first (λ b. b == 34) (drop k bytes)) (sym m) ∙ (ap (passes_first (λ b. b == 34)) (sym f) ∙ t)) in
     let b : body ≡ take (quotable_length bytes) bytes = e ∙ ap (λ k. take k bytes) m in
     let r : rest ≡ drop (quotable_length bytes + 1) bytes = g ∙ (ap (drop 1) (f ∙ ap (λ k. drop k bytes) m) ∙ drop-drop 1 (quotable_length bytes) bytes) in
     rw closed (λ i. (text_meaning (text_of (b i)) (length (b i) + 2), r i))
 
-pub quote_open : (bytes after : List ℕ) (n : ℕ) → n ≡ quotable_length bytes → after ≡ drop n bytes → begins (λ b. b == 34) after ≡ false → (meanings.Fault OpenText, []) ≡ quote_step_of bytes
+pub quote_open : (bytes after : List ℕ) (n : ℕ) → n ≡ quotable_length bytes → after ≡ drop n bytes → passes_first (λ b. b == 34) after ≡ false → (meanings.Fault OpenText, []) ≡ quote_step_of bytes
 unfolding quote_step_of quoted_at
 quote_open bytes after n m f t =
-    let unclosed : is_closed bytes ≡ false = closed_is bytes ∙ (ap (λ k. begins (λ b. b == 34) (drop k bytes)) (sym m) ∙ (ap (begins (λ b. b == 34)) (sym f) ∙ t)) in
+    let unclosed : is_closed bytes ≡ false = closed_is bytes ∙ (ap (λ k. passes_first (λ b. b == 34) (drop k bytes)) (sym m) ∙ (ap (passes_first (λ b. b == 34)) (sym f) ∙ t)) in
     rw unclosed refl
 
 pub step_word : (bytes : List ℕ) (b : ℕ) (bs word after : List ℕ) (n : ℕ) → bytes ≡ b ∷ bs → is_separator b ≡ false → is_word_byte b ≡ true → n ≡ run_length bs → word ≡ take (n + 1) bytes → after ≡ drop (n + 1) bytes → (word_meaning (without_end_periods word), after) ≡ step_of bytes

@@ -45,16 +45,16 @@ is_word_byte b = is_ascii_alphanumeric b || is_period b
 abbrev pub is_quotable : ℕ → Bool
 is_quotable b = is_text_byte b && not (b == 34)
 
-abbrev pub begins : (ℕ → Bool) → List ℕ → Bool
-begins test [] = false
-begins test (b ∷ bs) = test b
+abbrev pub passes_first : (ℕ → Bool) → List ℕ → Bool
+passes_first test [] = false
+passes_first test (b ∷ bs) = test b
 
 abbrev pub is_apostrophe : ℕ → Bool
 is_apostrophe b = b == 39
 
 -- two apostrophes
 abbrev pub opens_comment : ℕ → List ℕ → Bool
-opens_comment b rest = is_apostrophe b && begins is_apostrophe rest
+opens_comment b rest = is_apostrophe b && passes_first is_apostrophe rest
 
 -- no two apostrophes are side by side
 abbrev pub is_apart : List ℕ → Bool
@@ -67,19 +67,19 @@ is_closed [] = false
 is_closed (b ∷ bs) = b == 34 || (is_text_byte b && is_closed bs)
 
 -- the piece is right where this follows it on its line
-abbrev pub Fits : Piece → List ℕ → Type 0
-Fits (separator b) rest = is_separator b ≡ true
-Fits (word w) rest = (0 < length w) × (list_all is_word_byte w ≡ true) × (begins is_word_byte rest ≡ false)
-Fits (comment body) rest = is_apart (body ++ 39 ∷ []) ≡ true
-Fits (open_comment body) rest = (is_apart body ≡ true) × (rest ≡ [])
-Fits (quoted body) rest = list_all is_quotable body ≡ true
-Fits (open_quoted body) rest = (is_closed body ≡ false) × (rest ≡ [])
-Fits (single b) rest = (is_separator b ≡ false) × (is_word_byte b ≡ false) × ((b == 34) ≡ false) × (opens_comment b rest ≡ false)
+abbrev pub FitsBefore : Piece → List ℕ → Type 0
+FitsBefore (separator b) rest = is_separator b ≡ true
+FitsBefore (word w) rest = (0 < length w) × (list_all is_word_byte w ≡ true) × (passes_first is_word_byte rest ≡ false)
+FitsBefore (comment body) rest = is_apart (body ++ 39 ∷ []) ≡ true
+FitsBefore (open_comment body) rest = (is_apart body ≡ true) × (rest ≡ [])
+FitsBefore (quoted body) rest = list_all is_quotable body ≡ true
+FitsBefore (open_quoted body) rest = (is_closed body ≡ false) × (rest ≡ [])
+FitsBefore (single b) rest = (is_separator b ≡ false) × (is_word_byte b ≡ false) × ((b == 34) ≡ false) × (opens_comment b rest ≡ false)
 
 -- the line is these pieces, one after the other
 abbrev pub IsCut : List Piece → List ℕ → Type 0
 IsCut [] line = line ≡ []
-IsCut (p ∷ ps) line = (rest : List ℕ) × (line ≡ spelled p ++ rest) × Fits p rest × IsCut ps rest
+IsCut (p ∷ ps) line = (rest : List ℕ) × (line ≡ spelled p ++ rest) × FitsBefore p rest × IsCut ps rest
 
 -- the token that a character is
 abbrev pub symbol_of : ℕ → Symbol

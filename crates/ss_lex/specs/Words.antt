@@ -159,9 +159,9 @@ reserved =
     []
 
 -- the word with this spelling, in a table
-abbrev pub found_in : List (List ℕ × Word) → List ℕ → Option Word
-found_in [] spelling = None
-found_in (row ∷ rows) spelling = if bytes_eq row.0 spelling then Some row.1 else found_in rows spelling
+abbrev pub word_in_table : List (List ℕ × Word) → List ℕ → Option Word
+word_in_table [] spelling = None
+word_in_table (row ∷ rows) spelling = if bytes_eq row.0 spelling then Some row.1 else word_in_table rows spelling
 
 -- a reserved word, or a name, by its spelling in capitals
 abbrev pub word_or_name : Option Word → List ℕ → TokenKind
@@ -172,7 +172,7 @@ word_or_name (Some word) spelling = kinds.Word word
 abbrev pub name_meaning : List ℕ → Meaning
 name_meaning w =
     if nat_lt name_limit (length w) then meanings.Fault NameTooLong
-    else meanings.Token (word_or_name (found_in reserved (in_capitals w)) (in_capitals w)) (length w)
+    else meanings.Token (word_or_name (word_in_table reserved (in_capitals w)) (in_capitals w)) (length w)
 
 -- the number that digits after a number spell
 abbrev pub number_from : ℕ → List ℕ → ℕ

@@ -2,7 +2,7 @@
 
 ghost use Rattle.std.specs.Prelude.{◌≡◌, ◌≤◌, ◌+◌, ◌==◌, [], ◌∷◌, drop, length, MatchOption};
 ghost use Rattle.ss_base.specs.Values.{text_of};
-ghost use Rattle.ss_lex.specs.Pieces.{is_separator, is_word_byte, is_quotable, begins, opens_comment, symbol_of, text_meaning};
+ghost use Rattle.ss_lex.specs.Pieces.{is_separator, is_word_byte, is_quotable, passes_first, opens_comment, symbol_of, text_meaning};
 ghost use Rattle.ss_lex.specs.Reading.{run_length, quotable_length, comment_at, quote_step_of, step_of};
 
 use crate::meaning::{Fault, Meaning};
@@ -65,7 +65,7 @@ pub fn tail(bytes: &[u8]) -> &[u8]
 }
 
 fn begins_with(wanted: u8, bytes: &[u8]) -> bool
-    ensures { result ≡ begins (λ b. b == wanted) bytes.now }
+    ensures { result ≡ passes_first (λ b. b == wanted) bytes.now }
 {
     match bytes {
         [] => false,

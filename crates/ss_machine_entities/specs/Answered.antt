@@ -15,6 +15,6 @@ to_meaning (Ok a) = Ok a
 to_meaning (Err t) = Err (meant t)
 
 -- the number of what was looked at
-abbrev pub numbered : Result Known Trouble → Result ℤ Trouble
-numbered (Ok k) = Ok k.number
-numbered (Err t) = Err t
+abbrev pub number_found : Result Known Trouble → Result ℤ Trouble
+number_found (Ok k) = Ok k.number
+number_found (Err t) = Err t

@@ -2,7 +2,7 @@
 
 ghost use Rattle.std.specs.Prelude.{◌≡◌};
 ghost use Rattle.ss_meaning.specs.Values.{number_of as number_meant};
-ghost use Rattle.ss_machine_entities.specs.Answered.{to_meaning, numbered};
+ghost use Rattle.ss_machine_entities.specs.Answered.{to_meaning, number_found};
 
 use crate::trouble::{Trouble, number_of};
 use ss_base::Value;
@@ -23,7 +23,7 @@ pub struct Membership {
 /// The number that a value is.
 #[inline(always)]
 pub fn known_number(value: Value) -> Result<Known, Trouble>
-    ensures { to_meaning (numbered result) ≡ number_meant value }
+    ensures { to_meaning (number_found result) ≡ number_meant value }
 {
     match number_of(value) {
         Ok(number) => Ok(Known { number }),

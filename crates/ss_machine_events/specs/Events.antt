@@ -110,9 +110,9 @@ IsPut v old new (Ok u) = new ≡ old ++ v ∷ []
 IsPut v old new (Err t) = t ≡ unmade.Memory
 
 -- an operation looks, and the value that it finds is added after others
-abbrev pub Adds : (Store → Result Value Meant) → Seen → (old new : List Value) → Result (Unit {0}) Unmade → Type 0
-Adds f e old new (Ok u) = (v : Value) × (new ≡ old ++ v ∷ []) × ((s : Store) → f (with_seen s e) ≡ Ok v)
-Adds f e old new (Err t) = Finds {A = Value} f e (Err t)
+abbrev pub AddsFound : (Store → Result Value Meant) → Seen → (old new : List Value) → Result (Unit {0}) Unmade → Type 0
+AddsFound f e old new (Ok u) = (v : Value) × (new ≡ old ++ v ∷ []) × ((s : Store) → f (with_seen s e) ≡ Ok v)
+AddsFound f e old new (Err t) = Finds {A = Value} f e (Err t)
 
 -- what becomes of the notice
 abbrev pub Lets : Event → (old new : Seen) → Result Fate Unmade → Type 0

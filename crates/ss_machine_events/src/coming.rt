@@ -10,7 +10,7 @@ ghost use Rattle.ss_records.specs.Classed.{HasClass};
 ghost use Rattle.ss_machine_entities.specs.Layouts.{kind_at};
 ghost use Rattle.ss_machine_world.specs.Seen.{with_seen};
 ghost use Rattle.ss_machine_events.specs.Scheduled.{Finds, put_there};
-ghost use Rattle.ss_machine_events.specs.Events.{Comes, Nears, passed_on, Begins, Lets, First, IsEventOf, Adds, IsPut, is_of, is_notice_kind};
+ghost use Rattle.ss_machine_events.specs.Events.{Comes, Nears, passed_on, Begins, Lets, First, IsEventOf, AddsFound, IsPut, is_of, is_notice_kind};
 
 use crate::scheduling::lacking;
 use ss_base::{ClassKind, Line, Value};
@@ -195,7 +195,7 @@ fn read_one(
     known: Known,
     values: &mut Vec<Value>,
 ) -> Result<(), Unmade>
-    ensures { Adds (attribute class field (Whole known.number)) scene.now values.old.items values.new.items result }
+    ensures { AddsFound (attribute class field (Whole known.number)) scene.now values.old.items values.new.items result }
 {
     match scene.whole_field(class, field, known) {
         Some(number) => put(values, Value::Whole(number)),
@@ -212,7 +212,7 @@ fn read_any(
     known: Known,
     values: &mut Vec<Value>,
 ) -> Result<(), Unmade>
-    ensures { Adds (attribute class field (Whole known.number)) scene.now values.old.items values.new.items result }
+    ensures { AddsFound (attribute class field (Whole known.number)) scene.now values.old.items values.new.items result }
 {
     match scene.field_value(class, field, known) {
         Err(trouble) => Err(lacking(trouble)),

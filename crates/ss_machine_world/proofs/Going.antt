@@ -23,7 +23,7 @@ use Rattle.ss_world.specs.Disciplines.{member_test, filed}
 use Rattle.ss_meaning.specs.Values.{Trouble as Meant, if_ok, turned, due, sure, where_fit}
 use Rattle.ss_meaning.specs.Store.{Column, Store, with_histories}
 use Rattle.ss_meaning.specs.Histories.{same_subject, noting, all_noting, noted}
-use Rattle.ss_meaning.specs.Sets.{Filing, ByRule, Hindmost, is_fit, of_set, is_none, is_in, or_gone, goes_on, coming, beside, owner_by, owner_number, filed_by, filed_in, recounted, end_removed, removed_at}
+use Rattle.ss_meaning.specs.Sets.{Filing, ByRule, Hindmost, is_fit, of_set, is_none, is_in, or_gone, goes_on, coming, beside, owner_by_layout, owner_number, filed_by, filed_in, recounted, end_removed, removed_at}
 use Rattle.ss_machine_entities.specs.declared.known.Known.{Known}
 use Rattle.ss_machine_entities.proofs.Refiled.{last_refiled}
 use Rattle.ss_machine_entities.specs.declared.trouble.Trouble.{Trouble}
@@ -72,10 +72,10 @@ ignores_still subject old new same ignored = subst (λ (e : Seen). Ignores subje
 -- ## A set
 
 -- a set that has an owner is there
-pub owned_there : (layout : Layout) (set : ℕ) (o : Option Value) (n : ℤ) → owner_by (slice_get layout.sets set) o ≡ Ok n → (is_some (slice_get layout.sets set) ≡ true) × (set < length layout.sets)
+pub owned_there : (layout : Layout) (set : ℕ) (o : Option Value) (n : ℤ) → owner_by_layout (slice_get layout.sets set) o ≡ Ok n → (is_some (slice_get layout.sets set) ≡ true) × (set < length layout.sets)
 owned_there layout set o n of = by (slice_get layout.sets set) refl of
   where
-    by : (t : Option SetLayout) → slice_get layout.sets set ≡ t → owner_by t o ≡ Ok n → (is_some (slice_get layout.sets set) ≡ true) × (set < length layout.sets)
+    by : (t : Option SetLayout) → slice_get layout.sets set ≡ t → owner_by_layout t o ≡ Ok n → (is_some (slice_get layout.sets set) ≡ true) × (set < length layout.sets)
     by None at of = absurd cc
     by (Some t) at of = (ap is_some at, slice_get_within layout.sets set t at)
 

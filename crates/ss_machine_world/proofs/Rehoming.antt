@@ -12,7 +12,7 @@ use Rattle.ss_machine_entities.specs.declared.known.Known.{Known}
 use Rattle.ss_machine_entities.specs.declared.trouble.Trouble.{Trouble}
 use Rattle.ss_machine_entities.specs.Layouts.{set_in}
 use Rattle.ss_machine_world.specs.Seen.{Seen, with_seen, Changes, Notes, Gains}
-use Rattle.ss_machine_world.specs.Filed.{IsCountable, IsEarliest, Rehomes, Resettles, Gives, recounted_now, end_out, end_counted, end_removed_known}
+use Rattle.ss_machine_world.specs.Filed.{IsCountable, IsEarliest, Rehomes, Resettles, GivesValue, recounted_now, end_out, end_counted, end_removed_known}
 use Rattle.ss_machine_world.proofs.Asking.{owned_there}
 use Rattle.ss_machine_world.proofs.Late.{late_trouble}
 use Rattle.ss_machine_world.proofs.Noting.{noted_changes, recounting_stays}
@@ -76,13 +76,13 @@ module _ (end : End) (set : ℕ) (o : ℤ) (old : Seen) (there : is_some (set_in
   fits : (s : Store) → end_removed_known end set o (with_seen s old) ≡ end_counted end set o (with_seen s old)
   fits s = ap (λ b. where_fit b (end_counted end set o (with_seen s old))) there
 
-  pub not_taken : (t : Trouble) (new : Seen) → Gives (end_out end set o) old new (Err t) → Gains (end_removed_known end set o) old new (Err t)
+  pub not_taken : (t : Trouble) (new : Seen) → GivesValue (end_out end set o) old new (Err t) → Gains (end_removed_known end set o) old new (Err t)
   not_taken t new d = (
     λ s. fits s ∙ ap (λ r. if_ok r (λ p. turned (λ t. (p.0, t)) (recounted set o (with_seen s old) p.1))) (d.0 s),
     λ kind e ne. d.1,
   )
 
-  module _ (v : Value) (mid new : Seen) (d : Gives (end_out end set o) old mid (Ok v)) where
+  module _ (v : Value) (mid new : Seen) (d : GivesValue (end_out end set o) old mid (Ok v)) where
     out_at : (s : Store) → end_removed_known end set o (with_seen s old) ≡ turned (λ t. (v, t)) (recounted_now set o (with_seen s mid))
     out_at s =
         fits s

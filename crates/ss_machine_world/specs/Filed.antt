@@ -90,9 +90,9 @@ abbrev pub out_of : (set : ℕ) → (owner member : ℤ) → Store → Result St
 out_of set o x s = due (removed s.scene.heap set o x)
 
 -- an operation gives a value and other entities, or fails and changes nothing
-abbrev pub Gives : {A : Type 0} → (Store → Result (A × State) Meant) → (old new : Seen) → Result A Trouble → Type 0
-Gives f old new (Ok a) = ((s : Store) → f (with_seen s old) ≡ Ok (a, new.heap)) × (new ≡ record old { heap = new.heap })
-Gives {A} f old new (Err t) = ((s : Store) → f (with_seen s old) ≡ to_meaning {A = A × State} (Err t)) × (new ≡ old)
+abbrev pub GivesValue : {A : Type 0} → (Store → Result (A × State) Meant) → (old new : Seen) → Result A Trouble → Type 0
+GivesValue f old new (Ok a) = ((s : Store) → f (with_seen s old) ≡ Ok (a, new.heap)) × (new ≡ record old { heap = new.heap })
+GivesValue {A} f old new (Err t) = ((s : Store) → f (with_seen s old) ≡ to_meaning {A = A × State} (Err t)) × (new ≡ old)
 
 -- removing at an end
 abbrev pub end_out : End → (set : ℕ) → (owner : ℤ) → Store → Result (Value × State) Meant

@@ -6,10 +6,10 @@ ghost use Rattle.ss_meaning.specs.Entities.{is_single, is_permanent, entity, att
 ghost use Rattle.ss_meaning.specs.Events.{with_time};
 ghost use Rattle.ss_meaning.specs.Store.{Store as StoreSeen};
 ghost use Rattle.ss_meaning.specs.Places.{is_of_mode, assigned_attribute};
-ghost use Rattle.ss_machine_entities.specs.Answered.{numbered};
+ghost use Rattle.ss_machine_entities.specs.Answered.{number_found};
 ghost use Rattle.ss_machine_entities.specs.declared.trouble.Unmade.TheVariants.{Memory};
 ghost use Rattle.ss_machine_entities.specs.Layouts.{class_in, kind_at};
-ghost use Rattle.ss_machine_world.specs.Seen.{Looks, Changes, Notes, Makes, Grows, GoesWell, IsEarlier, as_value, count_open, number_made, created_all_known, mode_at, with_seen};
+ghost use Rattle.ss_machine_world.specs.Seen.{Looks, Changes, Notes, Makes, Grows, GoesWell, IsEarlier, as_value, count_open, number_made, created_all_known, mode_of_field, with_seen};
 
 use crate::scene::Scene;
 use ss_base::{ClassKind, FaultKind, Mode, Refused, Value};
@@ -42,7 +42,7 @@ impl Scene {
     // The mode of a field, where the layout has it.
     #[inline(always)]
     pub(crate) fn mode(&self, class: usize, field: usize) -> Option<Mode>
-        ensures { result ≡ mode_at self.now.heap.layout class field }
+        ensures { result ≡ mode_of_field self.now.heap.layout class field }
     {
         field_mode(self.population.layout(), class, field)
     }
@@ -50,7 +50,7 @@ impl Scene {
     // A number as that of an entity of a class.
     #[inline(always)]
     fn find_known(&self, class: usize, known: Known) -> Result<Known, Trouble>
-        ensures { Looks (entity class (Whole known.number)) self.now (numbered result) }
+        ensures { Looks (entity class (Whole known.number)) self.now (number_found result) }
     {
         if self.kind(class).is_none() {
             return Err(Trouble::Misfit);
@@ -64,7 +64,7 @@ impl Scene {
     // A number as that of an entity of a class, out of line.
     #[inline(never)]
     fn find_apart(&self, class: usize, known: Known) -> Result<Known, Trouble>
-        ensures { Looks (entity class (Whole known.number)) self.now (numbered result) }
+        ensures { Looks (entity class (Whole known.number)) self.now (number_found result) }
     {
         self.find_known(class, known)
     }
@@ -83,7 +83,7 @@ impl Scene {
     /// A number as that of an entity of a class that comes and goes. Faults: 1 to 4.
     #[inline(always)]
     pub fn find_by_number(&self, class: usize, known: Known) -> Result<Known, Trouble>
-        ensures { Looks (entity class (Whole known.number)) self.now (numbered result) }
+        ensures { Looks (entity class (Whole known.number)) self.now (number_found result) }
     {
         if self.is_near(class, known) {
             return Ok(known);
@@ -94,7 +94,7 @@ impl Scene {
     /// The entity of a class that a value refers to. Faults: 1 to 5.
     #[inline(always)]
     pub fn find(&self, class: usize, x: Value) -> Result<Known, Trouble>
-        ensures { Looks (entity class x) self.now (numbered result) }
+        ensures { Looks (entity class x) self.now (number_found result) }
     {
         match known_number(x) {
             Ok(known) => self.find_known(class, known),
@@ -180,7 +180,7 @@ impl Scene {
     // Whether a value has the mode of a field that the layout has.
     #[inline(always)]
     fn fits(&self, class: usize, field: usize, value: &Value) -> bool
-        ensures { result ≡ is_of_mode value.now (mode_at self.now.heap.layout class field) }
+        ensures { result ≡ is_of_mode value.now (mode_of_field self.now.heap.layout class field) }
     {
         fits(self.population.layout(), class, field, value)
     }

@@ -5,7 +5,7 @@ ghost use Rattle.ss_world.specs.Sets.{joiner, owner};
 ghost use Rattle.ss_world.specs.Disciplines.{member_test};
 ghost use Rattle.ss_meaning.specs.Sets.{member, known_owner, is_in, outset, beside, begun, coming, from_or_after, begun_at, or_gone, goes_on};
 ghost use Rattle.ss_meaning.specs.Values.{due, turned, where_fit};
-ghost use Rattle.ss_machine_entities.specs.Answered.{to_meaning, numbered};
+ghost use Rattle.ss_machine_entities.specs.Answered.{to_meaning, number_found};
 ghost use Rattle.ss_machine_entities.specs.Layouts.{set_in};
 ghost use Rattle.ss_machine_world.specs.Seen.{Looks};
 ghost use Rattle.ss_machine_world.specs.Filed.{both_known, paired, with_owner, tested, IsEarliest, begun_from};
@@ -20,7 +20,7 @@ impl Scene {
     // A number as that of an entity that may be a member of a set.
     #[inline(always)]
     fn look_member(&mut self, set: usize, known: Known) -> Result<Known, Trouble>
-        ensures value { where_fit (is_some (set_in self.old.heap.layout set)) (turned (λ _. known.number) (due (joiner self.old.heap set known.number))) ≡ to_meaning (numbered result) }
+        ensures value { where_fit (is_some (set_in self.old.heap.layout set)) (turned (λ _. known.number) (due (joiner self.old.heap set known.number))) ≡ to_meaning (number_found result) }
         ensures there { IfOk result (λ _. set < length self.old.heap.layout.sets) }
         ensures same { self.new ≡ self.old }
     {
@@ -36,7 +36,7 @@ impl Scene {
     // The entity that a value refers to as one that may be a member of a set.
     #[inline(always)]
     pub(crate) fn find_member(&mut self, set: usize, x: Value) -> Result<Known, Trouble>
-        ensures value { Looks (member set x) self.old (numbered result) }
+        ensures value { Looks (member set x) self.old (number_found result) }
         ensures there { IfOk result (λ _. set < length self.old.heap.layout.sets) }
         ensures same { self.new ≡ self.old }
     {
@@ -61,7 +61,7 @@ impl Scene {
     // A number as that of an owner of a set, where the layout has the set.
     #[inline(always)]
     fn look_owner(&mut self, set: usize, known: Known) -> Result<Known, Trouble>
-        ensures value { where_fit (is_some (set_in self.old.heap.layout set)) (turned (λ _. known.number) (due (owner self.old.heap set known.number))) ≡ to_meaning (numbered result) }
+        ensures value { where_fit (is_some (set_in self.old.heap.layout set)) (turned (λ _. known.number) (due (owner self.old.heap set known.number))) ≡ to_meaning (number_found result) }
         ensures same { self.new ≡ self.old }
     {
         if !self.has_set(set) {
@@ -76,7 +76,7 @@ impl Scene {
     // The owner of a set that a value refers to.
     #[inline(always)]
     pub(crate) fn find_owner(&mut self, set: usize, owner: Option<Value>) -> Result<Known, Trouble>
-        ensures value { Looks (known_owner set owner) self.old (numbered result) }
+        ensures value { Looks (known_owner set owner) self.old (number_found result) }
         ensures same { self.new ≡ self.old }
     {
         match self.owner(set, owner) {

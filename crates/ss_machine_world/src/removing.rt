@@ -3,7 +3,7 @@
 ghost use Rattle.std.specs.Prelude.{◌≡◌, ◌<◌, length, IfOk};
 ghost use Rattle.ss_meaning.specs.Sets.{removed_from, removed_at};
 ghost use Rattle.ss_machine_world.specs.Seen.{Notes, Gains};
-ghost use Rattle.ss_machine_world.specs.Filed.{Resettles, Rehomes, Gives, IsCountable, out_of, end_out, end_removed_known};
+ghost use Rattle.ss_machine_world.specs.Filed.{Resettles, Rehomes, GivesValue, IsCountable, out_of, end_out, end_removed_known};
 
 use crate::scene::Scene;
 use ss_base::Value;
@@ -67,7 +67,7 @@ impl Scene {
     #[inline(always)]
     fn take_end(&mut self, end: End, set: usize, known: Known) -> Result<Value, Trouble>
         requires set { set < length self.old.heap.layout.sets }
-        ensures { Gives (end_out end set known.number) self.old self.new result }
+        ensures { GivesValue (end_out end set known.number) self.old self.new result }
     {
         match self.population.remove_end(end, set, known.number) {
             Ok(number) => Ok(Value::Whole(number)),

@@ -5,7 +5,7 @@ ghost use Rattle.ss_base.specs.declared.value.Value.TheVariants.{Whole};
 ghost use Rattle.ss_meaning.specs.Sets.{set_answer, owner_number, of_set, of_member, is_none, is_empty};
 ghost use Rattle.ss_world.specs.Sets.{count_in};
 ghost use Rattle.ss_meaning.specs.Values.{due, turned, where_fit};
-ghost use Rattle.ss_machine_entities.specs.Answered.{to_meaning, numbered};
+ghost use Rattle.ss_machine_entities.specs.Answered.{to_meaning, number_found};
 ghost use Rattle.ss_machine_entities.specs.Layouts.{set_in};
 ghost use Rattle.ss_machine_world.specs.Seen.{Looks, member_answer};
 
@@ -29,7 +29,7 @@ impl Scene {
     // The owner of a set, 0 for the system, by who owns the sets of its name.
     #[inline(always)]
     pub(crate) fn owner(&self, set: usize, owner: Option<Value>) -> Result<Known, Trouble>
-        ensures { Looks (owner_number set owner) self.now (numbered result) }
+        ensures { Looks (owner_number set owner) self.now (number_found result) }
     {
         match owner_of(self.population.layout(), set, owner) {
             None => Err(Trouble::Misfit),

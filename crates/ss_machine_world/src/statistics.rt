@@ -7,7 +7,7 @@ ghost use Rattle.ss_meaning.specs.Histories.{noted, figure_kept, mean_kept};
 ghost use Rattle.ss_meaning.specs.Statistics.{bearer, figure, mean, reset};
 ghost use Rattle.ss_picture.specs.Suited.{IsMean};
 ghost use Rattle.ss_machine_time.specs.Records.{figured};
-ghost use Rattle.ss_machine_entities.specs.Answered.{to_meaning, numbered};
+ghost use Rattle.ss_machine_entities.specs.Answered.{to_meaning, number_found};
 ghost use Rattle.ss_program.specs.declared.sections.Subject.TheVariants.{OfVariable, OfAttribute, OfCount};
 ghost use Rattle.ss_base.specs.declared.value.Value.TheVariants.{Whole};
 ghost use Rattle.ss_machine_time.specs.Figures.{subject_in, variable_in, variable_of, held_by, present_with, renewed_known, reset_of};
@@ -204,7 +204,7 @@ impl Scene {
 
     // The entity that has a subject, 0 for the system.
     fn bearer(&mut self, subject: Subject, whose: &Option<Value>) -> Result<Known, Trouble>
-        ensures value { Looks (bearer subject whose.now) self.old (numbered result) }
+        ensures value { Looks (bearer subject whose.now) self.old (number_found result) }
         ensures same { self.new ≡ self.old }
     {
         match subject {

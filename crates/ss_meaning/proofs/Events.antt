@@ -25,14 +25,14 @@ use Rattle.ss_world.specs.Order.{comes_before}
 use Rattle.ss_world.specs.PendingList.{PendingList, scheduling_limit, is_pending, without, earlier, least, with_entry, scheduled, cancelled}
 use Rattle.ss_program.specs.declared.expression.Variable.TheVariants.{Global}
 use Rattle.ss_program.specs.Program.{Event, Program}
-use Rattle.ss_program.specs.WellTyped.{WellTyped, field_mode, fields_of, kind_of as kind_said, is_created_singly, GoodKeys, GoodEvent, IsPlain}
+use Rattle.ss_program.specs.WellTyped.{WellTyped, field_mode, fields_of, kind_of_class as kind_said, is_created_singly, GoodKeys, GoodEvent, IsPlain}
 use Rattle.ss_meaning.specs.Values.{if_ok, turned, due, sure, unless_fault, number_of}
 use Rattle.ss_meaning.specs.Store.{Notices, Store, with_heap, with_pending}
 use Rattle.ss_meaning.specs.Entities.{entity, attribute, made_one}
 use Rattle.ss_meaning.specs.Places.{assigned_attribute}
 use Rattle.ss_meaning.specs.Events.{Moment, AtTime, Later, AtOnce, not_past, time_at, endowed, with_time, prepared, made_notice, Ranked, ranked_from, ranked, ties_of, filed_notice, rescheduled, unscheduled, is_awaited, Beginning, attributes, saved_or_gone, Coming, at_event, ranked_as, coming_as, coming_with, next_event, begun}
 use Rattle.ss_meaning.specs.Meaning.{said_of}
-use Rattle.ss_meaning.specs.Fitting.{Hold, class_in, LivesAs, Lives, IsNotice, Fits}
+use Rattle.ss_meaning.specs.Fitting.{Hold, class_of_record, LivesAs, Lives, IsNotice, Fits}
 use Rattle.ss_meaning.proofs.Fine.{Fine, Sane, There, Any, fine_then, fine_turned, due_fine, any_due, sure_fine, unless_fine}
 use Rattle.ss_meaning.proofs.Lists.{every_get, every_both, every_filter}
 use Rattle.ss_meaning.proofs.Heaps.{Changed, timed_sane}
@@ -81,7 +81,7 @@ notice_there h (pos (suc i)) n = by (slice_get h.records i) refl n.1
     kind_test r Temporary q = absurd cc
     kind_test r Notice q = refl
 
-    by : (o : Option (Option Record)) → slice_get h.records i ≡ o → class_in o ≡ Some n.0 → (r : Record) × (notice h (pos (suc i)) ≡ Ok r) × (kind_of h.layout r.class ≡ Notice)
+    by : (o : Option (Option Record)) → slice_get h.records i ≡ o → class_of_record o ≡ Some n.0 → (r : Record) × (notice h (pos (suc i)) ≡ Ok r) × (kind_of h.layout r.class ≡ Notice)
     by None g q = absurd cc
     by (Some None) g q = absurd cc
     by (Some (Some r)) g q =

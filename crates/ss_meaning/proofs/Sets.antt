@@ -17,7 +17,7 @@ use Rattle.ss_base.specs.declared.value.Value.{Value}
 use Rattle.ss_base.specs.declared.value.Value.TheVariants.{Whole, Text}
 use Rattle.ss_base.specs.Layout.{mode_of}
 use Rattle.ss_world.specs.State.{State, modes_of, members_of, entity as entity_in, number_in}
-use Rattle.ss_world.specs.Sets.{member_class, owner_kind, owner_by as owner_of_kind, joiner, owner, first_in, last_in, count_in, next_in, previous_in, owner_of_member, filed_first, filed_last, filed_before, filed_after, removed}
+use Rattle.ss_world.specs.Sets.{member_class, owner_kind, owner_by_layout as owner_of_kind, joiner, owner, first_in, last_in, count_in, next_in, previous_in, owner_of_member, filed_first, filed_last, filed_before, filed_after, removed}
 use Rattle.ss_world.specs.Disciplines.{member_test, filed}
 use Rattle.ss_program.specs.declared.expression.Fold.{Fold}
 use Rattle.ss_program.specs.declared.expression.Fold.TheVariants.{Number, Sum, Maximum, Minimum}
@@ -38,7 +38,7 @@ use Rattle.ss_meaning.specs.Values.{Trouble, Misfit, Fails, if_ok, turned, due, 
 use Rattle.ss_meaning.specs.Store.{Store, with_heap, with_histories, fetched}
 use Rattle.ss_meaning.specs.Histories.{noted, history_of, folded, figure_kept, mean_kept, renewed}
 use Rattle.ss_meaning.specs.Entities.{entity}
-use Rattle.ss_meaning.specs.Sets.{set_at, member, owner_as, owner_by, owner_number, known_owner, set_answer, of_set, is_one, of_member, is_none, is_empty, is_in, recounted, is_field, is_fit, Filing, ByRule, Foremost, Hindmost, JustBefore, JustAfter, filed_by, filed_in, removed_from, end_removed, removed_at, outset, beside, begun, coming, from_or_after, begun_at, or_gone, goes_on}
+use Rattle.ss_meaning.specs.Sets.{set_at, member, owner_as, owner_by_layout, owner_number, known_owner, set_answer, of_set, is_one, of_member, is_none, is_empty, is_in, recounted, is_field, is_fit, Filing, ByRule, Foremost, Hindmost, JustBefore, JustAfter, filed_by, filed_in, removed_from, end_removed, removed_at, outset, beside, begun, coming, from_or_after, begun_at, or_gone, goes_on}
 use Rattle.ss_meaning.specs.Statistics.{subject_of, bearer, present, figure, mean, reset}
 use Rattle.ss_meaning.specs.Fitting.{HeapFits, Lives, BearsBy, Bears, Fits}
 use Rattle.ss_meaning.proofs.Fine.{Fine, Sane, There, Any, fine_then, fine_turned, fine_weaker, due_fine, any_due, sure_fine, fit_fine, unless_fine, sane_then}
@@ -98,7 +98,7 @@ module _ (p : Program) (typed : WellTyped p) (ms : List Mode) where
       let here : set_at set s ≡ Some t.0 = set_here set t.0 s t.1 f in
       let said : owner_of p set ≡ Some t.0.owner = ap (λ l. option_map (λ (u : SetLayout). u.owner) l) t.1 in
       let kind : owner_kind s.scene.heap.layout set ≡ t.0.owner = ap (λ l. Rattle.ss_world.specs.Sets.owner_in l) here in
-      subst (λ l. Fine (IsOwnerNumber s.scene.heap set) (owner_by l o)) (sym here)
+      subst (λ l. Fine (IsOwnerNumber s.scene.heap set) (owner_by_layout l o)) (sym here)
       (fine_weaker (IsOwnerNumber s.scene.heap set) (owner_as t.0.owner o) (as_fine t.0.owner o set said q) (λ n h e. h (sym kind ∙ e)))
 
   owner_lives : (h : State) (c : ℕ) (n : ℤ) → Sane (λ m. Lives h c n) (owner_of_kind h (Class c) n)

@@ -8,7 +8,7 @@ use Rattle.ss_base.specs.declared.layout.Owner.{Owner}
 use Rattle.ss_base.specs.declared.layout.Owner.TheVariants.{System, Class}
 use Rattle.ss_base.specs.declared.layout.Layout.{Layout}
 use Rattle.ss_world.specs.Sets.{owner_kind}
-use Rattle.ss_stats.specs.History.{History, Tally, Accumulate, is_full, with_value, restarted, number_of as count_of, sum_of, mean_of, maximum_of, minimum_of}
+use Rattle.ss_stats.specs.History.{History, Tally, Accumulate, is_full, with_value, restarted, number_noted as count_of, sum_of, mean_of, maximum_of, minimum_of}
 use Rattle.ss_program.specs.declared.expression.Fold.{Fold}
 use Rattle.ss_program.specs.declared.expression.Fold.TheVariants.{Number, Sum, Maximum, Minimum}
 use Rattle.ss_program.specs.declared.sections.Subject.{Subject}

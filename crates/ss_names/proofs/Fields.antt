@@ -10,7 +10,7 @@ use Rattle.std.proofs.lemmas.List.Elements.{filter-append}
 use Rattle.std.proofs.lemmas.List.FromFn.{length-map-range_with_len, get_or-map-range_with_len}
 use Rattle.ss_tree.specs.declared.preamble.Mode.{Mode}
 use Rattle.ss_names_declarations.specs.Sayings.{NameBytes}
-use Rattle.ss_names.specs.Entities.{AreAttributes, AttributesSeen, attribute_after, attributes_after, fields_among, fields_of}
+use Rattle.ss_names.specs.Entities.{AreAttributes, AttributesSeen, attribute_after, attributes_after, fields_among, fields_by_class}
 use Rattle.ss_names_declarations.specs.Firsts.{entry_beside, firsts, same_name, value_for, with_first}
 use Rattle.ss_names_declarations.proofs.Entries.{keys_append}
 
@@ -23,12 +23,12 @@ counting a (suc n) =
     ap (λ l. a ∷ l) (counting (a + 1) n ∙ ap (λ k. range_with_len (a + 1) n ++ k ∷ []) e)
 
 -- one more class
-pub fields_grow : (owned : List (NameBytes × ℕ)) (n : ℕ) → fields_of owned (n + 1) ≡ fields_of owned n ++ fields_among owned n ∷ []
+pub fields_grow : (owned : List (NameBytes × ℕ)) (n : ℕ) → fields_by_class owned (n + 1) ≡ fields_by_class owned n ++ fields_among owned n ∷ []
 fields_grow owned n =
     let on : n + 1 ≡ suc n = omega arith in
     let same : 0 + n ≡ n = omega arith in
-    ap (fields_of owned) on ∙ ap (map (fields_among owned)) (counting 0 n) ∙ map_push (fields_among owned) (range_with_len 0 n) (0 + n)
-    ∙ ap (λ k. fields_of owned n ++ fields_among owned k ∷ []) same
+    ap (fields_by_class owned) on ∙ ap (map (fields_among owned)) (counting 0 n) ∙ map_push (fields_among owned) (range_with_len 0 n) (0 + n)
+    ∙ ap (λ k. fields_by_class owned n ++ fields_among owned k ∷ []) same
 
 -- an attribute of another class, and an attribute of this class
 chosen : (name : NameBytes) (c d : ℕ) (same : Bool) → nat_eq c d ≡ same → keys_of (filter (λ (e : NameBytes × ℕ). nat_eq e.1 d) ((name, c) ∷ [])) ≡ cond same (name ∷ []) []
@@ -56,9 +56,9 @@ same_row owned name c =
 other_row : (owned : List (NameBytes × ℕ)) (name : NameBytes) (c d : ℕ) → (d ≡ c → ⊥) → fields_among (owned ++ (name, c) ∷ []) d ≡ fields_among owned d
 other_row owned name c d ne = fields_more owned name c d false (ne_eqb c d (λ e. ne (sym e))) ∙ append_nil (fields_among owned d)
 
-row_at : (owned : List (NameBytes × ℕ)) (name : NameBytes) (n c i : ℕ) → c < n → i < n → get_or (slice_set (fields_of owned n) c (get_or (fields_of owned n) c [] ++ name ∷ [])) i [] ≡ fields_among (owned ++ (name, c) ∷ []) i
+row_at : (owned : List (NameBytes × ℕ)) (name : NameBytes) (n c i : ℕ) → c < n → i < n → get_or (slice_set (fields_by_class owned n) c (get_or (fields_by_class owned n) c [] ++ name ∷ [])) i [] ≡ fields_among (owned ++ (name, c) ∷ []) i
 row_at owned name n c i lc li =
-    let rows = fields_of owned n in
+    let rows = fields_by_class owned n in
     let new = get_or rows c [] ++ name ∷ [] in
     let long : length rows ≡ n = length-map-range_with_len (fields_among owned) 0 n in
     let at : (j : ℕ) → j < n → get_or rows j [] ≡ fields_among owned j = λ j l. get_or-map-range_with_len (fields_among owned) 0 n j j [] l (omega arith) in
@@ -71,17 +71,17 @@ row_at owned name n c i lc li =
     ]
 
 -- one more attribute
-pub rows_more : (owned : List (NameBytes × ℕ)) (name : NameBytes) (n c : ℕ) → c < n → slice_set (fields_of owned n) c (get_or (fields_of owned n) c [] ++ name ∷ []) ≡ fields_of (owned ++ (name, c) ∷ []) n
+pub rows_more : (owned : List (NameBytes × ℕ)) (name : NameBytes) (n c : ℕ) → c < n → slice_set (fields_by_class owned n) c (get_or (fields_by_class owned n) c [] ++ name ∷ []) ≡ fields_by_class (owned ++ (name, c) ∷ []) n
 rows_more owned name n c lc =
-    let rows = fields_of owned n in
+    let rows = fields_by_class owned n in
     let after = slice_set rows c (get_or rows c [] ++ name ∷ []) in
     let more = owned ++ (name, c) ∷ [] in
     let long : length after ≡ n = length-set rows c (get_or rows c [] ++ name ∷ []) ∙ length-map-range_with_len (fields_among owned) 0 n in
-    ext_get_or [] after (fields_of more n) (long ∙ sym (length-map-range_with_len (fields_among more) 0 n))
+    ext_get_or [] after (fields_by_class more n) (long ∙ sym (length-map-range_with_len (fields_among more) 0 n))
     (λ i l. row_at owned name n c i lc (omega (arith, long)) ∙ sym (get_or-map-range_with_len (fields_among more) 0 n i i [] (omega (arith, long)) (omega arith)))
 
 -- the length of a row
-pub row_length : (owned : List (NameBytes × ℕ)) (n c : ℕ) → c < n → length (get_or (fields_of owned n) c []) ≡ length (fields_among owned c)
+pub row_length : (owned : List (NameBytes × ℕ)) (n c : ℕ) → c < n → length (get_or (fields_by_class owned n) c []) ≡ length (fields_among owned c)
 row_length owned n c lc = ap length (get_or-map-range_with_len (fields_among owned) 0 n c c [] lc (omega arith))
 
 -- ---- entries

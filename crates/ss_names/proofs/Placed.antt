@@ -23,11 +23,11 @@ use Rattle.ss_names.specs.declared.entry.Set.{Set}
 use Rattle.ss_names.specs.declared.meaning.Meaning.{Meaning}
 use Rattle.ss_names.specs.declared.meaning.Meaning.TheVariants as meanings
 use Rattle.ss_names.specs.declared.entry.Statistic.{Statistic}
-use Rattle.ss_names.specs.Entities.{attribute_by, attribute_classes, attribute_entries, attributes_after, classes, defined_modes, fields_among, fields_of, member_by, member_entries, orderings, owner_by, owner_entries, set_members, set_names, set_of, set_owners, usual_mode}
+use Rattle.ss_names.specs.Entities.{attribute_by, attribute_classes, attribute_entries, attributes_after, classes, defined_modes, fields_among, fields_by_class, member_by, member_entries, orderings, owner_declared, owner_entries, set_members, set_names, set_of, set_owners, usual_mode}
 use Rattle.ss_names_declarations.specs.Firsts.{entry_beside, entry_if, firsts, place_among, place_in, same_name, value_for, with_first}
 use Rattle.ss_names_declarations.proofs.Entries.{keys_append}
 use Rattle.ss_names.specs.Laws.{AttributesArePlaced, IsClassOrSystem, IsPlaced, NumbersArePlaces, RanksAreClasses, SetsArePlaced, StatisticsHaveHistories}
-use Rattle.ss_names.specs.Meanings.{class_meaning, class_meanings, count_meaning, class_name_meaning, meaning_by, meaning_entries, numbered, set_meanings}
+use Rattle.ss_names.specs.Meanings.{class_meaning, class_meanings, count_meaning, class_name_meaning, meaning_by, meaning_entries, numbered_names, set_meanings}
 use Rattle.ss_names.specs.Statistics.{statistic_by, statistic_of, statistic_entries, weighings}
 use Rattle.ss_names.specs.Histories.{history_of}
 use Rattle.ss_names.specs.Table.{declared}
@@ -97,19 +97,19 @@ both says m None v h k l = tt
 both says m (Some class) None h k l = tt
 both says m (Some class) (Some variable) h k l = h class variable k l
 
-name_placed : (says : List Saying) (name : NameBytes) → IfSome (class_name_meaning (numbered says) name) (IsPlaced (declared says))
+name_placed : (says : List Saying) (name : NameBytes) → IfSome (class_name_meaning (numbered_names says) name) (IsPlaced (declared says))
 name_placed says name = both says meanings.Class _ _ (λ c v l k. (l, k)) (placed_in (declared says).classes name) (placed_in (declared says).variables name)
 
-count_placed : (says : List Saying) (name : NameBytes) → IfSome (count_meaning (numbered says) name) (IsPlaced (declared says))
+count_placed : (says : List Saying) (name : NameBytes) → IfSome (count_meaning (numbered_names says) name) (IsPlaced (declared says))
 count_placed says name = both says meanings.Count _ _ (λ c v l k. (l, k)) (placed_in (declared says).classes name) (placed_in (declared says).variables (count_name name))
 
-class_placed : (says : List Saying) (kind : ClassKind) (name : NameBytes) → AllValues (IsPlaced (declared says)) (class_meanings (numbered says) kind name)
+class_placed : (says : List Saying) (kind : ClassKind) (name : NameBytes) → AllValues (IsPlaced (declared says)) (class_meanings (numbered_names says) kind name)
 class_placed says class_kinds.Permanent name =
-    all_append (IsPlaced (declared says)) (entry_if name (class_name_meaning (numbered says) name)) (entry_if (count_name name) (count_meaning (numbered says) name))
-    (all_entry (IsPlaced (declared says)) name (class_name_meaning (numbered says) name) (name_placed says name))
-    (all_entry (IsPlaced (declared says)) (count_name name) (count_meaning (numbered says) name) (count_placed says name))
-class_placed says class_kinds.Temporary name = all_entry (IsPlaced (declared says)) name (class_name_meaning (numbered says) name) (name_placed says name)
-class_placed says class_kinds.EventNotice name = all_entry (IsPlaced (declared says)) name (class_name_meaning (numbered says) name) (name_placed says name)
+    all_append (IsPlaced (declared says)) (entry_if name (class_name_meaning (numbered_names says) name)) (entry_if (count_name name) (count_meaning (numbered_names says) name))
+    (all_entry (IsPlaced (declared says)) name (class_name_meaning (numbered_names says) name) (name_placed says name))
+    (all_entry (IsPlaced (declared says)) (count_name name) (count_meaning (numbered_names says) name) (count_placed says name))
+class_placed says class_kinds.Temporary name = all_entry (IsPlaced (declared says)) name (class_name_meaning (numbered_names says) name) (name_placed says name)
+class_placed says class_kinds.EventNotice name = all_entry (IsPlaced (declared says)) name (class_name_meaning (numbered_names says) name) (name_placed says name)
 
 set_placed : (says : List Saying) (name : NameBytes) (set : Option ℕ) → IfSome set (λ i. i < length (declared says).set_names) → AllValues (IsPlaced (declared says)) (set_meanings name set)
 set_placed says name None h = tt
@@ -119,7 +119,7 @@ unless : {V : Type 0} (P : V → Type 0) (b : Bool) (o : Option V) → IfSome o 
 unless P true o h = tt
 unless P false o h = h
 
-said_placed : (says : List Saying) (what : Said) (name : Option NameBytes) → AllValues (IsPlaced (declared says)) (meaning_entries (numbered says) what name)
+said_placed : (says : List Saying) (what : Said) (name : Option NameBytes) → AllValues (IsPlaced (declared says)) (meaning_entries (numbered_names says) what name)
 said_placed says (said.Class kind) (Some name) = class_placed says kind name
 said_placed says (said.Attribute class) (Some name) =
     all_entry (IsPlaced (declared says)) name _ (mapped (λ i. i < length (declared says).attributes) (IsPlaced (declared says)) meanings.Attribute _ (λ i h. h) (placed_in (declared says).attributes name))
@@ -139,7 +139,7 @@ said_placed says _ _ = tt
 pub numbers_are_places : NumbersArePlaces
 numbers_are_places p name =
     let says = sayings p in
-    firsts_satisfy (IsPlaced (declared says)) (meaning_by (numbered says)) says name (λ (s : Saying). said_placed says s.said s.name)
+    firsts_satisfy (IsPlaced (declared says)) (meaning_by (numbered_names says)) says name (λ (s : Saying). said_placed says s.said s.name)
 
 -- ---- statistics and ranks
 
@@ -222,11 +222,11 @@ field_is_new before es e =
     ap length split ∙ length-append (fields_among before e.1) (fields_among (e ∷ es) e.1) in
     omega (arith, more, long)
 
-attributes_are_fields : (usual : Option Mode) (defined : List (NameBytes × Mode)) (count : ℕ) (all before es : List (NameBytes × ℕ)) → all ≡ before ++ es → AllValues (λ class. class < count) es → AllValues (IsField count (fields_of all count)) (attributes_after usual defined before es)
+attributes_are_fields : (usual : Option Mode) (defined : List (NameBytes × Mode)) (count : ℕ) (all before es : List (NameBytes × ℕ)) → all ≡ before ++ es → AllValues (λ class. class < count) es → AllValues (IsField count (fields_by_class all count)) (attributes_after usual defined before es)
 attributes_are_fields usual defined count all before [] is h = tt
 attributes_are_fields usual defined count all before (e ∷ es) is h =
-    let row : get_or (fields_of all count) e.1 [] ≡ fields_among all e.1 = get_or-map-range_with_len (fields_among all) 0 count e.1 e.1 [] h.0 (omega arith) in
-    let long : length (get_or (fields_of all count) e.1 []) ≡ length (fields_among (before ++ e ∷ es) e.1) = ap length row ∙ ap (λ l. length (fields_among l e.1)) is in (
+    let row : get_or (fields_by_class all count) e.1 [] ≡ fields_among all e.1 = get_or-map-range_with_len (fields_among all) 0 count e.1 e.1 [] h.0 (omega arith) in
+    let long : length (get_or (fields_by_class all count) e.1 []) ≡ length (fields_among (before ++ e ∷ es) e.1) = ap length row ∙ ap (λ l. length (fields_among l e.1)) is in (
       (h.0, omega (arith, long, field_is_new before es e)),
       attributes_are_fields usual defined count all (before ++ e ∷ []) es (is ∙ sym (append_assoc before (e ∷ []) es)) h.1,
     )
@@ -236,7 +236,7 @@ attributes_are_placed p name =
     let says = sayings p in
     let count = length (classes says) in
     let owned = attribute_classes says in
-    satisfied_for (IsField count (fields_of owned count)) (attributes_after (usual_mode says) (defined_modes says) [] owned) name
+    satisfied_for (IsField count (fields_by_class owned count)) (attributes_after (usual_mode says) (defined_modes says) [] owned) name
     (attributes_are_fields (usual_mode says) (defined_modes says) count owned [] owned refl (owned_classes says))
 
 -- ---- sets
@@ -259,7 +259,7 @@ sets_are_placed p set =
     let P : Set → Type 0 = λ s. IfSome s.owner (IsClassOrSystem (length cs)) × IfSome s.member (λ class. class < length cs) in
     let each : (name : NameBytes) → P (made name) =
     λ name. (
-      firsts_satisfy (IsClassOrSystem (length cs)) (owner_by cs) says name (λ (s : Saying). owner_placed cs s.said s.name),
+      firsts_satisfy (IsClassOrSystem (length cs)) (owner_declared cs) says name (λ (s : Saying). owner_placed cs s.said s.name),
       firsts_satisfy (λ class. class < length cs) (member_by cs) says name (λ (s : Saying). member_placed cs s.said s.name),
     ) in
     subst (λ o. IfSome o P) (sym (slice_get-map made (set_names says) set))

@@ -35,8 +35,8 @@ pub record Numbered : Type 0 where
   -- the subjects of TALLY and ACCUMULATE
   pub weighings : List (NameBytes × Weighting)
 
-abbrev pub numbered : List Saying → Numbered
-numbered says = record {
+abbrev pub numbered_names : List Saying → Numbered
+numbered_names says = record {
   classes = classes says;
   attributes = attributes says;
   fields = fields says;

@@ -18,7 +18,7 @@ use Rattle.ss_names.specs.declared.keys.RankedBy.{RankedBy}
 use Rattle.ss_names.specs.declared.keys.TiedBy.{TiedBy}
 use Rattle.ss_names.specs.Entities.{attributes, classes, fields, set_names, sets, usual_mode}
 use Rattle.ss_names.specs.Keys.{rank_keys, tie_keys}
-use Rattle.ss_names.specs.Meanings.{meanings_in, numbered}
+use Rattle.ss_names.specs.Meanings.{meanings_in, numbered_names}
 use Rattle.ss_names.specs.Statistics.{statistics, weighings}
 use Rattle.ss_names.specs.Histories.{histories}
 use Rattle.ss_names.specs.Variables.{events, ranks, routines, variables}
@@ -53,7 +53,7 @@ pub record Table : Type 0 where
 -- the table of these sayings
 abbrev pub declared : List Saying → Table
 declared says = record {
-  names = meanings_in (numbered says) says;
+  names = meanings_in (numbered_names says) says;
   usual = usual_mode says;
   classes = classes says;
   attributes = attributes says;
@@ -66,7 +66,7 @@ declared says = record {
   ranks = ranks says;
   statistics = statistics says;
   weighings = weighings says;
-  histories = histories (meanings_in (numbered says) says) says;
+  histories = histories (meanings_in (numbered_names says) says) says;
   rank_keys = rank_keys says;
   tie_keys = tie_keys says;
 }

@@ -4,7 +4,7 @@ ghost use Rattle.std.specs.Prelude.{◌≡◌, ◌<◌, [], length, slice_get, g
 ghost use Rattle.std.specs.Map.{keys_of, values_of};
 ghost use Rattle.ss_names.specs.Entities.{classes as classes_said, sets as sets_said};
 ghost use Rattle.ss_names_declarations.specs.Firsts.{place_in, value_for};
-ghost use Rattle.ss_names.specs.Meanings.{meanings_in, numbered};
+ghost use Rattle.ss_names.specs.Meanings.{meanings_in, numbered_names};
 ghost use Rattle.ss_names.specs.Notices.{notices as notices_said};
 ghost use Rattle.ss_names.specs.Histories.{histories as histories_said};
 ghost use Rattle.ss_names.specs.Table.{declared};
@@ -65,8 +65,8 @@ struct Named {
 
 // The lists in which things are numbered, and the meanings of names, by these sayings.
 fn named_in(alloc: Global, seed: Seed, sayings: &[Saying]) -> Result<Named, AllocError>
-    ensures numbers { IfOk result (λ n. n.numbers.value ≡ numbered sayings.now) }
-    ensures names { IfOk result (λ n. n.names ≡ meanings_in (numbered sayings.now) sayings.now) }
+    ensures numbers { IfOk result (λ n. n.numbers.value ≡ numbered_names sayings.now) }
+    ensures names { IfOk result (λ n. n.names ≡ meanings_in (numbered_names sayings.now) sayings.now) }
 {
     let numbers = Box::new(alloc, numbers_of(alloc, seed, sayings)?)?;
     let names = meanings_of(alloc, &numbers, sayings);
@@ -101,7 +101,7 @@ fn gathered_in(
     names: &Meanings,
     sayings: &[Saying],
 ) -> Result<Gathered, AllocError>
-    requires { numbers.now ≡ numbered sayings.now }
+    requires { numbers.now ≡ numbered_names sayings.now }
     ensures sets { IfOk result (λ t. t.sets.items ≡ sets_said sayings.now) }
     ensures notices { IfOk result (λ t. t.notices.value ≡ notices_said sayings.now) }
     ensures histories { IfOk result (λ t. t.histories.items ≡ histories_said names.now sayings.now) }

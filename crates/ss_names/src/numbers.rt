@@ -6,7 +6,7 @@ ghost use Rattle.ss_names.specs.Entities.{attributes, classes, fields, set_names
 ghost use Rattle.ss_names.specs.Statistics.{statistics, weighings};
 ghost use Rattle.ss_names.specs.Variables.{routines};
 ghost use Rattle.ss_names.specs.declared.meaning.Meaning.TheVariants as meanings;
-ghost use Rattle.ss_names.specs.Meanings.{class_name_meaning, count_meaning, numbered, variable_meaning};
+ghost use Rattle.ss_names.specs.Meanings.{class_name_meaning, count_meaning, numbered_names, variable_meaning};
 
 use crate::entities::{Entities, entities_of};
 use crate::entry::{Routine, Variable};
@@ -139,7 +139,7 @@ fn others_of(alloc: Global, seed: Seed, sayings: &[Saying]) -> Result<Box<Others
 
 /// The lists of these sayings in which things are numbered.
 pub fn numbers_of(alloc: Global, seed: Seed, sayings: &[Saying]) -> Result<Numbers, AllocError>
-    ensures { IfOk result (λ n. n ≡ numbered sayings.now) }
+    ensures { IfOk result (λ n. n ≡ numbered_names sayings.now) }
 {
     let entities = Box::new(alloc, entities_of(alloc, seed, sayings)?)?;
     let (entities, others) = beside(entities, others_of(alloc, seed, sayings))?;

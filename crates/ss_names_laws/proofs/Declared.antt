@@ -16,7 +16,7 @@ use Rattle.ss_tables_rules.specs.declared.rule.Rule.TheVariants as rules
 use Rattle.ss_tables_rules.specs.declared.rule.Broken.{Broken}
 use Rattle.ss_tables_rules.specs.declared.topic.Topic.{Topic}
 use Rattle.ss_tables_rules.specs.declared.topic.Topic.TheVariants as topics
-use Rattle.ss_tables_rules.specs.Broken.{broken_by, in_order, broken_at, first_of, first_broken}
+use Rattle.ss_tables_rules.specs.Broken.{broken_by, in_order, broken_at, first_of_two, first_broken}
 use Rattle.ss_tables_rules.specs.Lines.{sooner, first_line, line_if, lines_where}
 use Rattle.ss_tables_rules.specs.Missing.{lacks, missing}
 use Rattle.ss_tables_rules.specs.RankKey.{is_foreign, defines, misranks, is_bad_rank, is_misranked}
@@ -43,7 +43,7 @@ no_first : (lines : List Line) → first_line lines ≡ None → lines ≡ []
 no_first [] h = refl
 no_first (line ∷ lines) h = absurd (no_sooner line lines h)
 
-rule_unbroken : (rule : Rule) (o : Option Line) (rest : Option Broken) → first_of (broken_at rule o) rest ≡ None → (o ≡ None) × (rest ≡ None)
+rule_unbroken : (rule : Rule) (o : Option Line) (rest : Option Broken) → first_of_two (broken_at rule o) rest ≡ None → (o ≡ None) × (rest ≡ None)
 rule_unbroken rule None rest h = (refl, h)
 rule_unbroken rule (Some line) rest h = absurd cc
 

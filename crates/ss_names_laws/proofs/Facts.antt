@@ -15,7 +15,7 @@ use Rattle.ss_tables_rules.specs.declared.topic.Topic.TheVariants as topics
 use Rattle.ss_tables_rules.specs.Topics.{is_about}
 use Rattle.ss_names.specs.declared.entry.Attribute.{Attribute}
 use Rattle.ss_names.specs.declared.entry.Class.{Class}
-use Rattle.ss_names.specs.Entities.{attribute_after, attribute_by, attribute_classes, attribute_entries, attributes, attributes_after, class_by, class_entries, classes, defined_modes, mode_of, usual_mode}
+use Rattle.ss_names.specs.Entities.{attribute_after, attribute_by, attribute_classes, attribute_entries, attributes, attributes_after, class_by, class_entries, classes, defined_modes, defined_mode, usual_mode}
 use Rattle.ss_names_declarations.specs.Firsts.{place_in, same_name, value_for}
 use Rattle.ss_names_laws.specs.Declarations.{KeepsDeclarations, Says, NamesDeclaredOnce, KindsAgree, SaidOnce, ThingsAreThere, ClassesAreThere, RankKeysFit, TieKeysFit, NothingIsReal}
 use Rattle.ss_names_laws.proofs.Lists.{names_equal, pick, some_equal, somewhere}
@@ -119,7 +119,7 @@ module _ (usual : Option Mode) (defined : List (NameBytes × Mode)) where
 
   -- the attribute of a name comes from its class
   Made : NameBytes → ℕ → Option Attribute → Type 0
-  Made name class o = (a : Attribute) × (o ≡ Some a) × (a.class ≡ class) × (a.mode ≡ mode_of usual defined name)
+  Made name class o = (a : Attribute) × (o ≡ Some a) × (a.class ≡ class) × (a.mode ≡ defined_mode usual defined name)
 
   attribute_value_made : (before es : List (NameBytes × ℕ)) (name : NameBytes) (class : ℕ) → value_for es name ≡ Some class → Made name class (value_for (attributes_after usual defined before es) name)
   unfolding Made
@@ -130,12 +130,12 @@ module _ (usual : Option Mode) (defined : List (NameBytes × Mode)) where
           Made name class (value_for (attributes_after usual defined before (e ∷ es)) name)
       by true is g later =
           let a = (attribute_after usual defined before e).1 in
-          (a, ap (λ b. cond b (Some a) (value_for (attributes_after usual defined (before ++ e ∷ []) es) name)) is, some_equal e.1 class g, ap (mode_of usual defined) (sym (names_equal name e.0 is)))
+          (a, ap (λ b. cond b (Some a) (value_for (attributes_after usual defined (before ++ e ∷ []) es) name)) is, some_equal e.1 class g, ap (defined_mode usual defined) (sym (names_equal name e.0 is)))
       by false is g later =
           let r = later g in
           (r.0, ap (λ b. cond b (Some (attribute_after usual defined before e).1) (value_for (attributes_after usual defined (before ++ e ∷ []) es) name)) is ∙ r.1, r.2, r.3)
 
-  pub attribute_made : (before es : List (NameBytes × ℕ)) (name : NameBytes) (class : ℕ) → value_for es name ≡ Some class → (a : Attribute) × (value_for (attributes_after usual defined before es) name ≡ Some a) × (a.class ≡ class) × (a.mode ≡ mode_of usual defined name)
+  pub attribute_made : (before es : List (NameBytes × ℕ)) (name : NameBytes) (class : ℕ) → value_for es name ≡ Some class → (a : Attribute) × (value_for (attributes_after usual defined before es) name ≡ Some a) × (a.class ≡ class) × (a.mode ≡ defined_mode usual defined name)
   unfolding Made
   attribute_made before es name class h = attribute_value_made before es name class h
 
@@ -155,7 +155,7 @@ module _ (says : List Saying) (f : Facts says) where
 
   -- an attribute that is declared is in the table
   pub attribute_there : (class name : NameBytes) → Says says (said.Attribute class) name →
-      (a : Attribute) × (value_for (attributes says) name ≡ Some a) × (place_in (classes says) class ≡ Some a.class) × (a.mode ≡ mode_of (usual_mode says) (defined_modes says) name)
+      (a : Attribute) × (value_for (attributes says) name ≡ Some a) × (place_in (classes says) class ≡ Some a.class) × (a.mode ≡ defined_mode (usual_mode says) (defined_modes says) name)
   attribute_there class name h =
       let c = attribute_class says f class name h in
       let a = attribute_made (usual_mode says) (defined_modes says) [] (attribute_classes says) name c.0 c.1 in
@@ -169,7 +169,7 @@ module _ (says : List Saying) (f : Facts says) where
 
   -- the attribute of this number
   pub attribute_at : (n : ℕ) (a : Attribute) → slice_get (values_of (attributes says)) n ≡ Some a →
-      (name : NameBytes) × (class : NameBytes) × Says says (said.Attribute class) name × (value_for (attributes says) name ≡ Some a) × (a.mode ≡ mode_of (usual_mode says) (defined_modes says) name)
+      (name : NameBytes) × (class : NameBytes) × Says says (said.Attribute class) name × (value_for (attributes says) name ≡ Some a) × (a.mode ≡ defined_mode (usual_mode says) (defined_modes says) name)
   attribute_at n a h =
       let e = entry_of_value (attributes says) n a h in
       let value = value_from_place (attributes says) n e.0 a attributes_once e.1 in

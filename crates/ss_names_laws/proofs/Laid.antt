@@ -33,7 +33,7 @@ use Rattle.ss_names_meaning.specs.Layouts.{attribute_named, class_laid, counted_
 use Rattle.ss_names_meaning.specs.Words.{class_kind, mode_given, weighting_of}
 use Rattle.ss_names_laws.specs.Subjects.{IsWhole}
 use Rattle.ss_names_laws.specs.Tables.{IsKeyOf, IsValueMode, KeepsTable}
-use Rattle.ss_names_laws.specs.ValidTables.{IsKept}
+use Rattle.ss_names_laws.specs.ValidTables.{IsValidTable}
 use Rattle.ss_names_laws.specs.LaidOut.{LaysOut}
 use Rattle.ss_names_declarations.proofs.Entries.{place_of_value, there, value_at}
 use Rattle.ss_names_laws.proofs.NamePlaces.{value_at_place}
@@ -77,7 +77,7 @@ module _ (t : Table) (is : IsTable t) (said : KeepsTable t) where
       let laid : PlainLayout = record { classes = cs.0; sets = ss.0 } in
       (laid, rw (cs.1, ss.1) (laid_so (is_layout laid) laid (make_a_layout t is said cs.0 ss.0 cs.1 ss.1)))
 
-module _ (t : Table) (is : IsTable t) (k : IsKept t) where
+module _ (t : Table) (is : IsTable t) (k : IsValidTable t) where
   -- ---- keys
 
   key_there : (class : ℕ) (high : Bool) (name : NameBytes) → IsKeyOf t class name → (key : RankKey) × (key_of t class high name ≡ Some key)

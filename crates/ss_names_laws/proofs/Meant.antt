@@ -28,7 +28,7 @@ use Rattle.ss_names.specs.declared.entry.Variable.{Variable}
 use Rattle.ss_names.specs.declared.entry.VariableKind.TheVariants.{Defined, OfClass, CountOf}
 use Rattle.ss_names.specs.Entities.{attributes, classes, set_by, set_names, declared_sets}
 use Rattle.ss_names_declarations.specs.Firsts.{entry_if, place_among, place_in, value_for}
-use Rattle.ss_names.specs.Meanings.{numbered, set_meanings, class_meaning, class_name_meaning, count_meaning, meaning_entries, meaning_by, meanings_in}
+use Rattle.ss_names.specs.Meanings.{numbered_names, set_meanings, class_meaning, class_name_meaning, count_meaning, meaning_entries, meaning_by, meanings_in}
 use Rattle.ss_names.specs.Statistics.{statistic_by, statistic_of, statistic_entries, statistics, weighing_by, weighing_entries, weighings}
 use Rattle.ss_names.specs.Variables.{class_variables, count_name, routine_by, routine_entries, routines, variable_by, variable_entries, variables}
 use Rattle.ss_names_laws.specs.Declarations.{Says}
@@ -88,7 +88,7 @@ module _ (says : List Saying) (f : Facts says) where
 
   -- each name that a saying declares has a meaning
   HasMeaning : Said → Option NameBytes → Declaration → Type 0
-  HasMeaning w o d = (m : Meaning) × (value_for (meaning_entries (numbered says) w o) d.name ≡ Some m)
+  HasMeaning w o d = (m : Meaning) × (value_for (meaning_entries (numbered_names says) w o) d.name ≡ Some m)
 
   two_placed : (of : ℕ → ℕ → Meaning) (a b : Option ℕ) (n k : ℕ) → a ≡ Some n → b ≡ Some k → class_meaning of a b ≡ Some (of n k)
   two_placed of a b n k e g = λ i. class_meaning of (e i) (g i)
@@ -106,23 +106,23 @@ module _ (says : List Saying) (f : Facts says) where
       let c = class_place says f class_kinds.Permanent name h in
       let v = variable_place (said.Class class_kinds.Permanent) name name h (class_variable_here class_kinds.Permanent name (place_in (classes says) name) c.0 c.1) in
       let k = variable_place (said.Class class_kinds.Permanent) name (count_name name) h (count_here name (place_in (classes says) name) c.0 c.1) in
-      let first = entry_if name (class_name_meaning (numbered says) name) in
-      let second = entry_if (count_name name) (count_meaning (numbered says) name) in (
-        in_either first second name (meanings.Class c.0 v.0) (inl (if_here name (class_name_meaning (numbered says) name) (meanings.Class c.0 v.0) (two_placed meanings.Class (place_in (classes says) name) (place_in (variables says) name) c.0 v.0 c.1 v.1))),
+      let first = entry_if name (class_name_meaning (numbered_names says) name) in
+      let second = entry_if (count_name name) (count_meaning (numbered_names says) name) in (
+        in_either first second name (meanings.Class c.0 v.0) (inl (if_here name (class_name_meaning (numbered_names says) name) (meanings.Class c.0 v.0) (two_placed meanings.Class (place_in (classes says) name) (place_in (variables says) name) c.0 v.0 c.1 v.1))),
         (
           in_either first second (count_name name) (meanings.Count c.0 k.0)
-              (inr (if_here (count_name name) (count_meaning (numbered says) name) (meanings.Count c.0 k.0) (two_placed meanings.Count (place_in (classes says) name) (place_in (variables says) (count_name name)) c.0 k.0 c.1 k.1))),
+              (inr (if_here (count_name name) (count_meaning (numbered_names says) name) (meanings.Count c.0 k.0) (two_placed meanings.Count (place_in (classes says) name) (place_in (variables says) (count_name name)) c.0 k.0 c.1 k.1))),
           tt,
         ),
       )
   class_has_meaning line class_kinds.Temporary name h =
       let c = class_place says f class_kinds.Temporary name h in
       let v = variable_place (said.Class class_kinds.Temporary) name name h (class_variable_here class_kinds.Temporary name (place_in (classes says) name) c.0 c.1) in
-      ((meanings.Class c.0 v.0, if_here name (class_name_meaning (numbered says) name) (meanings.Class c.0 v.0) (two_placed meanings.Class (place_in (classes says) name) (place_in (variables says) name) c.0 v.0 c.1 v.1)), tt)
+      ((meanings.Class c.0 v.0, if_here name (class_name_meaning (numbered_names says) name) (meanings.Class c.0 v.0) (two_placed meanings.Class (place_in (classes says) name) (place_in (variables says) name) c.0 v.0 c.1 v.1)), tt)
   class_has_meaning line class_kinds.EventNotice name h =
       let c = class_place says f class_kinds.EventNotice name h in
       let v = variable_place (said.Class class_kinds.EventNotice) name name h (class_variable_here class_kinds.EventNotice name (place_in (classes says) name) c.0 c.1) in
-      ((meanings.Class c.0 v.0, if_here name (class_name_meaning (numbered says) name) (meanings.Class c.0 v.0) (two_placed meanings.Class (place_in (classes says) name) (place_in (variables says) name) c.0 v.0 c.1 v.1)), tt)
+      ((meanings.Class c.0 v.0, if_here name (class_name_meaning (numbered_names says) name) (meanings.Class c.0 v.0) (two_placed meanings.Class (place_in (classes says) name) (place_in (variables says) name) c.0 v.0 c.1 v.1)), tt)
 
   set_has_meaning : (line : Line) (name : NameBytes) (o : Option ℕ) (k : ℕ) → o ≡ Some k → Every (λ (d : Declaration). (m : Meaning) × (value_for (set_meanings name o) d.name ≡ Some m)) (set_declares line name)
   set_has_meaning line name None k h = absurd cc
@@ -190,17 +190,17 @@ module _ (says : List Saying) (f : Facts says) where
   declared_there (x ∷ xs) d h =
       ⊎_elim (λ g. (x, inl refl, g)) (λ g. let r = declared_there xs d g in (r.0, inr r.1, r.2)) (in_one_of (λ y. y ≡ d) (saying_declares (is_attribute says) x) (flat_map (saying_declares (is_attribute says)) xs) h)
 
-  pub name_known : (name : NameBytes) (standing : Standing) → standing_of (declarations says) name ≡ Some standing → (m : Meaning) × (value_for (meanings_in (numbered says) says) name ≡ Some m)
+  pub name_known : (name : NameBytes) (standing : Standing) → standing_of (declarations says) name ≡ Some standing → (m : Meaning) × (value_for (meanings_in (numbered_names says) says) name ≡ Some m)
   unfolding HasMeaning
   name_known name standing h = by (find (declares name) (declarations says)) refl h
     where
-      by : (o : Option Declaration) → find (declares name) (declarations says) ≡ o → standing_declared o ≡ Some standing → (m : Meaning) × (value_for (meanings_in (numbered says) says) name ≡ Some m)
+      by : (o : Option Declaration) → find (declares name) (declarations says) ≡ o → standing_declared o ≡ Some standing → (m : Meaning) × (value_for (meanings_in (numbered_names says) says) name ≡ Some m)
       by None e g = absurd cc
       by (Some d) e g =
           let first = found_first (declares name) (declarations says) d e in
           let s = declared_there says d first.1 in
           let t = at_item (HasMeaning s.0.said s.0.name) (saying_declares (is_attribute says) s.0) d (declared_has_meaning s.0 s.1 s.0.said s.0.name refl refl) s.2 in
           let named : d.name ≡ name = sym (names_equal name d.name first.0) in
-          let r = item_gives_value (meaning_by (numbered says)) name says
-          (holds_among (λ x. (m : Meaning) × (value_for (meaning_by (numbered says) x) name ≡ Some m)) says s.0 s.1 (t.0, ap (value_for (meaning_by (numbered says) s.0)) (sym named) ∙ t.1)) in
-          (r.0, value_in_firsts (flat_map (meaning_by (numbered says)) says) name ∙ r.1)
+          let r = item_gives_value (meaning_by (numbered_names says)) name says
+          (holds_among (λ x. (m : Meaning) × (value_for (meaning_by (numbered_names says) x) name ≡ Some m)) says s.0 s.1 (t.0, ap (value_for (meaning_by (numbered_names says) s.0)) (sym named) ∙ t.1)) in
+          (r.0, value_in_firsts (flat_map (meaning_by (numbered_names says)) says) name ∙ r.1)

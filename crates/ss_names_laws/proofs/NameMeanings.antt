@@ -23,7 +23,7 @@ use Rattle.ss_names.specs.declared.meaning.Meaning.{Meaning}
 use Rattle.ss_names.specs.declared.meaning.Meaning.TheVariants as meanings
 use Rattle.ss_names.specs.Entities.{attributes}
 use Rattle.ss_names_declarations.specs.Firsts.{entry_if, place_among, place_in, value_for}
-use Rattle.ss_names.specs.Meanings.{Numbered, numbered, derived_entry, set_meanings, class_meaning, class_meanings, class_name_meaning, count_meaning, meaning_entries, meaning_by, meanings_in}
+use Rattle.ss_names.specs.Meanings.{Numbered, numbered_names, derived_entry, set_meanings, class_meaning, class_meanings, class_name_meaning, count_meaning, meaning_entries, meaning_by, meanings_in}
 use Rattle.ss_names.specs.Variables.{count_name}
 use Rattle.ss_names_laws.specs.Lists.{Somewhere}
 use Rattle.ss_names_laws.specs.Declarations.{Says, IsOfSet, Agree}
@@ -137,30 +137,30 @@ module _ (says : List Saying) (f : Facts says) where
 
   -- ---- a saying that gives a name a meaning declares it
 
-  plain_variable : (b : Bool) (n name : NameBytes) (m : Meaning) (line : Line) → is_some (place_in (attributes says) n) ≡ b → value_for (entry_if n (let none : Option Meaning = None in if b then none else option_map meanings.Variable (place_in (numbered says).variables n))) name ≡ Some m →
-      Somewhere (IsDeclared (numbered says) name m) (let none : List Declaration = [] in if is_attribute says n then none else declaration line standings.Variable n ∷ [])
+  plain_variable : (b : Bool) (n name : NameBytes) (m : Meaning) (line : Line) → is_some (place_in (attributes says) n) ≡ b → value_for (entry_if n (let none : Option Meaning = None in if b then none else option_map meanings.Variable (place_in (numbered_names says).variables n))) name ≡ Some m →
+      Somewhere (IsDeclared (numbered_names says) name m) (let none : List Declaration = [] in if is_attribute says n then none else declaration line standings.Variable n ∷ [])
   plain_variable true n name m line e h = absurd cc
   plain_variable false n name m line e h =
       let none = no_attribute n (no_some (value_for (attributes says) n) (λ a k. both_ways (is_some (place_in (attributes says) n)) e (ap is_some (place_of_value (attributes says) n a k).1.0))) in
-      let q = entry_where_some n name (option_map meanings.Variable (place_in (numbered says).variables n)) m h in
-      subst (λ b. Somewhere (IsDeclared (numbered says) name m) (let none : List Declaration = [] in if b then none else declaration line standings.Variable n ∷ [])) (sym none)
-      (inl (sym q.0, ap (λ x. option_map meanings.Variable (place_in (numbered says).variables x)) q.0 ∙ q.1))
+      let q = entry_where_some n name (option_map meanings.Variable (place_in (numbered_names says).variables n)) m h in
+      subst (λ b. Somewhere (IsDeclared (numbered_names says) name m) (let none : List Declaration = [] in if b then none else declaration line standings.Variable n ∷ [])) (sym none)
+      (inl (sym q.0, ap (λ x. option_map meanings.Variable (place_in (numbered_names says).variables x)) q.0 ∙ q.1))
 
-  is_declared_by : (line : Line) (w : Said) (o : Option NameBytes) (name : NameBytes) (m : Meaning) → value_for (meaning_entries (numbered says) w o) name ≡ Some m → Somewhere (IsDeclared (numbered says) name m) (named_declares (is_attribute says) line w o)
-  is_declared_by line (said.Class kind) (Some n) name m h = class_entry (numbered says) name m line kind n h
+  is_declared_by : (line : Line) (w : Said) (o : Option NameBytes) (name : NameBytes) (m : Meaning) → value_for (meaning_entries (numbered_names says) w o) name ≡ Some m → Somewhere (IsDeclared (numbered_names says) name m) (named_declares (is_attribute says) line w o)
+  is_declared_by line (said.Class kind) (Some n) name m h = class_entry (numbered_names says) name m line kind n h
   is_declared_by line (said.Attribute class) (Some n) name m h =
       let q = entry_where_some n name (option_map meanings.Attribute (place_in (attributes says) n)) m h in
-      inl (sym q.0, other_attribute (numbered says) name (place_in (attributes says) n) m (ap (place_in (attributes says)) q.0) q.1)
-  is_declared_by line said.SystemSet (Some n) name m h = set_entry (numbered says) name m line n (place_among (numbered says).set_names n) refl h
-  is_declared_by line (said.OwnedSet class) (Some n) name m h = set_entry (numbered says) name m line n (place_among (numbered says).set_names n) refl h
-  is_declared_by line (said.MemberSet class) (Some n) name m h = set_entry (numbered says) name m line n (place_among (numbered says).set_names n) refl h
+      inl (sym q.0, other_attribute (numbered_names says) name (place_in (attributes says) n) m (ap (place_in (attributes says)) q.0) q.1)
+  is_declared_by line said.SystemSet (Some n) name m h = set_entry (numbered_names says) name m line n (place_among (numbered_names says).set_names n) refl h
+  is_declared_by line (said.OwnedSet class) (Some n) name m h = set_entry (numbered_names says) name m line n (place_among (numbered_names says).set_names n) refl h
+  is_declared_by line (said.MemberSet class) (Some n) name m h = set_entry (numbered_names says) name m line n (place_among (numbered_names says).set_names n) refl h
   is_declared_by line (said.Variable mode) (Some n) name m h = plain_variable (is_some (place_in (attributes says) n)) n name m line refl h
   is_declared_by line (said.Statistic weighting kind subject) (Some n) name m h =
-      let q = entry_where_some n name (option_map meanings.Statistic (place_in (numbered says).statistics n)) m h in
-      inl (sym q.0, mapped meanings.Statistic (IsOther (numbered says) name) (λ k. tt) (place_in (numbered says).statistics n) m q.1)
+      let q = entry_where_some n name (option_map meanings.Statistic (place_in (numbered_names says).statistics n)) m h in
+      inl (sym q.0, mapped meanings.Statistic (IsOther (numbered_names says) name) (λ k. tt) (place_in (numbered_names says).statistics n) m q.1)
   is_declared_by line (said.Routine section given yielding) (Some n) name m h =
-      let q = entry_where_some n name (option_map meanings.Routine (place_in (numbered says).routines n)) m h in
-      inl (sym q.0, mapped meanings.Routine (IsOther (numbered says) name) (λ k. tt) (place_in (numbered says).routines n) m q.1)
+      let q = entry_where_some n name (option_map meanings.Routine (place_in (numbered_names says).routines n)) m h in
+      inl (sym q.0, mapped meanings.Routine (IsOther (numbered_names says) name) (λ k. tt) (place_in (numbered_names says).routines n) m q.1)
   is_declared_by line _ _ name m h = absurd cc
 
   -- ---- the meaning of each name fits its kind
@@ -170,12 +170,12 @@ module _ (says : List Saying) (f : Facts says) where
   in_piece P (x ∷ xs) s (inl e) h = in_left P (saying_declares (is_attribute says) x) (flat_map (saying_declares (is_attribute says)) xs) (subst (λ y. Somewhere P (saying_declares (is_attribute says) y)) (sym e) h)
   in_piece P (x ∷ xs) s (inr a) h = in_right P (saying_declares (is_attribute says) x) (flat_map (saying_declares (is_attribute says)) xs) (in_piece P xs s a h)
 
-  pub names_fit : (name : NameBytes) (m : Meaning) → value_for (meanings_in (numbered says) says) name ≡ Some m →
-      (standing : Standing) × (standing_of (declarations says) name ≡ Some standing) × Fits (numbered says) standing name m
+  pub names_fit : (name : NameBytes) (m : Meaning) → value_for (meanings_in (numbered_names says) says) name ≡ Some m →
+      (standing : Standing) × (standing_of (declarations says) name ≡ Some standing) × Fits (numbered_names says) standing name m
   names_fit name m h =
-      let given_by = value_from_item (meaning_by (numbered says)) name says m (sym (value_in_firsts (flat_map (meaning_by (numbered says)) says) name) ∙ h) in
-      let s = pick (λ s. value_for (meaning_by (numbered says) s) name ≡ Some m) says given_by in
-      let d = pick (IsDeclared (numbered says) name m) (declarations says) (in_piece (IsDeclared (numbered says) name m) says s.0 s.2 (is_declared_by s.0.line s.0.said s.0.name name m s.1)) in
+      let given_by = value_from_item (meaning_by (numbered_names says)) name says m (sym (value_in_firsts (flat_map (meaning_by (numbered_names says)) says) name) ∙ h) in
+      let s = pick (λ s. value_for (meaning_by (numbered_names says) s) name ≡ Some m) says given_by in
+      let d = pick (IsDeclared (numbered_names says) name m) (declarations says) (in_piece (IsDeclared (numbered_names says) name m) says s.0 s.2 (is_declared_by s.0.line s.0.said s.0.name name m s.1)) in
       let same_kind : standing_of (declarations says) d.0.name ≡ Some d.0.standing = at_item (λ (e : Declaration). standing_of (declarations says) e.name ≡ Some e.standing) (declarations says) d.0 f.kinds d.2 in
       (d.0.standing, ap (standing_of (declarations says)) (sym d.1.0) ∙ same_kind, d.1.1)
 
@@ -186,17 +186,17 @@ module _ (says : List Saying) (f : Facts says) where
   -- a saying that declares a name as something other than a set is the only one that gives it a meaning
   pub name_means : (what : Said) (owner name : NameBytes) (standing : Standing) (m : Meaning) → (IsOfSet standing → ⊥) → Says says what owner →
       ((line : Line) → Somewhere (λ (d : Declaration). (d.name ≡ name) × (d.standing ≡ standing)) (said_declares (is_attribute says) line what owner)) →
-      value_for (meaning_entries (numbered says) what (Some owner)) name ≡ Some m →
-      value_for (meanings_in (numbered says) says) name ≡ Some m
+      value_for (meaning_entries (numbered_names says) what (Some owner)) name ≡ Some m →
+      value_for (meanings_in (numbered_names says) says) name ≡ Some m
   name_means what owner name standing m plain h declares entered =
-      let r = first_item_gives_value (meaning_by (numbered says)) name (SaysIt what owner) Together (λ x. x ≡ m)
-      (λ r s q e. no_some (value_for (meaning_by (numbered says) r) name) (λ x g.
-      let first = pick (IsDeclared (numbered says) name x) (saying_declares (is_attribute says) r) (is_declared_by r.line r.said r.name name x g) in
+      let r = first_item_gives_value (meaning_by (numbered_names says)) name (SaysIt what owner) Together (λ x. x ≡ m)
+      (λ r s q e. no_some (value_for (meaning_by (numbered_names says) r) name) (λ x g.
+      let first = pick (IsDeclared (numbered_names says) name x) (saying_declares (is_attribute says) r) (is_declared_by r.line r.said r.name name x g) in
       let there : Somewhere (λ (d : Declaration). (d.name ≡ name) × (d.standing ≡ standing)) (saying_declares (is_attribute says) s) =
       subst (λ (w : Said × Option NameBytes). Somewhere (λ (d : Declaration). (d.name ≡ name) × (d.standing ≡ standing)) (named_declares (is_attribute says) s.line w.0 w.1)) (λ i. (sym q.0 i, sym q.1 i)) (declares s.line) in
       let second = pick (λ (d : Declaration). (d.name ≡ name) × (d.standing ≡ standing)) (saying_declares (is_attribute says) s) there in
       let agree = at_item (Agree first.0) (saying_declares (is_attribute says) s) second.0 (at_item (λ a. Every (Agree a) (saying_declares (is_attribute says) s)) (saying_declares (is_attribute says) r) first.0 e first.2) second.2 in
       plain (subst IsOfSet second.1.1 (agree (first.1.0 ∙ sym second.1.0)).1)))
-      (λ s q. (m, ap (λ (w : Said × Option NameBytes). value_for (meaning_entries (numbered says) w.0 w.1) name) (λ i. (q.0 i, q.1 i)) ∙ entered, refl))
+      (λ s q. (m, ap (λ (w : Said × Option NameBytes). value_for (meaning_entries (numbered_names says) w.0 w.1) name) (λ i. (q.0 i, q.1 i)) ∙ entered, refl))
       says (pairs_of_pieces (saying_declares (is_attribute says)) Agree says f.agree) h in
-      value_in_firsts (flat_map (meaning_by (numbered says)) says) name ∙ r.1 ∙ ap Some r.2
+      value_in_firsts (flat_map (meaning_by (numbered_names says)) says) name ∙ r.1 ∙ ap Some r.2

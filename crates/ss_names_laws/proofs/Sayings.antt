@@ -13,7 +13,7 @@ use Rattle.ss_names_declarations.specs.declared.saying.Saying.{Saying}
 use Rattle.ss_names_declarations.specs.Sayings.{NameBytes}
 use Rattle.ss_tables_rules.specs.declared.topic.Topic.{Topic}
 use Rattle.ss_tables_rules.specs.declared.topic.Topic.TheVariants as topics
-use Rattle.ss_tables_rules.specs.Topics.{Thing, global, thing_of, section_of, same_thing, is_about, is_said_by, is_said, class_in, class_given, class_of}
+use Rattle.ss_tables_rules.specs.Topics.{Thing, global, thing_of, section_of, same_thing, is_about, is_said_by, is_said, class_declared, class_given, class_of}
 use Rattle.ss_names_laws.specs.Lists.{Somewhere}
 use Rattle.ss_names_laws.specs.Declarations.{Says, IsOwned, HasMembers}
 use Rattle.ss_names_laws.proofs.Lists.{Among, somewhere, found, found_first, is_found, holds_among, pick, some_equal, names_equal, same_as_itself}
@@ -150,13 +150,13 @@ module _ (says : List Saying) where
 
   -- ---- the class of an attribute, or of a set's members
 
-  said_with_class : (o : Option Saying) (class : NameBytes) → class_given o ≡ Some class → (s : Saying) × (o ≡ Some s) × (class_in s.said ≡ Some class)
+  said_with_class : (o : Option Saying) (class : NameBytes) → class_given o ≡ Some class → (s : Saying) × (o ≡ Some s) × (class_declared s.said ≡ Some class)
   said_with_class None class h = absurd cc
   said_with_class (Some s) class h = (s, refl, h)
 
-  class_there : (w : Said) (class other : NameBytes) → w ≡ said.Attribute other → class_in w ≡ Some class → w ≡ said.Attribute class
+  class_there : (w : Said) (class other : NameBytes) → w ≡ said.Attribute other → class_declared w ≡ Some class → w ≡ said.Attribute class
   class_there w class other e h =
-      let one : Some other ≡ Some class = ap class_in (sym e) ∙ h in
+      let one : Some other ≡ Some class = ap class_declared (sym e) ∙ h in
       e ∙ ap said.Attribute (some_equal other class one)
 
   -- the class of an attribute comes from a saying about it
@@ -178,4 +178,4 @@ module _ (says : List Saying) where
       let f = found_first (is_said_by topics.Member (global set)) says there.0 there.1 in
       let first = said_by topics.Member (global set) there.0 f.0 in
       let e = of_member there.0.said first.0 in
-      (e.0, ap class_given there.1 ∙ ap class_in e.1, says_so there.0 (said.MemberSet e.0) set f.1 e.1 (ap (λ u. u.1) first.1))
+      (e.0, ap class_given there.1 ∙ ap class_declared e.1, says_so there.0 (said.MemberSet e.0) set f.1 e.1 (ap (λ u. u.1) first.1))

@@ -11,7 +11,7 @@ use Rattle.ss_names_uses.specs.declared.mention.Role.{Role}
 use Rattle.ss_names_uses.specs.declared.mention.Role.TheVariants as roles
 use Rattle.ss_names_uses.specs.declared.mention.Mentioned.TheVariants.{Name}
 use Rattle.ss_names_uses.specs.declared.mention.Mention.{Mention}
-use Rattle.ss_names_uses.specs.Mentions.{plain, in_kind, in_definition, in_definitions, in_body, mentions}
+use Rattle.ss_names_uses.specs.Mentions.{plain_mention, in_kind, in_definition, in_definitions, in_body, mentions}
 use Rattle.ss_names_declarations.specs.declared.saying.Said.{Said}
 use Rattle.ss_names_declarations.specs.declared.saying.Said.TheVariants as said
 use Rattle.ss_names_declarations.specs.declared.saying.Saying.{Saying}
@@ -29,7 +29,7 @@ use Rattle.ss_names_laws.proofs.Walks.{body_silent}
 
 -- ---- images of names
 
-image_from : (line : Line) (role : Role) (names : List NameBytes) (m : Mention) → Among (map (plain line role) names) m → (n : NameBytes) × Among names n × (plain line role n ≡ m)
+image_from : (line : Line) (role : Role) (names : List NameBytes) (m : Mention) → Among (map (plain_mention line role) names) m → (n : NameBytes) × Among names n × (plain_mention line role n ≡ m)
 image_from line role [] m h = absurd h
 image_from line role (n ∷ names) m (inl e) = (n, inl refl, e)
 image_from line role (n ∷ names) m (inr h) = let r = image_from line role names m h in (r.0, inr r.1, r.2)
@@ -43,7 +43,7 @@ same_mentioned : (a b : NameBytes) → Name a ≡ Name b → a ≡ b
 same_mentioned a b h = cc
 
 -- the name of such a mention is among the names
-named_among : (line : Line) (role : Role) (names : List NameBytes) (m : Mention) (name : NameBytes) → Among (map (plain line role) names) m → m.what ≡ Name name → Among names name
+named_among : (line : Line) (role : Role) (names : List NameBytes) (m : Mention) (name : NameBytes) → Among (map (plain_mention line role) names) m → m.what ≡ Name name → Among names name
 named_among line role names m name h e =
     let i = image_from line role names m h in
     subst (Among names) (same_mentioned i.0 name (ap (λ (x : Mention). x.what) i.2 ∙ e)) i.1
@@ -66,7 +66,7 @@ of_kind k line (routine n given yielding) m name h d e =
     ⊎_elim
     (λ g. inl (inr (in_left (SaysIt (said.Given k) name) (said_of_all line (said.Given k) given) (said_of_all line (said.Yielding k) yielding) (says_among line (said.Given k) given name (named_among line roles.Given given m name g e)))))
     (λ g. inr (inr (in_right (SaysIt (said.Yielding k) name) (said_of_all line (said.Given k) given) (said_of_all line (said.Yielding k) yielding) (says_among line (said.Yielding k) yielding name (named_among line roles.Yielding yielding m name g e)))))
-    (in_one_of (λ x. x ≡ m) (map (plain line roles.Given) given) (map (plain line roles.Yielding) yielding) h)
+    (in_one_of (λ x. x ≡ m) (map (plain_mention line roles.Given) given) (map (plain_mention line roles.Yielding) yielding) h)
 of_kind k line (event n given saving) m name (inl q) d e = absurd (both_ways (declares m.role) (ap (λ (x : Mention). declares x.role) (sym q)) d)
 of_kind k line (event n given saving) m name (inr h) d e = inl (inr (says_among line (said.Given k) given name (named_among line roles.Given given m name h e)))
 

@@ -17,7 +17,7 @@ use Rattle.ss_names.specs.declared.keys.RankedBy.{RankedBy}
 use Rattle.ss_names.specs.declared.keys.TiedBy.{TiedBy}
 use Rattle.ss_names.specs.declared.entry.Ordering.{Ordering}
 use Rattle.ss_names.specs.declared.entry.Set.{Set}
-use Rattle.ss_names.specs.Entities.{attributes, classes, member_by, member_entries, ordering_by, orderings, owner_by, owner_entries, set_by, set_members, set_names, set_of, set_owners, declared_sets, sets}
+use Rattle.ss_names.specs.Entities.{attributes, classes, member_by, member_entries, ordering_by, orderings, owner_declared, owner_entries, set_by, set_members, set_names, set_of, set_owners, declared_sets, sets}
 use Rattle.ss_names_declarations.specs.Firsts.{is_one_of, place_in, same_name, value_for, with_name}
 use Rattle.ss_names.specs.Keys.{rank_by, rank_keys, declared_rank_keys, tie_by, tie_keys, declared_tie_keys}
 use Rattle.ss_names.specs.Table.{declared}
@@ -88,13 +88,13 @@ module _ (says : List Saying) (f : Facts says) where
 
   -- ---- owners
 
-  owner_entry_there : (name : NameBytes) → IsOwned says name → Somewhere (λ s. (o : Owner) × (value_for (owner_by (classes says) s) name ≡ Some o)) says
-  owner_entry_there name (inl h) = somewhere (SaysIt said.SystemSet name) (λ s. (o : Owner) × (value_for (owner_by (classes says) s) name ≡ Some o))
+  owner_entry_there : (name : NameBytes) → IsOwned says name → Somewhere (λ s. (o : Owner) × (value_for (owner_declared (classes says) s) name ≡ Some o)) says
+  owner_entry_there name (inl h) = somewhere (SaysIt said.SystemSet name) (λ s. (o : Owner) × (value_for (owner_declared (classes says) s) name ≡ Some o))
       (λ s q. (owners.System, ap (λ (t : Said × Option NameBytes). value_for (owner_entries (classes says) t.0 t.1) name) (λ i. (q.0 i, q.1 i)) ∙ first_entry name owners.System [])) says h
   owner_entry_there name (inr h) =
       let kind = f.of_classes.owners h.0 name h.1 in
       let at = class_place says f kind.0 h.0 kind.1 in
-      somewhere (SaysIt (said.OwnedSet h.0) name) (λ s. (o : Owner) × (value_for (owner_by (classes says) s) name ≡ Some o))
+      somewhere (SaysIt (said.OwnedSet h.0) name) (λ s. (o : Owner) × (value_for (owner_declared (classes says) s) name ≡ Some o))
       (λ s q. (
         owners.Class at.0,
         ap (λ (t : Said × Option NameBytes). value_for (owner_entries (classes says) t.0 t.1) name) (λ i. (q.0 i, q.1 i)) ∙
@@ -104,8 +104,8 @@ module _ (says : List Saying) (f : Facts says) where
   pub has_owner : (n : ℕ) (s : Set) → slice_get (sets says) n ≡ Some s → (owner : Owner) × (s.owner ≡ Some owner)
   has_owner n s h =
       let at = set_at n s h in
-      let t = item_gives_value (owner_by (classes says)) at.0 says (owner_entry_there at.0 (owned_and_belonged n at.0 at.1).0) in
-      (t.0, ap (λ (x : Set). x.owner) (sym at.2) ∙ value_in_firsts (flat_map (owner_by (classes says)) says) at.0 ∙ t.1)
+      let t = item_gives_value (owner_declared (classes says)) at.0 says (owner_entry_there at.0 (owned_and_belonged n at.0 at.1).0) in
+      (t.0, ap (λ (x : Set). x.owner) (sym at.2) ∙ value_in_firsts (flat_map (owner_declared (classes says)) says) at.0 ∙ t.1)
 
   -- ---- members
 

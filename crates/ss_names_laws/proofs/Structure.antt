@@ -30,9 +30,9 @@ use Rattle.ss_names.specs.declared.entry.Statistic.{Statistic}
 use Rattle.ss_names.specs.declared.entry.Variable.{Variable}
 use Rattle.ss_names.specs.declared.entry.VariableKind.{VariableKind}
 use Rattle.ss_names.specs.declared.entry.VariableKind.TheVariants.{Defined, OfClass, CountOf}
-use Rattle.ss_names.specs.Entities.{attribute_after, attribute_by, attribute_classes, attribute_entries, attributes, attributes_after, classes, defined_modes, fields, fields_among, member_by, member_entries, orderings, owner_by, owner_entries, set_members, set_names, set_of, set_owners, sets, usual_mode}
+use Rattle.ss_names.specs.Entities.{attribute_after, attribute_by, attribute_classes, attribute_entries, attributes, attributes_after, classes, defined_modes, fields, fields_among, member_by, member_entries, orderings, owner_declared, owner_entries, set_members, set_names, set_of, set_owners, sets, usual_mode}
 use Rattle.ss_names_declarations.specs.Firsts.{entry_if, place_among, place_in, same_name, value_for}
-use Rattle.ss_names.specs.Meanings.{class_meaning, class_meanings, class_name_meaning, count_meaning, meaning_by, meaning_entries, numbered, set_meanings}
+use Rattle.ss_names.specs.Meanings.{class_meaning, class_meanings, class_name_meaning, count_meaning, meaning_by, meaning_entries, numbered_names, set_meanings}
 use Rattle.ss_names.specs.Statistics.{statistic_by, statistic_of, statistic_entries, weighings}
 use Rattle.ss_names.specs.Histories.{history_of}
 use Rattle.ss_names.specs.Table.{Table, declared}
@@ -94,14 +94,14 @@ module _ (says : List Saying) where
       let v = value_by_place (declared says).variables (count_name name) variable (sym k) in
       (v.0, v.2)
 
-  one_class : (name : NameBytes) → AllNumbered (entry_if name (class_name_meaning (numbered says) name))
-  one_class name = entry Numbered name (class_name_meaning (numbered says) name) (class_numbered name (place_in (declared says).classes name) (place_in (declared says).variables name) refl refl)
+  one_class : (name : NameBytes) → AllNumbered (entry_if name (class_name_meaning (numbered_names says) name))
+  one_class name = entry Numbered name (class_name_meaning (numbered_names says) name) (class_numbered name (place_in (declared says).classes name) (place_in (declared says).variables name) refl refl)
 
-  classes_numbered : (kind : ClassKind) (name : NameBytes) → AllNumbered (class_meanings (numbered says) kind name)
+  classes_numbered : (kind : ClassKind) (name : NameBytes) → AllNumbered (class_meanings (numbered_names says) kind name)
   classes_numbered class_kinds.Permanent name =
-      every_append (λ e. Numbered e.0 e.1) (entry_if name (class_name_meaning (numbered says) name)) (entry_if (count_name name) (count_meaning (numbered says) name))
+      every_append (λ e. Numbered e.0 e.1) (entry_if name (class_name_meaning (numbered_names says) name)) (entry_if (count_name name) (count_meaning (numbered_names says) name))
       (one_class name)
-      (entry Numbered (count_name name) (count_meaning (numbered says) name) (count_numbered name (place_in (declared says).classes name) (place_in (declared says).variables (count_name name)) refl))
+      (entry Numbered (count_name name) (count_meaning (numbered_names says) name) (count_numbered name (place_in (declared says).classes name) (place_in (declared says).variables (count_name name)) refl))
   classes_numbered class_kinds.Temporary name = one_class name
   classes_numbered class_kinds.EventNotice name = one_class name
 
@@ -121,7 +121,7 @@ module _ (says : List Saying) where
   unless name true o h = tt
   unless name false o h = h
 
-  names_said : (what : Said) (name : Option NameBytes) → AllNumbered (meaning_entries (numbered says) what name)
+  names_said : (what : Said) (name : Option NameBytes) → AllNumbered (meaning_entries (numbered_names says) what name)
   names_said (said.Class kind) (Some name) = classes_numbered kind name
   names_said (said.Attribute class) (Some name) =
       entry Numbered name (option_map meanings.Attribute (place_in (declared says).attributes name))
@@ -143,7 +143,7 @@ module _ (says : List Saying) where
 
   names_numbered : (name : NameBytes) (m : Meaning) → value_for (declared says).names name ≡ Some m → Numbered name m
   names_numbered name m h =
-      entry_holds Numbered (declared says).names name m (first_entries Numbered (meaning_by (numbered says)) says (λ (s : Saying). names_said s.said s.name)) h
+      entry_holds Numbered (declared says).names name m (first_entries Numbered (meaning_by (numbered_names says)) says (λ (s : Saying). names_said s.said s.name)) h
 
 -- ---- statistics
 
@@ -306,7 +306,7 @@ module _ (says : List Saying) where
   owners_there n s class h e =
       let named = set_named n s h in
       let value : value_for (set_owners says) named.0 ≡ Some (owners.Class class) = ap (λ (x : Set). x.owner) named.1 ∙ e in
-      let all = first_entries (λ k (o : Owner). (c : ℕ) → o ≡ owners.Class c → c < length (classes says)) (owner_by (classes says)) says (λ (x : Saying). owner_said (classes says) x.said x.name) in
+      let all = first_entries (λ k (o : Owner). (c : ℕ) → o ≡ owners.Class c → c < length (classes says)) (owner_declared (classes says)) says (λ (x : Saying). owner_said (classes says) x.said x.name) in
       entry_holds (λ k (o : Owner). (c : ℕ) → o ≡ owners.Class c → c < length (classes says)) (set_owners says) named.0 (owners.Class class) all value class refl
 
   members_there : (n : ℕ) (s : Set) (class : ℕ) → slice_get (sets says) n ≡ Some s → s.member ≡ Some class → class < length (classes says)

@@ -42,7 +42,7 @@ use Rattle.ss_names_meaning.specs.Answers.{◌>>=◌, each, upto, where_holds}
 use Rattle.ss_names_meaning.specs.Layouts.{attribute_named, class_laid, counted_kind, counted_variable, discipline, discipline_ordered, discipline_ruled, field_mode, global_mode, key_of, rank_keys, ranked_by, set_laid, statistic_kept, subject_of, tie_keys, tied_by}
 use Rattle.ss_names_meaning.specs.Words.{class_kind, mode_given, mode_said, weighting_of}
 use Rattle.ss_names_laws.specs.Subjects.{IsWhole}
-use Rattle.ss_names_laws.specs.ValidTables.{IsKept}
+use Rattle.ss_names_laws.specs.ValidTables.{IsValidTable}
 use Rattle.ss_names_laws.specs.LaidOut.{AreWellTyped, HasTables}
 use Rattle.ss_names_declarations.proofs.Entries.{entry_of_value, place_of_value, there, value_at}
 use Rattle.ss_names_laws.proofs.NamePlaces.{value_at_place}
@@ -53,7 +53,7 @@ use Rattle.ss_names_laws.proofs.Structure.{IsClassMode, IsTable}
 numbers_same : (a b : ℕ) → (a == b) ≡ true → a ≡ b
 numbers_same a b h = grind (arith, nat_tests, h)
 
-module _ (t : Table) (is : IsTable t) (k : IsKept t) (p : Program) (h : HasTables t p) where
+module _ (t : Table) (is : IsTable t) (k : IsValidTable t) (p : Program) (h : HasTables t p) where
   -- ---- classes and sets
 
   pub record Layout : Type 0 where

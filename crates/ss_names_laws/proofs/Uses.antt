@@ -26,8 +26,8 @@ use Rattle.ss_check_rules.specs.declared.rule.Rule.TheVariants as rules
 use Rattle.ss_check_rules.specs.declared.rule.Broken.{Broken}
 use Rattle.ss_check_rules.specs.Arguments.{argument_count, is_other, is_more, is_miscounted, counts_differ, miscounts}
 use Rattle.ss_check_rules.specs.Events.{is_main_section, has_main, event_named, event_in, event_names, lacks_event, eventless, declares_eventless, is_start}
-use Rattle.ss_check_rules.specs.Lines.{line_if, first_of, mention_line, mention_lines, demand_line, demand_lines}
-use Rattle.ss_check_rules.specs.Modes.{mixes, misplaces, breaks_modes, differ, known_mode, mode_of, text_subjects}
+use Rattle.ss_check_rules.specs.Lines.{line_if, first_of_lines, mention_line, mention_lines, demand_line, demand_lines}
+use Rattle.ss_check_rules.specs.Modes.{mixes, misplaces, breaks_modes, differ, known_mode, mode_of_known, text_subjects}
 use Rattle.ss_check_rules.specs.Refusal.{in_preamble, mention_breaks, demand_breaks, in_section, in_program, lines, rules_in_order, or_next, first_broken}
 use Rattle.ss_check_rules.specs.Unknown.{is_unknown, is_notice, if_known, may_be_watched, unknown_subjects}
 use Rattle.ss_check_rules.specs.Subscripts.{has_wrong_subscripts}
@@ -45,7 +45,7 @@ pub no_line : (broken : Bool) (line : Line) → line_if broken line ≡ [] → b
 no_line true line h = absurd cc
 no_line false line h = refl
 
-no_first : (rule : Rule) (found : List Line) (rest : Option Broken) → or_next rule (first_of found) rest ≡ None → (found ≡ []) × (rest ≡ None)
+no_first : (rule : Rule) (found : List Line) (rest : Option Broken) → or_next rule (first_of_lines found) rest ≡ None → (found ≡ []) × (rest ≡ None)
 no_first rule [] rest h = (refl, h)
 no_first rule (line ∷ found) rest h = absurd cc
 
@@ -271,7 +271,7 @@ events_fit w p h =
 -- ---- statistics
 
 subject_has_number : (o : Option Known) → not (if_known may_be_watched o) ≡ false → differ (known_mode o) (Some modes.Integer) ≡ false →
-    (meant : Known) × (o ≡ Some meant) × (may_be_watched meant ≡ true) × (mode_of meant ≡ Some modes.Integer)
+    (meant : Known) × (o ≡ Some meant) × (may_be_watched meant ≡ true) × (mode_of_known meant ≡ Some modes.Integer)
 subject_has_number None h g = absurd cc
 subject_has_number (Some (meanings.Variable modes.Integer)) h g = (meanings.Variable modes.Integer, refl, refl, refl)
 subject_has_number (Some (meanings.Attribute class modes.Integer)) h g = (meanings.Attribute class modes.Integer, refl, refl, refl)

@@ -17,7 +17,7 @@ use Rattle.ss_names.specs.declared.meaning.Meaning.TheVariants as meanings
 use Rattle.ss_names.specs.declared.entry.Statistic.{Statistic}
 use Rattle.ss_names.specs.declared.entry.Variable.{Variable}
 use Rattle.ss_names_declarations.specs.Firsts.{place_in, value_for}
-use Rattle.ss_names.specs.Meanings.{numbered}
+use Rattle.ss_names.specs.Meanings.{numbered_names}
 use Rattle.ss_names.specs.Table.{table}
 use Rattle.ss_check_scopes.specs.declared.known.Holder.{Holder}
 use Rattle.ss_check_scopes.specs.declared.known.Known.{Known}
@@ -81,7 +81,7 @@ module _ (p : ProgramTree) (h : KeepsDeclarations p) where
       by None t g = absurd cc
       by (Some m) t g =
           let f = names_fit (sayings p) (facts p h) name m t in
-          f.1 ∙ ap Some (fits_as (numbered (sayings p)) f.0 name m f.2 ∙ only_set m holder g)
+          f.1 ∙ ap Some (fits_as (numbered_names (sayings p)) f.0 name m f.2 ∙ only_set m holder g)
 
   -- ---- each name that is declared means something
 
@@ -105,7 +105,7 @@ module _ (p : ProgramTree) (h : KeepsDeclarations p) where
       let key : slice_get (keys_of (table p).classes) a.0.class ≡ Some d.0 = ap (λ (x : Attribute). slice_get (keys_of (table p).classes) x.class) (sym same) ∙ key_at (table p).classes t.0.class d.0 c.0 c.2 in
       (knowns.Attribute d.0 (value_mode a.0.mode), ap (attribute_meaning (table p)) (value_at (table p).attributes k name a.0 a.2) ∙ ap (attribute_of_class a.0.mode) key)
 
-  means : (name : NameBytes) (m : Meaning) → Fits (numbered (sayings p)) (kind_of_meaning m) name m → (meant : Known) × (known_by (table p) m ≡ Some meant)
+  means : (name : NameBytes) (m : Meaning) → Fits (numbered_names (sayings p)) (kind_of_meaning m) name m → (meant : Known) × (known_by (table p) m ≡ Some meant)
   means name (meanings.Variable k) e = variable_means k name (placed_variable (place_in (table p).variables name) k e)
   means name (meanings.Class n k) e = class_means n k name (placed_class (place_in (table p).classes name) (place_in (table p).variables name) n k e)
   means name (meanings.Count class variable) e = (_, refl)
@@ -119,5 +119,5 @@ module _ (p : ProgramTree) (h : KeepsDeclarations p) where
   declared_means name standing e =
       let t = name_known (sayings p) (facts p h) name standing e in
       let f = names_fit (sayings p) (facts p h) name t.0 t.1 in
-      let m = means name t.0 (subst (λ s. Fits (numbered (sayings p)) s name t.0) (fits_as (numbered (sayings p)) f.0 name t.0 f.2) f.2) in
+      let m = means name t.0 (subst (λ s. Fits (numbered_names (sayings p)) s name t.0) (fits_as (numbered_names (sayings p)) f.0 name t.0 f.2) f.2) in
       (m.0, ap (meaning_of (table p)) t.1 ∙ m.1)

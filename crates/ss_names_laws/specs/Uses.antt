@@ -17,7 +17,7 @@ use Rattle.ss_check_scopes.specs.declared.known.Known.TheVariants as meanings
 use Rattle.ss_check_scopes.specs.Whole.{Whole, locals_of}
 use Rattle.ss_check_rules.specs.Arguments.{argument_count}
 use Rattle.ss_check_rules.specs.Events.{is_start}
-use Rattle.ss_check_rules.specs.Modes.{mode_of}
+use Rattle.ss_check_rules.specs.Modes.{mode_of_known}
 use Rattle.ss_check_rules.specs.Refusal.{refusal}
 use Rattle.ss_check_rules.specs.Unknown.{may_be_watched}
 use Rattle.ss_check_rules.specs.Uses.{is_main}
@@ -104,7 +104,7 @@ EventsFit = (w : Whole) (p : ProgramTree) → KeepsUses w p → Every (λ (s : S
 -- the subject of a TALLY or an ACCUMULATE is a variable, an attribute or N. of a set, and a whole number
 abbrev pub SubjectFits : Whole → PreambleTree → Type 0
 SubjectFits w (statistics line weighting found subject) =
-    (meant : Known) × (w.meanings subject ≡ Some meant) × (may_be_watched meant ≡ true) × (mode_of meant ≡ Some modes.Integer)
+    (meant : Known) × (w.meanings subject ≡ Some meant) × (may_be_watched meant ≡ true) × (mode_of_known meant ≡ Some modes.Integer)
 SubjectFits w _ = Unit
 
 abbrev pub SubjectsFit : Type 0

@@ -7,7 +7,7 @@ use Rattle.ss_names_laws.specs.Subjects.{IsWhole}
 use Rattle.ss_names_laws.specs.Tables.{KeepsTable}
 
 -- a table where the rules on declarations are kept, and those on the subjects of TALLY and ACCUMULATE
-pub record IsKept (t : Table) : Type 0 where
+pub record IsValidTable (t : Table) : Type 0 where
   pub said : KeepsTable t
   -- the subjects of TALLY and ACCUMULATE are whole numbers
   pub subjects : (n : ℕ) (h : History) → slice_get t.histories n ≡ Some h → (subject : Subject) × (h.subject ≡ Some subject) × IsWhole t subject

@@ -18,7 +18,7 @@ use Rattle.ss_names.specs.declared.entry.VariableKind.{VariableKind}
 use Rattle.ss_names.specs.declared.entry.VariableKind.TheVariants.{CountOf}
 use Rattle.ss_names_declarations.specs.Firsts.{place_in, value_for, same_name}
 use Rattle.ss_names.specs.Table.{Table}
-use Rattle.ss_check_scopes.specs.Locals.{Moded, number_of}
+use Rattle.ss_check_scopes.specs.Locals.{Moded, number_of_local}
 use Rattle.ss_program.specs.declared.expression.Fold.{Fold}
 use Rattle.ss_program.specs.declared.expression.MemberQuery.{MemberQuery}
 use Rattle.ss_program.specs.declared.expression.MemberQuery.TheVariants.{Predecessor, Successor, Membership}
@@ -60,7 +60,7 @@ module _ (locals : Moded) where
   hidden_by None global = variables.Global global
 
   abbrev pub variable_of : NameBytes → ℕ → Variable
-  variable_of name global = hidden_by (number_of locals name) global
+  variable_of name global = hidden_by (number_of_local locals name) global
 
   abbrev pub variable_of_class : NameBytes → Global → Option Variable
   variable_of_class name (globals.Class class variable) = Some (variable_of name variable)
@@ -200,7 +200,7 @@ module _ (t : Table) (locals : Moded) where
 
   -- a local variable hides the meaning of its name in the whole program
   abbrev pub meaning_of : Designator → Option Meaning
-  meaning_of (Name name) = meaning_or (number_of locals name) name
+  meaning_of (Name name) = meaning_or (number_of_local locals name) name
   meaning_of TimeV = Some meanings.Clock
   meaning_of TimeA = Some meanings.NoticeTime
 

@@ -21,7 +21,7 @@ use Rattle.ss_names_meaning.specs.declared.meaning.Meaning.TheVariants as meanin
 use Rattle.ss_names_meaning.specs.declared.meaning.RoutineMeant.{RoutineMeant}
 use Rattle.ss_names_meaning.specs.Answers.{◌>>=◌, each, where_holds}
 use Rattle.ss_names_meaning.specs.Contexts.{Context, single_class, notice_class, counted}
-use Rattle.ss_names_meaning.specs.Expressions.{entity_of, plain, expression, item, subscript, target, set_named}
+use Rattle.ss_names_meaning.specs.Expressions.{entity_of, without_subscript, expression, item, subscript, target, set_named}
 use Rattle.ss_names_meaning.specs.Conditions.{condition}
 use Rattle.ss_names_meaning.specs.Heads.{phrase, guard, phrases_of, head}
 
@@ -34,18 +34,18 @@ end_of end_words.Last = ends.Last
 -- ---- targets
 
 -- the mode of a target
-abbrev pub mode_of : Meaning → Option Mode
-mode_of (meanings.Variable x mode) = mode
-mode_of (meanings.Attribute class field mode implied) = mode
-mode_of (meanings.Count n) = Some Integer
-mode_of _ = None
+abbrev pub mode_of_target : Meaning → Option Mode
+mode_of_target (meanings.Variable x mode) = mode
+mode_of_target (meanings.Attribute class field mode implied) = mode
+mode_of_target (meanings.Count n) = Some Integer
+mode_of_target _ = None
 
 -- the variable or attribute that READ reads into, with its mode
 abbrev pub reader : Context → NamedTree → Option Target
 reader c n = do
   place ← target c n
   meaning ← c.meaning n.designator
-  mode ← mode_of meaning
+  mode ← mode_of_target meaning
   Some (record { place = place; mode = mode })
 
 -- the target of the number of a new entity: the one after CALLED, or else the variable of the class
@@ -62,9 +62,9 @@ entity_called c variable (Some e) = expression c e
 
 -- the owner of the statistic that RESET starts afresh: None for a global variable and for N. of THE SYSTEM's set
 abbrev pub owner_of_statistic : Meaning → Option Expression → Option (Option Expression)
-owner_of_statistic (meanings.Variable (Global n) mode) e = plain e None
+owner_of_statistic (meanings.Variable (Global n) mode) e = without_subscript e None
 owner_of_statistic (meanings.Attribute class field mode implied) e = Some (Some (entity_of implied e))
-owner_of_statistic (meanings.OfSystemSet query set) e = plain e None
+owner_of_statistic (meanings.OfSystemSet query set) e = without_subscript e None
 owner_of_statistic (meanings.OfSet query set implied) e = Some (Some (entity_of implied e))
 owner_of_statistic _ e = None
 

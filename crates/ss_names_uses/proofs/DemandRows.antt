@@ -22,18 +22,18 @@ use Rattle.ss_tree.specs.Views.{view_named_made, view_call_made, view_product_ma
 use Rattle.ss_names_uses.specs.declared.demand.Aspect.TheVariants.{Integer, Count, ArgumentCount}
 use Rattle.ss_names_uses.specs.declared.demand.Demand.{Demand}
 use Rattle.ss_names_uses.specs.declared.demand.Noted.{Noted}
-use Rattle.ss_names_uses.specs.Demands.{row_length, demand, a_number, designated, mode_of, implied, in_expression, in_number, in_numbers, in_terms, in_term, in_all_numbers, in_named, in_itself, in_inner, in_row, in_statement, in_body, in_places, valued, in_item}
+use Rattle.ss_names_uses.specs.Demands.{row_length, demand, a_number, designated, mode_of_expression, implied, in_expression, in_number, in_numbers, in_terms, in_term, in_all_numbers, in_named, in_itself, in_inner, in_row, in_statement, in_body, in_places, valued, in_item}
 use Rattle.ss_names_uses.specs.Noted.{asked, in_asked, of_place, noted_demands}
 
 -- ---- rows
 
 in_number_row : (line : Line) (es : List ExpressionTree) → in_numbers line (expression_row es) ≡ in_all_numbers line es
 in_number_row line [] = refl
-in_number_row line (e ∷ es) = ap (λ ds. a_number line (mode_of e) ∷ in_expression line e ++ ds) (in_number_row line es)
+in_number_row line (e ∷ es) = ap (λ ds. a_number line (mode_of_expression e) ∷ in_expression line e ++ ds) (in_number_row line es)
 
 in_term_row : (line : Line) (ts : List (Sign × ExpressionTree)) → in_terms line (term_row ts) ≡ flat_map (in_term line) ts
 in_term_row line [] = refl
-in_term_row line (t ∷ ts) = ap (λ ds. a_number line (mode_of t.1) ∷ in_expression line t.1 ++ ds) (in_term_row line ts)
+in_term_row line (t ∷ ts) = ap (λ ds. a_number line (mode_of_expression t.1) ∷ in_expression line t.1 ++ ds) (in_term_row line ts)
 
 row_counted : (es : List Expression) → row_length (expression_row (map view_expression es)) ≡ length es
 row_counted [] = refl

@@ -38,8 +38,8 @@ abbrev pub class_named : Line → Role → Bool → NameBytes → Mention
 class_named line role is_called name = record { line = line; role = role; what = Name name; subscripts = 0; implied = not is_called }
 
 -- a name that needs no subscript and implies no entity
-abbrev pub plain : Line → Role → NameBytes → Mention
-plain line role name = record { line = line; role = role; what = Name name; subscripts = 0; implied = false }
+abbrev pub plain_mention : Line → Role → NameBytes → Mention
+plain_mention line role name = record { line = line; role = role; what = Name name; subscripts = 0; implied = false }
 
 -- START SIMULATION
 abbrev pub started : Line → Mention
@@ -119,12 +119,12 @@ in_guards line guards = flat_map (λ guard. in_condition line guard.condition) g
 -- the mentions of the head of a FOR of this line
 abbrev pub in_head : Line → HeadTree → List Mention
 in_head line (over_range variable from to step phrases) =
-    plain line LoopVariable variable ∷ in_expression line from ++ in_expression line to ++ in_option (in_expression line) step ++
+    plain_mention line LoopVariable variable ∷ in_expression line from ++ in_expression line to ++ in_option (in_expression line) step ++
     in_phrases line phrases
 in_head line (over_members variable set start reverse phrases) =
-    plain line LoopVariable variable ∷ in_named line Set set ++ in_start line start ++ in_phrases line phrases
+    plain_mention line LoopVariable variable ∷ in_named line Set set ++ in_start line start ++ in_phrases line phrases
 in_head line (over_class class called phrases) =
-    class_named line ForEach (is_some called) class ∷ in_option (λ name. plain line LoopVariable name ∷ []) called ++
+    class_named line ForEach (is_some called) class ∷ in_option (λ name. plain_mention line LoopVariable name ∷ []) called ++
     in_phrases line phrases
 
 -- the mentions of the head of a loop of this line
@@ -157,7 +157,7 @@ in_old line role class called = class_named line role (is_some called) class ∷
 -- the mentions of a statement on entities, sets or notices
 abbrev pub in_entity_statement : StatementTree → List Mention
 in_entity_statement (create_statement line class called) = in_new line Create class called
-in_entity_statement (create_every line classes) = map (plain line CreateEvery) classes
+in_entity_statement (create_every line classes) = map (plain_mention line CreateEvery) classes
 in_entity_statement (destroy_statement line class called) = in_old line Destroy class called
 in_entity_statement (file_statement line x position set) = in_expression line x ++ in_position line position ++ in_named line Set set
 in_entity_statement (remove_end line end place set) = in_named line Target place ++ in_named line Set set
@@ -174,7 +174,7 @@ abbrev pub in_itself : StatementTree → List Mention
 in_itself (let_statement line place e) = in_named line Target place ++ in_expression line e
 in_itself (add_statement line e place) = in_expression line e ++ in_named line Target place
 in_itself (subtract_statement line e place) = in_expression line e ++ in_named line Target place
-in_itself (call_statement line name given yielding) = plain line Call name ∷ in_all line given ++ in_all_named line Target yielding
+in_itself (call_statement line name given yielding) = plain_mention line Call name ∷ in_all line given ++ in_all_named line Target yielding
 in_itself (return_statement line) = []
 in_itself (stop_statement line) = []
 in_itself (read_statement line targets) = in_all_named line Target targets
@@ -237,12 +237,12 @@ line_of (skip_statement line count) = line
 -- the class of an EVENT section, and the parameters of a section
 abbrev pub in_kind : Line → SectionKindTree → List Mention
 in_kind line main = []
-in_kind line (routine name given yielding) = map (plain line Given) given ++ map (plain line Yielding) yielding
-in_kind line (event name given saving) = plain line Event name ∷ map (plain line Given) given
+in_kind line (routine name given yielding) = map (plain_mention line Given) given ++ map (plain_mention line Yielding) yielding
+in_kind line (event name given saving) = plain_mention line Event name ∷ map (plain_mention line Given) given
 
 -- the names that a local DEFINE gives a mode
 abbrev pub in_definition : DefinitionTree → List Mention
-in_definition d = map (plain d.line (Define d.mode)) d.names
+in_definition d = map (plain_mention d.line (Define d.mode)) d.names
 
 abbrev pub in_definitions : List DefinitionTree → List Mention
 in_definitions definitions = flat_map in_definition definitions

@@ -8,7 +8,7 @@ use Rattle.ss_names_uses.specs.declared.demand.Aspect.{Aspect}
 use Rattle.ss_names_uses.specs.declared.demand.Demand.{Demand}
 use Rattle.ss_names_uses.specs.declared.demand.Noted.{Noted}
 use Rattle.ss_names_uses.specs.declared.demand.Noted.TheVariants.{One, Number}
-use Rattle.ss_names_uses.specs.Demands.{a_number, demand, designated, implied, in_expression, mode_of, valued}
+use Rattle.ss_names_uses.specs.Demands.{a_number, demand, designated, implied, in_expression, mode_of_expression, valued}
 
 -- the demand that what has this mode is a number, if that is asked
 abbrev pub asked : Bool → Line → Aspect → List Demand
@@ -17,7 +17,7 @@ asked false line mode = []
 
 -- the demand that an expression is a number, if that is asked, and then its own demands
 abbrev pub in_asked : Bool → Line → ExpressionTree → List Demand
-in_asked as_number line e = asked as_number line (mode_of e) ++ in_expression line e
+in_asked as_number line e = asked as_number line (mode_of_expression e) ++ in_expression line e
 
 -- the demands of a named place with so many subscripts as a value, without those of its subscripts
 abbrev pub of_place : Bool → Line → Designator → ℕ → List Demand

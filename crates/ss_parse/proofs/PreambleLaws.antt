@@ -24,7 +24,7 @@ use Rattle.ss_parse_expressions.specs.declared.classes.Class.TheVariants as alik
 use Rattle.ss_parse_expressions.specs.Openers.{openers}
 use Rattle.ss_parse_expressions.specs.Shapes.{Shape, ◌▷◌, nothing, never, either, provided, separator, Word_is, Name_is, Word_for, at, first_line, listed}
 use Rattle.ss_parse_expressions.specs.Words.{has_word, Item_is, perhaps_listed}
-use Rattle.ss_parse_expressions.specs.Reading.{Reader, ◌>>=◌, Fails, word, is, begins, begins_by, expect, in_table, taken, name_of, following, closed, apply, comma, skip_separator, begins_more, list_of}
+use Rattle.ss_parse_expressions.specs.Reading.{Reader, ◌>>=◌, FailsReading, word, is, begins, begins_by, expect, in_table, taken, name_of, following, closed, apply, comma, skip_separator, begins_more, list_of}
 use Rattle.ss_parse_expressions.specs.ReadWords.{fail, begins_class, begins_noisy, among, begins_among, begins_name, begins_item, items}
 use Rattle.ss_parse_expressions.proofs.Tools.{bind_ok, which, chosen, carry, or_false, ok_or_err}
 use Rattle.ss_parse_expressions.proofs.Marks.{token, token_less, no_skip, begins_table}
@@ -35,7 +35,7 @@ use Rattle.ss_parse_expressions.proofs.Rows.{first_and_reads, list_reads, separa
 use Rattle.ss_parse_expressions.proofs.WordLaws.{word_in_reads, optional_class_reads, done_reads, fail_reads, noisy_mark_reads, noisy_begins, noisy_less, name_reads, name_begins, name_no_and, name_less, names_reads, items_reads, perhaps_listed_reads, either_reads, item_made, no_word}
 use Rattle.ss_parse_statements.specs.SpelledStatements.{noisy}
 use Rattle.ss_parse.specs.SpelledPreambles.{Key_is, Keys_are, Statistic_is, Clause_is, Clauses_are, Order_is, article, preamble_line, weighting_word, preamble_first, Preamble_rest, Preamble_from, group_after, Preambles_are, Whole_preamble}
-use Rattle.ss_parse_expressions.specs.WordTables.{mode_of, rank_of, statistic_of}
+use Rattle.ss_parse_expressions.specs.WordTables.{mode_of_word, rank_of, statistic_of}
 use Rattle.ss_parse.specs.ReadPreambles.{key_tree, key, then_rank, then_key, keys, statistic_tree, statistic_kind, statistic, found, clause, clause_word, begins_clause, clauses, ranking, order, permanent_at, temporary_at, notices_at, every_at, normally_at, system_at, define_end, define_at, priority_at, break_at, statistics_at, preamble_at, preamble_word, begins_preamble, preamble_in, preamble_row, preambles, whole_preamble}
 use Rattle.ss_parse_statements.proofs.FirstWords.{Form, plain_form, by_word_reads, first_less}
 
@@ -81,7 +81,7 @@ rank_reads_word words.Minimum mode e = refl
 rank_reads_word words.Mean mode e = refl
 rank_reads_word _ mode e = absurd cc
 
-mode_no_article : (w : Word) (mode : Mode) → mode_of w ≡ Some mode → has_word alike.Article w ≡ false
+mode_no_article : (w : Word) (mode : Mode) → mode_of_word w ≡ Some mode → has_word alike.Article w ≡ false
 mode_no_article words.Integer mode e = refl
 mode_no_article words.Alpha mode e = refl
 mode_no_article words.Real mode e = refl
@@ -344,11 +344,11 @@ module _ (k : ℕ) where
       from lifo ts rest s = inr (inl (tt, refl, s))
       from (ranked ks) ts rest (a, s, t) = inr (inr (a, s, inl (ks, refl, t)))
 
-  order_no_mode : (x : OrderTree) (ts rest : List Token) → Order_is x ts rest → (begins_by (in_table mode_of) ts ≡ false) × (begins_class alike.Article ts ≡ false)
-  order_no_mode fifo ts rest (a, inl e, (span, line, f)) = (ap (begins_by (in_table mode_of)) (e ∙ f), ap (begins_class alike.Article) (e ∙ f))
-  order_no_mode fifo ts rest (a, inr (span, line, f), s) = (ap (begins_by (in_table mode_of)) f, ap (begins_class alike.Article) f)
-  order_no_mode lifo ts rest (a, (span, line, f), s) = (ap (begins_by (in_table mode_of)) f, ap (begins_class alike.Article) f)
-  order_no_mode (ranked ks) ts rest (a, (span, line, f), s) = (ap (begins_by (in_table mode_of)) f, ap (begins_class alike.Article) f)
+  order_no_mode : (x : OrderTree) (ts rest : List Token) → Order_is x ts rest → (begins_by (in_table mode_of_word) ts ≡ false) × (begins_class alike.Article ts ≡ false)
+  order_no_mode fifo ts rest (a, inl e, (span, line, f)) = (ap (begins_by (in_table mode_of_word)) (e ∙ f), ap (begins_class alike.Article) (e ∙ f))
+  order_no_mode fifo ts rest (a, inr (span, line, f), s) = (ap (begins_by (in_table mode_of_word)) f, ap (begins_class alike.Article) f)
+  order_no_mode lifo ts rest (a, (span, line, f), s) = (ap (begins_by (in_table mode_of_word)) f, ap (begins_class alike.Article) f)
+  order_no_mode (ranked ks) ts rest (a, (span, line, f), s) = (ap (begins_by (in_table mode_of_word)) f, ap (begins_class alike.Article) f)
 
   -- ---- statements, after their first word
 
@@ -392,12 +392,12 @@ module _ (k : ℕ) where
       from _ u w at ts rest s = absurd cc
 
   abbrev normally_parts : Mode → Shape
-  normally_parts mode = noisy words.Mode ▷ Word_is words.Is ▷ Word_for mode_of mode
+  normally_parts mode = noisy words.Mode ▷ Word_is words.Is ▷ Word_for mode_of_word mode
 
   normally_form : (group : Option ClassKind) (line : Line) → Reads k (normally_at line) (normally_at line) (Pre_is group line words.Normally) continues_preamble
   unfolding normally_at
   normally_form group line =
-      made_form {P = normally_parts} (following_reads (noisy_mark_reads k (word words.Mode) refl) (marked_reads (word words.Is) (word_in_reads k mode_of)) (λ x ts rest s stop. refl)) (normally line) group line words.Normally refl
+      made_form {P = normally_parts} (following_reads (noisy_mark_reads k (word words.Mode) refl) (marked_reads (word words.Is) (word_in_reads k mode_of_word)) (λ x ts rest s stop. refl)) (normally line) group line words.Normally refl
       (λ p. (refl, refl)) (λ p ts rest s. s) from (λ ts stop. refl)
     where
       from : (x : PreambleTree) → is_statistics x ≡ false → preamble_first x ≡ words.Normally → preamble_line x ≡ line → (ts rest : List Token) → Preamble_rest group x ts rest → Made (normally line) normally_parts x ts rest
@@ -464,15 +464,15 @@ module _ (k : ℕ) where
 
   -- DEFINE
   abbrev Mode_end : Line → List (List ℕ) → PreambleTree → Shape
-  Mode_end line ns = Made (define_variables line ns) (λ mode. Word_for mode_of mode ▷ Word_is words.Variable)
+  Mode_end line ns = Made (define_variables line ns) (λ mode. Word_for mode_of_word mode ▷ Word_is words.Variable)
 
   abbrev Order_end : Line → List (List ℕ) → PreambleTree → Shape
   Order_end line ns = Made (define_sets line ns) Order_is
 
-  mode_item : (line : Line) (ns : List (List ℕ)) → Item k (begins_by (in_table mode_of)) (apply (define_variables line ns) (closed (taken (in_table mode_of)) (expect (word words.Variable)))) (apply (define_variables line ns) (closed (taken (in_table mode_of)) (expect (word words.Variable)))) (Mode_end line ns) continues_never
+  mode_item : (line : Line) (ns : List (List ℕ)) → Item k (begins_by (in_table mode_of_word)) (apply (define_variables line ns) (closed (taken (in_table mode_of_word)) (expect (word words.Variable)))) (apply (define_variables line ns) (closed (taken (in_table mode_of_word)) (expect (word words.Variable)))) (Mode_end line ns) continues_never
   mode_item line ns =
-      item_of (begins_by (in_table mode_of)) (made_reads (closed_reads (word_in_reads k mode_of) (expect_reads k (word words.Variable)) (λ ts rest s stop. refl)) (define_variables line ns))
-      (λ ts x rest s. begins_table (in_table mode_of) ts s.2.0 s.0 (kinds.Word s.2.1.0, s.2.1.1, s.2.1.2))
+      item_of (begins_by (in_table mode_of_word)) (made_reads (closed_reads (word_in_reads k mode_of_word) (expect_reads k (word words.Variable)) (λ ts rest s stop. refl)) (define_variables line ns))
+      (λ ts x rest s. begins_table (in_table mode_of_word) ts s.2.0 s.0 (kinds.Word s.2.1.0, s.2.1.1, s.2.1.2))
       (λ ts x rest s. omega (arith, token_less (kinds.Word s.2.1.0) ts s.2.0 s.2.1.2, token_less (kinds.Word words.Variable) s.2.0 rest s.2.2))
 
   end_reads : (line : Line) (ns : List (List ℕ)) → Reads k (define_end line ns) (define_end line ns) (λ x. either (Mode_end line ns x) (Order_end line ns x)) continues_preamble
@@ -711,7 +711,7 @@ preamble_grows view old new x group group' ts rest total pushed started e goes s
 pub preamble_ends : (view : PreambleStatement → PreambleTree) (read : List PreambleStatement) (group : Option ClassKind) (ts : List Token) (total : Result (List PreambleTree × List Token) Fault) → begins_preamble ts ≡ false → with_front (map view read) (preambles group ts) ≡ total → total ≡ Ok (map view read, ts)
 preamble_ends view read group ts total over so_far = sym so_far ∙ ap (with_front (map view read)) (preambles_done group ts over) ∙ ap (λ (ys : List PreambleTree). Ok (ys, ts)) (append-nil (map view read))
 
-pub preamble_breaks : (view : PreambleStatement → PreambleTree) (read : List PreambleStatement) (group : Option ClassKind) (ts : List Token) (e : Failure) (total : Result (List PreambleTree × List Token) Fault) → begins_preamble ts ≡ true → Fails e (preamble_in group ts) → with_front (map view read) (preambles group ts) ≡ total → Fails e total
+pub preamble_breaks : (view : PreambleStatement → PreambleTree) (read : List PreambleStatement) (group : Option ClassKind) (ts : List Token) (e : Failure) (total : Result (List PreambleTree × List Token) Fault) → begins_preamble ts ≡ true → FailsReading e (preamble_in group ts) → with_front (map view read) (preambles group ts) ≡ total → FailsReading e total
 preamble_breaks view read group ts failures.Memory total started f so_far = tt
 preamble_breaks view read group ts (failures.Refused f left) total started e so_far = sym so_far ∙ ap (with_front (map view read)) (preambles_fail group ts f started e)
 
@@ -720,12 +720,12 @@ pub then_key_read : (ts a b : List Token) (high : Bool) (n : List ℕ) → then_
 unfolding then_key
 then_key_read ts a b high n e f g = rw (e, f, g) refl
 
-pub then_key_no_rank : (ts : List Token) (e : Failure) → Fails e (then_rank ts) → Fails e (then_key ts)
+pub then_key_no_rank : (ts : List Token) (e : Failure) → FailsReading e (then_rank ts) → FailsReading e (then_key ts)
 unfolding then_key
 then_key_no_rank ts failures.Memory f = tt
 then_key_no_rank ts (failures.Refused d left) f = rw f refl
 
-pub then_key_no_name : (ts a : List Token) (high : Bool) (e : Failure) → then_rank ts ≡ Ok (high, a) → Fails e (taken name_of a) → Fails e (then_key ts)
+pub then_key_no_name : (ts a : List Token) (high : Bool) (e : Failure) → then_rank ts ≡ Ok (high, a) → FailsReading e (taken name_of a) → FailsReading e (then_key ts)
 unfolding then_key
 then_key_no_name ts a high failures.Memory r f = tt
 then_key_no_name ts a high (failures.Refused d left) r f = rw (r, f) refl
@@ -735,12 +735,12 @@ pub statistic_read : (ts a b rest : List Token) (n : List ℕ) (kind : Statistic
 unfolding statistic
 statistic_read ts a b rest n kind same e f g = rw (sym same, e, sym f, g) refl
 
-pub statistic_no_name : (ts a : List Token) (e : Failure) → a ≡ ts → Fails e (taken name_of a) → Fails e (statistic ts)
+pub statistic_no_name : (ts a : List Token) (e : Failure) → a ≡ ts → FailsReading e (taken name_of a) → FailsReading e (statistic ts)
 unfolding statistic
 statistic_no_name ts a failures.Memory same f = tt
 statistic_no_name ts a (failures.Refused d left) same f = rw (sym same, f) refl
 
-pub statistic_no_kind : (ts a b : List Token) (n : List ℕ) (e : Failure) → a ≡ ts → taken name_of a ≡ Ok (n, drop 1 a) → b ≡ drop 1 a → Fails e (statistic_kind b) → Fails e (statistic ts)
+pub statistic_no_kind : (ts a b : List Token) (n : List ℕ) (e : Failure) → a ≡ ts → taken name_of a ≡ Ok (n, drop 1 a) → b ≡ drop 1 a → FailsReading e (statistic_kind b) → FailsReading e (statistic ts)
 unfolding statistic
 statistic_no_kind ts a b n failures.Memory same e f g = tt
 statistic_no_kind ts a b n (failures.Refused d left) same e f g = rw (sym same, e, sym f, g) refl

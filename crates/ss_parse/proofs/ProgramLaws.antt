@@ -20,7 +20,7 @@ use Rattle.ss_parse_expressions.proofs.ReaderLaws.{Reads, Item, continues_never,
 use Rattle.ss_parse_expressions.proofs.Rows.{rows_reads, Loop, loop_of}
 use Rattle.ss_parse_expressions.proofs.WordLaws.{word_in_reads, optional_class_reads, done_reads, fail_reads, name_reads, names_reads, perhaps_listed_reads, no_word}
 use Rattle.ss_parse.specs.SpelledPreambles.{Variables_are}
-use Rattle.ss_parse_expressions.specs.WordTables.{mode_of}
+use Rattle.ss_parse_expressions.specs.WordTables.{mode_of_word}
 use Rattle.ss_parse.specs.SpelledPrograms.{section_word, Saving_words, Kind_rest, Definition_is, Section_is, Program_is}
 use Rattle.ss_parse_statements.specs.ReadStatements.{form_word}
 use Rattle.ss_parse.proofs.PreambleLaws.{whole_preamble_reads}
@@ -58,7 +58,7 @@ kind_names w held ts stop =
     let b : begins_more begins_name ts ≡ false = (or_false (begins_among kind_more ts) (begins_more begins_name ts) stop).1 in
     rw (a, b) refl
 
-mode_no_article : (w : Word) (mode : Mode) → mode_of w ≡ Some mode → has_word classes.Article w ≡ false
+mode_no_article : (w : Word) (mode : Mode) → mode_of_word w ≡ Some mode → has_word classes.Article w ≡ false
 mode_no_article words.Integer mode e = refl
 mode_no_article words.Alpha mode e = refl
 mode_no_article words.Real mode e = refl
@@ -125,7 +125,7 @@ module _ (k : ℕ) where
 
   pub variables_reads : Reads k variables variables Variables_are continues_never
   unfolding variables
-  variables_reads = seq_reads (names_reads k) (marked_reads (word words.As) (optional_class_reads (closed_reads (word_in_reads k mode_of) (expect_reads k (word words.Variable)) (λ ts rest s stop. refl)) classes.Article (λ mode ts rest s. ap (begins_class classes.Article) s.1.2.2 ∙ mode_no_article s.1.0 mode s.1.1))) (λ mode ts rest s stop. ap (λ (r : List Token). begins_more begins_name r || (continues_never r || continues_never r)) s.1.2)
+  variables_reads = seq_reads (names_reads k) (marked_reads (word words.As) (optional_class_reads (closed_reads (word_in_reads k mode_of_word) (expect_reads k (word words.Variable)) (λ ts rest s stop. refl)) classes.Article (λ mode ts rest s. ap (begins_class classes.Article) s.1.2.2 ∙ mode_no_article s.1.0 mode s.1.1))) (λ mode ts rest s stop. ap (λ (r : List Token). begins_more begins_name r || (continues_never r || continues_never r)) s.1.2)
 
   definition_at_reads : (line : Line) → Reads k (definition_at line) (definition_at line) (Made (definition_tree line) (λ p. Word_is words.Define ▷ Variables_are p)) continues_never
   unfolding definition_at

@@ -15,7 +15,7 @@ use Rattle.ss_parse_expressions.specs.declared.classes.Class.TheVariants as alik
 use Rattle.ss_parse_expressions.specs.Reading.{Reader, ◌>>=◌, word, begins, begins_by, expect, in_table, taken, name_of, seq, following, closed, apply, maybe_list, choose, first_and, list_of}
 use Rattle.ss_parse_expressions.specs.ReadWords.{done, fail, skip_class, begins_noisy, expect_noisy, begins_among, begins_name, names, items}
 use Rattle.ss_parse.specs.SpelledPreambles.{group_after}
-use Rattle.ss_parse_expressions.specs.WordTables.{mode_of, rank_of, statistic_of}
+use Rattle.ss_parse_expressions.specs.WordTables.{mode_of_word, rank_of, statistic_of}
 use Rattle.ss_parse_statements.specs.ReadSimple.{after_the}
 use Rattle.ss_parse_statements.specs.ReadStatements.{by_word}
 
@@ -99,14 +99,14 @@ every_at None line = fail
 every_at (Some kind) line = apply (λ p. every line kind p.0 p.1) (seq (taken name_of) clauses)
 
 unfoldable pub normally_at : Line → Reader PreambleTree
-normally_at line = apply (normally line) (following (expect_noisy (word words.Mode)) (following (expect (word words.Is)) (taken (in_table mode_of))))
+normally_at line = apply (normally line) (following (expect_noisy (word words.Mode)) (following (expect (word words.Is)) (taken (in_table mode_of_word))))
 
 unfoldable pub system_at : Line → Reader PreambleTree
 system_at line = apply (system_owns line) (following (expect (word words.System)) (following (expect (word words.Owns)) items))
 
 -- a mode, or how a set is ordered
 abbrev pub define_end : Line → List (List ℕ) → Reader PreambleTree
-define_end line ns = choose (begins_by (in_table mode_of)) (apply (define_variables line ns) (closed (taken (in_table mode_of)) (expect (word words.Variable)))) (apply (define_sets line ns) order)
+define_end line ns = choose (begins_by (in_table mode_of_word)) (apply (define_variables line ns) (closed (taken (in_table mode_of_word)) (expect (word words.Variable)))) (apply (define_sets line ns) order)
 
 unfoldable pub define_at : Line → Reader PreambleTree
 define_at line ts = closed names (expect (word words.As)) ts >>= λ ns. define_end line ns.0 (skip_class alike.Article ns.1)

@@ -11,7 +11,7 @@ use Rattle.ss_tree.specs.Tree.{PreambleTree, DefinitionTree, SectionKindTree, ma
 use Rattle.ss_parse_expressions.specs.declared.classes.Class.TheVariants as classes
 use Rattle.ss_parse_expressions.specs.ReadWords.{done, fail, skip_class, begins_among, names}
 use Rattle.ss_parse_expressions.specs.Reading.{Reader, ◌>>=◌, word, begins, expect, in_table, taken, name_of, flag, seq, following, closed, apply, lined, maybe_list, rows}
-use Rattle.ss_parse_expressions.specs.WordTables.{mode_of}
+use Rattle.ss_parse_expressions.specs.WordTables.{mode_of_word}
 use Rattle.ss_parse.specs.ReadPreambles.{whole_preamble}
 use Rattle.ss_parse_statements.specs.ReadSimple.{after_the}
 use Rattle.ss_parse_statements.specs.ReadStatements.{by_word, statements_in}
@@ -51,7 +51,7 @@ kind_at _ = fail
 
 -- names and their mode, after DEFINE
 unfoldable pub variables : Reader (List (List ℕ) × Mode)
-variables = seq names (following (expect (word words.As)) (λ ts. closed (taken (in_table mode_of)) (expect (word words.Variable)) (skip_class classes.Article ts)))
+variables = seq names (following (expect (word words.As)) (λ ts. closed (taken (in_table mode_of_word)) (expect (word words.Variable)) (skip_class classes.Article ts)))
 
 abbrev pub definition_tree : Line → List (List ℕ) × Mode → DefinitionTree
 definition_tree line p = record { line = line; names = p.0; mode = p.1 }

@@ -15,7 +15,7 @@ use Rattle.ss_parse_expressions.specs.declared.classes.Class.TheVariants as alik
 use Rattle.ss_parse_expressions.specs.Shapes.{Shape, ◌▷◌, nothing, optional, provided, Word_is, Name_is, Word_for, first_and, listed, at}
 use Rattle.ss_parse_expressions.specs.Words.{One_of, the, Item_is, perhaps_listed}
 use Rattle.ss_parse_statements.specs.SpelledStatements.{noisy}
-use Rattle.ss_parse_expressions.specs.WordTables.{mode_of, rank_of, statistic_of}
+use Rattle.ss_parse_expressions.specs.WordTables.{mode_of_word, rank_of, statistic_of}
 
 -- ---- parts
 
@@ -50,7 +50,7 @@ article = optional (One_of alike.Article)
 
 -- names and their mode, after DEFINE
 abbrev pub Variables_are : List (List ℕ) × Mode → Shape
-Variables_are p = listed Name_is p.0 ▷ Word_is words.As ▷ article ▷ Word_for mode_of p.1 ▷ Word_is words.Variable
+Variables_are p = listed Name_is p.0 ▷ Word_is words.As ▷ article ▷ Word_for mode_of_word p.1 ▷ Word_is words.Variable
 
 -- ---- statements of a preamble
 
@@ -92,7 +92,7 @@ Preamble_rest group (permanent_entities line) = Word_is words.Entities
 Preamble_rest group (temporary_entities line) = Word_is words.Entities
 Preamble_rest group (event_notices line included) = Word_is words.Notices ▷ perhaps_listed (Word_is words.Include) Name_is included
 Preamble_rest group (every line kind class clauses) = provided (group ≡ Some kind) (Name_is class ▷ Clauses_are clauses)
-Preamble_rest group (normally line mode) = noisy words.Mode ▷ Word_is words.Is ▷ Word_for mode_of mode
+Preamble_rest group (normally line mode) = noisy words.Mode ▷ Word_is words.Is ▷ Word_for mode_of_word mode
 Preamble_rest group (system_owns line sets) = Word_is words.System ▷ Word_is words.Owns ▷ listed Item_is sets
 Preamble_rest group (define_variables line names mode) = Variables_are (names, mode)
 Preamble_rest group (define_sets line names order) = listed Name_is names ▷ Word_is words.As ▷ article ▷ Order_is order

@@ -19,7 +19,7 @@ use Rattle.ss_parse_expressions.specs.SpelledExpressions.{Place, sum_place, firs
 use Rattle.ss_parse_expressions.specs.WordTables.{function_of}
 use Rattle.ss_parse_expressions.specs.Openers.{opens, openers}
 use Rattle.ss_parse_expressions.specs.Reading.{word, is, is_some, begins, skip, taken, seq, apply, skip_separator, begins_more}
-use Rattle.ss_parse_expressions.specs.ReadExpressions.{opening, closing, star, sign_of, begins_sign, designator_of_word, begins_value, begins_sum, sum_of, product_of, arguments_with, enclosed_with, subscripts_with, named_with, call_with, parenthesised_with, factor_in_words, factor_at, factor_with, further_factors_with, term_with, signed_term_with, first_term_with, further_terms_with, sum_with, sum_in}
+use Rattle.ss_parse_expressions.specs.ReadExpressions.{opening, closing, star, sign_of_token, begins_sign, designator_of_word, begins_value, begins_sum, sum_of, product_of, arguments_with, enclosed_with, subscripts_with, named_with, call_with, parenthesised_with, factor_in_words, factor_at, factor_with, further_factors_with, term_with, signed_term_with, first_term_with, further_terms_with, sum_with, sum_in}
 use Rattle.ss_parse_expressions.proofs.Tools.{bind_ok, carry, or_false}
 use Rattle.ss_parse_expressions.proofs.Marks.{token, mark_begins, token_less, In_table}
 use Rattle.ss_parse_expressions.proofs.Depth.{Upto, upto_same, upto_bind, Bounded, bounded_more, bounded_bind, bounded_opened}
@@ -202,15 +202,15 @@ continues_sum ts = begins_sign ts || continues_term ts
 
 -- ---- tables
 
-sign_to : (sign : Sign) (ts rest : List Token) → In_table sign_of sign ts rest → Sign_is sign ts rest
+sign_to : (sign : Sign) (ts rest : List Token) → In_table sign_of_token sign ts rest → Sign_is sign ts rest
 sign_to sign ts rest (k, takes, at) = go k takes at
   where
-    go : (k : TokenKind) → sign_of k ≡ Some sign → Token_is k ts rest → Sign_is sign ts rest
+    go : (k : TokenKind) → sign_of_token k ≡ Some sign → Token_is k ts rest → Sign_is sign ts rest
     go (kinds.Symbol Plus) e at = let is_plus : signs.Plus ≡ sign = cc in subst (λ s. Sign_is s ts rest) is_plus at
     go (kinds.Symbol Minus) e at = let is_minus : signs.Minus ≡ sign = cc in subst (λ s. Sign_is s ts rest) is_minus at
     go _ e at = absurd cc
 
-sign_from : (sign : Sign) (ts rest : List Token) → Sign_is sign ts rest → In_table sign_of sign ts rest
+sign_from : (sign : Sign) (ts rest : List Token) → Sign_is sign ts rest → In_table sign_of_token sign ts rest
 sign_from signs.Plus ts rest at = (kinds.Symbol Plus, refl, at)
 sign_from signs.Minus ts rest at = (kinds.Symbol Minus, refl, at)
 
@@ -511,9 +511,9 @@ module _ (n m : ℕ) (inner : Reads n (sum_in n) (sum_in m) (In n) continues_sum
   unfolding signed_term_with
   signed_term_reads = seq_reads sign_reads term_reads (λ x ts rest s stop. refl)
     where
-      sign_reads : Reads (suc n) (taken sign_of) (taken sign_of) Sign_is continues_never
+      sign_reads : Reads (suc n) (taken sign_of_token) (taken sign_of_token) Sign_is continues_never
       sign_reads =
-          let law = taken_reads (suc n) sign_of in
+          let law = taken_reads (suc n) sign_of_token in
           record { sound = λ ts x rest e. sign_to x ts rest (law.sound ts x rest e); complete = λ ts x rest s stop. law.complete ts x rest (sign_from x ts rest s) stop; shorter = λ ts x rest s. law.shorter ts x rest (sign_from x ts rest s); under = law.under; opening = law.opening }
 
   signed_term_less : (ts : List Token) (x : Sign × ExpressionTree) (rest : List Token) → Term_is n x ts rest → length rest < length ts

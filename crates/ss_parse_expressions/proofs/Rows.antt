@@ -6,7 +6,7 @@ use Rattle.ss_parse_expressions.specs.declared.failure.Fault.{Fault}
 use Rattle.ss_parse_expressions.specs.declared.failure.Failure.{Failure}
 use Rattle.ss_parse_expressions.specs.declared.failure.Failure.TheVariants as failures
 use Rattle.ss_parse_expressions.specs.Openers.{openers}
-use Rattle.ss_parse_expressions.specs.Reading.{Reader, ◌>>=◌, Fails, row, rows, first_and, comma, word, begins, skip, skip_separator, begins_more, list_of, kind_of}
+use Rattle.ss_parse_expressions.specs.Reading.{Reader, ◌>>=◌, FailsReading, row, rows, first_and, comma, word, begins, skip, skip_separator, begins_more, list_of, kind_of_mark}
 use Rattle.ss_lex.specs.declared.word.Word.TheVariants as words
 use Rattle.ss_parse_expressions.specs.Shapes as shapes
 use Rattle.ss_parse_expressions.specs.Shapes.{Shape, ◌▷◌, nothing, never, either, each, listed, separator}
@@ -139,9 +139,9 @@ separator_sound ts e =
     ]
 
 separator_less : (ts a : List Token) → separator ts a → length a < length ts
-separator_less ts a (inl w) = omega (arith, token_less (kind_of comma) ts a w)
-separator_less ts a (inr (inl w)) = omega (arith, token_less (kind_of (word words.And)) ts a w)
-separator_less ts a (inr (inr (m, w, v))) = omega (arith, token_less (kind_of comma) ts m w, token_less (kind_of (word words.And)) m a v)
+separator_less ts a (inl w) = omega (arith, token_less (kind_of_mark comma) ts a w)
+separator_less ts a (inr (inl w)) = omega (arith, token_less (kind_of_mark (word words.And)) ts a w)
+separator_less ts a (inr (inr (m, w, v))) = omega (arith, token_less (kind_of_mark comma) ts m w, token_less (kind_of_mark (word words.And)) m a v)
 
 -- A list of items: none begins with a comma or AND, and neither continues one.
 module _ {A : Type 0} {k : ℕ} {item item' : Reader A} {S : A → Shape} {c : List Token → Bool} (law : Reads k item item' S c) (starts : List Token → Bool) (first : (ts : List Token) (x : A) (rest : List Token) → S x ts rest → starts ts ≡ true) (no_and : (ts : List Token) → starts ts ≡ true → begins (word words.And) ts ≡ false) where
@@ -163,12 +163,12 @@ module _ {A : Type 0} {k : ℕ} {item item' : Reader A} {S : A → Shape} {c : L
     opening = λ ts. bounded_more k (openers (skip_separator ts)) (openers ts) (item (skip_separator ts)) (omega (arith, skip_openers comma ts, skip_openers (word words.And) (skip comma ts))) (law.opening (skip_separator ts));
   }
 
-  separator_stops : ((span : Span) (line : Line) (ts : List Token) → c (token (kind_of comma) span line ∷ ts) ≡ false) → ((span : Span) (line : Line) (ts : List Token) → c (token (kind_of (word words.And)) span line ∷ ts) ≡ false) → (ts a : List Token) → separator ts a → c ts ≡ false
+  separator_stops : ((span : Span) (line : Line) (ts : List Token) → c (token (kind_of_mark comma) span line ∷ ts) ≡ false) → ((span : Span) (line : Line) (ts : List Token) → c (token (kind_of_mark (word words.And)) span line ∷ ts) ≡ false) → (ts a : List Token) → separator ts a → c ts ≡ false
   separator_stops on_comma on_and ts a (inl (span, line, e)) = ap c e ∙ on_comma span line a
   separator_stops on_comma on_and ts a (inr (inl (span, line, e))) = ap c e ∙ on_and span line a
   separator_stops on_comma on_and ts a (inr (inr (m, (span, line, e), v))) = ap c e ∙ on_comma span line m
 
-  pub list_reads : ((ts : List Token) (x : A) (rest : List Token) → S x ts rest → length rest < length ts) → ((span : Span) (line : Line) (ts : List Token) → c (token (kind_of comma) span line ∷ ts) ≡ false) → ((span : Span) (line : Line) (ts : List Token) → c (token (kind_of (word words.And)) span line ∷ ts) ≡ false) → Reads k (list_of starts item) (list_of starts item') (listed S) (λ ts. begins_more starts ts || (c ts || c ts))
+  pub list_reads : ((ts : List Token) (x : A) (rest : List Token) → S x ts rest → length rest < length ts) → ((span : Span) (line : Line) (ts : List Token) → c (token (kind_of_mark comma) span line ∷ ts) ≡ false) → ((span : Span) (line : Line) (ts : List Token) → c (token (kind_of_mark (word words.And)) span line ∷ ts) ≡ false) → Reads k (list_of starts item) (list_of starts item') (listed S) (λ ts. begins_more starts ts || (c ts || c ts))
   list_reads less on_comma on_and = first_and_reads law separated_item (λ ts x rest s. let stop = separator_stops on_comma on_and ts s.0 s.1 in (stop, stop)) less
 
 -- ---- a loop that reads a row
@@ -245,7 +245,7 @@ module _ {A V : Type 0} (view : V → A) {starts : List Token → Bool} {item : 
   is_done read ts total over so_far = sym so_far ∙ ap (with_front (map view read)) (rows_done starts item loop.at_end loop.shrinks ts over) ∙ ap (λ ys. Ok (ys, ts)) (append-nil (map view read))
 
   -- an item fails
-  pub breaks : (read : List V) (ts : List Token) (e : Failure) (total : Result (List A × List Token) Fault) → starts ts ≡ true → Fails e (item ts) → with_front (map view read) (rows starts item ts) ≡ total → Fails e total
+  pub breaks : (read : List V) (ts : List Token) (e : Failure) (total : Result (List A × List Token) Fault) → starts ts ≡ true → FailsReading e (item ts) → with_front (map view read) (rows starts item ts) ≡ total → FailsReading e total
   breaks read ts failures.Memory total started f so_far = tt
   breaks read ts (failures.Refused f left) total started e so_far = sym so_far ∙ ap (with_front (map view read)) (rows_fail starts item loop.at_end loop.shrinks ts f started e)
 
@@ -258,7 +258,7 @@ module _ {A : Type 0} {starts : List Token → Bool} {item : Reader A} (loop : L
   pub is_done_plain : (read : List A) (ts : List Token) (total : Result (List A × List Token) Fault) → starts ts ≡ false → with_front read (rows starts item ts) ≡ total → total ≡ Ok (read, ts)
   is_done_plain read ts total over so_far = sym so_far ∙ ap (with_front read) (rows_done starts item loop.at_end loop.shrinks ts over) ∙ ap (λ ys. Ok (ys, ts)) (append-nil read)
 
-  pub breaks_plain : (read : List A) (ts : List Token) (e : Failure) (total : Result (List A × List Token) Fault) → starts ts ≡ true → Fails e (item ts) → with_front read (rows starts item ts) ≡ total → Fails e total
+  pub breaks_plain : (read : List A) (ts : List Token) (e : Failure) (total : Result (List A × List Token) Fault) → starts ts ≡ true → FailsReading e (item ts) → with_front read (rows starts item ts) ≡ total → FailsReading e total
   breaks_plain read ts failures.Memory total started f so_far = tt
   breaks_plain read ts (failures.Refused f left) total started e so_far = sym so_far ∙ ap (with_front read) (rows_fail starts item loop.at_end loop.shrinks ts f started e)
 

@@ -12,8 +12,8 @@ use Rattle.ss_parse_expressions.specs.declared.classes.Class.TheVariants as clas
 use Rattle.ss_parse_expressions.specs.Openers.{openers}
 use Rattle.ss_parse_expressions.specs.Shapes.{Shape, ◌▷◌, nothing, never, either, optional, provided, noise, Token_is, Name_is, Word_for, listed, flagged}
 use Rattle.ss_parse_expressions.specs.Words.{has_word, One_of, Item_is, perhaps_listed}
-use Rattle.ss_parse_expressions.specs.Reading.{Reader, Mark, word, kind_of, is, begins, skip, expect, in_table, taken, name_of, comma, skip_separator, following, apply, choose, maybe_list, begins_more}
-use Rattle.ss_parse_expressions.specs.ReadWords.{in_class, begins_class, skip_class, expect_class, present, done, fail, begins_noisy, expect_noisy, begins_name, names, begins_item, item, items, among, begins_among}
+use Rattle.ss_parse_expressions.specs.Reading.{Reader, Mark, word, kind_of_mark, is, begins, skip, expect, in_table, taken, name_of, comma, skip_separator, following, apply, choose, maybe_list, begins_more}
+use Rattle.ss_parse_expressions.specs.ReadWords.{in_class, begins_class, skip_class, expect_class, present, done, fail, begins_noisy, expect_noisy, begins_name, names, begins_item, articled_name, items, among, begins_among}
 use Rattle.ss_parse_expressions.proofs.Tools.{which, chosen, carry}
 use Rattle.ss_parse_expressions.proofs.Marks.{token, Mark_is, is_true, token_of, mark_begins, mark_skips, begins_mark, no_skip, token_less, skip_openers, In_table, begins_table}
 use Rattle.ss_parse_expressions.proofs.Depth.{upto_same, upto_if, Bounded, bounded_more, bounded_if}
@@ -154,26 +154,26 @@ present_reads k m = record {
         rw (a, b) refl
 
     shorter : (ts : List Token) (x : Bool) (rest : List Token) → flagged (Mark_is m) x ts rest → length rest ≤ length ts
-    shorter ts true rest s = omega (arith, token_less (kind_of m) ts rest s)
+    shorter ts true rest s = omega (arith, token_less (kind_of_mark m) ts rest s)
     shorter ts false rest s = omega (arith, ap length s)
 
 -- ---- a mark with a comma before it or not
 
-pub noisy_mark_reads : (k : ℕ) (m : Mark) → is comma (kind_of m) ≡ false → Reads k (expect_noisy m) (expect_noisy m) (λ u. noise ▷ Mark_is m) continues_never
+pub noisy_mark_reads : (k : ℕ) (m : Mark) → is comma (kind_of_mark m) ≡ false → Reads k (expect_noisy m) (expect_noisy m) (λ u. noise ▷ Mark_is m) continues_never
 noisy_mark_reads k m other = optional_reads (expect_reads k m) comma (λ u ts rest s. ap (begins comma) s.2 ∙ other)
 
-pub noisy_begins : (m : Mark) → is comma (kind_of m) ≡ false → (ts rest : List Token) → (noise ▷ Mark_is m) ts rest → begins_noisy m ts ≡ true
+pub noisy_begins : (m : Mark) → is comma (kind_of_mark m) ≡ false → (ts rest : List Token) → (noise ▷ Mark_is m) ts rest → begins_noisy m ts ≡ true
 noisy_begins m other ts rest (a, inl e, s) =
     let none : begins comma a ≡ false = ap (begins comma) s.2 ∙ other in
     ap (begins_noisy m) e ∙ ap (begins m) (no_skip comma a none) ∙ mark_begins m a rest s
 noisy_begins m other ts rest (a, inr w, s) = ap (begins m) (mark_skips comma ts a w) ∙ mark_begins m a rest s
 
 pub noisy_less : (m : Mark) (ts rest : List Token) → (noise ▷ Mark_is m) ts rest → length rest < length ts
-noisy_less m ts rest (a, inl e, s) = omega (arith, ap length e, token_less (kind_of m) a rest s)
-noisy_less m ts rest (a, inr w, s) = omega (arith, token_less (kind_of comma) ts a w, token_less (kind_of m) a rest s)
+noisy_less m ts rest (a, inl e, s) = omega (arith, ap length e, token_less (kind_of_mark m) a rest s)
+noisy_less m ts rest (a, inr w, s) = omega (arith, token_less (kind_of_mark comma) ts a w, token_less (kind_of_mark m) a rest s)
 
 -- what begins with neither the mark nor a comma before it
-pub noisy_stops : (c : List Token → Bool) (m : Mark) → ((span : Span) (line : Line) (ts : List Token) → c (token (kind_of m) span line ∷ ts) ≡ false) → ((span span' : Span) (line line' : Line) (ts : List Token) → c (token (kind_of comma) span line ∷ token (kind_of m) span' line' ∷ ts) ≡ false) → (ts rest : List Token) → (noise ▷ Mark_is m) ts rest → c ts ≡ false
+pub noisy_stops : (c : List Token → Bool) (m : Mark) → ((span : Span) (line : Line) (ts : List Token) → c (token (kind_of_mark m) span line ∷ ts) ≡ false) → ((span span' : Span) (line line' : Line) (ts : List Token) → c (token (kind_of_mark comma) span line ∷ token (kind_of_mark m) span' line' ∷ ts) ≡ false) → (ts rest : List Token) → (noise ▷ Mark_is m) ts rest → c ts ≡ false
 noisy_stops c m alone noisy ts rest (a, inl e, (span, line, f)) = ap c (e ∙ f) ∙ alone span line rest
 noisy_stops c m alone noisy ts rest (a, inr (span, line, e), (span', line', f)) = rw (e, f) (noisy span span' line line' rest)
 
@@ -217,7 +217,7 @@ names_loop = loop_of (separated_item (name_reads 0) begins_name name_begins name
 name_no_article : (n : List ℕ) (ts rest : List Token) → Name_is n ts rest → begins_class classes.Article ts ≡ false
 name_no_article n ts rest (span, line, e) = rw e refl
 
-pub item_reads : (k : ℕ) → Reads k item item Item_is continues_never
+pub item_reads : (k : ℕ) → Reads k articled_name articled_name Item_is continues_never
 item_reads k = optional_class_reads (name_reads k) classes.Article name_no_article
 
 pub item_begins : (ts : List Token) (n : List ℕ) (rest : List Token) → Item_is n ts rest → begins_item ts ≡ true
@@ -238,13 +238,13 @@ item_no_and ts e = elim (which (begins (word words.And) ts)) [ inl p ↦ absurd 
 pub items_reads : (k : ℕ) → Reads k items items (listed Item_is) (λ ts. begins_more begins_item ts || (continues_never ts || continues_never ts))
 items_reads k = list_reads (item_reads k) begins_item item_begins item_no_and item_less (λ span line ts. refl) (λ span line ts. refl)
 
-pub items_loop : Loop (begins_more begins_item) (λ r. item (skip_separator r))
+pub items_loop : Loop (begins_more begins_item) (λ r. articled_name (skip_separator r))
 items_loop = loop_of (separated_item (item_reads 0) begins_item item_begins item_no_and) refl
 
 -- ---- a list with a word before it, or neither
 
 pub perhaps_listed_reads : {X : Type 0} {k : ℕ} {starts : List Token → Bool} {r r' : Reader (List X)} {P : Shape} {S : X → Shape} {c : List Token → Bool} → Item k starts r r' (λ xs. P ▷ listed S xs) c → Reads k (maybe_list starts r) (maybe_list starts r') (perhaps_listed P S) (λ ts. starts ts || c ts)
-perhaps_listed_reads {X = X} {P = P} {S = S} item = maybe_list_reads item to from (λ ts. refl)
+perhaps_listed_reads {X = X} {P = P} {S = S} articled_name = maybe_list_reads articled_name to from (λ ts. refl)
   where
     to : (xs : List X) (ts rest : List Token) → (P ▷ listed S xs) ts rest → perhaps_listed P S xs ts rest
     to [] ts rest s = absurd s.2
@@ -305,4 +305,4 @@ module _ {A : Type 0} {k : ℕ} {starts : List Token → Bool} {r r' q q' : Read
 pub item_made : {A B : Type 0} {k : ℕ} {q q' : Reader A} {S : A → Shape} {d : List Token → Bool} (m : Mark) (law : Reads k q q' S d) (f : A → B) → Item k (begins m) (apply f (following (expect m) q)) (apply f (following (expect m) q')) (Made f (λ x. Mark_is m ▷ S x)) d
 item_made m law f =
     item_of (begins m) (made_reads (marked_reads m law) f) (λ ts y rest s. mark_begins m ts s.2.0 s.2.1)
-    (λ ts y rest s. omega (arith, token_less (kind_of m) ts s.2.0 s.2.1, law.shorter s.2.0 s.0 rest s.2.2))
+    (λ ts y rest s. omega (arith, token_less (kind_of_mark m) ts s.2.0 s.2.1, law.shorter s.2.0 s.0 rest s.2.2))

@@ -33,12 +33,12 @@ sign_of_symbol Plus = Some signs.Plus
 sign_of_symbol Minus = Some signs.Minus
 sign_of_symbol _ = None
 
-abbrev pub sign_of : TokenKind → Option Sign
-sign_of (kinds.Symbol s) = sign_of_symbol s
-sign_of _ = None
+abbrev pub sign_of_token : TokenKind → Option Sign
+sign_of_token (kinds.Symbol s) = sign_of_symbol s
+sign_of_token _ = None
 
 abbrev pub begins_sign : List Token → Bool
-begins_sign = begins_by sign_of
+begins_sign = begins_by sign_of_token
 
 -- what is named, TIME.V and TIME.A included
 abbrev pub designator_of_word : Word → Option Designator
@@ -128,7 +128,7 @@ module _ (inner : Reader ExpressionTree) where
 
   -- a sign and its term
   unfoldable pub signed_term_with : Reader (Sign × ExpressionTree)
-  signed_term_with = seq (taken sign_of) term_with
+  signed_term_with = seq (taken sign_of_token) term_with
 
   -- the first term, which may have a sign
   unfoldable pub first_term_with : Reader ExpressionTree

@@ -61,12 +61,12 @@ abbrev pub begins_item : List Token → Bool
 begins_item ts = begins_name (skip_class classes.Article ts)
 
 -- a name, with an article before it or not
-abbrev pub item : Reader (List ℕ)
-item ts = taken name_of (skip_class classes.Article ts)
+abbrev pub articled_name : Reader (List ℕ)
+articled_name ts = taken name_of (skip_class classes.Article ts)
 
 -- such names with separators between
 abbrev pub items : Reader (List (List ℕ))
-items = list_of begins_item item
+items = list_of begins_item articled_name
 
 abbrev pub among : (Word → Bool) → TokenKind → Bool
 among table (kinds.Word w) = table w

@@ -26,13 +26,13 @@ abbrev pub ◌>>=◌ : {A B : Type 0} → Result A Fault → (A → Result B Fau
 (Err e) >>= f = Err e
 
 -- What a function returned, seen through `view`, is what reading gives, unless memory ran out.
-abbrev pub Fails : {Y : Type 0} → Failure → Result Y Fault → Type 0
-Fails failures.Memory read = Unit {0}
-Fails (failures.Refused f left) read = read ≡ Err f
+abbrev pub FailsReading : {Y : Type 0} → Failure → Result Y Fault → Type 0
+FailsReading failures.Memory read = Unit {0}
+FailsReading (failures.Refused f left) read = read ≡ Err f
 
-abbrev pub Gives : {X Y : Type 0} → (X → Y) → Result X Failure → Result Y Fault → Type 0
-Gives view (Ok x) read = read ≡ Ok (view x)
-Gives view (Err e) read = Fails e read
+abbrev pub GivesReading : {X Y : Type 0} → (X → Y) → Result X Failure → Result Y Fault → Type 0
+GivesReading view (Ok x) read = read ≡ Ok (view x)
+GivesReading view (Err e) read = FailsReading e read
 
 -- ---- single tokens
 
@@ -52,9 +52,9 @@ same_symbol Equals Equals = true
 same_symbol (Other a) (Other b) = a == b
 same_symbol _ _ = false
 
-abbrev pub kind_of : Mark → TokenKind
-kind_of (word w) = kinds.Word w
-kind_of (symbol s) = kinds.Symbol s
+abbrev pub kind_of_mark : Mark → TokenKind
+kind_of_mark (word w) = kinds.Word w
+kind_of_mark (symbol s) = kinds.Symbol s
 
 abbrev pub is : Mark → TokenKind → Bool
 is (word w) (kinds.Word v) = sameb the_type v w

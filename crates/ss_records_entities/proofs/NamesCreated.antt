@@ -9,7 +9,7 @@ use Rattle.ss_records_blocks.specs.declared.store.Address.{Address}
 use Rattle.ss_records_blocks.specs.Cells.{Cells, words_at, word_of, word_at, link, counter}
 use Rattle.ss_world.specs.State.{Members, members_of}
 use Rattle.ss_records_words.specs.Shape.{owned_start, block_words, count_before, owned_by}
-use Rattle.ss_records_words.specs.Reading.{class_of}
+use Rattle.ss_records_words.specs.Reading.{class_in_words}
 use Rattle.ss_records_words.specs.Places.{Directory, listing, place_in, entity_at, owner_at, class_at}
 use Rattle.ss_records_words.specs.Kept.{Kept}
 use Rattle.ss_records_blocks.specs.Writes.{owned_word, owned_from}
@@ -76,7 +76,7 @@ module _ (l : Layout) (cs : Cells) (sys : Ptr) (d : Directory) (ms : List Member
         | inl x ↦ inl (subst (λ v. Newborn ds b v (entity_at sys e b v)) (sym q) (subst (λ v. Newborn ds b (suc i) v) (sym (ap place_in r)) x))
         | inr x ↦
             let new : entity_at sys e b n ≡ p.at = ap (entity_at sys e b) q ∙ ap place_in r in let old : entity_at sys d b n ≡ p.at = ap (entity_at sys d b) q ∙ ap place_in x.0 in
-            inr (subst (IsOf cs d b) (sym q) (is_of cs d b i p x.0 (sym (ap class_of x.1) ∙ c)), (new ∙ sym old, (λ k. (λ z. word_at ds (new z) k) ∙ ap (λ us. word_of us k) x.1 ∙ (λ z. word_at cs (sym old z) k))))
+            inr (subst (IsOf cs d b) (sym q) (is_of cs d b i p x.0 (sym (ap class_in_words x.1) ∙ c)), (new ∙ sym old, (λ k. (λ z. word_at ds (new z) k) ∙ ap (λ us. word_of us k) x.1 ∙ (λ z. word_at cs (sym old z) k))))
       ]
 
     still_of : (b n : ℕ) → IsOf cs d b n → IsOf ds e b n

@@ -17,7 +17,7 @@ use Rattle.ss_records_blocks.specs.Places.{Numbers}
 use Rattle.ss_records_words.specs.Places.{Lists, place_in, entity_at, class_at}
 use Rattle.ss_records_words.specs.Kept.{IsPermanent, issued_place, numbered_place}
 use Rattle.ss_records_words.specs.Slotted.{member_base}
-use Rattle.ss_records_words.specs.Plans.{is_permanent}
+use Rattle.ss_records_words.specs.Plans.{is_permanent_kind}
 use Rattle.ss_records_entities.specs.Parts.{IsKept, state, places, Found, Lies, Joins}
 use Rattle.ss_records_entities.proofs.Apart.{entity_is}
 use Rattle.ss_records_entities.proofs.Cuts.{lies_there}
@@ -42,7 +42,7 @@ found_numbered r K c x p h k =
     let t = there r.directory.places x p h in
     record { index = t.0; is = t.1; entry = inl t.2; class = k; entity = ap (entity (state r) c) t.1 ∙ entity_is r.layout r.blocks.cells r.system.at (places r) r.notes.lists K c (suc t.0) t.0 p refl k (inl t.2) }
 
-pub comes_and_goes : (k : ClassKind) → is_permanent k ≡ false → IsPermanent k → ⊥
+pub comes_and_goes : (k : ClassKind) → is_permanent_kind k ≡ false → IsPermanent k → ⊥
 comes_and_goes Permanent e p = cc
 comes_and_goes Temporary e p = p
 comes_and_goes Notice e p = p

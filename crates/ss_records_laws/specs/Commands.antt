@@ -65,9 +65,9 @@ FitsCommand l (FileAfter set o member beside) = set < length l.sets
 FitsCommand l (Remove set o member) = set < length l.sets
 
 -- what a call answers that gives no value
-abbrev pub outcome_of : Result (Unit {0}) FaultKind → Answer
-outcome_of (Ok u) = Done
-outcome_of (Err kind) = Faulted kind
+abbrev pub answer_without_value : Result (Unit {0}) FaultKind → Answer
+answer_without_value (Ok u) = Done
+answer_without_value (Err kind) = Faulted kind
 
 -- done, with the state that a call makes
 abbrev pub done : Result State FaultKind → Result (Answer × State) FaultKind

@@ -16,7 +16,7 @@ use Rattle.ss_records_words.specs.Places.{Directory, listing, Lists, place_in, e
 use Rattle.ss_records_words.specs.Kept.{Kept}
 use Rattle.ss_records_words.specs.Links.{Grounds, OfMember, OfOwner}
 use Rattle.ss_records_words.specs.Slotted.{member_base, owner_base, slots_of, is_entry, IsOf, MayOwn, OfName, Spares}
-use Rattle.ss_records_words.specs.Reading.{class_of}
+use Rattle.ss_records_words.specs.Reading.{class_in_words}
 use Rattle.ss_records_blocks.proofs.Same.{same}
 use Rattle.ss_records_words.proofs.Listing.{listed, lists_place}
 use Rattle.ss_records_blocks.proofs.Puts.{put_other, length_put}
@@ -108,7 +108,7 @@ module _ (l : Layout) (cs : Cells) (sys : Ptr) (d : Directory) (ms : List Member
       let a = entry_of cs d c x h in let e = entry_of cs d b y k in
       let q = sym (at_entry c x a.0 a.1 a.2 a.3) ∙ z ∙ at_entry b y e.0 e.1 e.2 e.3 in
       let i : a.0 ≡ e.0 = K.apart a.0 e.0 a.1 e.1 (listed d c a.0 a.1 a.3) (listed d b e.0 e.1 e.3) q in
-      (a.2 ∙ ap suc i ∙ sym e.2, sym a.4 ∙ ap (λ (r : Ptr). class_of (words_at cs r)) q ∙ e.4)
+      (a.2 ∙ ap suc i ∙ sym e.2, sym a.4 ∙ ap (λ (r : Ptr). class_in_words (words_at cs r)) q ∙ e.4)
 
   pub off_end : (c x : ℕ) → IsOf cs d c x → at c x ≡ sys → ⊥
   off_end c x h z = let a = entry_of cs d c x h in K.off_system a.0 a.1 (listed d c a.0 a.1 a.3) (sym (at_entry c x a.0 a.1 a.2 a.3) ∙ z)

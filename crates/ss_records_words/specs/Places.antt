@@ -5,7 +5,7 @@ use Rattle.ss_base.specs.declared.layout.Owner.{Owner}
 use Rattle.ss_base.specs.declared.layout.Owner.TheVariants.{System, Class}
 use Rattle.ss_records_blocks.specs.declared.store.Address.{Address}
 use Rattle.ss_records_blocks.specs.Cells.{Cells, words_at}
-use Rattle.ss_records_words.specs.Reading.{class_of}
+use Rattle.ss_records_words.specs.Reading.{class_in_words}
 use Rattle.ss_records_blocks.specs.Places.{Numbers}
 
 -- the permanent entities of each class by index, none until they are made
@@ -58,7 +58,7 @@ owner_at sys d (Class c) n = entity_at sys d c n
 
 -- the class that the words of a block give
 abbrev pub class_at : Cells → Address → ℕ
-class_at cs p = class_of (words_at cs p.at)
+class_at cs p = class_in_words (words_at cs p.at)
 
 -- how many permanent entities there are
 abbrev pub made_count : Made → ℕ

@@ -14,7 +14,7 @@ use Rattle.ss_program.specs.declared.expression.Fold.TheVariants.{Number, Sum, M
 use Rattle.ss_program.specs.declared.sections.Subject.{Subject}
 use Rattle.ss_program.specs.declared.sections.Subject.TheVariants.{OfCount}
 use Rattle.ss_program.specs.declared.sections.Statistic.{Statistic}
-use Rattle.ss_stats.specs.History.{History, last_moment, number_of, sum_of, mean_of, maximum_of, minimum_of, is_full, with_value, restarted}
+use Rattle.ss_stats.specs.History.{History, last_moment, number_noted, sum_of, mean_of, maximum_of, minimum_of, is_full, with_value, restarted}
 use Rattle.ss_meaning.specs.Values.{Trouble, Fails, Misfit, turned, due}
 use Rattle.ss_meaning.specs.Store.{Column}
 use Rattle.ss_meaning.specs.Histories.{history_of, with_history, all_noting, home, same_owner, starting, ending}
@@ -25,7 +25,7 @@ use Rattle.ss_stats_histories.specs.declared.unnoted.Unnoted.TheVariants as unno
 
 -- what is asked of a history, as a number
 abbrev pub figure_of : Fold → (now : ℤ) → History → Result ℤ FaultKind
-figure_of Number now h = Ok (number_of h now)
+figure_of Number now h = Ok (number_noted h now)
 figure_of Sum now h = sum_of h now
 figure_of Maximum now h = Ok (maximum_of h)
 figure_of Minimum now h = Ok (minimum_of h)

@@ -14,7 +14,7 @@ use Rattle.ss_tables_rules.specs.Lines.{sooner, soonest, line_if, later_lines}
 use Rattle.ss_tables_rules.specs.TooMany.{attribute_class, is_of, is_past}
 use Rattle.ss_tables_rules.specs.Topics.{line_of}
 use Rattle.ss_tables_rules.specs.declared.too_many.Counts.{Counts}
-use Rattle.ss_tables_rules.specs.Counts.{count_of, AreCounts, CountsOne}
+use Rattle.ss_tables_rules.specs.Counts.{attributes_counted, AreCounts, CountsOne}
 
 count_last : {A : Type 0} (p : A → Bool) (xs : List A) (x : A) (b : Bool) → p x ≡ b → count_by p (xs ++ x ∷ []) ≡ count_by p xs + cond b 1 0
 count_last p xs x b e =
@@ -40,7 +40,7 @@ counted_if says s class other kept false is_given e h =
 -- an attribute of this class
 pub counted : (says : List Saying) (s : Saying) (class : NameBytes) (old new : Counts) → attribute_class s.said ≡ Some class → CountsOne class old new → AreCounts says old → AreCounts (says ++ s ∷ []) new
 counted says s class old new is_given one h =
-    λ other. one other ∙ counted_if says s class other (count_of old) (same_name class other) is_given refl h
+    λ other. one other ∙ counted_if says s class other (attributes_counted old) (same_name class other) is_given refl h
 
 -- ---- the next of some sayings
 

@@ -59,15 +59,15 @@ broken_at rule None = None
 broken_at rule (Some line) = Some (record { rule = rule; line = line })
 
 -- the first of two, where there is one
-abbrev pub first_of : Option Broken → Option Broken → Option Broken
-first_of None rest = rest
-first_of (Some b) rest = Some b
+abbrev pub first_of_two : Option Broken → Option Broken → Option Broken
+first_of_two None rest = rest
+first_of_two (Some b) rest = Some b
 
 -- the first of these rules that is broken
 abbrev pub first_broken : List Saying → List SectionTree → List Rule → Option Broken
 first_broken says sections [] = None
 first_broken says sections (rule ∷ rules) =
-    first_of (broken_at rule (first_line (broken_by says sections rule))) (first_broken says sections rules)
+    first_of_two (broken_at rule (first_line (broken_by says sections rule))) (first_broken says sections rules)
 
 abbrev pub refusal_by : List Saying → List SectionTree → Option Broken
 refusal_by says sections = first_broken says sections in_order

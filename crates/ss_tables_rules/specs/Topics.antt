@@ -76,15 +76,15 @@ abbrev pub is_said : Topic → List Saying → Thing → Bool
 is_said topic says thing = list_any (is_said_by topic thing) says
 
 -- the class that a saying gives
-abbrev pub class_in : Said → Option NameBytes
-class_in (said.Attribute class) = Some class
-class_in (said.MemberSet class) = Some class
-class_in _ = None
+abbrev pub class_declared : Said → Option NameBytes
+class_declared (said.Attribute class) = Some class
+class_declared (said.MemberSet class) = Some class
+class_declared _ = None
 
 -- the class that a saying gives, if there is one
 abbrev pub class_given : Option Saying → Option NameBytes
 class_given None = None
-class_given (Some s) = class_in s.said
+class_given (Some s) = class_declared s.said
 
 -- the class of an attribute, or of the members of a set: that of the first saying that gives it
 abbrev pub class_of : Topic → List Saying → Thing → Option NameBytes

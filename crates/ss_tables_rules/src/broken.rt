@@ -2,7 +2,7 @@
 
 ghost use Rattle.std.specs.Prelude.{◌≡◌, map, IfOk};
 ghost use Rattle.ss_tree.specs.View.{view_section};
-ghost use Rattle.ss_tables_rules.specs.Broken.{broken_by, broken_at, first_of, first_broken, refusal_by};
+ghost use Rattle.ss_tables_rules.specs.Broken.{broken_by, broken_at, first_of_two, first_broken, refusal_by};
 ghost use Rattle.ss_tables_rules.specs.Declarations.{declarations};
 ghost use Rattle.ss_tables_rules.specs.Globals.{IsGlobalsOf};
 ghost use Rattle.ss_tables_rules.specs.Lines.{first_line};
@@ -64,7 +64,7 @@ fn or_broken(
     found: Option<Broken>,
 ) -> Result<Option<Broken>, AllocError>
     requires { IsGlobalsOf (declarations sayings.now) globals.now }
-    ensures { IfOk result (λ b. b ≡ first_of found (broken_at rule (first_line (broken_by sayings.now (map view_section sections.now) rule)))) }
+    ensures { IfOk result (λ b. b ≡ first_of_two found (broken_at rule (first_line (broken_by sayings.now (map view_section sections.now) rule)))) }
 {
     match found {
         Some(broken) => Ok(Some(broken)),

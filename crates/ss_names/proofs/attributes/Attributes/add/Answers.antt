@@ -25,9 +25,9 @@ returns c owned are =
     let field : c.row_len.result ≡ length (fields_among owned c.args.class) =
     c.row_len.ensures ∙ ap (λ rows. length (get_or (map row_of rows) c.args.class [])) c.deref.ensures.value
     ∙ ap (λ rows. length (get_or rows c.args.class [])) inside.fields ∙ row_length owned n c.args.class c.requires in
-    let made : Attribute = record { class = c.args.class; field = c.row_len.result; mode = c.mode_of.result } in
+    let made : Attribute = record { class = c.args.class; field = c.row_len.result; mode = c.defined_mode.result } in
     let is : (c.args.name, made) ≡ attribute_after usual defined owned (c.args.name, c.args.class) =
-    λ k. (c.args.name, record { class = c.args.class; field = field k; mode = c.mode_of.ensures k }) in
+    λ k. (c.args.name, record { class = c.args.class; field = field k; mode = c.defined_mode.ensures k }) in
     let entries : c.insert_new.new.self ≡ before.entries ++ attribute_after usual defined owned (c.args.name, c.args.class) ∷ [] =
     c.in_ok-insert_new.ensures.ok ∙ ap (λ b. cond b i.entries (i.entries ++ (c.args.name, made) ∷ [])) new
     ∙ ap (λ e. before.entries ++ e ∷ []) is in
