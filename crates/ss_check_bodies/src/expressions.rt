@@ -8,11 +8,11 @@ ghost use Rattle.ss_program.specs.Program.{Calculate};
 ghost use Rattle.ss_program.specs.View.{view_expression as view_resolved, view_option};
 ghost use Rattle.ss_program.specs.Views.{with_operation};
 ghost use Rattle.ss_names_meaning.specs.Answers.{Gives};
-ghost use Rattle.ss_names_meaning.specs.Expressions.{entity_of, expression, factors, one, without_subscript, subscript, terms, time_of, two, resolved_value};
+ghost use Rattle.ss_names_meaning.specs.Expressions.{entity_of, expression, factors, one, without_subscript, subscript, terms, resolved_time, two, resolved_value};
 ghost use Rattle.ss_check_bodies.specs.Results.{operation};
 
 use crate::results::unresolved;
-use crate::words::{operator_of, resolved_sign};
+use crate::words::{resolved_operator, resolved_sign};
 use ss_base::Value;
 use ss_names_meaning::{Meaning, ResolveError, Scope};
 use ss_program::expression::{Expression as Resolved, Operation, Operator, Variable};
@@ -44,8 +44,8 @@ pub(crate) fn without_subscript<T: Drop>(subscript: Option<Resolved>, value: T) 
 
 // TIME.A.
 #[tactic(auto, unfolding(ss_program::specs::View::view_expression))]
-fn time_of(alloc: Global, subscript: Option<Resolved>) -> Result<Resolved, ResolveError>
-    ensures { Gives view_resolved result (time_of (view_option view_resolved subscript)) }
+fn resolved_time(alloc: Global, subscript: Option<Resolved>) -> Result<Resolved, ResolveError>
+    ensures { Gives view_resolved result (resolved_time (view_option view_resolved subscript)) }
 {
     match subscript {
         Some(notice) => {
@@ -117,7 +117,7 @@ pub(crate) fn resolved_value(
             })
         }
         Meaning::Clock => without_subscript(subscript, Resolved::Clock),
-        Meaning::NoticeTime => time_of(alloc, subscript),
+        Meaning::NoticeTime => resolved_time(alloc, subscript),
         Meaning::Mean { .. } | Meaning::MeanOf { .. } => Err(unresolved(subscript)),
     }
 }
@@ -319,7 +319,7 @@ fn resolve_terms<S: Scope>(
     for tree in trees {
         let operand = resolve_expression(alloc, scope, &tree.value)?;
         operations.push(Operation {
-            operator: operator_of(tree.sign),
+            operator: resolved_operator(tree.sign),
             operand,
         })?;
     }

@@ -6,7 +6,7 @@ ghost use Rattle.ss_tree.specs.View.{view_expression};
 ghost use Rattle.ss_program.specs.Program.{AValue};
 ghost use Rattle.ss_program.specs.View.{view_expression as view_resolved, view_item, view_option};
 ghost use Rattle.ss_names_meaning.specs.Answers.{Gives, each};
-ghost use Rattle.ss_names_meaning.specs.Expressions.{expression, item, item_of, resolved_value};
+ghost use Rattle.ss_names_meaning.specs.Expressions.{expression, item, resolved_item, resolved_value};
 
 use crate::expressions::{entity_of, without_subscript, resolve_expression, resolve_subscript, resolved_value};
 use ss_names_meaning::{Meaning, ResolveError, Scope};
@@ -31,12 +31,12 @@ fn named_value(
 
 // What PRINT shows of what is named, with the subscript if there is one.
 #[tactic(auto, using(crate::proofs::Seen::plain_seen))]
-fn item_of(
+fn resolved_item(
     alloc: Global,
     meaning: Meaning,
     subscript: Option<Resolved>,
 ) -> Result<Item, ResolveError>
-    ensures { Gives view_item result (item_of meaning (view_option view_resolved subscript)) }
+    ensures { Gives view_item result (resolved_item meaning (view_option view_resolved subscript)) }
 {
     match meaning {
         Meaning::Mean { statistic } => without_subscript(subscript, Item::Mean { statistic }),
@@ -70,7 +70,7 @@ fn resolve_named<S: Scope>(
 {
     let meaning = scope.meaning(designator)?;
     let subscript = resolve_subscript(alloc, scope, subscripts)?;
-    item_of(alloc, meaning, subscript)
+    resolved_item(alloc, meaning, subscript)
 }
 
 // A value.

@@ -26,7 +26,7 @@ use Rattle.ss_names_meaning.specs.Contexts.{Context}
 use Rattle.ss_names_meaning.specs.Expressions.{expression, target}
 use Rattle.ss_names_meaning.specs.Statements.{call_of, statement}
 use Rattle.ss_names_laws.specs.Rules.{KeptMentions, KeptDemands}
-use Rattle.ss_check_laws.specs.Links.{Linked}
+use Rattle.ss_check_laws.specs.Links.{ContextAgrees}
 use Rattle.ss_check_laws.proofs.Steps.{known_of, same_number}
 use Rattle.ss_check_laws.proofs.Heads.{ml, mr, dl, dr, three_steps}
 use Rattle.ss_check_laws.proofs.Statements.{StatementResolves}
@@ -61,7 +61,7 @@ all_placed Q ys n modes e h =
     let few : length modes ≤ n = omega (arith, e) in
     subst (AllZip Q ys) (take_all n modes few) h
 
-module _ (w : Whole) (locals : Moded) (c : Context) (s : Scope) (linked : Linked w locals c s) (line : Line) where
+module _ (w : Whole) (locals : Moded) (c : Context) (s : Scope) (linked : ContextAgrees w locals c s) (line : Line) where
   pub call_resolves : (name : NameBytes) (given : List ExpressionTree) (yielding : List NamedTree) → KeptMentions w locals (mentioned.in_itself (call_statement line name given yielding)) → KeptDemands w locals (demanded.in_itself (call_statement line name given yielding)) →
       StatementResolves w locals c s linked line (call_statement line name given yielding)
   unfolding statement

@@ -15,7 +15,7 @@ use Rattle.ss_check_scopes.specs.declared.known.Known.{Known}
 use Rattle.ss_check_scopes.specs.declared.known.Known.TheVariants as knowns
 use Rattle.ss_check_scopes.specs.Locals.{Moded}
 use Rattle.ss_check_scopes.specs.Whole.{Whole}
-use Rattle.ss_check_rules.specs.Unknown.{is_transient, is_notice, is_known_permanent}
+use Rattle.ss_check_rules.specs.Unknown.{is_transient, is_known_notice, is_known_permanent}
 use Rattle.ss_program.specs.declared.statement.Counted.{Counted}
 use Rattle.ss_program.specs.Program.{Fetch, ToVariable, Statement, Create, CreateEvery, Destroy, Cancel}
 use Rattle.ss_program.specs.WellTyped.{Scope, HasMode, TakesMode, kind_of_class, is_created_singly}
@@ -24,7 +24,7 @@ use Rattle.ss_names_meaning.specs.Answers.{◌>>=◌, each}
 use Rattle.ss_names_meaning.specs.Contexts.{Context, if_single, if_notice, if_permanent, single_class, notice_class, permanent_class, counted}
 use Rattle.ss_names_meaning.specs.Statements.{new_place, entity_called, statement}
 use Rattle.ss_names_laws.specs.Rules.{KeptMention, KeptMentions, KeptDemands}
-use Rattle.ss_check_laws.specs.Links.{Linked, IsClass, kind_said, counted_class}
+use Rattle.ss_check_laws.specs.Links.{ContextAgrees, IsClass, kind_said, counted_class}
 use Rattle.ss_check_laws.proofs.Steps.{step, two_steps, known_of}
 use Rattle.ss_check_laws.proofs.Conditions.{GoesWell, number_kept}
 use Rattle.ss_check_laws.proofs.Heads.{known_permanent, permanent_is, class_takes}
@@ -42,13 +42,13 @@ known_single (knowns.Class class_words.EventNotice) h = (class_words.EventNotice
 known_single (knowns.Class class_words.Permanent) h = absurd cc
 known_single _ h = absurd cc
 
-known_notice : (known : Known) → is_notice known ≡ true → known ≡ knowns.Class class_words.EventNotice
+known_notice : (known : Known) → is_known_notice known ≡ true → known ≡ knowns.Class class_words.EventNotice
 known_notice (knowns.Class class_words.EventNotice) h = refl
 known_notice (knowns.Class class_words.Temporary) h = absurd cc
 known_notice (knowns.Class class_words.Permanent) h = absurd cc
 known_notice _ h = absurd cc
 
-module _ (w : Whole) (locals : Moded) (c : Context) (s : Scope) (linked : Linked w locals c s) (line : Line) where
+module _ (w : Whole) (locals : Moded) (c : Context) (s : Scope) (linked : ContextAgrees w locals c s) (line : Line) where
   -- a class of such a kind
   abbrev IsSingle : NameBytes → Type 0
   IsSingle name = (referent : ClassMeant) × (kind : ClassWord) × (single_class c name ≡ Some referent) × IsClass w locals s name kind referent × (is_created_singly (kind_of_class s.program referent.class) ≡ true)
@@ -70,7 +70,7 @@ module _ (w : Whole) (locals : Moded) (c : Context) (s : Scope) (linked : Linked
   abbrev pub IsNotice : NameBytes → Type 0
   IsNotice name = (referent : ClassMeant) × (notice_class c name ≡ Some referent) × IsClass w locals s name class_words.EventNotice referent
 
-  pub notice_there : (name : NameBytes) (known : Known) → w.meanings name ≡ Some known → is_notice known ≡ true → IsNotice name
+  pub notice_there : (name : NameBytes) (known : Known) → w.meanings name ≡ Some known → is_known_notice known ≡ true → IsNotice name
   notice_there name known e h =
       let meant = linked.class name class_words.EventNotice (e ∙ ap Some (known_notice known h)) in
       let referent = meant.0 in
@@ -127,7 +127,7 @@ module _ (w : Whole) (locals : Moded) (c : Context) (s : Scope) (linked : Linked
       StatementResolves w locals c s linked line (cancel_statement line name called)
   unfolding statement
   cancel_resolves name called m d =
-      let known = known_of (w.meanings name) is_notice m.0.0 in
+      let known = known_of (w.meanings name) is_known_notice m.0.0 in
       let class = notice_there name known.0 known.1 known.2 in
       let x = old_resolves name class_words.EventNotice class.0 class.2 called m.1 d in
       let made : Statement = Cancel line class.0.class x.0 in (

@@ -23,8 +23,8 @@ use Rattle.ss_check_scopes.specs.declared.known.Known.TheVariants as knowns
 use Rattle.ss_check_scopes.specs.Locals.{Moded}
 use Rattle.ss_check_scopes.specs.Meanings.{meaning_in}
 use Rattle.ss_check_scopes.specs.Whole.{Whole}
-use Rattle.ss_check_rules.specs.Unknown.{has_value, is_variable, is_known_permanent}
-use Rattle.ss_check_rules.specs.Modes.{mode_of_known, mode_in, known_mode, differ}
+use Rattle.ss_check_rules.specs.Unknown.{has_value, is_known_variable, is_known_permanent}
+use Rattle.ss_check_rules.specs.Modes.{mode_of_known, mode_of_name, known_mode, differ}
 use Rattle.ss_program.specs.declared.expression.Variable.{Variable}
 use Rattle.ss_program.specs.Program.{ToVariable, AtEnd, From, After, Head, Numbers, Members, Each, Phrase, Guard}
 use Rattle.ss_program.specs.WellTyped.{Scope, HasMode, TakesMode, GoodStart, GoodPhrase, GoodCondition}
@@ -35,9 +35,9 @@ use Rattle.ss_names_meaning.specs.Answers.{◌>>=◌, each, if_there}
 use Rattle.ss_names_meaning.specs.Contexts.{Context, permanent_class, if_permanent}
 use Rattle.ss_names_meaning.specs.Expressions.{expression, set_named}
 use Rattle.ss_names_meaning.specs.Conditions.{condition}
-use Rattle.ss_names_meaning.specs.Heads.{phrase_kind_of, guard_kind_of, phrase, guard, if_variable, loop_variable, resolved_start, called_variable, head}
+use Rattle.ss_names_meaning.specs.Heads.{phrase_kind_of, guard_kind_of, resolved_phrase, guard, if_variable, loop_variable, resolved_start, called_variable, head}
 use Rattle.ss_names_laws.specs.Rules.{KeptMention, KeptDemand, KeptMentions, KeptDemands}
-use Rattle.ss_check_laws.specs.Links.{Linked, IsVariable, IsClass, Fits}
+use Rattle.ss_check_laws.specs.Links.{ContextAgrees, IsVariable, IsClass, Fits}
 use Rattle.ss_check_laws.specs.BodyLaws.{ForResolves, HeadResolves}
 use Rattle.ss_check_laws.proofs.Steps.{left_of, right_of, step, known_of, is_integer}
 use Rattle.ss_check_laws.proofs.Places.{set_resolves}
@@ -55,7 +55,7 @@ four_steps o p q r next a b e d x h g k l f = rw (h, g, k, l) f
 
 -- ---- what is known
 
-variable_is_value : (known : Known) → is_variable known ≡ true → has_value known ≡ true
+variable_is_value : (known : Known) → is_known_variable known ≡ true → has_value known ≡ true
 variable_is_value (knowns.Local m) h = refl
 variable_is_value (knowns.Variable m) h = refl
 variable_is_value (knowns.Class kind) h = refl
@@ -81,7 +81,7 @@ module _ (w : Whole) (locals : Moded) (s : Scope) where
   abbrev KnownLoops : Known → Meaning → Type 0
   KnownLoops known referent = (m : Mode) × (mode_of_known known ≡ Some m) × Loops m referent
 
-  known_loops : (known : Known) (referent : Meaning) → Fits w locals s known referent → is_variable known ≡ true → KnownLoops known referent
+  known_loops : (known : Known) (referent : Meaning) → Fits w locals s known referent → is_known_variable known ≡ true → KnownLoops known referent
   known_loops (knowns.Local m) referent f h = (m, refl, variable_loops m referent f)
   known_loops (knowns.Variable m) referent f h = (m, refl, variable_loops m referent f)
   known_loops (knowns.Class kind) referent f h = (modes.Integer, refl, variable_loops modes.Integer referent f)
@@ -101,7 +101,7 @@ module _ (w : Whole) (locals : Moded) (s : Scope) where
   pub dr : (xs ys : List Demand) → KeptDemands w locals (xs ++ ys) → KeptDemands w locals ys
   dr xs ys h = right_of (KeptDemand w locals) xs ys h
 
-module _ (w : Whole) (locals : Moded) (c : Context) (s : Scope) (linked : Linked w locals c s) (line : Line) where
+module _ (w : Whole) (locals : Moded) (c : Context) (s : Scope) (linked : ContextAgrees w locals c s) (line : Line) where
   -- ---- variables of loops
 
   abbrev pub TakesNumbers : Option Variable → Type 0
@@ -109,10 +109,10 @@ module _ (w : Whole) (locals : Moded) (c : Context) (s : Scope) (linked : Linked
 
   pub loops : (name : NameBytes) → KeptMention w locals (mentioned.plain_mention line roles.LoopVariable name) → KeptDemand w locals (demanded.a_number line (aspects.Named name)) → TakesNumbers (loop_variable c name)
   loops name m d =
-      let known = known_of (meaning_in w.meanings locals name) is_variable m.0 in
+      let known = known_of (meaning_in w.meanings locals name) is_known_variable m.0 in
       let referent = linked.value name known.0 known.1 (variable_is_value known.0 known.2) in
       let r = known_loops w locals s known.0 referent.0 referent.2 known.2 in
-      let moded : mode_in w locals name ≡ Some r.0 = ap known_mode known.1 ∙ r.1 in
+      let moded : mode_of_name w locals name ≡ Some r.0 = ap known_mode known.1 ∙ r.1 in
       let fits : differ (Some r.0) (Some modes.Integer) ≡ false = subst (λ o. differ o (Some modes.Integer) ≡ false) moded d.0 in
       (r.2.0, step (c.meaning (Name name)) if_variable referent.0 r.2.0 referent.1 r.2.1, subst (λ k. TakesMode s (ToVariable r.2.0) k) (is_integer r.0 fits) r.2.2)
 
@@ -131,7 +131,7 @@ module _ (w : Whole) (locals : Moded) (c : Context) (s : Scope) (linked : Linked
 
   -- ---- phrases and guards
 
-  phrase_resolves : (p : PhraseTree) → KeptMentions w locals (mentioned.in_condition line p.condition) → KeptDemands w locals (demanded.in_condition line p.condition) → GoesWell w locals (GoodPhrase s) (phrase c p)
+  phrase_resolves : (p : PhraseTree) → KeptMentions w locals (mentioned.in_condition line p.condition) → KeptDemands w locals (demanded.in_condition line p.condition) → GoesWell w locals (GoodPhrase s) (resolved_phrase c p)
   phrase_resolves p m d =
       let r = condition_resolves w locals c s linked line p.condition m d in
       let made : Phrase = record { kind = phrase_kind_of p.kind; condition = r.0 } in
@@ -143,9 +143,9 @@ module _ (w : Whole) (locals : Moded) (c : Context) (s : Scope) (linked : Linked
       let made : Guard = record { kind = guard_kind_of g.kind; condition = r.0 } in
       (made, step (condition c g.condition) (λ tests. Some (record { kind = guard_kind_of g.kind; condition = tests })) r.0 made r.1 refl, r.2)
 
-  phrases_resolve : (ps : List PhraseTree) → KeptMentions w locals (mentioned.in_phrases line ps) → KeptDemands w locals (demanded.in_phrases line ps) → GoesWell w locals (Every (GoodPhrase s)) (each (phrase c) ps)
+  phrases_resolve : (ps : List PhraseTree) → KeptMentions w locals (mentioned.in_phrases line ps) → KeptDemands w locals (demanded.in_phrases line ps) → GoesWell w locals (Every (GoodPhrase s)) (each (resolved_phrase c) ps)
   phrases_resolve ps m d =
-      each_resolves w locals (phrase c) (λ p. mentioned.in_condition line p.condition) (λ p. demanded.in_condition line p.condition) (GoodPhrase s) phrase_resolves ps m d
+      each_resolves w locals (resolved_phrase c) (λ p. mentioned.in_condition line p.condition) (λ p. demanded.in_condition line p.condition) (GoodPhrase s) phrase_resolves ps m d
 
   -- ---- parts of heads
 

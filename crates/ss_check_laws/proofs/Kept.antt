@@ -13,7 +13,7 @@ use Rattle.ss_names_laws.specs.Subjects.{SubjectsAreWhole}
 use Rattle.ss_names_laws.specs.Tables.{TablesAreKept}
 use Rattle.ss_check_scopes.specs.Signatures.{given_to, yielded_by}
 use Rattle.ss_check_scopes.specs.Whole.{Whole, locals_of}
-use Rattle.ss_check_laws.specs.Parameters.{AreDistinct, parameters}
+use Rattle.ss_check_laws.specs.Parameters.{AreDistinctNames, parameters}
 use Rattle.ss_names_laws.specs.ValidTables.{IsValidTable}
 use Rattle.ss_check_laws.specs.Programs.{KeepsAllRules, KeepsRules}
 
@@ -24,7 +24,7 @@ table_kept tables subjects p d u = record { said = tables p d; subjects = subjec
 
 -- ---- sections
 
-distinct : (names : List NameBytes) → Pairwise (λ name other. other ≢ name) names → AreDistinct names
+distinct : (names : List NameBytes) → Pairwise (λ name other. other ≢ name) names → AreDistinctNames names
 distinct [] h = tt
 distinct (n ∷ ns) h = (h.0, distinct ns h.1)
 

@@ -14,7 +14,7 @@ use Rattle.ss_names_meaning.specs.Answers.{each, if_there}
 use Rattle.ss_names_meaning.specs.Contexts.{Context, permanent_class}
 use Rattle.ss_names_meaning.specs.Expressions.{expression, subscript, target, set_named}
 use Rattle.ss_names_meaning.specs.Conditions.{one_test, conjunction, condition}
-use Rattle.ss_names_meaning.specs.Heads.{called_variable, guard, head, loop_variable, phrase, phrases_of, resolved_start}
+use Rattle.ss_names_meaning.specs.Heads.{called_variable, guard, head, loop_variable, resolved_phrase, phrases_of, resolved_start}
 use Rattle.ss_names_meaning.specs.Statements.{entity_called, mode_of_target, new_place, position, reader, restart, owner_of_statistic, when}
 use Rattle.ss_check_laws.proofs.Within.{Within, up, change, after, after_lookup, plain_small, there_small, each_small}
 use Rattle.ss_check_laws.proofs.ExpressionSizes.{entity_small, small, subscript_small, target_small, set_small}
@@ -91,7 +91,7 @@ module _ (c : Context) where
       change (total alternative_nodes) condition_nodes (tree.condition_nodes (a ∷ rest)) (condition c (a ∷ rest)) (most_alternatives (tree.condition_nodes (a ∷ rest)) (condition_counts (a ∷ rest)))
       (each_small tree.alternative_nodes alternative_nodes (conjunction c) conjunction_small (a ∷ rest))
 
-  pub phrase_small : (p : PhraseTree) → Within phrase_nodes (tree.phrase_nodes p) (phrase c p)
+  pub phrase_small : (p : PhraseTree) → Within phrase_nodes (tree.phrase_nodes p) (resolved_phrase c p)
   phrase_small p = after condition_nodes phrase_nodes (tree.condition_nodes p.condition) (tree.phrase_nodes p) (condition c p.condition) _ (condition_small p.condition) (λ x lt. omega (arith, lt))
 
   pub guard_small : (g : GuardTree) → Within guard_nodes (tree.guard_nodes g) (guard c g)

@@ -19,7 +19,7 @@ use Rattle.ss_check_scopes.specs.Locals.{Moded, mode_of_local}
 use Rattle.ss_check_scopes.specs.Meanings.{value_mode}
 use Rattle.ss_check_scopes.specs.Signatures.{Signed, given_to, signature, yielded_by}
 use Rattle.ss_check_scopes.specs.Whole.{Whole, locals_of}
-use Rattle.ss_check_scopes.specs.WholeOf.{class_meaning, meaning_of, whole_of}
+use Rattle.ss_check_scopes.specs.WholeOf.{known_of_class, meaning_of, whole_of}
 use Rattle.ss_check_rules.specs.Uses.{is_main}
 use Rattle.ss_program.specs.Program.{Block, Done, Event, Program, Routine}
 use Rattle.ss_program.specs.WellTyped.{GoodBlock, Scope}
@@ -76,7 +76,7 @@ module _ (p : tree.ProgramTree) (k : IsValidTable (table p)) (g : KeepsAllRules 
   -- the modes of the local variables are the declared ones
   pub record HasModes (s : tree.SectionTree) (modes : List Mode) : Type 0 where
     pub resolved : local_modes (locals_of w s) ≡ Some modes
-    pub said : modes ≡ parameters.modes_of (locals_of w s)
+    pub said : modes ≡ parameters.modes_of_locals (locals_of w s)
 
   local_moded : (s : tree.SectionTree) → KeepsRules w s → (i : ℕ) (e : NameBytes × Option ModeWord) → slice_get (locals_of w s) i ≡ Some e → (m : Mode) × (local_mode (locals_of w s) i ≡ Some m) × (value_mode e.1 ≡ m)
   local_moded s r i e h =
@@ -88,7 +88,7 @@ module _ (p : tree.ProgramTree) (k : IsValidTable (table p)) (g : KeepsAllRules 
   modes_there s r =
       let locals = locals_of w s in
       let all = numbers_there (local_mode locals) (length locals) (λ i lt. let e = there locals i lt in let m = local_moded s r i e.0 e.1 in (m.0, m.1)) in
-      let said : map parameters.local_mode locals ≡ all.0 = numbers_map (local_mode locals) parameters.local_mode locals all.0 all.1 (λ i e m f h. let n = local_moded s r i e f in let same : n.0 ≡ m = same_Some n.0 m (sym n.1 ∙ h) in n.2 ∙ same) in
+      let said : map parameters.mode_of_entry locals ≡ all.0 = numbers_map (local_mode locals) parameters.mode_of_entry locals all.0 all.1 (λ i e m f h. let n = local_moded s r i e f in let same : n.0 ≡ m = same_Some n.0 m (sym n.1 ∙ h) in n.2 ∙ same) in
       (all.0, record { resolved = all.1; said = sym said })
 
   -- ---- bodies
@@ -107,7 +107,7 @@ module _ (p : tree.ProgramTree) (k : IsValidTable (table p)) (g : KeepsAllRules 
   section_of n s h = every_at (KeepsRules w) p.sections n s g.sections h
 
   -- the routine of a number is given and yields what its section's signature says
-  pub signed : (q : Program) (n : ℕ) (r : RoutineSaid) (s : tree.SectionTree) (parts : Parts) → slice_get (values_of t.routines) n ≡ Some r → slice_get p.sections r.section ≡ Some s → parts.modes ≡ parameters.modes_of (locals_of w s) → slice_get q.routines n ≡ Some (routine_of r.given r.yielding parts) → IsSigned signatures q n r
+  pub signed : (q : Program) (n : ℕ) (r : RoutineSaid) (s : tree.SectionTree) (parts : Parts) → slice_get (values_of t.routines) n ≡ Some r → slice_get p.sections r.section ≡ Some s → parts.modes ≡ parameters.modes_of_locals (locals_of w s) → slice_get q.routines n ≡ Some (routine_of r.given r.yielding parts) → IsSigned signatures q n r
   signed q n r s parts e f m h =
       let entry = entry_of_value t.routines n r e in
       let known = routine_section p n entry.0 r entry.1 in
@@ -231,6 +231,6 @@ module _ (p : tree.ProgramTree) (k : IsValidTable (table p)) (g : KeepsAllRules 
       let is_class : value_for t.names name ≡ Some (globals.Class m.0 m.1) = found.1 ∙ ap Some m.2 in
       let c = is.names name (globals.Class m.0 m.1) is_class in
       let known : Some (knowns.Class c.0.kind) ≡ Some (knowns.Class class_words.EventNotice) =
-      sym (ap class_meaning (value_at t.classes m.0 name c.0 c.2)) ∙ sym (ap (meaning_of t) is_class) ∙ e in
+      sym (ap known_of_class (value_at t.classes m.0 name c.0 c.2)) ∙ sym (ap (meaning_of t) is_class) ∙ e in
       let kind : c.0.kind ≡ class_words.EventNotice = cc in
       (m.0, c.0, c.2, kind)

@@ -19,7 +19,7 @@ use Rattle.ss_check_scopes.specs.Locals.{Moded}
 use Rattle.ss_check_scopes.specs.Meanings.{meaning_in}
 use Rattle.ss_check_scopes.specs.Whole.{Whole}
 use Rattle.ss_check_rules.specs.Unknown.{has_value, is_set, if_known}
-use Rattle.ss_check_rules.specs.Subscripts.{is_single, are_wrong}
+use Rattle.ss_check_rules.specs.Subscripts.{takes_no_subscript, are_wrong}
 use Rattle.ss_check_rules.specs.Targets.{takes_values}
 use Rattle.ss_check_rules.specs.Modes.{mode_of_known as known_mode_of, class_mode, known_class, known_mode, differ}
 use Rattle.ss_program.specs.Program.{Expression, Place, ToVariable, ToAttribute, ToCount, SetOwner, TheSystem, Entity}
@@ -32,7 +32,7 @@ use Rattle.ss_names_meaning.specs.Contexts.{Context}
 use Rattle.ss_names_meaning.specs.Expressions.{entity_of, subscript, place_of, resolved_set}
 use Rattle.ss_names_meaning.specs.Statements.{mode_of_target}
 use Rattle.ss_names_laws.specs.Rules.{KeptMention, KeptDemand, KeptMentions, KeptDemands}
-use Rattle.ss_check_laws.specs.Links.{Linked, IsVariable, IsAttribute, IsCount, IsSetOf, Fits}
+use Rattle.ss_check_laws.specs.Links.{ContextAgrees, IsVariable, IsAttribute, IsCount, IsSetOf, Fits}
 use Rattle.ss_check_laws.specs.BodyLaws.{TargetResolves, SetResolves}
 use Rattle.ss_check_laws.proofs.Steps.{left_of, right_of, two_steps, known_of, of_not}
 use Rattle.ss_check_laws.proofs.Named.{SubscriptFits, EntityFits, Alone, alone, entity_fits, entity_is_number}
@@ -94,7 +94,7 @@ module _ (w : Whole) (locals : Moded) (s : Scope) where
   known_set (knowns.Set holder) h = (holder, refl)
   known_set _ h = absurd cc
 
-module _ (w : Whole) (locals : Moded) (c : Context) (s : Scope) (linked : Linked w locals c s) (line : Line) where
+module _ (w : Whole) (locals : Moded) (c : Context) (s : Scope) (linked : ContextAgrees w locals c s) (line : Line) where
   abbrev pub Subscripted : ExpressionRow → Known → Type 0
   Subscripted es known = (e : Option Expression) × (subscript c es ≡ Some e) × SubscriptFits w locals s known e
 
@@ -104,7 +104,7 @@ module _ (w : Whole) (locals : Moded) (c : Context) (s : Scope) (linked : Linked
   subscripted name no_expression known k m d n =
       (None, no_subscript w locals c s linked line, subst (λ o. differ (class_mode w locals (known_class o)) (Some modes.Integer) ≡ false) k d.0.0)
   subscripted name (and_expression e no_expression) known k m d n =
-      (Some n.0.0, one_subscript w locals c s linked line e n.0, (subst (λ o. if_known is_single o ≡ false) k m, n.0.2))
+      (Some n.0.0, one_subscript w locals c s linked line e n.0, (subst (λ o. if_known takes_no_subscript o ≡ false) k m, n.0.2))
   subscripted name (and_expression e (and_expression f es)) known k m d n = absurd cc
 
   -- ---- targets

@@ -28,7 +28,7 @@ use Rattle.ss_program.specs.declared.expression.Variable.TheVariants.{Global}
 use Rattle.ss_program.specs.Program.{Event, Program, Routine}
 use Rattle.ss_program.specs.WellTyped as typed
 use Rattle.ss_names_meaning.specs.Answers.{◌>>=◌, each, upto, where_holds}
-use Rattle.ss_names_meaning.specs.Layouts.{Laid, counts, disciplines, field_mode, global_mode, laid_out, layout, statistic_kept}
+use Rattle.ss_names_meaning.specs.Layouts.{ResolvedLayout, counts, disciplines, field_mode, global_mode, laid_out, layout, statistic_kept}
 use Rattle.ss_names_meaning.specs.Resolved.{Parts, is_known, main_parts, resolved, resolved_event, resolved_routine}
 use Rattle.ss_names_meaning.specs.Words.{class_kind}
 use Rattle.ss_names_laws.specs.ValidTables.{IsValidTable}
@@ -78,13 +78,13 @@ module _ (p : tree.ProgramTree) (k : IsValidTable (table p)) (g : KeepsAllRules 
       let key = key_at (table p).classes e.class f.name f.class f.there in
       let known = class_known (table p) (is p k g laws) k q tables e.class f.class value in
       let count = length f.given in
-      let attributes = map (whole.field_mode (table p)) (get_or (table p).fields e.class []) in
+      let attributes = map (whole.attribute_mode_by_name (table p)) (get_or (table p).fields e.class []) in
       let fits = laws.events (w p k g laws) f.section f.name f.given f.saving attributes f.kind f.distinct f.keeps.uses (attributes_known p k g laws f.name e.class key) in
-      let same_modes : attributes ≡ known.0 = each_map (field_mode (table p)) (whole.field_mode (table p)) (get_or (table p).fields e.class []) known.0 known.2 (mode_agrees (table p)) in
+      let same_modes : attributes ≡ known.0 = each_map (field_mode (table p)) (whole.attribute_mode_by_name (table p)) (get_or (table p).fields e.class []) known.0 known.2 (mode_agrees (table p)) in
       let first = laws.first (w p k g laws) f.section f.keeps.parameters in
       let given_is : given_to f.section.kind ≡ f.given = ap given_to f.kind in
       let said = map value_mode (signature (table p).usual f.section).given in
-      let takes : e.given ≡ said = f.takes ∙ ap (take count) f.has.modes.said ∙ ap (λ (l : List NameBytes). take (length l) (parameters.modes_of (locals_of (w p k g laws) f.section))) (sym given_is) ∙ first.0 in
+      let takes : e.given ≡ said = f.takes ∙ ap (take count) f.has.modes.said ∙ ap (λ (l : List NameBytes). take (length l) (parameters.modes_of_locals (locals_of (w p k g laws) f.section))) (sym given_is) ∙ first.0 in
       let from : e.given ≡ take count known.0 = takes ∙ fits.1 ∙ ap (take count) same_modes in
       let counted : length e.given ≡ count =
       ap length takes
@@ -164,7 +164,7 @@ module _ (p : tree.ProgramTree) (k : IsValidTable (table p)) (g : KeepsAllRules 
       each (statistic_kept (table p)) (upto (length (table p).histories)) ≡ Some s → laid_out (table p) ≡ Some (record { layout = l; disciplines = o; globals = m; counts = c; statistics = s })
   laid_known l o m c s d e f i j = rw (d, e, f, i, j) refl
 
-  abbrev made : Laid → List Routine → List Event → Parts → Program
+  abbrev made : ResolvedLayout → List Routine → List Event → Parts → Program
   made l rs es parts = record {
     layout = l.layout;
     disciplines = l.disciplines;
@@ -177,7 +177,7 @@ module _ (p : tree.ProgramTree) (k : IsValidTable (table p)) (g : KeepsAllRules 
     main = parts.body;
   }
 
-  assembled : (l : Laid) (rs : List Routine) (es : List Event) (parts : Parts) → laid_out (table p) ≡ Some l → list_all (is_known (table p)) p.sections ≡ true →
+  assembled : (l : ResolvedLayout) (rs : List Routine) (es : List Event) (parts : Parts) → laid_out (table p) ≡ Some l → list_all (is_known (table p)) p.sections ≡ true →
       each (resolved_routine (table p) (whole.whole_of p) p.sections) (upto (length (table p).routines)) ≡ Some rs →
       each (resolved_event (table p) (whole.whole_of p) p.sections) (upto (length (table p).ranks)) ≡ Some es →
       main_parts (table p) (whole.whole_of p) p.sections ≡ Some parts →
@@ -199,7 +199,7 @@ module _ (p : tree.ProgramTree) (k : IsValidTable (table p)) (g : KeepsAllRules 
       let l = laid p k g laws in
       let q : Program = program_with p k g laws rs.0 es.0 main.parts.modes main.parts.body in
       let tables = has_tables p k g laws rs.0 es.0 main.parts.modes main.parts.body in
-      let all : Laid = record { layout = l.layout.0; disciplines = l.disciplines.0; globals = l.globals.0; counts = l.counts.0; statistics = l.statistics.0 } in (
+      let all : ResolvedLayout = record { layout = l.layout.0; disciplines = l.disciplines.0; globals = l.globals.0; counts = l.counts.0; statistics = l.statistics.0 } in (
         q,
         assembled all rs.0 es.0 main.parts (laid_known l.layout.0 l.disciplines.0 l.globals.0 l.counts.0 l.statistics.0 l.layout.1 l.disciplines.1 l.globals.1 l.counts.1 l.statistics.1) (all_known p k g laws) rs.1 es.1 main.resolved,
         well_typed p k g laws q tables refl refl (main_good p k g laws q tables refl refl),

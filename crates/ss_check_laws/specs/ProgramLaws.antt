@@ -11,7 +11,7 @@ use Rattle.ss_program.specs.Program.{Program}
 use Rattle.ss_program.specs.WellTyped.{Scope, WellTyped}
 use Rattle.ss_names_meaning.specs.Meanings.{context_in}
 use Rattle.ss_names_meaning.specs.Resolved.{local_modes, resolved}
-use Rattle.ss_check_laws.specs.Links.{Linked}
+use Rattle.ss_check_laws.specs.Links.{ContextAgrees}
 use Rattle.ss_names_laws.specs.Locals.{KeepsLocals}
 use Rattle.ss_names_laws.specs.ValidTables.{IsValidTable}
 use Rattle.ss_check_laws.specs.Programs.{KeepsAllRules}
@@ -24,7 +24,7 @@ ContextsAreLinked =
     (tree : ProgramTree) (signatures : List Signed) (locals : Moded) (s : Scope) →
     IsValidTable (table tree) → KeepsLocals (whole_in (table tree) signatures) locals → HasTables (table tree) s.program →
     AreSigned (table tree) signatures s.program → local_modes locals ≡ Some s.locals →
-    Linked (whole_in (table tree) signatures) locals (context_in (table tree) locals) s
+    ContextAgrees (whole_in (table tree) signatures) locals (context_in (table tree) locals) s
 
 -- a program that keeps the rules has a resolved form, which is well typed
 abbrev pub ProgramsResolve : Type 0

@@ -5,7 +5,7 @@ ghost use Rattle.std.specs.List.{list_all, position};
 ghost use Rattle.ss_tree.specs.View.{view_section};
 ghost use Rattle.ss_program.specs.View.{view_option, view_program};
 ghost use Rattle.ss_names_meaning.specs.Answers.{Gives};
-ghost use Rattle.ss_names_meaning.specs.Resolved.{is_known, is_main, main_from, parts_with_locals, resolved_with_locals};
+ghost use Rattle.ss_names_meaning.specs.Resolved.{is_known, has_main_kind, main_from, parts_with_locals, resolved_with_locals};
 ghost use Rattle.ss_check_programs.specs.View.{view_parts};
 
 use crate::events::resolve_events;
@@ -42,7 +42,7 @@ fn all_known(names: &Names, sections: &[Section]) -> bool
 
 // Whether a section is MAIN.
 fn is_main(section: &Section) -> bool
-    ensures { result ≡ is_main (view_section section.now) }
+    ensures { result ≡ has_main_kind (view_section section.now) }
 {
     match &section.kind {
         SectionKind::Main => true,
@@ -53,7 +53,7 @@ fn is_main(section: &Section) -> bool
 
 // The number of MAIN, the first where there are several.
 fn main_number(sections: &[Section]) -> Option<usize>
-    ensures { result ≡ position (λ s. is_main (view_section s)) sections.now }
+    ensures { result ≡ position (λ s. has_main_kind (view_section s)) sections.now }
 {
     sections.iter().position(|section| is_main(section))
 }

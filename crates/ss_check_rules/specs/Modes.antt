@@ -37,21 +37,21 @@ known_mode None = None
 known_mode (Some meaning) = mode_of_known meaning
 
 -- the mode of what a name means in a section
-abbrev pub mode_in : Whole → Moded → NameBytes → Option Mode
-mode_in w locals name = known_mode (meaning_in w.meanings locals name)
+abbrev pub mode_of_name : Whole → Moded → NameBytes → Option Mode
+mode_of_name w locals name = known_mode (meaning_in w.meanings locals name)
 
-abbrev pub held_by : Holder → Option NameBytes
-held_by Program = None
-held_by (Entity class) = Some class
+abbrev pub class_of_holder : Holder → Option NameBytes
+class_of_holder Program = None
+class_of_holder (Entity class) = Some class
 
 -- the class whose variable has the entity where no subscript is written
 abbrev pub class_implied : Known → Option NameBytes
 class_implied (meanings.Attribute class mode) = Some class
-class_implied (meanings.Set holder) = held_by holder
-class_implied (meanings.MemberCount holder) = held_by holder
-class_implied (meanings.Membership holder) = held_by holder
-class_implied (meanings.Statistic holder) = held_by holder
-class_implied (meanings.Mean holder) = held_by holder
+class_implied (meanings.Set holder) = class_of_holder holder
+class_implied (meanings.MemberCount holder) = class_of_holder holder
+class_implied (meanings.Membership holder) = class_of_holder holder
+class_implied (meanings.Statistic holder) = class_of_holder holder
+class_implied (meanings.Mean holder) = class_of_holder holder
 class_implied _ = None
 
 abbrev pub known_class : Option Known → Option NameBytes
@@ -61,13 +61,13 @@ known_class (Some meaning) = class_implied meaning
 -- the mode of the variable named like a class, if there is one
 abbrev pub class_mode : Whole → Moded → Option NameBytes → Option Mode
 class_mode w locals None = None
-class_mode w locals (Some class) = mode_in w locals class
+class_mode w locals (Some class) = mode_of_name w locals class
 
 -- the mode that an aspect is; counts are none
 abbrev pub aspect_mode : Whole → Moded → Aspect → Option Mode
 aspect_mode w locals Integer = Some modes.Integer
 aspect_mode w locals Alpha = Some modes.Alpha
-aspect_mode w locals (Named name) = mode_in w locals name
+aspect_mode w locals (Named name) = mode_of_name w locals name
 aspect_mode w locals (Implied name) = class_mode w locals (known_class (meaning_in w.meanings locals name))
 aspect_mode w locals (Given routine place) = mode_in_place (w.given routine) place
 aspect_mode w locals (Yielded routine place) = mode_in_place (w.yielding routine) place

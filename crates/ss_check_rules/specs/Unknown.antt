@@ -24,11 +24,11 @@ has_value (Set holder) = false
 has_value Routine = false
 has_value _ = true
 
-abbrev pub is_variable : Known → Bool
-is_variable (Local mode) = true
-is_variable (Variable mode) = true
-is_variable (Class kind) = true
-is_variable _ = false
+abbrev pub is_known_variable : Known → Bool
+is_known_variable (Local mode) = true
+is_known_variable (Variable mode) = true
+is_known_variable (Class kind) = true
+is_known_variable _ = false
 
 abbrev pub is_set : Known → Bool
 is_set (Set holder) = true
@@ -42,9 +42,9 @@ abbrev pub is_known_permanent : Known → Bool
 is_known_permanent (Class Permanent) = true
 is_known_permanent _ = false
 
-abbrev pub is_notice : Known → Bool
-is_notice (Class EventNotice) = true
-is_notice _ = false
+abbrev pub is_known_notice : Known → Bool
+is_known_notice (Class EventNotice) = true
+is_known_notice _ = false
 
 -- a class whose entities are created one by one: a temporary one, or one of notices
 abbrev pub is_transient : Known → Bool
@@ -63,7 +63,7 @@ is_watched_here w locals name = w.is_watched name && not (is_some (lookup (same_
 
 -- whether what a name means in a section is of the kind that a value, a target or a loop's name needs
 abbrev pub suits_here : Role → Known → Bool
-suits_here roles.LoopVariable meaning = is_variable meaning
+suits_here roles.LoopVariable meaning = is_known_variable meaning
 suits_here _ meaning = has_value meaning
 
 -- whether what a name means in the whole program is of the kind that the place of a set, a class or a routine needs
@@ -74,9 +74,9 @@ suits_there roles.Destroy meaning = is_transient meaning
 suits_there roles.CreateEvery meaning = is_known_permanent meaning
 suits_there roles.ForEach meaning = is_known_permanent meaning
 suits_there roles.Call meaning = is_routine meaning
-suits_there roles.Schedule meaning = is_notice meaning
-suits_there roles.Cancel meaning = is_notice meaning
-suits_there roles.Event meaning = is_notice meaning
+suits_there roles.Schedule meaning = is_known_notice meaning
+suits_there roles.Cancel meaning = is_known_notice meaning
+suits_there roles.Event meaning = is_known_notice meaning
 suits_there _ meaning = false
 
 -- whether a name is of the kind that its place needs; nothing hides a class, a set or a routine

@@ -4,7 +4,7 @@ ghost use Rattle.std.specs.Prelude.{◌≡◌, map, IfOk};
 ghost use Rattle.ss_tree.specs.View.{view_program, view_section};
 ghost use Rattle.ss_check_rules.specs.Events.{lacks_event};
 ghost use Rattle.ss_check_rules.specs.Lines.{first_of_lines};
-ghost use Rattle.ss_check_rules.specs.Refusal.{first_broken, in_program, lines_in, refusal};
+ghost use Rattle.ss_check_rules.specs.Refusal.{first_broken, in_program, lines_in, refusal_of_uses};
 ghost use Rattle.ss_check_rules.specs.Seen.{uses_seen};
 ghost use Rattle.ss_check_rules.specs.Uses.{uses_of};
 ghost use Rattle.ss_check_scopes.specs.Whole.{locals_of};
@@ -95,7 +95,7 @@ pub fn judge<G: Globals>(
     program: &Program,
     globals: &G,
 ) -> Result<(Option<Broken>, Vec<Locals>), AllocError>
-    ensures refusal { IfOk result (λ found. found.0 ≡ refusal (G.whole globals.now) (view_program program.now)) }
+    ensures refusal { IfOk result (λ found. found.0 ≡ refusal_of_uses (G.whole globals.now) (view_program program.now)) }
     ensures locals { IfOk result (λ found. found.1.items ≡ map (locals_of (G.whole globals.now)) (map view_section program.now.sections.items)) }
 {
     let events = event_names(alloc, &program.sections)?;

@@ -2,7 +2,7 @@
 
 ghost use Rattle.std.specs.Prelude.{◌≡◌};
 ghost use Rattle.ss_check_scopes.specs.Meanings.{meaning_in};
-ghost use Rattle.ss_check_rules.specs.Modes.{are_two, aspect_mode, breaks_modes, class_implied, class_mode, differ, held_by, is_mean, known_class, known_mode, misplaces, mixes, mode_in, mode_of_known, names_mean};
+ghost use Rattle.ss_check_rules.specs.Modes.{are_two, aspect_mode, breaks_modes, class_implied, class_mode, differ, class_of_holder, is_mean, known_class, known_mode, misplaces, mixes, mode_of_name, mode_of_known, names_mean};
 ghost use Rattle.ss_check_rules.specs.Numbers.{is_no_number, means_no_number};
 
 use ss_base::{Mode, Name};
@@ -38,8 +38,8 @@ pub(crate) fn global_mode<G: Globals>(globals: &G, name: Name) -> Option<Mode>
 }
 
 // The mode of what a name means in a section.
-fn mode_in<G: Globals>(globals: &G, locals: &Locals, name: Name) -> Option<Mode>
-    ensures { result ≡ mode_in (G.whole globals.now) locals.now name }
+fn mode_of_name<G: Globals>(globals: &G, locals: &Locals, name: Name) -> Option<Mode>
+    ensures { result ≡ mode_of_name (G.whole globals.now) locals.now name }
 {
     match meaning_in(globals, locals, name) {
         Some(meaning) => mode_of_known(&meaning),
@@ -48,8 +48,8 @@ fn mode_in<G: Globals>(globals: &G, locals: &Locals, name: Name) -> Option<Mode>
 }
 
 // The class whose entities have it.
-fn held_by(holder: &Holder) -> Option<Name>
-    ensures { result ≡ held_by holder.now }
+fn class_of_holder(holder: &Holder) -> Option<Name>
+    ensures { result ≡ class_of_holder holder.now }
 {
     match holder {
         Holder::Program => None,
@@ -67,7 +67,7 @@ fn class_implied(meaning: &Known) -> Option<Name>
         | Known::MemberCount(holder)
         | Known::Membership(holder)
         | Known::Statistic(holder)
-        | Known::Mean(holder) => held_by(holder),
+        | Known::Mean(holder) => class_of_holder(holder),
         Known::Local(_)
         | Known::Variable(_)
         | Known::Class(_)
@@ -91,7 +91,7 @@ fn class_mode<G: Globals>(globals: &G, locals: &Locals, class: Option<Name>) -> 
     ensures { result ≡ class_mode (G.whole globals.now) locals.now class }
 {
     match class {
-        Some(class) => mode_in(globals, locals, class),
+        Some(class) => mode_of_name(globals, locals, class),
         None => None,
     }
 }
@@ -110,7 +110,7 @@ fn aspect_mode<G: Globals>(globals: &G, locals: &Locals, aspect: &Aspect) -> Opt
     match aspect {
         Aspect::Integer => Some(Mode::Integer),
         Aspect::Alpha => Some(Mode::Alpha),
-        Aspect::Named(name) => mode_in(globals, locals, *name),
+        Aspect::Named(name) => mode_of_name(globals, locals, *name),
         Aspect::Implied(name) => implied_mode(globals, locals, *name),
         Aspect::Given { routine, place } => globals.given_mode(*routine, *place),
         Aspect::Yielded { routine, place } => globals.yielded_mode(*routine, *place),

@@ -1,7 +1,7 @@
 //! Names that are not of the kind that their place needs.
 
 ghost use Rattle.std.specs.Prelude.{◌≡◌};
-ghost use Rattle.ss_check_rules.specs.Unknown.{has_value, if_known, is_notice, is_known_permanent, is_routine, is_set, is_watched_here, is_transient, is_unknown, is_variable, may_be_watched, suits, suits_here, suits_there, suits_times};
+ghost use Rattle.ss_check_rules.specs.Unknown.{has_value, if_known, is_known_notice, is_known_permanent, is_routine, is_set, is_watched_here, is_transient, is_unknown, is_known_variable, may_be_watched, suits, suits_here, suits_there, suits_times};
 
 use ss_base::Name;
 use ss_check_scopes::{Globals, Known, Locals, meaning_in};
@@ -16,8 +16,8 @@ fn has_value(meaning: &Known) -> bool
 }
 
 // Whether it is a variable.
-fn is_variable(meaning: &Known) -> bool
-    ensures { result ≡ is_variable meaning.now }
+fn is_known_variable(meaning: &Known) -> bool
+    ensures { result ≡ is_known_variable meaning.now }
 {
     matches!(
         meaning,
@@ -47,8 +47,8 @@ fn is_known_permanent(meaning: &Known) -> bool
 }
 
 // Whether it is a class of notices.
-fn is_notice(meaning: &Known) -> bool
-    ensures { result ≡ is_notice meaning.now }
+fn is_known_notice(meaning: &Known) -> bool
+    ensures { result ≡ is_known_notice meaning.now }
 {
     matches!(meaning, Known::Class(ClassKind::EventNotice))
 }
@@ -95,7 +95,7 @@ fn suits_here(role: Role, meaning: &Known) -> bool
     ensures { result ≡ suits_here role meaning.now }
 {
     match role {
-        Role::LoopVariable => is_variable(meaning),
+        Role::LoopVariable => is_known_variable(meaning),
         _ => has_value(meaning),
     }
 }
@@ -109,7 +109,7 @@ fn suits_there(role: Role, meaning: &Known) -> bool
         Role::Create | Role::Destroy => is_transient(meaning),
         Role::CreateEvery | Role::ForEach => is_known_permanent(meaning),
         Role::Call => is_routine(meaning),
-        Role::Schedule | Role::Cancel | Role::Event => is_notice(meaning),
+        Role::Schedule | Role::Cancel | Role::Event => is_known_notice(meaning),
         _ => false,
     }
 }

@@ -7,8 +7,8 @@ use Rattle.ss_names_uses.specs.Mentions.{NameBytes}
 use Rattle.ss_check_scopes.specs.Locals.{locals, number_of_local}
 
 -- the number of the local variable at a place is that place; so they are distinct
-abbrev pub NumbersArePlaces : Type 0
-NumbersArePlaces =
+abbrev pub LocalNumbersArePlaces : Type 0
+LocalNumbersArePlaces =
     (is_global : NameBytes → Bool) (usual : Option Mode) (s : SectionTree) (n : ℕ) (name : NameBytes) →
     slice_get (keys_of (locals is_global usual s)) n ≡ Some name →
     number_of_local (locals is_global usual s) name ≡ Some n

@@ -47,11 +47,11 @@ moded_in usual modes name = (name, or_usual usual (lookup (same_name name) modes
 -- ---- local variables
 
 -- the roles in which the head of a section or a DEFINE names a local variable
-abbrev pub declares : Role → Bool
-declares Given = true
-declares Yielding = true
-declares (Define mode) = true
-declares _ = false
+abbrev pub declares_local : Role → Bool
+declares_local Given = true
+declares_local Yielding = true
+declares_local (Define mode) = true
+declares_local _ = false
 
 -- the roles in which a name without subscript is a variable: as value, target or loop's name, or in a RESET
 abbrev pub is_variable : Role → Bool
@@ -64,7 +64,7 @@ is_variable _ = false
 -- whether a name in this role is a local variable: it is declared in the section, or it is used without subscript as
 -- a variable and isn't global
 abbrev pub is_local_at : (NameBytes → Bool) → Mention → NameBytes → Bool
-is_local_at is_global m name = declares m.role || (is_variable m.role && (m.subscripts == 0) && not (is_global name))
+is_local_at is_global m name = declares_local m.role || (is_variable m.role && (m.subscripts == 0) && not (is_global name))
 
 -- the local variable that is mentioned, where one is
 abbrev pub local_named : (NameBytes → Bool) → Mention → Mentioned → List NameBytes

@@ -6,7 +6,7 @@ ghost use Rattle.std.specs.Map.{lookup, keys_of};
 ghost use Rattle.ss_tree.specs.View.{view_definition, view_section};
 ghost use Rattle.ss_names_uses.specs.Mentions.{mentions};
 ghost use Rattle.ss_names_declarations.specs.Firsts.{firsts, same_name, with_first};
-ghost use Rattle.ss_check_scopes.specs.Locals.{declares, is_local_at, is_variable, local_mentioned, moded_in, number_of_local};
+ghost use Rattle.ss_check_scopes.specs.Locals.{declares_local, is_local_at, is_variable, local_mentioned, moded_in, number_of_local};
 ghost use Rattle.ss_check_scopes.specs.Whole.{is_global, locals_of};
 
 use crate::globals::Globals;
@@ -38,8 +38,8 @@ impl Model for Locals {
 }
 
 // Whether the head of a section or a DEFINE names a local variable in this role.
-fn declares(role: Role) -> bool
-    ensures { result ≡ declares role }
+fn declares_local(role: Role) -> bool
+    ensures { result ≡ declares_local role }
 {
     match role {
         Role::Given | Role::Yielding | Role::Define(_) => true,
@@ -61,7 +61,7 @@ fn is_variable(role: Role) -> bool
 fn is_local_at<G: Globals>(globals: &G, mention: &Mention, name: Name) -> bool
     ensures { result ≡ is_local_at (is_global (G.whole globals.now).meanings) mention.now name }
 {
-    declares(mention.role)
+    declares_local(mention.role)
         || (is_variable(mention.role)
             && mention.subscripts == 0
             && globals.meaning_of(name).is_none())

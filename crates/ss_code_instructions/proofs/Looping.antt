@@ -178,7 +178,7 @@ module _ (code : Code) (n : ℕ) where
           ap (λ t. unless_below t (To (core_of (backwards (length turn + 1) (int_le (item +ℤ step) limit) end) (hold_item step limit (later (int_le (item +ℤ step) limit) item step) stack) frames w.store))) rises ∙
           ap (λ b. To (core_of (backwards (length turn + 1) b end) (hold_item step limit (later b item step) stack) frames w.store)) q
 
-      -- the range_items from this one on
+      -- the items from this one on
       abbrev ItemsRun : ℕ → Type 0
       ItemsRun k = (item : ℤ) (w : World) → int_le item limit ≡ true → suc w.ticks ≤ k → w.ticks ≤ n → Reaches code (at place (hold_item step limit item stack) frames w) (arrive (λ b w'. at (past_loop found b end) stack frames w') frames (over_items (visit l x m) (items_from k limit step item) w))
 

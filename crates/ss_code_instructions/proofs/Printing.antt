@@ -1,4 +1,4 @@
--- The code of PRINT: its shown_items, of which means are looked at in their place, and its lines.
+-- The code of PRINT: its items, of which means are looked at in their place, and its lines.
 use Rattle.std.proofs.Common.{◌≡◌, ℕ, suc, ◌+◌, true, false, List, [], ◌∷◌, ◌++◌, length, Option, Some, None, Ok, Err, refl, sym, ap, ◌∙◌, subst, arith, map}
 use Rattle.std.specs.Prelude.{slice_get, Result as OkOr, ℤ}
 use Rattle.ss_base.specs.declared.line.Line.{Line}
@@ -23,13 +23,13 @@ use Rattle.ss_code_instructions.proofs.Parts.{Runs, at_end, IfWentOn, same, done
 use Rattle.ss_code_instructions.proofs.Expressions.{AsMany, one_more, many_looked, mapped, turned_lands, value_runs}
 use Rattle.ss_code_instructions.proofs.Effects.{output_runs}
 
--- ## What shown_items take off the stack
+-- ## What items take off the stack
 
 -- a reference to the entity of a mean, which is looked at
 abbrev mean_of_value : (statistic : ℕ) → Expression → Store → OkOr Value Trouble
 mean_of_value j e s = if_ok (value e s) (λ x. turned (λ m. x) (mean j (Some x) s))
 
--- the values that shown_items take, each mean looked at in its place
+-- the values that items take, each mean looked at in its place
 abbrev values_looked : List Item → Store → OkOr (List Value) Trouble
 values_looked [] s = Ok []
 values_looked (AValue e ∷ xs) s = if_ok (value e s) (λ v. turned (λ vs. v ∷ vs) (values_looked xs s))
@@ -40,7 +40,7 @@ no_more : {A : Type 0} (r : OkOr A Trouble) (o : OkOr (List Value) Trouble) (k :
 no_more (Ok a) o k h = h
 no_more (Err t) o k h = tt
 
--- they are as many as the shown_items take
+-- they are as many as the items take
 as_many_taken : (xs : List Item) (s : Store) → AsMany (values_taken xs) (values_looked xs s)
 as_many_taken [] s = refl
 as_many_taken (AValue e ∷ xs) s =
@@ -56,7 +56,7 @@ as_many_taken (AMeanOf j e ∷ xs) s =
 taken_length : (l : Line) (xs : List Item) (w : World) → IfWentOn (λ vs. values_taken xs ≡ length vs) (look l (values_looked xs) w)
 taken_length l xs w = many_looked l (values_taken xs) (values_looked xs w.store) w (as_many_taken xs w.store)
 
--- ## The shown_items that are made of them
+-- ## The items that are made of them
 
 -- an item before others
 before_sure : (x : Shown) (o : Option (List Shown)) → sure (item_before (Some x) o) ≡ turned (λ xs. x ∷ xs) (sure o)
@@ -64,7 +64,7 @@ before_sure x None = refl
 before_sure x (Some xs) = refl
 
 module _ (s : Store) (ks : List ItemKind) (others : OkOr (List Shown) Trouble) where
-  -- the shown_items after one are those that are shown
+  -- the items after one are those that are shown
   abbrev IsShown : OkOr (List Value) Trouble → Type 0
   IsShown o = if_ok o (λ vs. sure (shown ks vs s)) ≡ others
 
@@ -93,7 +93,7 @@ module _ (s : Store) (ks : List ItemKind) (others : OkOr (List Shown) Trouble) w
           ap (λ q. sure (item_before (mean_item q) (shown ks vs s))) e
           ∙ (before_sure (Mean m.0 m.1) (shown ks vs s) ∙ ap (turned (λ xs. Mean m.0 m.1 ∷ xs)) h)
 
--- of the values that shown_items take, what their kinds show is what the shown_items mean
+-- of the values that items take, what their kinds show is what the items mean
 items_shown : (xs : List Item) (s : Store) → if_ok (values_looked xs s) (λ vs. sure (shown (map item_kind xs) vs s)) ≡ shown_items xs s
 items_shown [] s = refl
 items_shown (AValue e ∷ xs) s = value_shown s (map item_kind xs) (shown_items xs s) (value e s) (values_looked xs s) (items_shown xs s)
@@ -106,7 +106,7 @@ if_twice : {A B D : Type 0} (r : OkOr A Trouble) (f : A → OkOr B Trouble) (g :
 if_twice (Ok a) f g = refl
 if_twice (Err t) f g = refl
 
--- the lines with the shown_items that kinds and values make
+-- the lines with the items that kinds and values make
 abbrev lines_shown : List ItemKind → List (List ℕ) → List Value → Store → OkOr (List ℕ) Trouble
 lines_shown ks pictures vs s = if_ok (sure (shown ks vs s)) (λ xs. sure (printed pictures xs))
 
@@ -127,7 +127,7 @@ module _ (code : Code) (n : ℕ) where
       seq_look code n l (value e) (λ x s. turned (λ m. x) (mean j (Some x) s)) (value_runs code n l e) (λ x.
       turned_lands code n (i.LookMean j false l) l (put_on x) at_end put_on (mean j (Some x)) (λ m. x) refl (λ place stack frames s. refl))
 
-  -- shown_items leave the values that they take
+  -- items leave the values that they take
   items_run : (l : Line) (xs : List Item) → Runs code n same (shown_code l xs) onto (look l (values_looked xs))
   items_run l [] = none code n []
   items_run l (AValue e ∷ xs) =

@@ -193,14 +193,14 @@ number_meaning w =
     else meanings.Token (kinds.Number (pos (number_from 0 w))) (length w)
 
 -- a byte of a word in front of those after it, which have no period at their end
-abbrev pub in_front : ℕ → List ℕ → List ℕ
-in_front b [] = if is_period b then [] else b ∷ []
-in_front b (c ∷ cs) = b ∷ c ∷ cs
+abbrev pub with_byte_before : ℕ → List ℕ → List ℕ
+with_byte_before b [] = if is_period b then [] else b ∷ []
+with_byte_before b (c ∷ cs) = b ∷ c ∷ cs
 
 -- a word without the periods at its end
 abbrev pub without_end_periods : List ℕ → List ℕ
 without_end_periods [] = []
-without_end_periods (b ∷ bs) = in_front b (without_end_periods bs)
+without_end_periods (b ∷ bs) = with_byte_before b (without_end_periods bs)
 
 -- what a word means that has no period at its end
 abbrev pub word_meaning : List ℕ → Meaning

@@ -1,7 +1,7 @@
 //! The tokens so far.
 
 ghost use Rattle.std.specs.Prelude.{◌≡◌};
-ghost use Rattle.ss_lex.specs.Tokens.{is_trigger, is_print, number_in};
+ghost use Rattle.ss_lex.specs.Tokens.{is_trigger, is_print, number_in_token};
 ghost use Rattle.ss_lex.specs.Lines.{picture_of};
 
 use crate::meaning::Meaning;
@@ -31,8 +31,8 @@ fn is_print(kind: &TokenKind) -> bool
 }
 
 /// The number that a token is, or 0.
-fn number_in(kind: &TokenKind) -> u64
-    ensures { result ≡ number_in kind.now }
+fn number_in_token(kind: &TokenKind) -> u64
+    ensures { result ≡ number_in_token kind.now }
 {
     match kind {
         TokenKind::Number(number) => number.unsigned_abs(),
@@ -105,7 +105,7 @@ impl Collected {
         if is_print(kind) || is_trigger(kind) {
             0
         } else if self.print_last {
-            number_in(kind)
+            number_in_token(kind)
         } else {
             self.number
         }

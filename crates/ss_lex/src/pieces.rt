@@ -2,7 +2,7 @@
 
 ghost use Rattle.std.specs.Prelude.{◌≡◌, ◌≤◌, ◌+◌, ◌==◌, [], ◌∷◌, drop, length, MatchOption};
 ghost use Rattle.ss_base.specs.Values.{text_of};
-ghost use Rattle.ss_lex.specs.Pieces.{is_separator, is_word_byte, is_quotable, passes_first, opens_comment, symbol_of, text_meaning};
+ghost use Rattle.ss_lex.specs.Pieces.{is_blank_byte, is_word_part, is_quotable, passes_first, opens_comment, symbol_of, text_meaning};
 ghost use Rattle.ss_lex.specs.Reading.{run_length, quotable_length, comment_at, quote_step_of, step_of};
 
 use crate::meaning::{Fault, Meaning};
@@ -10,14 +10,14 @@ use crate::token::{Symbol, TokenKind};
 use crate::words::word_meaning;
 use ss_base::Alpha;
 
-fn is_separator(b: u8) -> bool
-    ensures { result ≡ is_separator b }
+fn is_blank_byte(b: u8) -> bool
+    ensures { result ≡ is_blank_byte b }
 {
     b == b' ' || b == b'\t' || b == b'\r'
 }
 
-fn is_word_byte(b: u8) -> bool
-    ensures { result ≡ is_word_byte b }
+fn is_word_part(b: u8) -> bool
+    ensures { result ≡ is_word_part b }
 {
     b.is_ascii_alphanumeric() || b == b'.'
 }
@@ -33,7 +33,7 @@ fn run_length(bytes: &[u8]) -> usize
     ensures value { result ≡ run_length bytes.now }
     ensures bound { result ≤ length bytes.now }
 {
-    bytes.iter().take_while(|b| is_word_byte(**b)).count()
+    bytes.iter().take_while(|b| is_word_part(**b)).count()
 }
 
 /// How many bytes that are allowed between quotes are at the front.
@@ -139,9 +139,9 @@ pub fn step(bytes: &[u8]) -> (Meaning, &[u8])
     match split_first(bytes) {
         None => (Meaning::Nothing, bytes),
         Some((b, rest)) => {
-            if is_separator(b) {
+            if is_blank_byte(b) {
                 (Meaning::Nothing, rest)
-            } else if is_word_byte(b) {
+            } else if is_word_part(b) {
                 let (word, after) = bytes.split_at(run_length(rest) + 1);
                 (word_meaning(word), after)
             } else if opens_comment(b, rest) {

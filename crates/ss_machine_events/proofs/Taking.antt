@@ -15,7 +15,7 @@ use Rattle.ss_world.specs.State.{Record, State, kind_of, kind_in, numbered, and_
 use Rattle.ss_meaning.specs.Values.{Trouble as Meant, if_ok, turned, due, where_fit}
 use Rattle.ss_meaning.specs.Store.{Notices, Store}
 use Rattle.ss_meaning.specs.Entities.{entity, attribute}
-use Rattle.ss_meaning.specs.Events.{ranked_from, ranked_as, attributes}
+use Rattle.ss_meaning.specs.Events.{ranked_from, ranked_as, attributes_given}
 use Rattle.ss_machine_entities.specs.declared.trouble.Trouble.TheVariants.{Fault, Misfit}
 use Rattle.ss_machine_entities.specs.declared.trouble.Unmade.{Unmade}
 use Rattle.ss_machine_entities.specs.declared.trouble.Unmade.TheVariants as unmade
@@ -170,24 +170,24 @@ module _ (e : Seen) (n : ℤ) (class rank : ℕ) (said : Notices) (c : Event) (h
 -- ## The values that an event takes
 
 module _ (class field : ℕ) (x : Value) (s : Store) (vs : List Value) where
-  pub not_read : (k j : ℕ) (t : Meant) → k ≡ suc j → attribute class field x s ≡ Err t → turned {B = List Value} (λ us. vs ++ us) (attributes class field k x s) ≡ Err t
+  pub not_read : (k j : ℕ) (t : Meant) → k ≡ suc j → attribute class field x s ≡ Err t → turned {B = List Value} (λ us. vs ++ us) (attributes_given class field k x s) ≡ Err t
   not_read k j t e h =
-      ap (λ k. turned {B = List Value} (λ us. vs ++ us) (attributes class field k x s)) e
-      ∙ ap (λ r. turned {B = List Value} (λ us. vs ++ us) (if_ok r (λ v. turned (λ us. v ∷ us) (attributes class (field + 1) j x s)))) h
+      ap (λ k. turned {B = List Value} (λ us. vs ++ us) (attributes_given class field k x s)) e
+      ∙ ap (λ r. turned {B = List Value} (λ us. vs ++ us) (if_ok r (λ v. turned (λ us. v ∷ us) (attributes_given class (field + 1) j x s)))) h
 
   put_at_end : (v : Value) (r : OkOr (List Value) Meant) → turned {B = List Value} (λ us. vs ++ us) (turned {B = List Value} (λ us. v ∷ us) r) ≡ turned (λ us. (vs ++ v ∷ []) ++ us) r
   put_at_end v (Ok us) = ap (λ (us : List Value). Ok us) (sym (append_assoc vs (v ∷ []) us))
   put_at_end v (Err t) = refl
 
-  pub read_on : (k j : ℕ) (v : Value) → k ≡ suc j → attribute class field x s ≡ Ok v → turned {B = List Value} (λ us. vs ++ us) (attributes class field k x s) ≡ turned (λ us. (vs ++ v ∷ []) ++ us) (attributes class (field + 1) j x s)
+  pub read_on : (k j : ℕ) (v : Value) → k ≡ suc j → attribute class field x s ≡ Ok v → turned {B = List Value} (λ us. vs ++ us) (attributes_given class field k x s) ≡ turned (λ us. (vs ++ v ∷ []) ++ us) (attributes_given class (field + 1) j x s)
   read_on k j v e h =
-      ap (λ k. turned {B = List Value} (λ us. vs ++ us) (attributes class field k x s)) e
-      ∙ ap (λ r. turned {B = List Value} (λ us. vs ++ us) (if_ok r (λ v. turned (λ us. v ∷ us) (attributes class (field + 1) j x s)))) h
-      ∙ put_at_end v (attributes class (field + 1) j x s)
+      ap (λ k. turned {B = List Value} (λ us. vs ++ us) (attributes_given class field k x s)) e
+      ∙ ap (λ r. turned {B = List Value} (λ us. vs ++ us) (if_ok r (λ v. turned (λ us. v ∷ us) (attributes_given class (field + 1) j x s)))) h
+      ∙ put_at_end v (attributes_given class (field + 1) j x s)
 
 -- no value is found, or memory for it was refused
-module _ (class field count : ℕ) (x : Value) (e : Seen) (vs : List Value) (k j : ℕ) (more : k ≡ suc j) (before : (s : Store) → attributes class 0 count x (with_seen s e) ≡ turned (λ us. vs ++ us) (attributes class field k x (with_seen s e))) where
-  pub unread : (u : Unmade) → Finds {A = Value} (attribute class field x) e (Err u) → Finds {A = List Value} (attributes class 0 count x) e (Err u)
+module _ (class field count : ℕ) (x : Value) (e : Seen) (vs : List Value) (k j : ℕ) (more : k ≡ suc j) (before : (s : Store) → attributes_given class 0 count x (with_seen s e) ≡ turned (λ us. vs ++ us) (attributes_given class field k x (with_seen s e))) where
+  pub unread : (u : Unmade) → Finds {A = Value} (attribute class field x) e (Err u) → Finds {A = List Value} (attributes_given class 0 count x) e (Err u)
   unread (unmade.Fault kind) h = λ s. before s ∙ not_read class field x (with_seen s e) vs k j (meant (Fault kind)) more (h s)
   unread unmade.Misfit h = λ s. before s ∙ not_read class field x (with_seen s e) vs k j (meant Misfit) more (h s)
   unread unmade.Memory h = tt

@@ -4,7 +4,7 @@ ghost use Rattle.std.specs.Prelude.{◌≡◌, true, false, List, Ok, Some, IfSo
 ghost use Rattle.ss_base.specs.declared.layout.RankKey.{RankKey as KeySeen};
 ghost use Rattle.ss_base.specs.declared.value.Value.TheVariants.{Whole};
 ghost use Rattle.ss_meaning.specs.Entities.{attribute, gone};
-ghost use Rattle.ss_meaning.specs.Events.{attributes};
+ghost use Rattle.ss_meaning.specs.Events.{attributes_given};
 ghost use Rattle.ss_meaning.specs.Store.{Store as StoreSeen};
 ghost use Rattle.ss_records.specs.Classed.{HasClass};
 ghost use Rattle.ss_machine_entities.specs.Layouts.{kind_at};
@@ -229,7 +229,7 @@ fn read(
     known: Known,
     values: &mut Vec<Value>,
 ) -> Result<(), Unmade>
-    ensures { Finds (attributes class 0 count (Whole known.number)) scene.now (put_there values.new.items result) }
+    ensures { Finds (attributes_given class 0 count (Whole known.number)) scene.now (put_there values.new.items result) }
 {
     values.clear();
     for field in 0..count {

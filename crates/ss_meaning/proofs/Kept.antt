@@ -21,7 +21,7 @@ use Rattle.ss_program.specs.declared.sections.Subject.TheVariants.{OfVariable, O
 use Rattle.ss_program.specs.declared.sections.Statistic.{Statistic}
 use Rattle.ss_meaning.specs.Values.{sure, turned, unless_fault, number_of}
 use Rattle.ss_meaning.specs.Store.{Column}
-use Rattle.ss_meaning.specs.Histories.{same_subject, same_owner, home, at_start, begun_in, starting, ended_in, ending, with_history, noting_in, noting, all_noting, history_in, history_of, renewed}
+use Rattle.ss_meaning.specs.Histories.{same_subject, same_owner, home, at_start, begun_in, starting, ended_in, ending, with_history, noting_in, noting, all_noting, history_in, history_of_subject, renewed}
 use Rattle.ss_meaning.specs.Fitting.{made, IsIndex, living, LivesAs, Lives, BearsBy, Bears, Has, HasHistories, HistoriesFit}
 use Rattle.ss_meaning.proofs.Fine.{Fine, Any, fine_then, fine_turned, unless_fine}
 use Rattle.ss_meaning.proofs.Heaps.{Same, Gone}
@@ -117,7 +117,7 @@ all_noting_fine subject x now v (s ∷ ss) (c ∷ cs) h there =
         noting_fine x now v c (h zero s refl same) (has (there zero s refl).0 (there zero s refl).1 ((there zero s refl).2 same))
     by false q = λ y g. g
 
-pub history_fine : (j : ℕ) (x : ℤ) (cs : List Column) (these : ℤ → Type 0) → HasHistories j cs these → these x → Fine Any (history_of j x cs)
+pub history_fine : (j : ℕ) (x : ℤ) (cs : List Column) (these : ℤ → Type 0) → HasHistories j cs these → these x → Fine Any (history_of_subject j x cs)
 history_fine j x cs these k g =
     subst (λ o. Fine Any (history_in o x)) (sym k.1) (subst (λ o. Fine Any (sure o)) (sym (k.2 x g).1) tt)
 

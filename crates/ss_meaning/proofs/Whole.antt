@@ -19,7 +19,7 @@ use Rattle.ss_program.specs.declared.sections.Statistic.{Statistic}
 use Rattle.ss_program.specs.Program.{Routine, Event, Program, Block}
 use Rattle.ss_program.specs.WellTyped.{WellTyped, GoodRoutine, GoodEvent, GoodBlock}
 use Rattle.ss_meaning.specs.Values.{same_mode}
-use Rattle.ss_meaning.specs.Store.{Column, Store, prepended, firsts, taken, appended, opened, front, yielded}
+use Rattle.ss_meaning.specs.Store.{Column, Store, prepended, first_values, taken, appended, opened, front, yielded}
 use Rattle.ss_meaning.specs.Histories.{home, no_history, no_histories, starting}
 use Rattle.ss_meaning.specs.Events.{Beginning, Coming, next_event, begun, is_awaited}
 use Rattle.ss_meaning.specs.Parts.{World, Returned, Stopped, Faulted, OutOfTicks, Wrong, Outcome, WentOn, Left, Part, and_then, needed, take_tick}
@@ -37,9 +37,9 @@ use Rattle.ss_meaning.proofs.Statements.{CallsSafe, block_safe}
 
 -- ## Variables of routines
 
-firsts_modes : (modes : List Mode) → Hold (firsts modes) modes
+firsts_modes : (modes : List Mode) → Hold (first_values modes) modes
 firsts_modes [] = refl
-firsts_modes (m ∷ ms) = let here : mode_of (first_value m) ≡ m = first_mode m in let rest : Hold (firsts ms) ms = firsts_modes ms in cc
+firsts_modes (m ∷ ms) = let here : mode_of (first_value m) ≡ m = first_mode m in let rest : Hold (first_values ms) ms = firsts_modes ms in cc
   where
     first_mode : (m : Mode) → mode_of (first_value m) ≡ m
     first_mode Integer = refl
@@ -71,8 +71,8 @@ both_hold (v ∷ vs) us (m ∷ ms) ns h g =
 opened_there : (given others : List Mode) (vs : List Value) → Hold vs given → There (λ ls. Hold ls (given ++ others)) (opened given others vs)
 opened_there given others vs h = by (taken given vs) (taken_there given vs h)
   where
-    by : (o : Option (List Value)) → There (λ us. Hold us given) o → There (λ ls. Hold ls (given ++ others)) (appended o (firsts others))
-    by (Some us) g = both_hold us (firsts others) given others g (firsts_modes others)
+    by : (o : Option (List Value)) → There (λ us. Hold us given) o → There (λ ls. Hold ls (given ++ others)) (appended o (first_values others))
+    by (Some us) g = both_hold us (first_values others) given others g (firsts_modes others)
     by None g = absurd g
 
 front_there : (ys os : List Mode) (ls : List Value) → Hold ls (ys ++ os) → There (λ us. Hold us ys) (front (length ys) ls)

@@ -50,7 +50,7 @@ item (AValue e) s = turned Is (value e s)
 item (AMean j) s = mean_shown (mean j None s)
 item (AMeanOf j e) s = if_ok (value e s) (λ x. mean_shown (mean j (Some x) s))
 
--- several shown_items, from left to right
+-- several items, from left to right
 abbrev pub shown_items : List Item → Store → Result (List Shown) Trouble
 shown_items [] s = Ok []
 shown_items (i ∷ is) s = if_ok (item i s) (λ x. turned (λ xs. x ∷ xs) (shown_items is s))

@@ -53,7 +53,7 @@ pub record Range : Type 0 where
   pub limit : ℤ
   pub step : ℤ
 
--- the range_items: the first number, each next one by the step more, up to the limit and up to the greatest number; the first so many of them
+-- the items: the first number, each next one by the step more, up to the limit and up to the greatest number; the first so many of them
 abbrev pub items_from : (count : ℕ) → (limit step : ℤ) → (item : ℤ) → List ℤ
 items_from zero limit step item = []
 items_from (suc k) limit step item =
@@ -125,7 +125,7 @@ over_members n l set reverse go b =
 
 -- ## FOR, and loops led by WHILE or UNTIL
 
--- a FOR that makes at most n turns: whether the case was found. With n ticks no more than the first n + 1 range_items are reached
+-- a FOR that makes at most n turns: whether the case was found. With n ticks no more than the first n + 1 items are reached
 abbrev pub over : ℕ → Line → Head → Part Turn → Part Bool
 over n l (Numbers x a b c) turn w = and_then (look l (range a b c) w) (λ r. over_items (visit l x turn) (range_items (suc n) r))
 over n l (Each x class) turn w = and_then (look l (indices class) w) (λ r. over_items (visit l x turn) (range_items (suc n) r))

@@ -51,7 +51,7 @@ abbrev pub read_each : Line → List Target → Part (Unit {0})
 read_each l [] w = WentOn tt w
 read_each l (t ∷ ts) w = and_then (give_to l t.place (get l (read_word t.mode)) w) (λ _. read_each l ts)
 
--- the shown_items, and then the lines with them
+-- the items, and then the lines with them
 abbrev pub print : Line → List Item → List (List ℕ) → Part (Unit {0})
 print l shown pictures w =
     and_then (look l (λ s. if_ok (shown_items shown s) (λ xs. sure (printed pictures xs))) w) send

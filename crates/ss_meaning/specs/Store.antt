@@ -81,8 +81,8 @@ prepended v None = None
 prepended v (Some vs) = Some (v ∷ vs)
 
 -- what variables of these modes hold at first
-abbrev pub firsts : List Mode → List Value
-firsts modes = map first_value modes
+abbrev pub first_values : List Mode → List Value
+first_values modes = map first_value modes
 
 -- values that are given to variables of these modes, which are as many
 abbrev pub taken : List Mode → List Value → Option (List Value)
@@ -97,7 +97,7 @@ appended (Some vs) others = Some (vs ++ others)
 
 -- the variables of a routine: those that take what is given, and then the others at first
 abbrev pub opened : (given others : List Mode) → List Value → Option (List Value)
-opened given others vs = appended (taken given vs) (firsts others)
+opened given others vs = appended (taken given vs) (first_values others)
 
 -- the values of the first so many variables
 abbrev pub front : (count : ℕ) → List Value → Option (List Value)

@@ -23,15 +23,15 @@ use Rattle.ss_names.specs.declared.entry.Set.{Set}
 use Rattle.ss_names.specs.declared.meaning.Meaning.{Meaning}
 use Rattle.ss_names.specs.declared.meaning.Meaning.TheVariants as meanings
 use Rattle.ss_names.specs.declared.entry.Statistic.{Statistic}
-use Rattle.ss_names.specs.Entities.{attribute_by, attribute_classes, attribute_entries, attributes_after, classes, defined_modes, fields_among, fields_by_class, member_by, member_entries, orderings, owner_declared, owner_entries, set_members, set_names, set_of, set_owners, usual_mode}
+use Rattle.ss_names.specs.Entities.{attribute_by, attribute_classes, attribute_entries, attributes_after, classes, defined_modes, attributes_of_class, fields_by_class, member_by, member_entries, orderings, owner_declared, owner_entries, set_members, set_names, set_of, set_owners, usual_mode}
 use Rattle.ss_names_declarations.specs.Firsts.{entry_beside, entry_if, firsts, place_among, place_in, same_name, value_for, with_first}
 use Rattle.ss_names_declarations.proofs.Entries.{keys_append}
 use Rattle.ss_names.specs.Laws.{AttributesArePlaced, IsClassOrSystem, IsPlaced, NumbersArePlaces, RanksAreClasses, SetsArePlaced, StatisticsHaveHistories}
 use Rattle.ss_names.specs.Meanings.{class_meaning, class_meanings, count_meaning, class_name_meaning, meaning_by, meaning_entries, numbered_names, set_meanings}
-use Rattle.ss_names.specs.Statistics.{statistic_by, statistic_of, statistic_entries, weighings}
+use Rattle.ss_names.specs.Statistics.{statistic_by, statistic_entry, statistic_entries, weighings}
 use Rattle.ss_names.specs.Histories.{history_of}
 use Rattle.ss_names.specs.Table.{declared}
-use Rattle.ss_names.specs.Variables.{count_name, declared_by, declared_entries, is_notice_class, notice, priority_by, priority_entries}
+use Rattle.ss_names.specs.Variables.{count_name, declared_by, declared_entries, is_notice_class, notice_entry, priority_by, priority_entries}
 
 -- ---- properties of all values
 
@@ -143,7 +143,7 @@ numbers_are_places p name =
 
 -- ---- statistics and ranks
 
-statistic_placed : (count : ℕ) (kind : StatisticKind) (name : NameBytes) (history : Option ℕ) → IfSome history (λ i. i < count) → AllValues (λ (s : Statistic). s.history < count) (statistic_of kind name history)
+statistic_placed : (count : ℕ) (kind : StatisticKind) (name : NameBytes) (history : Option ℕ) → IfSome history (λ i. i < count) → AllValues (λ (s : Statistic). s.history < count) (statistic_entry kind name history)
 statistic_placed count kind name None h = tt
 statistic_placed count kind name (Some history) h = (h, tt)
 
@@ -162,7 +162,7 @@ chosen : {V : Type 0} (P : V → Type 0) (b : Bool) (xs : List (NameBytes × V))
 chosen P true xs h = h
 chosen P false xs h = tt
 
-notice_placed : (cs : List (NameBytes × Class)) (name : NameBytes) → AllValues (λ class. class < length cs) (notice cs name)
+notice_placed : (cs : List (NameBytes × Class)) (name : NameBytes) → AllValues (λ class. class < length cs) (notice_entry cs name)
 notice_placed cs name = chosen (λ class. class < length cs) (is_notice_class (value_for cs name)) (entry_if name (place_in cs name)) (all_entry (λ class. class < length cs) name (place_in cs name) (placed_in cs name))
 
 priority_placed : (cs : List (NameBytes × Class)) (what : Said) (name : Option NameBytes) → AllValues (λ class. class < length cs) (priority_entries cs what name)
@@ -201,10 +201,10 @@ owned_classes says =
 abbrev IsField : ℕ → List (List NameBytes) → Attribute → Type 0
 IsField count rows a = (a.class < count) × (a.field < length (get_or rows a.class []))
 
-first_of_class : (e : NameBytes × ℕ) (es : List (NameBytes × ℕ)) (same : Bool) → nat_eq e.1 e.1 ≡ same → same ≡ true → 0 < length (fields_among (e ∷ es) e.1)
+first_of_class : (e : NameBytes × ℕ) (es : List (NameBytes × ℕ)) (same : Bool) → nat_eq e.1 e.1 ≡ same → same ≡ true → 0 < length (attributes_of_class (e ∷ es) e.1)
 first_of_class e es false h k = absurd cc
 first_of_class e es true h k =
-    let here : length (fields_among (e ∷ es) e.1) ≡ suc (length (fields_among es e.1)) =
+    let here : length (attributes_of_class (e ∷ es) e.1) ≡ suc (length (attributes_of_class es e.1)) =
     ap (λ b. length (keys_of (cond b (e ∷ filter (λ (f : NameBytes × ℕ). nat_eq f.1 e.1) es) (filter (λ (f : NameBytes × ℕ). nat_eq f.1 e.1) es)))) h in
     omega (arith, here)
 
@@ -212,21 +212,21 @@ same_number : (n : ℕ) → nat_eq n n ≡ true
 same_number n = elim (eqb_tells n n) [ inl h ↦ h.0 | inr h ↦ absurd (h.1 refl) ]
 
 -- the attributes of its class before it are fewer than those with it
-field_is_new : (before es : List (NameBytes × ℕ)) (e : NameBytes × ℕ) → length (fields_among before e.1) < length (fields_among (before ++ e ∷ es) e.1)
+field_is_new : (before es : List (NameBytes × ℕ)) (e : NameBytes × ℕ) → length (attributes_of_class before e.1) < length (attributes_of_class (before ++ e ∷ es) e.1)
 field_is_new before es e =
     let of : NameBytes × ℕ → Bool = λ f. nat_eq f.1 e.1 in
-    let split : fields_among (before ++ e ∷ es) e.1 ≡ fields_among before e.1 ++ fields_among (e ∷ es) e.1 =
+    let split : attributes_of_class (before ++ e ∷ es) e.1 ≡ attributes_of_class before e.1 ++ attributes_of_class (e ∷ es) e.1 =
     ap keys_of (filter-append of before (e ∷ es)) ∙ keys_append (filter of before) (filter of (e ∷ es)) in
     let more = first_of_class e es (nat_eq e.1 e.1) refl (same_number e.1) in
-    let long : length (fields_among (before ++ e ∷ es) e.1) ≡ length (fields_among before e.1) + length (fields_among (e ∷ es) e.1) =
-    ap length split ∙ length-append (fields_among before e.1) (fields_among (e ∷ es) e.1) in
+    let long : length (attributes_of_class (before ++ e ∷ es) e.1) ≡ length (attributes_of_class before e.1) + length (attributes_of_class (e ∷ es) e.1) =
+    ap length split ∙ length-append (attributes_of_class before e.1) (attributes_of_class (e ∷ es) e.1) in
     omega (arith, more, long)
 
 attributes_are_fields : (usual : Option Mode) (defined : List (NameBytes × Mode)) (count : ℕ) (all before es : List (NameBytes × ℕ)) → all ≡ before ++ es → AllValues (λ class. class < count) es → AllValues (IsField count (fields_by_class all count)) (attributes_after usual defined before es)
 attributes_are_fields usual defined count all before [] is h = tt
 attributes_are_fields usual defined count all before (e ∷ es) is h =
-    let row : get_or (fields_by_class all count) e.1 [] ≡ fields_among all e.1 = get_or-map-range_with_len (fields_among all) 0 count e.1 e.1 [] h.0 (omega arith) in
-    let long : length (get_or (fields_by_class all count) e.1 []) ≡ length (fields_among (before ++ e ∷ es) e.1) = ap length row ∙ ap (λ l. length (fields_among l e.1)) is in (
+    let row : get_or (fields_by_class all count) e.1 [] ≡ attributes_of_class all e.1 = get_or-map-range_with_len (attributes_of_class all) 0 count e.1 e.1 [] h.0 (omega arith) in
+    let long : length (get_or (fields_by_class all count) e.1 []) ≡ length (attributes_of_class (before ++ e ∷ es) e.1) = ap length row ∙ ap (λ l. length (attributes_of_class l e.1)) is in (
       (h.0, omega (arith, long, field_is_new before es e)),
       attributes_are_fields usual defined count all (before ++ e ∷ []) es (is ∙ sym (append_assoc before (e ∷ []) es)) h.1,
     )

@@ -67,8 +67,8 @@ abbrev pub attribute_classes : List Saying → List (NameBytes × ℕ)
 attribute_classes says = firsts (flat_map (attribute_by (classes says)) says)
 
 -- the attributes of a class, in the order of the text
-abbrev pub fields_among : List (NameBytes × ℕ) → ℕ → List NameBytes
-fields_among owned class = keys_of (filter (λ e. nat_eq e.1 class) owned)
+abbrev pub attributes_of_class : List (NameBytes × ℕ) → ℕ → List NameBytes
+attributes_of_class owned class = keys_of (filter (λ e. nat_eq e.1 class) owned)
 
 -- the mode of an attribute: that of its DEFINE, or else that of NORMALLY
 abbrev pub defined_mode : Option Mode → List (NameBytes × Mode) → NameBytes → Option Mode
@@ -77,7 +77,7 @@ defined_mode usual defined name = option_or (value_for defined name) usual
 -- an attribute is numbered in its class: by how many attributes of the class come before it
 abbrev pub attribute_after : Option Mode → List (NameBytes × Mode) → List (NameBytes × ℕ) → NameBytes × ℕ → NameBytes × Attribute
 attribute_after usual defined before e =
-    (e.0, record { class = e.1; field = length (fields_among before e.1); mode = defined_mode usual defined e.0 })
+    (e.0, record { class = e.1; field = length (attributes_of_class before e.1); mode = defined_mode usual defined e.0 })
 
 abbrev pub attributes_after : Option Mode → List (NameBytes × Mode) → List (NameBytes × ℕ) → List (NameBytes × ℕ) → List (NameBytes × Attribute)
 attributes_after usual defined before [] = []
@@ -90,7 +90,7 @@ attributes says = attributes_after (usual_mode says) (defined_modes says) [] (at
 
 -- the attributes of each of so many classes, in the order of their numbers
 abbrev pub fields_by_class : List (NameBytes × ℕ) → ℕ → List (List NameBytes)
-fields_by_class owned count = map (fields_among owned) (range_with_len 0 count)
+fields_by_class owned count = map (attributes_of_class owned) (range_with_len 0 count)
 
 abbrev pub fields : List Saying → List (List NameBytes)
 fields says = fields_by_class (attribute_classes says) (length (classes says))

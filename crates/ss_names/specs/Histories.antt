@@ -13,14 +13,14 @@ use Rattle.ss_names.specs.declared.meaning.Subject.{Subject}
 use Rattle.ss_names.specs.declared.meaning.Subject.TheVariants as subjects
 
 -- the subject that a name means, if it may have a history: a variable of a DEFINE, an attribute or N. of a set
-abbrev pub subject_of : Option Meaning → Option Subject
-subject_of (Some (meanings.Variable variable)) = Some (subjects.Variable variable)
-subject_of (Some (meanings.Attribute attribute)) = Some (subjects.Attribute attribute)
-subject_of (Some (meanings.Derived MemberCount set)) = Some (subjects.MemberCount set)
-subject_of _ = None
+abbrev pub subject_of_name : Option Meaning → Option Subject
+subject_of_name (Some (meanings.Variable variable)) = Some (subjects.Variable variable)
+subject_of_name (Some (meanings.Attribute attribute)) = Some (subjects.Attribute attribute)
+subject_of_name (Some (meanings.Derived MemberCount set)) = Some (subjects.MemberCount set)
+subject_of_name _ = None
 
 abbrev pub history_of : List (NameBytes × Meaning) → NameBytes × Weighting → History
-history_of names w = record { weighting = w.1; subject = subject_of (value_for names w.0) }
+history_of names w = record { weighting = w.1; subject = subject_of_name (value_for names w.0) }
 
 -- the histories, in the order of their names, by these meanings of names
 abbrev pub histories : List (NameBytes × Meaning) → List Saying → List History

@@ -22,12 +22,12 @@ abbrev pub weighings : List Saying → List (NameBytes × Weighting)
 weighings says = firsts (flat_map weighing_by says)
 
 -- a statistic, where its subject has a history
-abbrev pub statistic_of : StatisticKind → NameBytes → Option ℕ → List (NameBytes × Statistic)
-statistic_of kind name None = []
-statistic_of kind name (Some history) = (name, record { history = history; kind = kind }) ∷ []
+abbrev pub statistic_entry : StatisticKind → NameBytes → Option ℕ → List (NameBytes × Statistic)
+statistic_entry kind name None = []
+statistic_entry kind name (Some history) = (name, record { history = history; kind = kind }) ∷ []
 
 abbrev pub statistic_entries : List (NameBytes × Weighting) → Said → Option NameBytes → List (NameBytes × Statistic)
-statistic_entries ws (said.Statistic weighting kind subject) (Some name) = statistic_of kind name (place_in ws subject)
+statistic_entries ws (said.Statistic weighting kind subject) (Some name) = statistic_entry kind name (place_in ws subject)
 statistic_entries ws _ _ = []
 
 abbrev pub statistic_by : List (NameBytes × Weighting) → Saying → List (NameBytes × Statistic)

@@ -48,24 +48,24 @@ variables says = firsts (flat_map (variable_by (classes says) (attributes says))
 
 -- ---- sections
 
-abbrev pub routine_entries : Said → Option NameBytes → List (NameBytes × Routine)
-routine_entries (said.Routine section given yielding) (Some name) =
+abbrev pub routine_sections : Said → Option NameBytes → List (NameBytes × Routine)
+routine_sections (said.Routine section given yielding) (Some name) =
     (name, record { section = section; given = given; yielding = yielding }) ∷ []
-routine_entries _ _ = []
+routine_sections _ _ = []
 
 abbrev pub routine_by : Saying → List (NameBytes × Routine)
-routine_by s = routine_entries s.said s.name
+routine_by s = routine_sections s.said s.name
 
 abbrev pub routines : List Saying → List (NameBytes × Routine)
 routines says = firsts (flat_map routine_by says)
 
-abbrev pub event_entries : Said → Option NameBytes → List (NameBytes × Event)
-event_entries (said.Event section given saving) (Some name) =
+abbrev pub event_sections : Said → Option NameBytes → List (NameBytes × Event)
+event_sections (said.Event section given saving) (Some name) =
     (name, record { section = section; given = given; saving = saving }) ∷ []
-event_entries _ _ = []
+event_sections _ _ = []
 
 abbrev pub event_by : Saying → List (NameBytes × Event)
-event_by s = event_entries s.said s.name
+event_by s = event_sections s.said s.name
 
 -- the EVENT sections, by their names
 abbrev pub events : List Saying → List (NameBytes × Event)
@@ -73,28 +73,28 @@ events says = firsts (flat_map event_by says)
 
 -- ---- the order of rank
 
-abbrev pub is_notice_kind : ClassKind → Bool
-is_notice_kind class_kinds.Permanent = false
-is_notice_kind class_kinds.Temporary = false
-is_notice_kind class_kinds.EventNotice = true
+abbrev pub is_kind_of_notices : ClassKind → Bool
+is_kind_of_notices class_kinds.Permanent = false
+is_kind_of_notices class_kinds.Temporary = false
+is_kind_of_notices class_kinds.EventNotice = true
 
 abbrev pub is_notice_class : Option Class → Bool
 is_notice_class None = false
-is_notice_class (Some class) = is_notice_kind class.kind
+is_notice_class (Some class) = is_kind_of_notices class.kind
 
 -- a class of notices, with its number
-abbrev pub notice : List (NameBytes × Class) → NameBytes → List (NameBytes × ℕ)
-notice cs name = if is_notice_class (value_for cs name) then entry_if name (place_in cs name) else []
+abbrev pub notice_entry : List (NameBytes × Class) → NameBytes → List (NameBytes × ℕ)
+notice_entry cs name = if is_notice_class (value_for cs name) then entry_if name (place_in cs name) else []
 
 abbrev pub priority_entries : List (NameBytes × Class) → Said → Option NameBytes → List (NameBytes × ℕ)
-priority_entries cs said.Priority (Some name) = notice cs name
+priority_entries cs said.Priority (Some name) = notice_entry cs name
 priority_entries cs _ _ = []
 
 abbrev pub priority_by : List (NameBytes × Class) → Saying → List (NameBytes × ℕ)
 priority_by cs s = priority_entries cs s.said s.name
 
 abbrev pub declared_entries : List (NameBytes × Class) → Said → Option NameBytes → List (NameBytes × ℕ)
-declared_entries cs (said.Class kind) (Some name) = notice cs name
+declared_entries cs (said.Class kind) (Some name) = notice_entry cs name
 declared_entries cs _ _ = []
 
 abbrev pub declared_by : List (NameBytes × Class) → Saying → List (NameBytes × ℕ)

@@ -2,7 +2,7 @@
 
 ghost use Rattle.std.specs.Prelude.{◌≡◌, map, IfOk};
 ghost use Rattle.ss_names_declarations.specs.Firsts.{value_for};
-ghost use Rattle.ss_names.specs.Histories.{history_of, subject_of};
+ghost use Rattle.ss_names.specs.Histories.{history_of, subject_of_name};
 
 use crate::meaning::{Derived, History, Meaning, Subject};
 use crate::meanings::Meanings;
@@ -12,8 +12,8 @@ use ss_tree::preamble::Weighting;
 use std::alloc::{AllocError, Global};
 
 // The subject that a meaning is, if it may have a history.
-fn subject_of(meaning: Option<Meaning>) -> Option<Subject>
-    ensures { result ≡ subject_of meaning }
+fn subject_of_name(meaning: Option<Meaning>) -> Option<Subject>
+    ensures { result ≡ subject_of_name meaning }
 {
     match meaning {
         Some(Meaning::Variable(variable)) => Some(Subject::Variable(variable)),
@@ -34,7 +34,7 @@ fn history_of(names: &Meanings, name: &Name, weighting: Weighting) -> History
 {
     History {
         weighting,
-        subject: subject_of(names.meaning(name)),
+        subject: subject_of_name(names.meaning(name)),
     }
 }
 

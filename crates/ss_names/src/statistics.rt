@@ -3,7 +3,7 @@
 ghost use Rattle.std.specs.Prelude.{◌≡◌, OnOk, IfOk};
 ghost use Rattle.std.specs.List.{flat_map, fold};
 ghost use Rattle.ss_names_declarations.specs.Firsts.{firsts, with_first};
-ghost use Rattle.ss_names.specs.Statistics.{statistic_by, statistic_of, statistics, weighing_by, weighings};
+ghost use Rattle.ss_names.specs.Statistics.{statistic_by, statistic_entry, statistics, weighing_by, weighings};
 
 use crate::entry::Statistic;
 use crate::making::beside;
@@ -57,7 +57,7 @@ fn insert_statistic(
     name: Name,
     history: Option<usize>,
 ) -> Result<(), AllocError>
-    ensures { OnOk result (entries.new ≡ fold with_first entries.old (statistic_of kind name history)) }
+    ensures { OnOk result (entries.new ≡ fold with_first entries.old (statistic_entry kind name history)) }
 {
     match history {
         Some(history) => insert_first(entries, name, Statistic { history, kind }),

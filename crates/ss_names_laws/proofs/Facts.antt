@@ -12,7 +12,7 @@ use Rattle.ss_names_declarations.specs.declared.saying.Saying.{Saying}
 use Rattle.ss_names_declarations.specs.Sayings.{NameBytes, sayings}
 use Rattle.ss_tables_rules.specs.declared.topic.Topic.{Topic}
 use Rattle.ss_tables_rules.specs.declared.topic.Topic.TheVariants as topics
-use Rattle.ss_tables_rules.specs.Topics.{is_about}
+use Rattle.ss_tables_rules.specs.Topics.{has_topic}
 use Rattle.ss_names.specs.declared.entry.Attribute.{Attribute}
 use Rattle.ss_names.specs.declared.entry.Class.{Class}
 use Rattle.ss_names.specs.Entities.{attribute_after, attribute_by, attribute_classes, attribute_entries, attributes, attributes_after, class_by, class_entries, classes, defined_modes, defined_mode, usual_mode}
@@ -55,7 +55,7 @@ SaysIt what name s = (s.said ≡ what) × (s.name ≡ Some name)
 
 -- two sayings on this topic are of two names
 abbrev pub Distinct : Topic → Saying → Saying → Type 0
-Distinct topic r s = is_about topic r.said ≡ true → is_about topic s.said ≡ true → (name : NameBytes) → r.name ≡ Some name → s.name ≡ Some name → ⊥
+Distinct topic r s = has_topic topic r.said ≡ true → has_topic topic s.said ≡ true → (name : NameBytes) → r.name ≡ Some name → s.name ≡ Some name → ⊥
 
 module _ (says : List Saying) (f : Facts says) where
   -- ---- classes
@@ -64,7 +64,7 @@ module _ (says : List Saying) (f : Facts says) where
   pub class_entry_there : (kind : ClassKind) (name : NameBytes) → Says says (said.Class kind) name → (c : Class) × (value_for (classes says) name ≡ Some c) × (c.kind ≡ kind)
   class_entry_there kind name h =
       let r = first_item_gives_value class_by name (SaysIt (said.Class kind) name) (Distinct topics.Class) (λ (c : Class). c.kind ≡ kind)
-      (λ x s q d. no_some (value_for (class_by x) name) (λ c e. let i = class_entry_from x.line x.said x.name name c e in d (ap (is_about topics.Class) i.0) (ap (is_about topics.Class) q.0) name i.1 q.1))
+      (λ x s q d. no_some (value_for (class_by x) name) (λ c e. let i = class_entry_from x.line x.said x.name name c e in d (ap (has_topic topics.Class) i.0) (ap (has_topic topics.Class) q.0) name i.1 q.1))
       (λ s q.
       let c : Class = record { kind = kind; line = s.line } in
       (c, ap (λ (t : Said × Option NameBytes). value_for (class_entries s.line t.0 t.1) name) (λ i. (q.0 i, q.1 i)) ∙ first_entry name c [], refl))
@@ -99,7 +99,7 @@ module _ (says : List Saying) (f : Facts says) where
       let owner = f.of_classes.attributes class name h in
       let at = class_place owner.0 class owner.1 in
       let r = first_item_gives_value (attribute_by (classes says)) name (SaysIt (said.Attribute class) name) (Distinct topics.Attribute) (λ n. place_in (classes says) class ≡ Some n)
-      (λ x s q d. no_some (value_for (attribute_by (classes says) x) name) (λ n e. let i = attribute_entry_from (classes says) x.said x.name name n e in d (ap (is_about topics.Attribute) i.1) (ap (is_about topics.Attribute) q.0) name i.2 q.1))
+      (λ x s q d. no_some (value_for (attribute_by (classes says) x) name) (λ n e. let i = attribute_entry_from (classes says) x.said x.name name n e in d (ap (has_topic topics.Attribute) i.1) (ap (has_topic topics.Attribute) q.0) name i.2 q.1))
       (λ s q. (at.0, ap (λ (t : Said × Option NameBytes). value_for (attribute_entries (classes says) t.0 t.1) name) (λ i. (q.0 i, q.1 i)) ∙ if_here name (place_in (classes says) class) at.0 at.1, at.1))
       says f.once.attributes h in
       (r.0, value_in_firsts (flat_map (attribute_by (classes says)) says) name ∙ r.1, r.2)

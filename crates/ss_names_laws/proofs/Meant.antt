@@ -18,7 +18,7 @@ use Rattle.ss_tables_rules.specs.declared.topic.Topic.TheVariants as topics
 use Rattle.ss_tables_rules.specs.declared.globals.Standing.{Standing}
 use Rattle.ss_tables_rules.specs.declared.globals.Standing.TheVariants as standings
 use Rattle.ss_tables_rules.specs.Declarations.{Declaration, declaration, class_declares, set_declares, named_declares, saying_declares, is_attribute, declarations, declares, standing_declared, standing_of}
-use Rattle.ss_tables_rules.specs.Topics.{global, is_about, is_said_by, section_of}
+use Rattle.ss_tables_rules.specs.Topics.{global_thing, has_topic, is_said_by, section_of}
 use Rattle.ss_names.specs.declared.entry.Attribute.{Attribute}
 use Rattle.ss_names.specs.declared.meaning.Meaning.{Meaning}
 use Rattle.ss_names.specs.declared.meaning.Meaning.TheVariants as meanings
@@ -29,8 +29,8 @@ use Rattle.ss_names.specs.declared.entry.VariableKind.TheVariants.{Defined, OfCl
 use Rattle.ss_names.specs.Entities.{attributes, classes, set_by, set_names, declared_sets}
 use Rattle.ss_names_declarations.specs.Firsts.{entry_if, place_among, place_in, value_for}
 use Rattle.ss_names.specs.Meanings.{numbered_names, set_meanings, class_meaning, class_name_meaning, count_meaning, meaning_entries, meaning_by, meanings_in}
-use Rattle.ss_names.specs.Statistics.{statistic_by, statistic_of, statistic_entries, statistics, weighing_by, weighing_entries, weighings}
-use Rattle.ss_names.specs.Variables.{class_variables, count_name, routine_by, routine_entries, routines, variable_by, variable_entries, variables}
+use Rattle.ss_names.specs.Statistics.{statistic_by, statistic_entry, statistic_entries, statistics, weighing_by, weighing_entries, weighings}
+use Rattle.ss_names.specs.Variables.{class_variables, count_name, routine_by, routine_sections, routines, variable_by, variable_entries, variables}
 use Rattle.ss_names_laws.specs.Declarations.{Says}
 use Rattle.ss_names_laws.proofs.Lists.{Among, any_there, at_item, found_first, holds_among, in_left, in_one_of, in_right, names_equal, somewhere}
 use Rattle.ss_names_laws.proofs.Sayings.{by_said, says_so}
@@ -65,7 +65,7 @@ module _ (says : List Saying) (f : Facts says) where
       (λ s q. (weighting, ap (λ (x : Said × Option NameBytes). value_for (weighing_entries x.0 x.1) subject) (λ i. (q.0 i, q.1 i)) ∙ first_entry subject weighting [])) says h) in
       placed (weighings says) subject (r.0, value_in_firsts (flat_map weighing_by says) subject ∙ r.1)
 
-  statistic_here : (kind : StatisticKind) (name : NameBytes) (o : Option ℕ) (k : ℕ) → o ≡ Some k → (v : Statistic) × (value_for (statistic_of kind name o) name ≡ Some v)
+  statistic_here : (kind : StatisticKind) (name : NameBytes) (o : Option ℕ) (k : ℕ) → o ≡ Some k → (v : Statistic) × (value_for (statistic_entry kind name o) name ≡ Some v)
   statistic_here kind name None k h = absurd cc
   statistic_here kind name (Some n) k h = let v : Statistic = record { history = n; kind = kind } in (v, first_entry name v [])
 
@@ -81,7 +81,7 @@ module _ (says : List Saying) (f : Facts says) where
   routine_place section given yielding name h =
       let v : Routine = record { section = section; given = given; yielding = yielding } in
       let r = item_gives_value routine_by name says (somewhere (SaysIt (said.Routine section given yielding) name) (λ s. (u : Routine) × (value_for (routine_by s) name ≡ Some u))
-      (λ s q. (v, ap (λ (x : Said × Option NameBytes). value_for (routine_entries x.0 x.1) name) (λ i. (q.0 i, q.1 i)) ∙ first_entry name v [])) says h) in
+      (λ s q. (v, ap (λ (x : Said × Option NameBytes). value_for (routine_sections x.0 x.1) name) (λ i. (q.0 i, q.1 i)) ∙ first_entry name v [])) says h) in
       placed (routines says) name (r.0, value_in_firsts (flat_map routine_by says) name ∙ r.1)
 
   -- ---- statement by statement
@@ -160,8 +160,8 @@ module _ (says : List Saying) (f : Facts says) where
       )
     where
       is_one : (class : NameBytes) → Says says (said.Attribute class) name → is_attribute says name ≡ true
-      is_one class g = any_there (is_said_by topics.Attribute (global name)) says (somewhere (SaysIt (said.Attribute class) name) (λ s. is_said_by topics.Attribute (global name) s ≡ true)
-          (λ s q. by_said topics.Attribute (global name) s (ap (is_about topics.Attribute) q.0, λ i. (section_of (q.0 i), q.1 i))) says g)
+      is_one class g = any_there (is_said_by topics.Attribute (global_thing name)) says (somewhere (SaysIt (said.Attribute class) name) (λ s. is_said_by topics.Attribute (global_thing name) s ≡ true)
+          (λ s q. by_said topics.Attribute (global_thing name) s (ap (has_topic topics.Attribute) q.0, λ i. (section_of (q.0 i), q.1 i))) says g)
 
   declared_has_meaning : (s : Saying) → Among says s → (w : Said) (o : Option NameBytes) → s.said ≡ w → s.name ≡ o → Every (HasMeaning w o) (named_declares (is_attribute says) s.line w o)
   unfolding HasMeaning

@@ -15,7 +15,7 @@ use Rattle.ss_tables_rules.specs.declared.topic.Topic.TheVariants as topics
 use Rattle.ss_tables_rules.specs.declared.globals.Standing.{Standing}
 use Rattle.ss_tables_rules.specs.declared.globals.Standing.TheVariants as standings
 use Rattle.ss_tables_rules.specs.Declarations.{Declaration, declaration, set_declares, class_declares, said_declares, named_declares, saying_declares, is_attribute, declarations, standing_of}
-use Rattle.ss_tables_rules.specs.Topics.{global}
+use Rattle.ss_tables_rules.specs.Topics.{global_thing}
 use Rattle.ss_names.specs.declared.entry.Attribute.{Attribute}
 use Rattle.ss_names.specs.declared.meaning.Derived.{Derived}
 use Rattle.ss_names.specs.declared.meaning.Derived.TheVariants as deriveds
@@ -127,7 +127,7 @@ module _ (says : List Saying) (f : Facts says) where
 
   pub attribute_known : (name : NameBytes) → is_attribute says name ≡ true → (a : Attribute) × (value_for (attributes says) name ≡ Some a)
   attribute_known name h =
-      let s = pick (IsOf topics.Attribute (global name)) says (who_says topics.Attribute says (global name) h) in
+      let s = pick (IsOf topics.Attribute (global_thing name)) says (who_says topics.Attribute says (global_thing name) h) in
       let c = of_attribute s.0.said s.1.0 in
       let a = attribute_there says f c.0 name (says_so says s.0 (said.Attribute c.0) name s.2 c.1 (ap (λ x. x.1) s.1.1)) in
       (a.0, a.1)

@@ -30,10 +30,10 @@ use Rattle.ss_names.specs.declared.entry.Statistic.{Statistic}
 use Rattle.ss_names.specs.declared.entry.Variable.{Variable}
 use Rattle.ss_names.specs.declared.entry.VariableKind.{VariableKind}
 use Rattle.ss_names.specs.declared.entry.VariableKind.TheVariants.{Defined, OfClass, CountOf}
-use Rattle.ss_names.specs.Entities.{attribute_after, attribute_by, attribute_classes, attribute_entries, attributes, attributes_after, classes, defined_modes, fields, fields_among, member_by, member_entries, orderings, owner_declared, owner_entries, set_members, set_names, set_of, set_owners, sets, usual_mode}
+use Rattle.ss_names.specs.Entities.{attribute_after, attribute_by, attribute_classes, attribute_entries, attributes, attributes_after, classes, defined_modes, fields, attributes_of_class, member_by, member_entries, orderings, owner_declared, owner_entries, set_members, set_names, set_of, set_owners, sets, usual_mode}
 use Rattle.ss_names_declarations.specs.Firsts.{entry_if, place_among, place_in, same_name, value_for}
 use Rattle.ss_names.specs.Meanings.{class_meaning, class_meanings, class_name_meaning, count_meaning, meaning_by, meaning_entries, numbered_names, set_meanings}
-use Rattle.ss_names.specs.Statistics.{statistic_by, statistic_of, statistic_entries, weighings}
+use Rattle.ss_names.specs.Statistics.{statistic_by, statistic_entry, statistic_entries, weighings}
 use Rattle.ss_names.specs.Histories.{history_of}
 use Rattle.ss_names.specs.Table.{Table, declared}
 use Rattle.ss_names.specs.Variables.{class_variables, count_name, variable_by, variable_entries, variables}
@@ -147,7 +147,7 @@ module _ (says : List Saying) where
 
 -- ---- statistics
 
-histories_below : (count : ℕ) (kind : StatisticKind) (name : NameBytes) (history : Option ℕ) → IfSome history (λ i. i < count) → Entries (λ n (s : Statistic). s.history < count) (statistic_of kind name history)
+histories_below : (count : ℕ) (kind : StatisticKind) (name : NameBytes) (history : Option ℕ) → IfSome history (λ i. i < count) → Entries (λ n (s : Statistic). s.history < count) (statistic_entry kind name history)
 histories_below count kind name None h = tt
 histories_below count kind name (Some history) h = (h, tt)
 
@@ -176,18 +176,18 @@ pub same_number : (n : ℕ) → nat_eq n n ≡ true
 same_number n = elim (eqb_tells n n) [ inl h ↦ h.0 | inr h ↦ absurd (h.1 refl) ]
 
 -- an attribute comes after those of its class before it
-field_here : (before es : List (NameBytes × ℕ)) (e : NameBytes × ℕ) → slice_get (fields_among (before ++ e ∷ es) e.1) (length (fields_among before e.1)) ≡ Some e.0
+field_here : (before es : List (NameBytes × ℕ)) (e : NameBytes × ℕ) → slice_get (attributes_of_class (before ++ e ∷ es) e.1) (length (attributes_of_class before e.1)) ≡ Some e.0
 field_here before es e =
     let test : NameBytes × ℕ → Bool = λ f. nat_eq f.1 e.1 in
-    let split : fields_among (before ++ e ∷ es) e.1 ≡ fields_among before e.1 ++ fields_among (e ∷ es) e.1 =
+    let split : attributes_of_class (before ++ e ∷ es) e.1 ≡ attributes_of_class before e.1 ++ attributes_of_class (e ∷ es) e.1 =
     ap keys_of (filter-append test before (e ∷ es)) ∙ keys_append (filter test before) (filter test (e ∷ es)) in
-    let first : fields_among (e ∷ es) e.1 ≡ e.0 ∷ fields_among es e.1 =
+    let first : attributes_of_class (e ∷ es) e.1 ≡ e.0 ∷ attributes_of_class es e.1 =
     ap (λ b. keys_of (cond b (e ∷ filter test es) (filter test es))) (same_number e.1) in
-    ap (λ l. slice_get l (length (fields_among before e.1))) (split ∙ ap (λ l. fields_among before e.1 ++ l) first) ∙ seam (fields_among before e.1) (fields_among es e.1) e.0
+    ap (λ l. slice_get l (length (attributes_of_class before e.1))) (split ∙ ap (λ l. attributes_of_class before e.1 ++ l) first) ∙ seam (attributes_of_class before e.1) (attributes_of_class es e.1) e.0
 
 -- an attribute, as a field of its class
 abbrev FieldFits : (all es : List (NameBytes × ℕ)) → ℕ → NameBytes × Attribute → Type 0
-FieldFits all es n f = (slice_get (fields_among all f.1.class) f.1.field ≡ Some f.0) × (slice_get es n ≡ Some (f.0, f.1.class))
+FieldFits all es n f = (slice_get (attributes_of_class all f.1.class) f.1.field ≡ Some f.0) × (slice_get es n ≡ Some (f.0, f.1.class))
 
 field_after : (usual : Option Mode) (defined : List (NameBytes × Mode)) (before es : List (NameBytes × ℕ)) (n : ℕ) (f : NameBytes × Attribute) →
     slice_get (attributes_after usual defined before es) n ≡ Some f → FieldFits (before ++ es) es n f
@@ -196,7 +196,7 @@ field_after usual defined before (e ∷ es) zero f h =
     subst (FieldFits (before ++ e ∷ es) (e ∷ es) 0) (same_Some (attribute_after usual defined before e) f h) (field_here before es e, refl)
 field_after usual defined before (e ∷ es) (suc n) f h =
     let further = field_after usual defined (before ++ e ∷ []) es n f h in
-    (subst (λ all. slice_get (fields_among all f.1.class) f.1.field ≡ Some f.0) (append_assoc before (e ∷ []) es) further.0, further.1)
+    (subst (λ all. slice_get (attributes_of_class all f.1.class) f.1.field ≡ Some f.0) (append_assoc before (e ∷ []) es) further.0, further.1)
 
 keys_after : (usual : Option Mode) (defined : List (NameBytes × Mode)) (before es : List (NameBytes × ℕ)) → keys_of (attributes_after usual defined before es) ≡ keys_of es
 keys_after usual defined before [] = refl
@@ -270,8 +270,8 @@ module _ (says : List Saying) where
   attribute_value_there : (n : ℕ) (name : NameBytes) (a : Attribute) → slice_get (attributes says) n ≡ Some (name, a) → value_for (attributes says) name ≡ Some a
   attribute_value_there n name a h = value_from_place (attributes says) n name a attributes_once h
 
-  row_of : (class : ℕ) → class < length (classes says) → get_or (fields says) class [] ≡ fields_among owned class
-  row_of class lt = get_or-map-range_with_len (fields_among owned) 0 (length (classes says)) class class [] lt (omega arith)
+  row_of : (class : ℕ) → class < length (classes says) → get_or (fields says) class [] ≡ attributes_of_class owned class
+  row_of class lt = get_or-map-range_with_len (attributes_of_class owned) 0 (length (classes says)) class class [] lt (omega arith)
 
   field_there : (n : ℕ) (name : NameBytes) (a : Attribute) → slice_get (attributes says) n ≡ Some (name, a) → (a.class < length (classes says)) × (slice_get (get_or (fields says) a.class []) a.field ≡ Some name)
   field_there n name a h =

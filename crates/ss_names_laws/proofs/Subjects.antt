@@ -33,19 +33,19 @@ use Rattle.ss_names.specs.Entities.{set_of, set_owners, set_members, orderings}
 use Rattle.ss_names_declarations.specs.Firsts.{place_among, place_in, same_name, value_for}
 use Rattle.ss_names.specs.Meanings.{class_meaning, numbered_names}
 use Rattle.ss_names.specs.Statistics.{weighing_by, weighings}
-use Rattle.ss_names.specs.Histories.{history_of, subject_of}
+use Rattle.ss_names.specs.Histories.{history_of, subject_of_name}
 use Rattle.ss_names.specs.Table.{table}
 use Rattle.ss_check_scopes.specs.declared.known.Known.{Known}
 use Rattle.ss_check_scopes.specs.declared.known.Known.TheVariants as knowns
 use Rattle.ss_check_scopes.specs.Meanings.{value_mode}
-use Rattle.ss_check_scopes.specs.WholeOf.{attribute_meaning, attribute_of_class, class_meaning as known_class, derived_meaning, set_holder, statistic_meaning, meaning_by, meaning_of, variable_meaning, whole_of}
+use Rattle.ss_check_scopes.specs.WholeOf.{attribute_meaning, attribute_of_class, known_of_class as known_class, derived_meaning, set_holder, statistic_meaning, known_of_entry, meaning_of, known_of_variable, whole_of}
 use Rattle.ss_check_rules.specs.Modes.{mode_of_known}
 use Rattle.ss_check_rules.specs.Unknown.{may_be_watched}
 use Rattle.ss_names_laws.specs.Declarations.{KeepsDeclarations}
 use Rattle.ss_names_laws.specs.Uses.{KeepsUses, SubjectFits}
 use Rattle.ss_names_laws.proofs.Lists.{at_item, each, pick, some_equal}
 use Rattle.ss_names_laws.proofs.Uses.{subjects_fit}
-use Rattle.ss_names_laws.specs.Tables.{IsValueMode, standing_of}
+use Rattle.ss_names_laws.specs.Tables.{IsValueMode, meaning_of_variable}
 use Rattle.ss_names_laws.specs.Subjects.{IsWhole}
 use Rattle.ss_names_declarations.proofs.Entries.{firsts_once, there, value_by_place, value_in_firsts, value_from_place, value_at}
 use Rattle.ss_names_laws.proofs.EntriesOfName.{value_from_item}
@@ -75,7 +75,7 @@ whole_word mode h g = some_equal mode modes.Integer (whole_mode (Some mode) h g)
 
 -- ---- the meaning of a name
 
-defined_kind : (n : ℕ) (kind : VariableKind) → standing_of n kind ≡ meanings.Variable n → kind ≡ Defined
+defined_kind : (n : ℕ) (kind : VariableKind) → meaning_of_variable n kind ≡ meanings.Variable n → kind ≡ Defined
 defined_kind n Defined h = refl
 defined_kind n (OfClass class) h = absurd cc
 defined_kind n (CountOf class) h = absurd cc
@@ -137,7 +137,7 @@ module _ (p : ProgramTree) (h : KeepsDeclarations p) where
   -- ---- each kind of subject
 
   of_variable : (name : NameBytes) (k : ℕ) (o : Option Variable) (meant : Known) → value_for (table p).names name ≡ Some (meanings.Variable k) → slice_get (values_of (table p).variables) k ≡ o →
-      variable_meaning o ≡ Some meant → mode_of_known meant ≡ Some values.Integer → IsWhole (table p) (subjects.Variable k)
+      known_of_variable o ≡ Some meant → mode_of_known meant ≡ Some values.Integer → IsWhole (table p) (subjects.Variable k)
   of_variable name k None meant t at e m = absurd cc
   of_variable name k (Some v) meant t at e m =
       let kept = tables_are_kept p h in
@@ -145,7 +145,7 @@ module _ (p : ProgramTree) (h : KeepsDeclarations p) where
       let place = variable_place name k f.0 f.2 in
       let value = value_by_place (table p).variables name k place in
       let same : value.0 ≡ v = some_equal value.0 v (sym (value_at (table p).variables k name value.0 value.2) ∙ at) in
-      let same_meaning : standing_of k value.0.kind ≡ meanings.Variable k = some_equal (standing_of k value.0.kind) (meanings.Variable k) (sym (kept.variable_names k name value.0 value.2) ∙ t) in
+      let same_meaning : meaning_of_variable k value.0.kind ≡ meanings.Variable k = some_equal (meaning_of_variable k value.0.kind) (meanings.Variable k) (sym (kept.variable_names k name value.0 value.2) ∙ t) in
       let mode : value_mode (Some v.mode) ≡ values.Integer = some_equal (value_mode (Some v.mode)) values.Integer (ap mode_of_known (some_equal (knowns.Variable (value_mode (Some v.mode))) meant e) ∙ m) in
       (v, at, ap (λ (x : Variable). x.kind) (sym same) ∙ defined_kind k value.0.kind same_meaning, whole_word v.mode (kept.variable_modes k v at) mode)
 
@@ -168,8 +168,8 @@ module _ (p : ProgramTree) (h : KeepsDeclarations p) where
       let made = set_of (set_owners (sayings p)) (set_members (sayings p)) (orderings (sayings p)) in
       (made named.0, slice_get-map made (table p).set_names k ∙ ap (option_map made) named.1)
 
-  of_meaning : (name : NameBytes) (m : Meaning) (meant : Known) → value_for (table p).names name ≡ Some m → meaning_by (table p) m ≡ Some meant → may_be_watched meant ≡ true → mode_of_known meant ≡ Some values.Integer →
-      (subject : Subject) × (subject_of (Some m) ≡ Some subject) × IsWhole (table p) subject
+  of_meaning : (name : NameBytes) (m : Meaning) (meant : Known) → value_for (table p).names name ≡ Some m → known_of_entry (table p) m ≡ Some meant → may_be_watched meant ≡ true → mode_of_known meant ≡ Some values.Integer →
+      (subject : Subject) × (subject_of_name (Some m) ≡ Some subject) × IsWhole (table p) subject
   of_meaning name (meanings.Variable k) meant t e may mode = (subjects.Variable k, refl, of_variable name k (slice_get (values_of (table p).variables) k) meant t refl e mode)
   of_meaning name (meanings.Attribute k) meant t e may mode = (subjects.Attribute k, refl, of_attribute k (slice_get (values_of (table p).attributes) k) meant refl e mode)
   of_meaning name (meanings.Derived deriveds.MemberCount k) meant t e may mode = (subjects.MemberCount k, refl, of_set name k t)
@@ -183,7 +183,7 @@ module _ (p : ProgramTree) (h : KeepsDeclarations p) where
   of_meaning name (meanings.Routine s) meant t e may mode = absurd (has_no_history meant knowns.Routine e refl may)
 
   of_known : (name : NameBytes) (o : Option Meaning) (meant : Known) → value_for (table p).names name ≡ o → meaning_of (table p) o ≡ Some meant → may_be_watched meant ≡ true → mode_of_known meant ≡ Some values.Integer →
-      (subject : Subject) × (subject_of o ≡ Some subject) × IsWhole (table p) subject
+      (subject : Subject) × (subject_of_name o ≡ Some subject) × IsWhole (table p) subject
   of_known name None meant t e may mode = absurd cc
   of_known name (Some m) meant t e may mode = of_meaning name m meant t e may mode
 

@@ -29,7 +29,7 @@ use Rattle.ss_names_laws.specs.Lists.{Somewhere}
 use Rattle.ss_names_laws.specs.Declarations.{Says}
 use Rattle.ss_names_laws.proofs.Lists.{at_item, pick, some_equal, somewhere}
 use Rattle.ss_names_laws.proofs.Sayings.{says_so, saying_of}
-use Rattle.ss_names_laws.specs.Tables.{IsValueMode, standing_of}
+use Rattle.ss_names_laws.specs.Tables.{IsValueMode, meaning_of_variable}
 use Rattle.ss_names_declarations.proofs.Entries.{entry_of_value, firsts_once, place_from, place_of_value, no_place, value_append, value_in_firsts, value_from_place, value_at}
 use Rattle.ss_names_laws.proofs.EntriesOfName.{value_from_item, item_gives_value}
 use Rattle.ss_names_laws.proofs.EntriesOfSaying.{FromDefine, FromClass, FromCount, class_variable_here, if_here, entry_where_some, no_some, not_derived, variable_entry_from}
@@ -115,15 +115,15 @@ module _ (says : List Saying) (f : Facts says) where
       (if_here name (if is_some (place_in (attributes says) name) then no_meaning else option_map meanings.Variable (place_in (variables says) name)) (meanings.Variable k)
       (ap (λ o. if is_some o then no_meaning else option_map meanings.Variable (place_in (variables says) name)) (no_place (attributes says) name none) ∙ ap (option_map meanings.Variable) var))
 
-  pub variable_means : (n : ℕ) (name : NameBytes) (v : Variable) → slice_get (variables says) n ≡ Some (name, v) → value_for (meanings_in (numbered_names says) says) name ≡ Some (standing_of n v.kind)
+  pub variable_means : (n : ℕ) (name : NameBytes) (v : Variable) → slice_get (variables says) n ≡ Some (name, v) → value_for (meanings_in (numbered_names says) says) name ≡ Some (meaning_of_variable n v.kind)
   variable_means n name v h =
       let value = value_from_place (variables says) n name v variables_once h in
       let at = place_from (variables says) n name v variables_once h in
       let s = variable_from name v value in
-      ⊎_elim (λ d. define_means d.0 name n (s.2 (said.Variable d.0) name d.1 d.2) d.3 at ∙ ap (λ k. Some (standing_of n k)) (sym d.4))
+      ⊎_elim (λ d. define_means d.0 name n (s.2 (said.Variable d.0) name d.1 d.2) d.3 at ∙ ap (λ k. Some (meaning_of_variable n k)) (sym d.4))
       (λ r. ⊎_elim
-      (λ d. class_means d.0 name d.1 n (s.2 (said.Class d.0) name d.2 d.3) d.4 at ∙ ap (λ k. Some (standing_of n k)) (sym d.5))
-      (λ d. ap (value_for (meanings_in (numbered_names says) says)) d.4 ∙ count_means d.0 d.1 n (s.2 (said.Class class_kinds.Permanent) d.0 d.2 d.3) d.5 (ap (place_in (variables says)) (sym d.4) ∙ at) ∙ ap (λ k. Some (standing_of n k)) (sym d.6)) r) s.1
+      (λ d. class_means d.0 name d.1 n (s.2 (said.Class d.0) name d.2 d.3) d.4 at ∙ ap (λ k. Some (meaning_of_variable n k)) (sym d.5))
+      (λ d. ap (value_for (meanings_in (numbered_names says) says)) d.4 ∙ count_means d.0 d.1 n (s.2 (said.Class class_kinds.Permanent) d.0 d.2 d.3) d.5 (ap (place_in (variables says)) (sym d.4) ∙ at) ∙ ap (λ k. Some (meaning_of_variable n k)) (sym d.6)) r) s.1
 
   pub class_name_means : (n : ℕ) (name : NameBytes) → slice_get (keys_of (classes says)) n ≡ Some name → (variable : ℕ) × (value_for (meanings_in (numbered_names says) says) name ≡ Some (meanings.Class n variable))
   class_name_means n name h =

@@ -6,12 +6,12 @@ use Rattle.ss_tree.specs.Tree.{ExpressionTree, number, text, named, call, parent
 use Rattle.ss_names_uses.specs.declared.mention.Role.TheVariants as roles
 use Rattle.ss_names_uses.specs.declared.mention.Mention.{Mention}
 use Rattle.ss_names_uses.specs.Mentions.{plain_mention, in_expression, in_expressions, in_terms, in_all, in_named, in_all_named, in_option, in_test, in_condition, in_start, in_phrases, in_head, in_loop_head, in_position, in_when, in_new, in_old, in_itself, in_inner, in_row, in_statement, in_body}
-use Rattle.ss_check_scopes.specs.Locals.{declares}
+use Rattle.ss_check_scopes.specs.Locals.{declares_local}
 use Rattle.ss_names_laws.proofs.Lists.{all_of, images, joined, pieces}
 
 -- a mention declares no local variable
 abbrev pub Silent : Mention → Type 0
-Silent m = declares m.role ≡ false
+Silent m = declares_local m.role ≡ false
 
 both : (ms ns : List Mention) → Every Silent ms → Every Silent ns → Every Silent (ms ++ ns)
 both ms ns h g = joined Silent ms ns h g

@@ -23,7 +23,7 @@ use Rattle.ss_check_scopes.specs.declared.known.Holder.{Holder}
 use Rattle.ss_check_scopes.specs.declared.known.Known.{Known}
 use Rattle.ss_check_scopes.specs.declared.known.Known.TheVariants as knowns
 use Rattle.ss_check_scopes.specs.Meanings.{value_mode}
-use Rattle.ss_check_scopes.specs.WholeOf.{attribute_meaning, attribute_of_class, class_meaning as known_class, derived_meaning, meaning_by as known_by, meaning_of, statistic_meaning, variable_meaning as known_variable, whole_of}
+use Rattle.ss_check_scopes.specs.WholeOf.{attribute_meaning, attribute_of_class, known_of_class as known_class, derived_meaning, known_of_entry as known_by, meaning_of, statistic_meaning, known_of_variable as known_variable, whole_of}
 use Rattle.ss_names_laws.specs.Declarations.{KeepsDeclarations}
 use Rattle.ss_names_laws.proofs.Lists.{some_equal}
 use Rattle.ss_names_declarations.proofs.Entries.{key_at, value_by_place, value_at}

@@ -29,10 +29,10 @@ abbrev pub IsValueMode : Option Mode → Type 0
 IsValueMode mode = (mode ≡ Some modes.Integer) ⊎ (mode ≡ Some modes.Alpha)
 
 -- the meaning of the name of a global variable
-abbrev pub standing_of : (number : ℕ) → VariableKind → Meaning
-standing_of n Defined = meanings.Variable n
-standing_of n (OfClass class) = meanings.Class class n
-standing_of n (CountOf class) = meanings.Count class n
+abbrev pub meaning_of_variable : (number : ℕ) → VariableKind → Meaning
+meaning_of_variable n Defined = meanings.Variable n
+meaning_of_variable n (OfClass class) = meanings.Class class n
+meaning_of_variable n (CountOf class) = meanings.Count class n
 
 -- an attribute of the class of this number
 abbrev pub IsKeyOf : Table → (class : ℕ) → NameBytes → Type 0
@@ -49,7 +49,7 @@ pub record KeepsTable (t : Table) : Type 0 where
   pub variable_modes : (n : ℕ) (v : Variable) → slice_get (values_of t.variables) n ≡ Some v → IsValueMode (Some v.mode)
   -- the name of a class means the class, and the name of a global variable means what the variable is
   pub class_names : (n : ℕ) (name : NameBytes) → slice_get (keys_of t.classes) n ≡ Some name → (variable : ℕ) × (value_for t.names name ≡ Some (meanings.Class n variable))
-  pub variable_names : (n : ℕ) (name : NameBytes) (v : Variable) → slice_get t.variables n ≡ Some (name, v) → value_for t.names name ≡ Some (standing_of n v.kind)
+  pub variable_names : (n : ℕ) (name : NameBytes) (v : Variable) → slice_get t.variables n ≡ Some (name, v) → value_for t.names name ≡ Some (meaning_of_variable n v.kind)
   -- a class that has an N. as a variable is permanent
   pub counts : (n : ℕ) (v : Variable) (class : ℕ) → slice_get (values_of t.variables) n ≡ Some v → v.kind ≡ CountOf class → (c : Class) × (slice_get (values_of t.classes) class ≡ Some c) × (c.kind ≡ Permanent)
   -- N. of a permanent class is the variable after that of the class

@@ -18,7 +18,7 @@ use Rattle.ss_check_scopes.specs.Whole.{Whole, locals_of}
 use Rattle.ss_check_rules.specs.Arguments.{argument_count}
 use Rattle.ss_check_rules.specs.Events.{is_start}
 use Rattle.ss_check_rules.specs.Modes.{mode_of_known}
-use Rattle.ss_check_rules.specs.Refusal.{refusal}
+use Rattle.ss_check_rules.specs.Refusal.{refusal_of_uses}
 use Rattle.ss_check_rules.specs.Unknown.{may_be_watched}
 use Rattle.ss_check_rules.specs.Uses.{is_main}
 use Rattle.ss_names_laws.specs.Lists.{Somewhere}
@@ -26,7 +26,7 @@ use Rattle.ss_names_laws.specs.Rules.{KeptMentions, KeptDemands}
 
 -- no rule on uses is broken
 abbrev pub KeepsUses : Whole → ProgramTree → Type 0
-KeepsUses w p = refusal w p ≡ None
+KeepsUses w p = refusal_of_uses w p ≡ None
 
 -- ---- sections
 
@@ -58,14 +58,14 @@ notices_in (every line kind class clauses) = notice_named kind class
 notices_in _ = []
 
 -- the EVENT section of this name
-abbrev pub IsEventOf : NameBytes → SectionTree → Type 0
-IsEventOf class s = (given : List NameBytes) × (saving : Bool) × (s.kind ≡ event class given saving)
+abbrev pub IsEventSectionOf : NameBytes → SectionTree → Type 0
+IsEventSectionOf class s = (given : List NameBytes) × (saving : Bool) × (s.kind ≡ event class given saving)
 
 -- each class of notices has an EVENT section
 abbrev pub NoticesHaveEvents : Type 0
 NoticesHaveEvents =
     (w : Whole) (p : ProgramTree) → KeepsUses w p →
-    Every (λ class. Somewhere (IsEventOf class) p.sections) (flat_map notices_in p.preamble)
+    Every (λ class. Somewhere (IsEventSectionOf class) p.sections) (flat_map notices_in p.preamble)
 
 -- ---- counts of arguments
 

@@ -26,9 +26,9 @@ resolved_sign signs.Plus = Plus
 resolved_sign signs.Minus = Minus
 
 -- the operator before a further term of a sum
-abbrev pub operator_of : SignWord → Operator
-operator_of signs.Plus = Add
-operator_of signs.Minus = Subtract
+abbrev pub resolved_operator : SignWord → Operator
+resolved_operator signs.Plus = Add
+resolved_operator signs.Minus = Subtract
 
 -- ---- names by what they mean
 
@@ -43,9 +43,9 @@ without_subscript None x = Some x
 without_subscript (Some e) x = None
 
 -- TIME.A, which takes a subscript
-abbrev pub time_of : Option Expression → Option Expression
-time_of None = None
-time_of (Some e) = Some (TimeOf e)
+abbrev pub resolved_time : Option Expression → Option Expression
+resolved_time None = None
+resolved_time (Some e) = Some (TimeOf e)
 
 -- the value of what is named, with the subscript if there is one
 abbrev pub resolved_value : Meaning → Option Expression → Option Expression
@@ -58,16 +58,16 @@ resolved_value (meanings.OfMember query set implied) e = Some (OfMember query se
 resolved_value (meanings.Figure fold statistic) e = without_subscript e (Figure fold statistic)
 resolved_value (meanings.FigureOf fold statistic implied) e = Some (FigureOf fold statistic (entity_of implied e))
 resolved_value meanings.Clock e = without_subscript e Clock
-resolved_value meanings.NoticeTime e = time_of e
+resolved_value meanings.NoticeTime e = resolved_time e
 -- a mean is no value
 resolved_value (meanings.Mean statistic) e = None
 resolved_value (meanings.MeanOf statistic implied) e = None
 
 -- what PRINT shows of a name, with the subscript if there is one
-abbrev pub item_of : Meaning → Option Expression → Option Item
-item_of (meanings.Mean statistic) e = without_subscript e (AMean statistic)
-item_of (meanings.MeanOf statistic implied) e = Some (AMeanOf statistic (entity_of implied e))
-item_of meaning e = option_map AValue (resolved_value meaning e)
+abbrev pub resolved_item : Meaning → Option Expression → Option Item
+resolved_item (meanings.Mean statistic) e = without_subscript e (AMean statistic)
+resolved_item (meanings.MeanOf statistic implied) e = Some (AMeanOf statistic (entity_of implied e))
+resolved_item meaning e = option_map AValue (resolved_value meaning e)
 
 -- a target: a variable, an attribute or N. of a class
 abbrev pub place_of : Meaning → Option Expression → Option Place
@@ -152,7 +152,7 @@ module _ (c : Context) where
     terms left no_term = Some left
     terms left (and_term sign e es) = do
       x ← expression e
-      terms (Calculate (operator_of sign) left x) es
+      terms (Calculate (resolved_operator sign) left x) es
 
   -- an item of PRINT: a mean if one is named alone, in any parentheses, and else a value
   abbrev pub item : ExpressionTree → Option Item
@@ -160,7 +160,7 @@ module _ (c : Context) where
   item (named designator subscripts) = do
     e ← subscript subscripts
     meaning ← c.meaning designator
-    item_of meaning e
+    resolved_item meaning e
   item e = option_map AValue (expression e)
 
   -- a target

@@ -34,8 +34,8 @@ guard_kind_of guard_words.Until = guard_kinds.Until
 
 -- ---- conditions of loops
 
-abbrev pub phrase : Context → PhraseTree → Option Phrase
-phrase c p = do
+abbrev pub resolved_phrase : Context → PhraseTree → Option Phrase
+resolved_phrase c p = do
   tests ← condition c p.condition
   Some (record { kind = phrase_kind_of p.kind; condition = tests })
 

@@ -153,14 +153,14 @@ module _ (t : Table) where
 -- ---- all of it
 
 -- the layout, with disciplines, globals, counts and statistics
-pub record Laid : Type 0 where
+pub record ResolvedLayout : Type 0 where
   pub layout : PlainLayout
   pub disciplines : List Discipline
   pub globals : List Mode
   pub counts : List Counted
   pub statistics : List Statistic
 
-abbrev pub laid_out : Table → Option Laid
+abbrev pub laid_out : Table → Option ResolvedLayout
 laid_out t = do
   laid ← layout t
   ordered ← disciplines t

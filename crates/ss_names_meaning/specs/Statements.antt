@@ -23,13 +23,13 @@ use Rattle.ss_names_meaning.specs.Answers.{◌>>=◌, each, where_holds}
 use Rattle.ss_names_meaning.specs.Contexts.{Context, single_class, notice_class, counted}
 use Rattle.ss_names_meaning.specs.Expressions.{entity_of, without_subscript, expression, item, subscript, target, set_named}
 use Rattle.ss_names_meaning.specs.Conditions.{condition}
-use Rattle.ss_names_meaning.specs.Heads.{phrase, guard, phrases_of, head}
+use Rattle.ss_names_meaning.specs.Heads.{resolved_phrase, guard, phrases_of, head}
 
 -- ---- words
 
-abbrev pub end_of : SetEnd → End
-end_of end_words.First = ends.First
-end_of end_words.Last = ends.Last
+abbrev pub resolved_end : SetEnd → End
+resolved_end end_words.First = ends.First
+resolved_end end_words.Last = ends.Last
 
 -- ---- targets
 
@@ -104,7 +104,7 @@ when c now = Some Now
 abbrev pub find : Line → Context → HeadTree → Block → Block → Option Statement
 find line c over found none = do
   h ← head c over
-  phrases ← each (phrase c) (phrases_of over)
+  phrases ← each (resolved_phrase c) (phrases_of over)
   Some (Find line h phrases found none)
 
 -- a FIND, by which of its two lists of statements comes first: that for a case that was found, or that for none
@@ -116,13 +116,13 @@ find_by outcomes.None line c over first second = find line c over second first
 abbrev pub for_over : Line → Context → HeadTree → Block → Option Statement
 for_over line c over body = do
   h ← head c over
-  phrases ← each (phrase c) (phrases_of over)
+  phrases ← each (resolved_phrase c) (phrases_of over)
   Some (For line h phrases body)
 
 -- a loop with its body
-abbrev pub loop : Line → Context → LoopHeadTree → Block → Option Statement
-loop line c (for_head over) body = for_over line c over body
-loop line c (guarded guards) body = do
+abbrev pub resolved_loop : Line → Context → LoopHeadTree → Block → Option Statement
+resolved_loop line c (for_head over) body = for_over line c over body
+resolved_loop line c (guarded guards) body = do
   gs ← each (guard c) guards
   Some (Loop line gs body)
 
@@ -179,7 +179,7 @@ module _ (c : Context) where
       if_over line c test a b
     statement (loop_statement line over row) = do
       body ← statements row
-      loop line c over body
+      resolved_loop line c over body
     statement (find_statement line over) = find line c over Done Done
     statement (find_if_statement line over outcome first second) = do
       a ← statements first
@@ -204,7 +204,7 @@ module _ (c : Context) where
     statement (remove_end line end n m) = do
       place ← target c n
       set ← set_named c m
-      Some (RemoveEnd line (end_of end) set.0 place set.1)
+      Some (RemoveEnd line (resolved_end end) set.0 place set.1)
     statement (remove_statement line e n) = do
       x ← expression c e
       set ← set_named c n

@@ -57,9 +57,9 @@ implied line (designators.Name name) zero = a_number line (Implied name) ∷ []
 implied line _ _ = []
 
 -- a name in the place of a value is to mean a value; a MEAN is none
-abbrev pub valued : Line → Designator → List Demand
-valued line (designators.Name name) = demand line (Value name) (Fits true) ∷ []
-valued line _ = []
+abbrev pub value_demand : Line → Designator → List Demand
+value_demand line (designators.Name name) = demand line (Value name) (Fits true) ∷ []
+value_demand line _ = []
 
 abbrev mutual
   -- the demands of an expression in a statement of this line, from left to right: subscripts, the arguments of
@@ -68,7 +68,7 @@ abbrev mutual
   in_expression line (number z) = []
   in_expression line (text t) = []
   in_expression line (named designator subscripts) =
-      valued line designator ++ implied line designator (row_length subscripts) ++ in_numbers line subscripts
+      value_demand line designator ++ implied line designator (row_length subscripts) ++ in_numbers line subscripts
   in_expression line (call function arguments) = demand line (Count (row_length arguments)) (ArgumentCount function) ∷ in_numbers line arguments
   in_expression line (parenthesised e) = in_expression line e
   in_expression line (product e further) = a_number line (mode_of_expression e) ∷ in_expression line e ++ in_numbers line further
@@ -242,15 +242,15 @@ mean_designated (designators.Name name) = Mean name
 mean_designated _ = Fits false
 
 -- whether an item is a MEAN: a name that means one, in any parentheses
-abbrev pub mean_of : ExpressionTree → Aspect
-mean_of (named designator subscripts) = mean_designated designator
-mean_of (parenthesised e) = mean_of e
-mean_of _ = Fits false
+abbrev pub mean_aspect : ExpressionTree → Aspect
+mean_aspect (named designator subscripts) = mean_designated designator
+mean_aspect (parenthesised e) = mean_aspect e
+mean_aspect _ = Fits false
 
 -- a field of so many decimals with an item: a field with decimals has at most 9 of them, and its item is a MEAN
 abbrev pub with_decimals : Line → ExpressionTree → ℕ → List Demand
 with_decimals line e zero = []
-with_decimals line e (suc more) = demand line (Fits (nat_le (suc more) 9)) (Fits true) ∷ demand line (mean_of e) (Fits true) ∷ []
+with_decimals line e (suc more) = demand line (Fits (nat_le (suc more) 9)) (Fits true) ∷ demand line (mean_aspect e) (Fits true) ∷ []
 
 abbrev pub in_field : Line → ExpressionTree → Field → List Demand
 in_field line e field = with_decimals line e field.decimals

@@ -42,8 +42,8 @@ abbrev pub plain_mention : Line → Role → NameBytes → Mention
 plain_mention line role name = record { line = line; role = role; what = Name name; subscripts = 0; implied = false }
 
 -- START SIMULATION
-abbrev pub started : Line → Mention
-started line = record { line = line; role = Start; what = Simulation; subscripts = 0; implied = false }
+abbrev pub start_mention : Line → Mention
+start_mention line = record { line = line; role = Start; what = Simulation; subscripts = 0; implied = false }
 
 -- ---- expressions
 
@@ -178,7 +178,7 @@ in_itself (call_statement line name given yielding) = plain_mention line Call na
 in_itself (return_statement line) = []
 in_itself (stop_statement line) = []
 in_itself (read_statement line targets) = in_all_named line Target targets
-in_itself (start_simulation line) = started line ∷ []
+in_itself (start_simulation line) = start_mention line ∷ []
 in_itself (if_statement line condition first second) = in_condition line condition
 in_itself (loop_statement line head body) = in_loop_head line head
 in_itself (find_statement line head) = in_head line head

@@ -5,7 +5,7 @@ ghost use Rattle.std.specs.List.{flat_map};
 ghost use Rattle.ss_tree.specs.View.{view_expression, view_named, view_option, view_term};
 ghost use Rattle.ss_tree.specs.declared.expression.Designator.TheVariants as designators;
 ghost use Rattle.ss_names_uses.specs.Demands.{demand, designated, implied, in_all_named, in_all_numbers, in_expression, in_named, in_number, in_number_target, in_option, in_term, mode_of_expression, target_mode};
-ghost use Rattle.ss_names_uses.specs.Noted.{asked, in_asked, of_place};
+ghost use Rattle.ss_names_uses.specs.Noted.{number_if_asked, in_asked, of_place};
 
 use crate::demand::{Aspect, Demands, Noted};
 use ss_base::{Line, Name};
@@ -69,7 +69,7 @@ fn note_asked(
     as_number: bool,
     mode: Aspect,
 ) -> Result<(), AllocError>
-    ensures { IfOk result (λ _. into.new ≡ into.old ++ asked as_number line mode) }
+    ensures { IfOk result (λ _. into.new ≡ into.old ++ number_if_asked as_number line mode) }
 {
     if as_number {
         note(into, line, mode, Aspect::Integer)

@@ -9,7 +9,7 @@ use Rattle.ss_parse_expressions.specs.Openers.{openers}
 use Rattle.ss_parse_expressions.specs.Reading.{Reader, ◌>>=◌, FailsReading, row, rows, first_and, comma, word, begins, skip, skip_separator, begins_more, list_of, kind_of_mark}
 use Rattle.ss_lex.specs.declared.word.Word.TheVariants as words
 use Rattle.ss_parse_expressions.specs.Shapes as shapes
-use Rattle.ss_parse_expressions.specs.Shapes.{Shape, ◌▷◌, nothing, never, either, each, listed, separator}
+use Rattle.ss_parse_expressions.specs.Shapes.{Shape, ◌▷◌, nothing, never, either_shape, each, separated_list, separator}
 use Rattle.ss_parse_expressions.proofs.Tools.{bind_ok, which, chosen, carry, or_false, and_true, ok_or_err}
 use Rattle.ss_lex.specs.declared.token.Span.{Span}
 use Rattle.ss_base.specs.declared.line.Line.{Line}
@@ -83,14 +83,14 @@ module _ {A : Type 0} {k : ℕ} {r r' : Reader A} {S : A → Shape} {starts : Li
   first_stops [] ts rest e stop = ap c e ∙ stop
   first_stops (x ∷ xs) ts rest (m, one, more) stop = (stops ts x m one).0
 
-  first_sound : (ts : List Token) (xs : List A) (rest : List Token) → first_and r starts item ts ≡ Ok (xs, rest) → shapes.first_and S T xs ts rest
+  first_sound : (ts : List Token) (xs : List A) (rest : List Token) → first_and r starts item ts ≡ Ok (xs, rest) → shapes.first_and_each S T xs ts rest
   first_sound ts xs rest e =
       let x = bind_ok (r ts) _ _ e in
       let more = bind_ok (rows starts item x.0.1) _ _ x.2 in
-      carry (λ (y : List A) (z : List Token). shapes.first_and S T y ts z) (x.0.0 ∷ more.0.0) xs more.0.1 rest more.2
+      carry (λ (y : List A) (z : List Token). shapes.first_and_each S T y ts z) (x.0.0 ∷ more.0.0) xs more.0.1 rest more.2
       (x.0.1, first.sound ts x.0.0 x.0.1 x.1, others.sound x.0.1 more.0.0 more.0.1 more.1)
 
-  first_complete : (ts : List Token) (xs : List A) (rest : List Token) → shapes.first_and S T xs ts rest → (starts rest || (c rest || d rest)) ≡ false → first_and r starts item ts ≡ Ok (xs, rest)
+  first_complete : (ts : List Token) (xs : List A) (rest : List Token) → shapes.first_and_each S T xs ts rest → (starts rest || (c rest || d rest)) ≡ false → first_and r starts item ts ≡ Ok (xs, rest)
   first_complete ts [] rest s stop = absurd s
   first_complete ts (x ∷ xs) rest (m, one, more) stop =
       let both = or_false (starts rest) (c rest || d rest) stop in
@@ -101,14 +101,14 @@ module _ {A : Type 0} {k : ℕ} {r r' : Reader A} {S : A → Shape} {starts : Li
       let read' : rows starts item m ≡ Ok (xs, rest) = others.complete m xs rest more (rw (over, over') refl) in
       rw (read, read') refl
 
-  pub first_less : (ts : List Token) (xs : List A) (rest : List Token) → shapes.first_and S T xs ts rest → length rest < length ts
+  pub first_less : (ts : List Token) (xs : List A) (rest : List Token) → shapes.first_and_each S T xs ts rest → length rest < length ts
   first_less ts [] rest s = absurd s
   first_less ts (x ∷ xs) rest (m, one, more) = omega (arith, less ts x m one, others.shorter m xs rest more)
 
-  first_shorter : (ts : List Token) (xs : List A) (rest : List Token) → shapes.first_and S T xs ts rest → length rest ≤ length ts
+  first_shorter : (ts : List Token) (xs : List A) (rest : List Token) → shapes.first_and_each S T xs ts rest → length rest ≤ length ts
   first_shorter ts xs rest s = omega (arith, first_less ts xs rest s)
 
-  pub first_and_reads : Reads k (first_and r starts item) (first_and r' starts item') (shapes.first_and S T) (λ ts. starts ts || (c ts || d ts))
+  pub first_and_reads : Reads k (first_and r starts item) (first_and r' starts item') (shapes.first_and_each S T) (λ ts. starts ts || (c ts || d ts))
   first_and_reads = record {
     sound = first_sound;
     complete = first_complete;
@@ -168,7 +168,7 @@ module _ {A : Type 0} {k : ℕ} {item item' : Reader A} {S : A → Shape} {c : L
   separator_stops on_comma on_and ts a (inr (inl (span, line, e))) = ap c e ∙ on_and span line a
   separator_stops on_comma on_and ts a (inr (inr (m, (span, line, e), v))) = ap c e ∙ on_comma span line m
 
-  pub list_reads : ((ts : List Token) (x : A) (rest : List Token) → S x ts rest → length rest < length ts) → ((span : Span) (line : Line) (ts : List Token) → c (token (kind_of_mark comma) span line ∷ ts) ≡ false) → ((span : Span) (line : Line) (ts : List Token) → c (token (kind_of_mark (word words.And)) span line ∷ ts) ≡ false) → Reads k (list_of starts item) (list_of starts item') (listed S) (λ ts. begins_more starts ts || (c ts || c ts))
+  pub list_reads : ((ts : List Token) (x : A) (rest : List Token) → S x ts rest → length rest < length ts) → ((span : Span) (line : Line) (ts : List Token) → c (token (kind_of_mark comma) span line ∷ ts) ≡ false) → ((span : Span) (line : Line) (ts : List Token) → c (token (kind_of_mark (word words.And)) span line ∷ ts) ≡ false) → Reads k (list_of starts item) (list_of starts item') (separated_list S) (λ ts. begins_more starts ts || (c ts || c ts))
   list_reads less on_comma on_and = first_and_reads law separated_item (λ ts x rest s. let stop = separator_stops on_comma on_and ts s.0 s.1 in (stop, stop)) less
 
 -- ---- a loop that reads a row

@@ -15,7 +15,7 @@ use Rattle.ss_tree.specs.declared.expression.Designator.{Designator}
 use Rattle.ss_tree.specs.declared.expression.Designator.TheVariants as designators
 use Rattle.ss_tree.specs.Tree.{ExpressionTree, number, text, named, call, parenthesised, product, signed, sum, expression_row, term_row}
 use Rattle.ss_parse_expressions.specs.WordTables.{function_of}
-use Rattle.ss_parse_expressions.specs.Reading.{Reader, Mark, symbol, begins, skip, expect, is_some, begins_by, taken, seq, following, closed, apply, maybe_list, choose, too_deep, rows, list_of}
+use Rattle.ss_parse_expressions.specs.Reading.{Reader, Mark, symbol, begins, skip, expect, is_some, begins_by, taken, seq, after_dropped, closed, apply, maybe_list, choose_reader, too_deep, rows, list_of}
 
 -- ---- single tokens
 
@@ -69,9 +69,9 @@ begins_sum (t ∷ ts) = begins_value t.kind
 -- ---- expressions
 
 -- a term and further terms, of which there may be none
-abbrev pub sum_of : ExpressionTree → List (Sign × ExpressionTree) → ExpressionTree
-sum_of e [] = e
-sum_of e (t ∷ ts) = sum e (term_row (t ∷ ts))
+abbrev pub sum_of_terms : ExpressionTree → List (Sign × ExpressionTree) → ExpressionTree
+sum_of_terms e [] = e
+sum_of_terms e (t ∷ ts) = sum e (term_row (t ∷ ts))
 
 -- a factor and further factors, of which there may be none
 abbrev pub product_of : ExpressionTree → List ExpressionTree → ExpressionTree
@@ -85,7 +85,7 @@ module _ (inner : Reader ExpressionTree) where
 
   -- expressions in parentheses
   unfoldable pub enclosed_with : Reader (List ExpressionTree)
-  enclosed_with = following (expect opening) (closed arguments_with (expect closing))
+  enclosed_with = after_dropped (expect opening) (closed arguments_with (expect closing))
 
   -- subscripts, if there are any
   unfoldable pub subscripts_with : Reader (List ExpressionTree)
@@ -132,13 +132,13 @@ module _ (inner : Reader ExpressionTree) where
 
   -- the first term, which may have a sign
   unfoldable pub first_term_with : Reader ExpressionTree
-  first_term_with = choose begins_sign (apply (λ p. signed p.0 p.1) signed_term_with) term_with
+  first_term_with = choose_reader begins_sign (apply (λ p. signed p.0 p.1) signed_term_with) term_with
 
   abbrev pub further_terms_with : Reader (List (Sign × ExpressionTree))
   further_terms_with = rows begins_sign signed_term_with
 
   unfoldable pub sum_with : Reader ExpressionTree
-  sum_with = apply (λ p. sum_of p.0 p.1) (seq first_term_with further_terms_with)
+  sum_with = apply (λ p. sum_of_terms p.0 p.1) (seq first_term_with further_terms_with)
 
 -- an expression, where this many levels, itself among them, may be opened
 unfoldable pub sum_in : ℕ → Reader ExpressionTree

@@ -8,7 +8,7 @@ use Rattle.ss_parse_expressions.specs.declared.failure.Fault.TheVariants.{Syntax
 use Rattle.ss_parse_expressions.specs.declared.classes.Class.{Class}
 use Rattle.ss_parse_expressions.specs.declared.classes.Class.TheVariants as classes
 use Rattle.ss_parse_expressions.specs.Words.{has_word}
-use Rattle.ss_parse_expressions.specs.Reading.{Reader, Mark, begins, skip, expect, begins_by, taken, name_of, list_of, skip_comma}
+use Rattle.ss_parse_expressions.specs.Reading.{Reader, Mark, begins, skip, expect, begins_by, taken, name_in_token, list_of, skip_comma}
 
 -- ---- single tokens
 
@@ -31,8 +31,8 @@ expect_class class [] = Err Syntax
 expect_class class (t ∷ ts) = if in_class class t.kind then Ok (tt, ts) else Err Syntax
 
 -- whether the mark is first, and the tokens after it
-abbrev pub present : Mark → Reader Bool
-present m ts = Ok (begins m ts, skip m ts)
+abbrev pub if_present : Mark → Reader Bool
+if_present m ts = Ok (begins m ts, skip m ts)
 
 -- reads nothing, and gives this value
 abbrev pub done : {A : Type 0} → A → Reader A
@@ -51,18 +51,18 @@ expect_noisy m ts = expect m (skip_comma ts)
 -- ---- names
 
 abbrev pub begins_name : List Token → Bool
-begins_name = begins_by name_of
+begins_name = begins_by name_in_token
 
 -- names with separators between
 abbrev pub names : Reader (List (List ℕ))
-names = list_of begins_name (taken name_of)
+names = list_of begins_name (taken name_in_token)
 
 abbrev pub begins_item : List Token → Bool
 begins_item ts = begins_name (skip_class classes.Article ts)
 
 -- a name, with an article before it or not
 abbrev pub articled_name : Reader (List ℕ)
-articled_name ts = taken name_of (skip_class classes.Article ts)
+articled_name ts = taken name_in_token (skip_class classes.Article ts)
 
 -- such names with separators between
 abbrev pub items : Reader (List (List ℕ))

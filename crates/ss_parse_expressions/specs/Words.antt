@@ -4,7 +4,7 @@ use Rattle.ss_lex.specs.declared.word.Word.{Word}
 use Rattle.ss_lex.specs.declared.word.Word.TheVariants as words
 use Rattle.ss_parse_expressions.specs.declared.classes.Class.{Class}
 use Rattle.ss_parse_expressions.specs.declared.classes.Class.TheVariants as classes
-use Rattle.ss_parse_expressions.specs.Shapes.{Shape, ◌▷◌, nothing, optional, Word_is, Name_is, listed}
+use Rattle.ss_parse_expressions.specs.Shapes.{Shape, ◌▷◌, nothing, optional, Word_is, Name_is, separated_list}
 
 -- which words are interchangeable in a place
 abbrev pub has_word : Class → Word → Bool
@@ -37,4 +37,4 @@ Item_is n = optional (One_of classes.Article) ▷ Name_is n
 -- the word and a list after it, or neither where the list is empty
 abbrev pub perhaps_listed : {X : Type 0} → Shape → (X → Shape) → List X → Shape
 perhaps_listed P S [] = nothing
-perhaps_listed P S (x ∷ xs) = P ▷ listed S (x ∷ xs)
+perhaps_listed P S (x ∷ xs) = P ▷ separated_list S (x ∷ xs)

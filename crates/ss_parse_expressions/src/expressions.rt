@@ -5,7 +5,7 @@ ghost use Rattle.ss_tree.specs.Tree.{signed};
 ghost use Rattle.ss_tree.specs.View.{view_expression, view_term};
 ghost use Rattle.ss_parse_expressions.specs.WordTables.{function_of};
 ghost use Rattle.ss_parse_expressions.specs.Reading.{GivesReading, word, begins_by, taken, begins_more};
-ghost use Rattle.ss_parse_expressions.specs.ReadExpressions.{sum_of, product_of, sign_of_token, begins_sign, designator_of_word, begins_sum, arguments_with, enclosed_with, subscripts_with, named_with, call_with, parenthesised_with, factor_in_words, factor_with, further_factors_with, term_with, signed_term_with, first_term_with, further_terms_with, sum_with, sum_in};
+ghost use Rattle.ss_parse_expressions.specs.ReadExpressions.{sum_of_terms, product_of, sign_of_token, begins_sign, designator_of_word, begins_sum, arguments_with, enclosed_with, subscripts_with, named_with, call_with, parenthesised_with, factor_in_words, factor_with, further_factors_with, term_with, signed_term_with, first_term_with, further_terms_with, sum_with, sum_in};
 
 use crate::failure::Failure;
 use crate::steps::{alone, beside};
@@ -75,8 +75,8 @@ pub fn begins_more_sums(tokens: &[Token]) -> bool
 
 /// A term and further ones, of which there may be none.
 #[tactic(auto, using(ss_tree::specs::Views::view_sum_made))]
-fn sum_of(alloc: Global, first: Expression, further: Vec<Term>) -> Result<Expression, AllocError>
-    ensures { IfOk result (λ e. view_expression e ≡ sum_of (view_expression first) (map view_term further.items)) }
+fn sum_of_terms(alloc: Global, first: Expression, further: Vec<Term>) -> Result<Expression, AllocError>
+    ensures { IfOk result (λ e. view_expression e ≡ sum_of_terms (view_expression first) (map view_term further.items)) }
 {
     if further.is_empty() {
         return Ok(first);
@@ -122,7 +122,7 @@ pub fn sum(alloc: Global, tokens: &[Token], room: u8) -> Result<(Expression, &[T
     }
     let (first, rest) = first_term(alloc, tokens, room - 1)?;
     let (first, (further, rest)) = beside(first, further_terms(alloc, rest, room - 1))?;
-    Ok((sum_of(alloc, first, further)?, rest))
+    Ok((sum_of_terms(alloc, first, further)?, rest))
 }
 
 /// The first term of a sum, which may have a sign.

@@ -1,7 +1,7 @@
 //! Names and lists of names.
 
 ghost use Rattle.std.specs.Prelude.{◌≡◌, drop};
-ghost use Rattle.ss_parse_expressions.specs.Reading.{GivesReading, taken, name_of, begins_more};
+ghost use Rattle.ss_parse_expressions.specs.Reading.{GivesReading, taken, name_in_token, begins_more};
 ghost use Rattle.ss_parse_expressions.specs.ReadWords.{begins_name, names, begins_item, items};
 
 use crate::classes::{Class, skip_class};
@@ -27,7 +27,7 @@ pub fn begins_name(tokens: &[Token]) -> bool
 
 /// The first token, which must be a name.
 pub fn name(tokens: &[Token]) -> Result<Name, Failure>
-    ensures { GivesReading (λ x. (x, drop 1 tokens.now)) result (taken name_of tokens.now) }
+    ensures { GivesReading (λ x. (x, drop 1 tokens.now)) result (taken name_in_token tokens.now) }
 {
     match tokens {
         [] => Err(syntax(tokens)),

@@ -2,11 +2,11 @@
 
 ghost use Rattle.std.specs.Prelude.{◌≡◌, map};
 ghost use Rattle.ss_tree.specs.View.{view_expression, view_option, view_named, view_position, view_when};
-ghost use Rattle.ss_parse_expressions.specs.Reading.{GivesReading, word, expect, following, begins_by, taken, in_table};
+ghost use Rattle.ss_parse_expressions.specs.Reading.{GivesReading, word, expect, after_dropped, begins_by, taken, in_table};
 ghost use Rattle.ss_parse_expressions.specs.ReadExpressions.{sum_in};
 ghost use Rattle.ss_parse_expressions.specs.ReadPlaces.{target_in};
 ghost use Rattle.ss_parse_statements.specs.SpelledParts.{end_of};
-ghost use Rattle.ss_parse_statements.specs.ReadSimple.{equals, set_in, called, positive_of, picture_of, items_in, trigger, pictures_at, given_in, yielding_in, position_in, when_in, due_in};
+ghost use Rattle.ss_parse_statements.specs.ReadSimple.{equals, set_reader, called, positive_of, picture_token, items_in, trigger, pictures_at, given_in, yielding_in, position_in, when_in, due_in};
 
 use ss_base::PictureLine;
 use ss_lex::{Symbol, Token, TokenKind, Word};
@@ -110,7 +110,7 @@ pub fn trigger(tokens: &[Token]) -> Result<&[Token], Failure>
 
 /// The bytes of a picture.
 fn picture(alloc: Global, tokens: &[Token]) -> Result<(PictureLine, &[Token]), Failure>
-    ensures { GivesReading (λ x. (x.0, x.1.now)) result (taken picture_of tokens.now) }
+    ensures { GivesReading (λ x. (x.0, x.1.now)) result (taken picture_token tokens.now) }
 {
     match tokens {
         [] => Err(syntax(tokens)),
@@ -254,7 +254,7 @@ pub fn value_set(
     tokens: &[Token],
     room: u8,
 ) -> Result<(Expression, &[Token]), Failure>
-    ensures { GivesReading (λ x. (view_expression x.0, x.1.now)) result (following (expect equals) (sum_in room) tokens.now) }
+    ensures { GivesReading (λ x. (view_expression x.0, x.1.now)) result (after_dropped (expect equals) (sum_in room) tokens.now) }
 {
     let rest = expect_symbol(tokens, Symbol::Equals)?;
     sum(alloc, rest, room)
@@ -267,7 +267,7 @@ pub fn target_after(
     tokens: &[Token],
     room: u8,
 ) -> Result<(Named, &[Token]), Failure>
-    ensures { GivesReading (λ x. (view_named x.0, x.1.now)) result (following (expect (word wanted)) (target_in room) tokens.now) }
+    ensures { GivesReading (λ x. (view_named x.0, x.1.now)) result (after_dropped (expect (word wanted)) (target_in room) tokens.now) }
 {
     let rest = expect_word(tokens, wanted)?;
     target(alloc, rest, room)
@@ -280,7 +280,7 @@ pub fn set_after(
     tokens: &[Token],
     room: u8,
 ) -> Result<(Named, &[Token]), Failure>
-    ensures { GivesReading (λ x. (view_named x.0, x.1.now)) result (following (expect (word wanted)) (set_in room) tokens.now) }
+    ensures { GivesReading (λ x. (view_named x.0, x.1.now)) result (after_dropped (expect (word wanted)) (set_reader room) tokens.now) }
 {
     let rest = expect_word(tokens, wanted)?;
     reference(alloc, skip_word(rest, Word::The), room)

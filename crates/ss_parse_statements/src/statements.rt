@@ -5,7 +5,7 @@ ghost use Rattle.ss_tree.specs.Tree.{statement_row};
 ghost use Rattle.ss_tree.specs.View.{view_statement, view_head, view_loop_head};
 ghost use Rattle.ss_parse_expressions.specs.WordTables.{outcome_of};
 ghost use Rattle.ss_lex.specs.declared.word.Word.TheVariants.{If};
-ghost use Rattle.ss_parse_expressions.specs.Reading.{GivesReading, word, skip, skip_comma, following, seq, taken, in_table};
+ghost use Rattle.ss_parse_expressions.specs.Reading.{GivesReading, word, skip, skip_comma, after_dropped, seq, taken, in_table};
 ghost use Rattle.ss_parse_expressions.specs.ReadWords.{begins_noisy, expect_noisy};
 ghost use Rattle.ss_parse_statements.specs.ReadStatements.{nested_word, begins_form, begins_statement, begins_find_if, statements_with, else_with, branches_with, do_with, governed_with, body_with, find_words, if_with, loop_with, find_if_with, found_with, find_with, for_with, while_with, until_with, nested_in, statement_in, statements_in};
 
@@ -254,7 +254,7 @@ fn outcome_and_branches(
     tokens: &[Token],
     room: u8,
 ) -> Result<(FindOutcome, (Vec<Statement>, Vec<Statement>), &[Token]), Failure>
-    ensures { GivesReading (λ x. ((x.0, (statement_row (map view_statement x.1.0.items), statement_row (map view_statement x.1.1.items))), x.2.now)) result (following (expect_noisy (word If)) (seq (taken (in_table outcome_of)) (branches_with (statement_in room))) tokens.now) }
+    ensures { GivesReading (λ x. ((x.0, (statement_row (map view_statement x.1.0.items), statement_row (map view_statement x.1.1.items))), x.2.now)) result (after_dropped (expect_noisy (word If)) (seq (taken (in_table outcome_of)) (branches_with (statement_in room))) tokens.now) }
 {
     let rest = expect_noisy(tokens, Word::If)?;
     let (outcome, rest) = outcome(rest)?;

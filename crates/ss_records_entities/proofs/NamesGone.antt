@@ -10,7 +10,7 @@ use Rattle.ss_records_blocks.specs.Cells.{Cells, words_at, word_of, word_at, lin
 use Rattle.ss_world.specs.State.{Members, members_of}
 use Rattle.ss_records_words.specs.Shape.{owned_start, block_words, count_before, owned_by}
 use Rattle.ss_records_words.specs.Reading.{class_in_words}
-use Rattle.ss_records_words.specs.Places.{Directory, listing, place_in, entity_at, owner_at, class_at}
+use Rattle.ss_records_words.specs.Places.{Directory, listing, place_in_record, entity_at, owner_at, class_at}
 use Rattle.ss_records_words.specs.Kept.{Kept}
 use Rattle.ss_records_blocks.specs.Writes.{owned_from}
 use Rattle.ss_records_words.specs.Laid.{LaidSystem}
@@ -88,7 +88,7 @@ module _ (l : Layout) (cs : Cells) (sys : Ptr) (d : Directory) (ms : List Member
   was : (b n : ℕ) → IsOf ds e b n → (IsOf cs d b n) × (entity_at sys e b n ≡ entity_at sys d b n) × ((k : ℕ) → word_at ds (entity_at sys e b n) k ≡ word_at cs (entity_at sys d b n) k)
   was b n h =
       let a = entry_of ds e b n h in let x = entry b a.0 a.1 a.3 in
-      let new : entity_at sys e b n ≡ a.1.at = ap (entity_at sys e b) a.2 ∙ ap place_in a.3 in let old : entity_at sys d b n ≡ a.1.at = ap (entity_at sys d b) a.2 ∙ ap place_in x.0 in
+      let new : entity_at sys e b n ≡ a.1.at = ap (entity_at sys e b) a.2 ∙ ap place_in_record a.3 in let old : entity_at sys d b n ≡ a.1.at = ap (entity_at sys d b) a.2 ∙ ap place_in_record x.0 in
       (subst (IsOf cs d b) (sym a.2) (is_of cs d b a.0 a.1 x.0 (sym (ap class_in_words x.1) ∙ a.4)), new ∙ sym old, (λ k. (λ z. word_at ds (new z) k) ∙ ap (λ us. word_of us k) x.1 ∙ (λ z. word_at cs (sym old z) k)))
 
   stays_entity : (b n : ℕ) → IsOf cs d b n → ((n ≡ suc i) → (b ≡ class_at cs p) → ⊥) → IsOf ds e b n

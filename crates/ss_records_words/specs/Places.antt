@@ -37,15 +37,15 @@ IsMade ms i p = (c : ℕ) × (ps : List Address) × (slice_get ms c ≡ Some (So
 abbrev pub Lists : Directory → ℕ → Address → Type 0
 Lists d i p = (slice_get d.numbers i ≡ Some (Some p)) ⊎ IsMade d.classes i p
 
-abbrev pub place_in : Option (Option Address) → Ptr
-place_in None = null_ptr
-place_in (Some None) = null_ptr
-place_in (Some (Some p)) = p.at
+abbrev pub place_in_record : Option (Option Address) → Ptr
+place_in_record None = null_ptr
+place_in_record (Some None) = null_ptr
+place_in_record (Some (Some p)) = p.at
 
 -- where the block of a number lies; 0 is the system
 abbrev pub numbered_at : Ptr → Numbers → ℕ → Ptr
 numbered_at sys d zero = sys
-numbered_at sys d (suc i) = place_in (slice_get d i)
+numbered_at sys d (suc i) = place_in_record (slice_get d i)
 
 -- where the block of an entity of a class lies; 0 is the end of a set, which is the system
 abbrev pub entity_at : Ptr → Directory → ℕ → ℕ → Ptr

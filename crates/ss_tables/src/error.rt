@@ -2,7 +2,7 @@
 
 ghost use Rattle.std.specs.Prelude.{◌≡◌, Some};
 ghost use Rattle.ss_tables.specs.declared.error.TableError.TheVariants.{Memory};
-ghost use Rattle.ss_tables.specs.Tables.{Reports};
+ghost use Rattle.ss_tables.specs.Tables.{ReportsTableError};
 
 use ss_base::Line;
 use ss_tables_rules::{Broken, Rule};
@@ -57,7 +57,7 @@ impl From<AllocError> for TableError {
 
 // The error of a program that breaks this rule first.
 pub(crate) fn error_of(broken: Broken) -> TableError
-    ensures { Reports result (Some broken) }
+    ensures { ReportsTableError result (Some broken) }
 {
     match broken.rule {
         Rule::Twice => TableError::Twice(broken.line),

@@ -64,14 +64,14 @@ first_of_two None rest = rest
 first_of_two (Some b) rest = Some b
 
 -- the first of these rules that is broken
-abbrev pub first_broken : List Saying → List SectionTree → List Rule → Option Broken
-first_broken says sections [] = None
-first_broken says sections (rule ∷ rules) =
-    first_of_two (broken_at rule (first_line (broken_by says sections rule))) (first_broken says sections rules)
+abbrev pub first_broken_rule : List Saying → List SectionTree → List Rule → Option Broken
+first_broken_rule says sections [] = None
+first_broken_rule says sections (rule ∷ rules) =
+    first_of_two (broken_at rule (first_line (broken_by says sections rule))) (first_broken_rule says sections rules)
 
 abbrev pub refusal_by : List Saying → List SectionTree → Option Broken
-refusal_by says sections = first_broken says sections in_order
+refusal_by says sections = first_broken_rule says sections in_order
 
 -- the first rule that a program breaks, at the first line where it does; none where it breaks none
-abbrev pub refusal : ProgramTree → Option Broken
-refusal p = refusal_by (sayings p) p.sections
+abbrev pub refusal_of_declarations : ProgramTree → Option Broken
+refusal_of_declarations p = refusal_by (sayings p) p.sections

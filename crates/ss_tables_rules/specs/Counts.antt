@@ -4,7 +4,7 @@ use Rattle.std.specs.List.{count_by}
 use Rattle.std.specs.Map.{lookup}
 use Rattle.ss_names_declarations.specs.declared.saying.Saying.{Saying}
 use Rattle.ss_names_declarations.specs.Sayings.{NameBytes}
-use Rattle.ss_tables_rules.specs.TooMany.{is_of}
+use Rattle.ss_tables_rules.specs.TooMany.{is_attribute_of}
 use Rattle.ss_names_declarations.specs.Firsts.{same_name}
 use Rattle.ss_tables_rules.specs.declared.too_many.Counts.{Counts}
 
@@ -18,7 +18,7 @@ attributes_counted c class = number_kept (lookup (same_name class) c.map.entries
 
 -- the count of each class is the number of its attributes, up to 64
 abbrev pub AreCounts : List Saying → Counts → Type 0
-AreCounts says c = (class : NameBytes) → attributes_counted c class ≡ min 64 (count_by (is_of class) says)
+AreCounts says c = (class : NameBytes) → attributes_counted c class ≡ min 64 (count_by (is_attribute_of class) says)
 
 -- one attribute more of a class is counted, unless there are 64
 abbrev pub CountsOne : NameBytes → Counts → Counts → Type 0

@@ -2,7 +2,7 @@
 
 ghost use Rattle.std.specs.Prelude.{◌≡◌, map, IfOk};
 ghost use Rattle.ss_tree.specs.View.{view_section};
-ghost use Rattle.ss_tables_rules.specs.Broken.{broken_by, broken_at, first_of_two, first_broken, refusal_by};
+ghost use Rattle.ss_tables_rules.specs.Broken.{broken_by, broken_at, first_of_two, first_broken_rule, refusal_by};
 ghost use Rattle.ss_tables_rules.specs.Declarations.{declarations};
 ghost use Rattle.ss_tables_rules.specs.Globals.{IsGlobalsOf};
 ghost use Rattle.ss_tables_rules.specs.Lines.{first_line};
@@ -76,7 +76,7 @@ fn or_broken(
 }
 
 /// The first of some rules that is broken.
-fn first_broken(
+fn first_broken_rule(
     alloc: Global,
     globals: &Globals,
     rules: &[Rule],
@@ -84,7 +84,7 @@ fn first_broken(
     sections: &[Section],
 ) -> Result<Option<Broken>, AllocError>
     requires { IsGlobalsOf (declarations sayings.now) globals.now }
-    ensures { IfOk result (λ b. b ≡ first_broken sayings.now (map view_section sections.now) rules.now) }
+    ensures { IfOk result (λ b. b ≡ first_broken_rule sayings.now (map view_section sections.now) rules.now) }
 {
     let mut found = None;
     for rule in rules {
@@ -120,5 +120,5 @@ pub fn refusal_of(
         Rule::TooMany,
         Rule::TieKey,
     ];
-    first_broken(alloc, &globals, &rules, sayings, sections)
+    first_broken_rule(alloc, &globals, &rules, sayings, sections)
 }

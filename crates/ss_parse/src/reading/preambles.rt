@@ -2,7 +2,7 @@
 
 ghost use Rattle.std.specs.Prelude.{◌≡◌, None, map};
 ghost use Rattle.ss_tree.specs.View.{view_clause, view_order, view_preamble};
-ghost use Rattle.ss_parse_expressions.specs.Reading.{GivesReading, word, begins, expect, following, closed, maybe_list, begins_by, begins_more, taken, in_table};
+ghost use Rattle.ss_parse_expressions.specs.Reading.{GivesReading, word, begins, expect, after_dropped, closed, maybe_list, begins_by, begins_more, taken, in_table};
 ghost use Rattle.ss_lex.specs.declared.word.Word.TheVariants.{Include, Variable};
 ghost use Rattle.ss_parse_expressions.specs.ReadWords.{begins_name, names};
 ghost use Rattle.ss_parse.specs.SpelledPreambles.{group_after};
@@ -118,13 +118,13 @@ fn keys(alloc: Global, tokens: &[Token]) -> Result<(Vec<Key>, &[Token]), Failure
     let mut all = alone(alloc, Key { high, name: first })?;
     let mut rest = after_first(from);
     'more: while begins_noisy(rest, Word::Then) {
-        let (higher, following) = then_rank(rest)?;
-        let next = name(following)?;
+        let (higher, after_dropped) = then_rank(rest)?;
+        let next = name(after_dropped)?;
         all.push(Key {
             high: higher,
             name: next,
         })?;
-        rest = after_first(following);
+        rest = after_first(after_dropped);
     }
     Ok((all, rest))
 }
@@ -277,7 +277,7 @@ fn temporary(line: Line, tokens: &[Token]) -> Result<(PreambleStatement, &[Token
 
 /// The classes that EVENT NOTICES includes, if there are any.
 fn included(alloc: Global, tokens: &[Token]) -> Result<(Vec<Name>, &[Token]), Failure>
-    ensures { GivesReading (λ x. (x.0.items, x.1.now)) result (maybe_list (begins (word Include)) (following (expect (word Include)) names) tokens.now) }
+    ensures { GivesReading (λ x. (x.0.items, x.1.now)) result (maybe_list (begins (word Include)) (after_dropped (expect (word Include)) names) tokens.now) }
 {
     if !begins_word(tokens, Word::Include) {
         return Ok((Vec::new(alloc), tokens));

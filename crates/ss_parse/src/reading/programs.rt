@@ -1,11 +1,11 @@
 //! Programs.
 
 ghost use Rattle.std.specs.Prelude.{◌≡◌, map};
-ghost use Rattle.ss_parse_expressions.specs.Shapes.{first_line};
+ghost use Rattle.ss_parse_expressions.specs.Shapes.{first_token_line};
 ghost use Rattle.ss_tree.specs.View.{view_definition, view_kind, view_statement, view_section, view_program};
-ghost use Rattle.ss_parse_expressions.specs.Reading.{GivesReading, word, begins, expect, following, maybe_list, rows};
+ghost use Rattle.ss_parse_expressions.specs.Reading.{GivesReading, word, begins, expect, after_dropped, maybe_list, rows};
 ghost use Rattle.ss_parse_expressions.specs.ReadWords.{names};
-ghost use Rattle.ss_parse.specs.ReadPrograms.{begins_section, saving, routine_kind, event_kind, kind_at, variables, definition, definitions, body_in, section_at, section_in, program_in, program_of};
+ghost use Rattle.ss_parse.specs.ReadPrograms.{begins_section, saving, routine_kind, event_kind, kind_after, variables, definition, definitions, body_in, section_at, section_in, program_in, program_of};
 
 use crate::reading::preambles::{preamble, variable_mode};
 use ss_base::{Line, Name};
@@ -24,7 +24,7 @@ use std::alloc::Global;
 
 /// The line of the first token, or 0.
 fn line_at(tokens: &[Token]) -> Line
-    ensures { result ≡ first_line tokens.now }
+    ensures { result ≡ first_token_line tokens.now }
 {
     match tokens {
         [] => Line(0),
@@ -38,7 +38,7 @@ fn names_after(
     tokens: &[Token],
     wanted: Word,
 ) -> Result<(Vec<Name>, &[Token]), Failure>
-    ensures { GivesReading (λ x. (x.0.items, x.1.now)) result (maybe_list (begins (word wanted)) (following (expect (word wanted)) names) tokens.now) }
+    ensures { GivesReading (λ x. (x.0.items, x.1.now)) result (maybe_list (begins (word wanted)) (after_dropped (expect (word wanted)) names) tokens.now) }
 {
     if !begins_word(tokens, wanted) {
         return Ok((Vec::new(alloc), tokens));
@@ -100,7 +100,7 @@ fn section_kind(
     word: Word,
     tokens: &[Token],
 ) -> Result<(SectionKind, &[Token]), Failure>
-    ensures { GivesReading (λ x. (view_kind x.0, x.1.now)) result (kind_at word tokens.now) }
+    ensures { GivesReading (λ x. (view_kind x.0, x.1.now)) result (kind_after word tokens.now) }
 {
     match word {
         Word::Main => Ok((SectionKind::Main, tokens)),

@@ -1,7 +1,7 @@
 use Rattle.std.proofs.Common.{◌≡◌, true, false, cond, ◌∷◌, ◌++◌, [], length, get_or, map, is_some, sym, ap, subst, ◌∙◌}
 use Rattle.std.proofs.lemmas.Result.{on_ok_weaker}
 use Rattle.ss_names.specs.declared.entry.Attribute.{Attribute}
-use Rattle.ss_names.specs.Entities.{AreAttributes, AttributesSeen, attribute_after, fields_among}
+use Rattle.ss_names.specs.Entities.{AreAttributes, AttributesSeen, attribute_after, attributes_of_class}
 use Rattle.ss_names_declarations.specs.Firsts.{value_for}
 use Rattle.ss_names.specs.Rows.{row_of}
 use Rattle.ss_names.proofs.Fields.{attribute_known, attribute_new, row_length}
@@ -22,7 +22,7 @@ returns c owned are =
     let before : AttributesSeen = record { entries = i.entries; fields = map row_of i.fields.items } in
     let inside : AreAttributes usual defined n owned before = subst (AreAttributes usual defined n owned) (sym c.self.view_is) are in
     let new : is_some (value_for before.entries c.args.name) ≡ false = sym c.has_entry.ensures ∙ c.if-has_entry.false in
-    let field : c.row_len.result ≡ length (fields_among owned c.args.class) =
+    let field : c.row_len.result ≡ length (attributes_of_class owned c.args.class) =
     c.row_len.ensures ∙ ap (λ rows. length (get_or (map row_of rows) c.args.class [])) c.deref.ensures.value
     ∙ ap (λ rows. length (get_or rows c.args.class [])) inside.fields ∙ row_length owned n c.args.class c.requires in
     let made : Attribute = record { class = c.args.class; field = c.row_len.result; mode = c.defined_mode.result } in
