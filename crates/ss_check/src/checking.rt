@@ -19,7 +19,7 @@ use ss_check_laws::program_laws::kept_programs_resolve;
 use ss_check_laws::size_laws::laws as laws_of_nodes;
 use ss_check_programs::resolve;
 use ss_check_rules::judge;
-use ss_check_scopes::{Locals, ProgramGlobals};
+use ss_check_scopes::{LocalModes, ProgramGlobals};
 use ss_program::checked::Checked;
 use ss_tables::Tables;
 use ss_tree::program::Program;
@@ -31,7 +31,7 @@ fn keep_rules(
     alloc: Global,
     program: &Program,
     globals: &ProgramGlobals,
-) -> Result<Vec<Locals>, CheckError>
+) -> Result<Vec<LocalModes>, CheckError>
     ensures locals { IfOk result (λ found. found.items ≡ map (locals_of (whole_in globals.now.names globals.now.signatures.items)) (map view_section program.now.sections.items)) }
     ensures kept { OnOk result (refusal_of_uses (whole_in globals.now.names globals.now.signatures.items) (view_program program.now) ≡ None) }
     ensures refused { IfErr result (λ e. ReportsCheckError e (refusal_of_uses (whole_in globals.now.names globals.now.signatures.items) (view_program program.now))) }

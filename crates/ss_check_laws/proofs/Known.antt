@@ -9,9 +9,9 @@ use Rattle.ss_tree.specs.declared.preamble.Mode.{Mode as ModeWord}
 use Rattle.ss_tree.specs.declared.preamble.Mode.TheVariants as mode_words
 use Rattle.ss_names_declarations.specs.Sayings.{NameBytes}
 use Rattle.ss_names.specs.declared.entry.Attribute.{Attribute}
-use Rattle.ss_names.specs.declared.meaning.Meaning.{Meaning as Global}
-use Rattle.ss_names.specs.declared.meaning.Meaning.TheVariants as globals
-use Rattle.ss_names.specs.declared.entry.Variable.{Variable as VariableSaid}
+use Rattle.ss_names.specs.declared.meaning.GlobalMeaning.{GlobalMeaning as Global}
+use Rattle.ss_names.specs.declared.meaning.GlobalMeaning.TheVariants as globals
+use Rattle.ss_names.specs.declared.entry.GlobalVariable.{GlobalVariable as VariableSaid}
 use Rattle.ss_names.specs.declared.entry.VariableKind.{VariableKind}
 use Rattle.ss_names.specs.declared.entry.VariableKind.TheVariants as kinds
 use Rattle.ss_names_declarations.specs.Firsts.{place_in, same_name, value_for}

@@ -15,12 +15,12 @@ use Rattle.ss_names_declarations.specs.Sayings.{NameBytes}
 use Rattle.ss_names.specs.declared.entry.Class.{Class}
 use Rattle.ss_names.specs.declared.meaning.Derived.TheVariants as derived
 use Rattle.ss_names.specs.declared.meaning.History.{History}
-use Rattle.ss_names.specs.declared.meaning.Meaning.{Meaning as Global}
-use Rattle.ss_names.specs.declared.meaning.Meaning.TheVariants as globals
+use Rattle.ss_names.specs.declared.meaning.GlobalMeaning.{GlobalMeaning as Global}
+use Rattle.ss_names.specs.declared.meaning.GlobalMeaning.TheVariants as globals
 use Rattle.ss_names.specs.declared.entry.Set.{Set}
-use Rattle.ss_names.specs.declared.meaning.Subject.{Subject as SubjectNumber}
-use Rattle.ss_names.specs.declared.meaning.Subject.TheVariants as subjects
-use Rattle.ss_names.specs.declared.entry.Variable.{Variable as VariableSaid}
+use Rattle.ss_names.specs.declared.meaning.SubjectNumber.{SubjectNumber}
+use Rattle.ss_names.specs.declared.meaning.SubjectNumber.TheVariants as subjects
+use Rattle.ss_names.specs.declared.entry.GlobalVariable.{GlobalVariable as VariableSaid}
 use Rattle.ss_names.specs.declared.entry.VariableKind.TheVariants as kinds
 use Rattle.ss_names_declarations.specs.Firsts.{place_in, same_name, value_for}
 use Rattle.ss_names.specs.Histories as histories

@@ -10,8 +10,8 @@ use Rattle.ss_tree.specs.declared.preamble.Mode.{Mode as ModeWord}
 use Rattle.ss_tree.specs.Tree as tree
 use Rattle.ss_names_declarations.specs.Sayings.{NameBytes, sayings}
 use Rattle.ss_names.specs.declared.entry.Class.{Class}
-use Rattle.ss_names.specs.declared.meaning.Meaning.TheVariants as globals
-use Rattle.ss_names.specs.declared.entry.Routine.{Routine as RoutineSaid}
+use Rattle.ss_names.specs.declared.meaning.GlobalMeaning.TheVariants as globals
+use Rattle.ss_names.specs.declared.entry.RoutineSection.{RoutineSection as RoutineSaid}
 use Rattle.ss_names_declarations.specs.Firsts.{same_name, value_for}
 use Rattle.ss_names.specs.Table.{Table, table}
 use Rattle.ss_check_scopes.specs.declared.known.Known.TheVariants as knowns

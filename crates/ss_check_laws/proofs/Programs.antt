@@ -15,8 +15,8 @@ use Rattle.ss_names_declarations.specs.declared.saying.Saying.{Saying}
 use Rattle.ss_names_declarations.specs.Sayings.{NameBytes, sayings}
 use Rattle.ss_check_scopes.specs.Whole.{Whole, locals_of}
 use Rattle.ss_names.specs.declared.entry.Class.{Class}
-use Rattle.ss_names.specs.declared.entry.Event.{Event as EventSection}
-use Rattle.ss_names.specs.declared.entry.Routine.{Routine as RoutineSection}
+use Rattle.ss_names.specs.declared.entry.EventSection.{EventSection}
+use Rattle.ss_names.specs.declared.entry.RoutineSection.{RoutineSection}
 use Rattle.ss_names.specs.Entities.{classes}
 use Rattle.ss_names_declarations.specs.Firsts.{entry_if, place_in, same_name, value_for}
 use Rattle.ss_names.specs.Table.{Table, table}

@@ -15,7 +15,7 @@ use Rattle.ss_names_declarations.specs.declared.saying.Said.TheVariants as said
 use Rattle.ss_names_declarations.specs.declared.saying.Saying.{Saying}
 use Rattle.ss_names_declarations.specs.Sayings.{NameBytes, definition_says, head_says, preambles_say, section_says, sections_say, sayings}
 use Rattle.ss_names.specs.declared.entry.Class.{Class}
-use Rattle.ss_names.specs.declared.entry.Event.{Event}
+use Rattle.ss_names.specs.declared.entry.EventSection.{EventSection}
 use Rattle.ss_names.specs.Entities.{class_by, class_entries, classes}
 use Rattle.ss_names_declarations.specs.Firsts.{entry_beside, entry_if, firsts, place_in, same_name, value_for, with_first}
 use Rattle.ss_names.specs.Table.{table}
@@ -208,13 +208,13 @@ module _ (p : tree.ProgramTree) where
   -- ---- EVENT sections
 
   abbrev HasEvent : NameBytes → Saying → Type 0
-  HasEvent name s = (e : Event) × (value_for (event_by s) name ≡ Some e)
+  HasEvent name s = (e : EventSection) × (value_for (event_by s) name ≡ Some e)
 
-  event_said : (name : NameBytes) (says : List Saying) → Somewhere (HasEvent name) says → (e : Event) × (value_for (flat_map event_by says) name ≡ Some e)
+  event_said : (name : NameBytes) (says : List Saying) → Somewhere (HasEvent name) says → (e : EventSection) × (value_for (flat_map event_by says) name ≡ Some e)
   event_said name [] h = absurd h
   event_said name (s ∷ ss) h = by (value_for (event_by s) name) refl h (event_said name ss)
     where
-      by : (o : Option Event) → value_for (event_by s) name ≡ o → ((e : Event) × (value_for (event_by s) name ≡ Some e)) ⊎ Somewhere (HasEvent name) ss → (Somewhere (HasEvent name) ss → (e : Event) × (value_for (flat_map event_by ss) name ≡ Some e)) → (e : Event) × (value_for (event_by s ++ flat_map event_by ss) name ≡ Some e)
+      by : (o : Option EventSection) → value_for (event_by s) name ≡ o → ((e : EventSection) × (value_for (event_by s) name ≡ Some e)) ⊎ Somewhere (HasEvent name) ss → (Somewhere (HasEvent name) ss → (e : EventSection) × (value_for (flat_map event_by ss) name ≡ Some e)) → (e : EventSection) × (value_for (event_by s ++ flat_map event_by ss) name ≡ Some e)
       by (Some e) f g next = (e, told_append (event_by s) (flat_map event_by ss) name ∙ ap (λ o. option_or o (value_for (flat_map event_by ss) name)) f)
       by None f (inl g) next = absurd cc
       by None f (inr g) next =
@@ -223,7 +223,7 @@ module _ (p : tree.ProgramTree) where
 
   head_said : (name : NameBytes) (number : ℕ) (s : tree.SectionTree) → IsEventSectionOf name s → Somewhere (HasEvent name) (section_says number s)
   head_said name number s h =
-      let event : Event = record { section = number; given = length h.0; saving = h.1 } in
+      let event : EventSection = record { section = number; given = length h.0; saving = h.1 } in
       somewhere_left (HasEvent name) (head_says s.line number s.kind) (flat_map (definition_says number) s.definitions)
       (subst (λ kind. Somewhere (HasEvent name) (head_says s.line number kind)) (sym h.2)
       (inl (event, ap (λ b. cond b (Some event) None) (same name))))
@@ -234,7 +234,7 @@ module _ (p : tree.ProgramTree) where
   sections_said name number (s ∷ ss) (inr h) = somewhere_right (HasEvent name) (section_says number s) (sections_say (number + 1) ss) (sections_said name (number + 1) ss h)
 
   -- an EVENT section is found by its name
-  pub event_there : (name : NameBytes) → Somewhere (IsEventSectionOf name) p.sections → (e : Event) × (value_for (table p).events name ≡ Some e)
+  pub event_there : (name : NameBytes) → Somewhere (IsEventSectionOf name) p.sections → (e : EventSection) × (value_for (table p).events name ≡ Some e)
   event_there name h =
       let said = event_said name (sayings p) (somewhere_right (HasEvent name) (preambles_say 0 p.preamble) (sections_say 0 p.sections) (sections_said name 0 p.sections h)) in
       (said.0, found_in_firsts (flat_map event_by (sayings p)) name ∙ said.1)

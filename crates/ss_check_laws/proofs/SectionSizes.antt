@@ -13,8 +13,8 @@ use Rattle.ss_names_declarations.specs.declared.saying.Said.{Said}
 use Rattle.ss_names_declarations.specs.declared.saying.Said.TheVariants as said
 use Rattle.ss_names_declarations.specs.declared.saying.Saying.{Saying}
 use Rattle.ss_names_declarations.specs.Sayings.{NameBytes, clause_says, definition_says, head_says, order_says, preamble_says, preambles_say, rank_says, rule_of, saying_of_name, said_of_all, section_says, sections_say, sayings, statistic_says, tie_says}
-use Rattle.ss_names.specs.declared.entry.Event.{Event}
-use Rattle.ss_names.specs.declared.entry.Routine.{Routine}
+use Rattle.ss_names.specs.declared.entry.EventSection.{EventSection}
+use Rattle.ss_names.specs.declared.entry.RoutineSection.{RoutineSection}
 use Rattle.ss_names.specs.Variables.{event_by, routine_by}
 use Rattle.ss_program.specs.Nodes.{total, option_nodes}
 use Rattle.ss_names_meaning.specs.Resolved.{has_main_kind}
@@ -40,10 +40,10 @@ module _ (all : List SectionTree) where
   abbrev pub weight_at : ℕ → ℕ
   weight_at n = option_nodes weight (slice_get all n)
 
-  abbrev pub of_routine : NameBytes × Routine → ℕ
+  abbrev pub of_routine : NameBytes × RoutineSection → ℕ
   of_routine e = weight_at e.1.section
 
-  abbrev pub of_event : NameBytes × Event → ℕ
+  abbrev pub of_event : NameBytes × EventSection → ℕ
   of_event e = weight_at e.1.section
 
   -- the section of a declaration

@@ -10,8 +10,8 @@ use Rattle.ss_names_declarations.specs.declared.saying.Said.TheVariants as said
 use Rattle.ss_names_declarations.specs.declared.saying.Saying.{Saying}
 use Rattle.ss_names_declarations.specs.Sayings.{NameBytes, clause_says, definition_says, head_says, order_says, preamble_says, preambles_say, rank_says, rule_of, saying_of_name, said_of_all, section_says, sections_say, sayings, statistic_says, tie_says}
 use Rattle.ss_names.specs.declared.entry.Class.{Class}
-use Rattle.ss_names.specs.declared.entry.Event.{Event}
-use Rattle.ss_names.specs.declared.entry.Routine.{Routine}
+use Rattle.ss_names.specs.declared.entry.EventSection.{EventSection}
+use Rattle.ss_names.specs.declared.entry.RoutineSection.{RoutineSection}
 use Rattle.ss_names.specs.Entities.{class_by, classes}
 use Rattle.ss_names_declarations.specs.Firsts.{value_for}
 use Rattle.ss_names.specs.Table.{table}
@@ -22,12 +22,12 @@ use Rattle.ss_names_laws.proofs.Entries.{Entries, first_of_every, entry_holds}
 use Rattle.ss_names_laws.proofs.Steps.{every_append, every_at, every_map, somewhere_left, somewhere_right}
 
 -- the section of a routine, and of an event routine
-abbrev pub IsRoutineSection : List tree.SectionTree → NameBytes → Routine → Type 0
+abbrev pub IsRoutineSection : List tree.SectionTree → NameBytes → RoutineSection → Type 0
 IsRoutineSection sections name r =
     (s : tree.SectionTree) × (given : List NameBytes) × (yielding : List NameBytes) × (slice_get sections r.section ≡ Some s) ×
     (s.kind ≡ tree.routine name given yielding) × (r.given ≡ length given) × (r.yielding ≡ length yielding)
 
-abbrev pub IsEventSection : List tree.SectionTree → NameBytes → Event → Type 0
+abbrev pub IsEventSection : List tree.SectionTree → NameBytes → EventSection → Type 0
 IsEventSection sections name e =
     (s : tree.SectionTree) × (given : List NameBytes) × (slice_get sections e.section ≡ Some s) × (s.kind ≡ tree.event name given e.saving) × (e.given ≡ length given)
 
@@ -125,12 +125,12 @@ module _ (p : tree.ProgramTree) where
       (preambles p.sections (flat_map notices_in p.preamble) 0 p.preamble (λ name h. h))
       (all_sections p.sections (flat_map notices_in p.preamble) 0 p.sections (λ i. let same : 0 + i ≡ i = omega arith in ap (slice_get p.sections) same))
 
-  pub routine_section : (n : ℕ) (name : NameBytes) (r : Routine) → slice_get (table p).routines n ≡ Some (name, r) → IsRoutineSection p.sections name r
+  pub routine_section : (n : ℕ) (name : NameBytes) (r : RoutineSection) → slice_get (table p).routines n ≡ Some (name, r) → IsRoutineSection p.sections name r
   routine_section n name r h =
-      every_at (λ (e : NameBytes × Routine). IsRoutineSection p.sections e.0 e.1) (table p).routines n (name, r)
+      every_at (λ (e : NameBytes × RoutineSection). IsRoutineSection p.sections e.0 e.1) (table p).routines n (name, r)
       (first_of_every (IsRoutineSection p.sections) routine_by (sayings p) (every_map (Good p.sections (flat_map notices_in p.preamble)) (λ s. Entries (IsRoutineSection p.sections) (routine_by s)) (sayings p) (λ s g. g.0) all_good)) h
 
-  pub event_section : (name : NameBytes) (e : Event) → value_for (table p).events name ≡ Some e → IsEventSection p.sections name e
+  pub event_section : (name : NameBytes) (e : EventSection) → value_for (table p).events name ≡ Some e → IsEventSection p.sections name e
   event_section name e h =
       entry_holds (IsEventSection p.sections) (table p).events name e
       (first_of_every (IsEventSection p.sections) event_by (sayings p) (every_map (Good p.sections (flat_map notices_in p.preamble)) (λ s. Entries (IsEventSection p.sections) (event_by s)) (sayings p) (λ s g. g.1) all_good)) h

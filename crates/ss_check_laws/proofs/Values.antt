@@ -12,8 +12,8 @@ use Rattle.ss_tree.specs.declared.preamble.StatisticKind.TheVariants as statisti
 use Rattle.ss_names_declarations.specs.Sayings.{NameBytes}
 use Rattle.ss_names.specs.declared.meaning.Derived.{Derived}
 use Rattle.ss_names.specs.declared.meaning.Derived.TheVariants as derived
-use Rattle.ss_names.specs.declared.meaning.Meaning.{Meaning as Global}
-use Rattle.ss_names.specs.declared.meaning.Meaning.TheVariants as globals
+use Rattle.ss_names.specs.declared.meaning.GlobalMeaning.{GlobalMeaning as Global}
+use Rattle.ss_names.specs.declared.meaning.GlobalMeaning.TheVariants as globals
 use Rattle.ss_names.specs.declared.entry.Set.{Set}
 use Rattle.ss_names.specs.declared.entry.VariableKind.TheVariants as kinds
 use Rattle.ss_names_declarations.specs.Firsts.{same_name, value_for}

@@ -9,8 +9,8 @@ ghost use Rattle.ss_check_programs.specs.View.{view_parts};
 
 use crate::sections::{Parts, parts_at, split};
 use ss_base::{Name, RankKey, RankKeys};
-use ss_check_scopes::Locals;
-use ss_names::{Event as EventSection, Meaning, Names};
+use ss_check_scopes::LocalModes;
+use ss_names::{EventSection, GlobalMeaning, Names};
 use ss_names_meaning::{ResolveError, resolve_ties};
 use ss_program::sections::Event;
 use ss_tree::program::Section;
@@ -24,7 +24,7 @@ fn saved(names: &Names, class: Name, saving: bool) -> Result<Option<usize>, Reso
         return Ok(None);
     }
     match names.meaning(&class) {
-        Some(Meaning::Class { variable, .. }) => { Ok(Some(variable)) }
+        Some(GlobalMeaning::Class { variable, .. }) => { Ok(Some(variable)) }
         _ => Err(ResolveError::Unresolved),
     }
 }
@@ -58,7 +58,7 @@ fn event_of_class(
 fn class_event(
     alloc: Global,
     names: &Names,
-    locals: &[Locals],
+    locals: &[LocalModes],
     sections: &[Section],
     class: usize,
     name: Name,
@@ -80,7 +80,7 @@ fn class_event(
 fn resolve_event(
     alloc: Global,
     names: &Names,
-    locals: &[Locals],
+    locals: &[LocalModes],
     sections: &[Section],
     rank: usize,
 ) -> Result<Event, ResolveError>
@@ -102,7 +102,7 @@ fn resolve_event(
 pub(crate) fn resolve_events(
     alloc: Global,
     names: &Names,
-    locals: &[Locals],
+    locals: &[LocalModes],
     sections: &[Section],
 ) -> Result<Vec<Event>, ResolveError>
     ensures { Gives (λ v. map view_event v.items) result (each (event_from names.now (parts_with_locals names.now locals.now (map view_section sections.now))) (upto (length names.now.ranks))) }

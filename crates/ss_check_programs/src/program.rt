@@ -11,7 +11,7 @@ ghost use Rattle.ss_check_programs.specs.View.{view_parts};
 use crate::events::resolve_events;
 use crate::routines::resolve_routines;
 use crate::sections::{Parts, parts_at};
-use ss_check_scopes::Locals;
+use ss_check_scopes::LocalModes;
 use ss_names::Names;
 use ss_names_meaning::{ResolveError, lay_out};
 use ss_program::sections::Program as Resolved;
@@ -63,7 +63,7 @@ fn main_number(sections: &[Section]) -> Option<usize>
 fn main_parts(
     alloc: Global,
     names: &Names,
-    locals: &[Locals],
+    locals: &[LocalModes],
     sections: &[Section],
 ) -> Result<Parts, ResolveError>
     ensures { Gives view_parts result (main_from (parts_with_locals names.now locals.now (map view_section sections.now)) (map view_section sections.now)) }
@@ -79,7 +79,7 @@ fn main_parts(
 fn resolved(
     alloc: Global,
     names: &Names,
-    locals: &[Locals],
+    locals: &[LocalModes],
     sections: &[Section],
 ) -> Result<Resolved, ResolveError>
     ensures { Gives view_program result (resolved_with_locals names.now locals.now (map view_section sections.now)) }
@@ -114,7 +114,7 @@ pub fn resolve(
     alloc: Global,
     program: &Program,
     names: &Names,
-    locals: &[Locals],
+    locals: &[LocalModes],
 ) -> Result<Option<Resolved>, AllocError>
     ensures { IfOk result (λ p. view_option view_program p ≡ resolved_with_locals names.now locals.now (map view_section program.now.sections.items)) }
 {

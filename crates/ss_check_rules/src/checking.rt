@@ -15,7 +15,7 @@ use crate::rule::{Broken, Rule};
 use crate::section::first_in_sections;
 use crate::uses::{SectionUses, all_uses, into_locals};
 use ss_base::{Line, Name};
-use ss_check_scopes::{Globals, Locals};
+use ss_check_scopes::{Globals, LocalModes};
 use ss_names_declarations::Keys;
 use ss_tree::program::{Program, Section};
 use std::alloc::{AllocError, Global};
@@ -94,7 +94,7 @@ pub fn judge<G: Globals>(
     alloc: Global,
     program: &Program,
     globals: &G,
-) -> Result<(Option<Broken>, Vec<Locals>), AllocError>
+) -> Result<(Option<Broken>, Vec<LocalModes>), AllocError>
     ensures refusal { IfOk result (λ found. found.0 ≡ refusal_of_uses (G.whole globals.now) (view_program program.now)) }
     ensures locals { IfOk result (λ found. found.1.items ≡ map (locals_of (G.whole globals.now)) (map view_section program.now.sections.items)) }
 {

@@ -6,7 +6,7 @@ ghost use Rattle.ss_check_rules.specs.Modes.{are_two, aspect_mode, breaks_modes,
 ghost use Rattle.ss_check_rules.specs.Numbers.{is_no_number, means_no_number};
 
 use ss_base::{Mode, Name};
-use ss_check_scopes::{Globals, Holder, Known, Locals, meaning_in};
+use ss_check_scopes::{Globals, Holder, Known, LocalModes, meaning_in};
 use ss_names_uses::{Aspect, Demand};
 
 // The mode of what a name means. None for a set and a routine.
@@ -38,7 +38,7 @@ pub(crate) fn global_mode<G: Globals>(globals: &G, name: Name) -> Option<Mode>
 }
 
 // The mode of what a name means in a section.
-fn mode_of_name<G: Globals>(globals: &G, locals: &Locals, name: Name) -> Option<Mode>
+fn mode_of_name<G: Globals>(globals: &G, locals: &LocalModes, name: Name) -> Option<Mode>
     ensures { result ≡ mode_of_name (G.whole globals.now) locals.now name }
 {
     match meaning_in(globals, locals, name) {
@@ -77,7 +77,7 @@ fn class_implied(meaning: &Known) -> Option<Name>
 }
 
 // The class that a name implies in a section.
-fn class_in<G: Globals>(globals: &G, locals: &Locals, name: Name) -> Option<Name>
+fn class_in<G: Globals>(globals: &G, locals: &LocalModes, name: Name) -> Option<Name>
     ensures { result ≡ known_class (meaning_in (G.whole globals.now).meanings locals.now name) }
 {
     match meaning_in(globals, locals, name) {
@@ -87,7 +87,7 @@ fn class_in<G: Globals>(globals: &G, locals: &Locals, name: Name) -> Option<Name
 }
 
 // The mode of the variable named like a class, if there is one.
-fn class_mode<G: Globals>(globals: &G, locals: &Locals, class: Option<Name>) -> Option<Mode>
+fn class_mode<G: Globals>(globals: &G, locals: &LocalModes, class: Option<Name>) -> Option<Mode>
     ensures { result ≡ class_mode (G.whole globals.now) locals.now class }
 {
     match class {
@@ -97,14 +97,14 @@ fn class_mode<G: Globals>(globals: &G, locals: &Locals, class: Option<Name>) -> 
 }
 
 // The mode of the variable of the class that a name implies in a section.
-fn implied_mode<G: Globals>(globals: &G, locals: &Locals, name: Name) -> Option<Mode>
+fn implied_mode<G: Globals>(globals: &G, locals: &LocalModes, name: Name) -> Option<Mode>
     ensures { result ≡ class_mode (G.whole globals.now) locals.now (known_class (meaning_in (G.whole globals.now).meanings locals.now name)) }
 {
     class_mode(globals, locals, class_in(globals, locals, name))
 }
 
 // The mode that an aspect is. None for a count.
-fn aspect_mode<G: Globals>(globals: &G, locals: &Locals, aspect: &Aspect) -> Option<Mode>
+fn aspect_mode<G: Globals>(globals: &G, locals: &LocalModes, aspect: &Aspect) -> Option<Mode>
     ensures { result ≡ aspect_mode (G.whole globals.now) locals.now aspect.now }
 {
     match aspect {
@@ -147,7 +147,7 @@ pub(crate) fn differ(a: Option<Mode>, b: Option<Mode>) -> bool
 }
 
 // Whether a demand joins two modes.
-fn mixes<G: Globals>(globals: &G, locals: &Locals, demand: &Demand) -> bool
+fn mixes<G: Globals>(globals: &G, locals: &LocalModes, demand: &Demand) -> bool
     ensures { result ≡ mixes (G.whole globals.now) locals.now demand.now }
 {
     differ(
@@ -164,7 +164,7 @@ fn is_mean(meaning: &Known) -> bool
 }
 
 // Whether what a name means in a section is a MEAN.
-pub(crate) fn names_mean<G: Globals>(globals: &G, locals: &Locals, name: Name) -> bool
+pub(crate) fn names_mean<G: Globals>(globals: &G, locals: &LocalModes, name: Name) -> bool
     ensures { result ≡ names_mean (G.whole globals.now) locals.now name }
 {
     match meaning_in(globals, locals, name) {
@@ -174,7 +174,7 @@ pub(crate) fn names_mean<G: Globals>(globals: &G, locals: &Locals, name: Name) -
 }
 
 // Whether a demand of a value is of a MEAN.
-fn misplaces<G: Globals>(globals: &G, locals: &Locals, demand: &Demand) -> bool
+fn misplaces<G: Globals>(globals: &G, locals: &LocalModes, demand: &Demand) -> bool
     ensures { result ≡ misplaces (G.whole globals.now) locals.now demand.now }
 {
     match &demand.found {
@@ -184,7 +184,7 @@ fn misplaces<G: Globals>(globals: &G, locals: &Locals, demand: &Demand) -> bool
 }
 
 // Whether what a name without subscript means is no number, or a MEAN, or of an entity in a variable of texts.
-fn means_no_number<G: Globals>(globals: &G, locals: &Locals, meaning: &Known) -> bool
+fn means_no_number<G: Globals>(globals: &G, locals: &LocalModes, meaning: &Known) -> bool
     ensures { result ≡ means_no_number (G.whole globals.now) locals.now meaning.now }
 {
     differ(mode_of_known(meaning), Some(Mode::Integer))
@@ -196,7 +196,7 @@ fn means_no_number<G: Globals>(globals: &G, locals: &Locals, meaning: &Known) ->
 }
 
 // Whether a name without subscript means no number, or a MEAN, or what is of an entity in a variable of texts.
-pub(crate) fn is_no_number<G: Globals>(globals: &G, locals: &Locals, name: Name) -> bool
+pub(crate) fn is_no_number<G: Globals>(globals: &G, locals: &LocalModes, name: Name) -> bool
     ensures { result ≡ is_no_number (G.whole globals.now) locals.now name }
 {
     match meaning_in(globals, locals, name) {
@@ -206,7 +206,7 @@ pub(crate) fn is_no_number<G: Globals>(globals: &G, locals: &Locals, name: Name)
 }
 
 // Whether a demand joins two modes, or is of a value where a MEAN is.
-pub(crate) fn breaks_modes<G: Globals>(globals: &G, locals: &Locals, demand: &Demand) -> bool
+pub(crate) fn breaks_modes<G: Globals>(globals: &G, locals: &LocalModes, demand: &Demand) -> bool
     ensures { result ≡ breaks_modes (G.whole globals.now) locals.now demand.now }
 {
     mixes(globals, locals, demand) || misplaces(globals, locals, demand)

@@ -6,7 +6,7 @@ ghost use Rattle.ss_check_scopes.specs.Meanings.{meaning_in};
 ghost use Rattle.ss_check_rules.specs.Unknown.{if_known};
 
 use ss_base::Name;
-use ss_check_scopes::{Globals, Holder, Known, Locals, meaning_in};
+use ss_check_scopes::{Globals, Holder, Known, LocalModes, meaning_in};
 use ss_names_uses::{Mention, Mentioned};
 
 // Whether there is one in the program.
@@ -32,7 +32,7 @@ fn takes_no_subscript(meaning: &Known) -> bool
 }
 
 // Whether there is one of what a name means.
-fn names_single<G: Globals>(globals: &G, locals: &Locals, name: Name) -> bool
+fn names_single<G: Globals>(globals: &G, locals: &LocalModes, name: Name) -> bool
     ensures { result ≡ if_known takes_no_subscript (meaning_in (G.whole globals.now).meanings locals.now name) }
 {
     match meaning_in(globals, locals, name) {
@@ -44,7 +44,7 @@ fn names_single<G: Globals>(globals: &G, locals: &Locals, name: Name) -> bool
 // Whether a mention has subscripts where none may be, or more than one, or none where one is needed.
 pub(crate) fn has_wrong_subscripts<G: Globals>(
     globals: &G,
-    locals: &Locals,
+    locals: &LocalModes,
     mention: &Mention,
 ) -> bool
     ensures { result ≡ has_wrong_subscripts (G.whole globals.now) locals.now mention.now }

@@ -4,7 +4,7 @@ ghost use Rattle.std.specs.Prelude.{◌≡◌};
 ghost use Rattle.ss_check_rules.specs.Unknown.{has_value, if_known, is_known_notice, is_known_permanent, is_routine, is_set, is_watched_here, is_transient, is_unknown, is_known_variable, may_be_watched, suits, suits_here, suits_there, suits_times};
 
 use ss_base::Name;
-use ss_check_scopes::{Globals, Known, Locals, meaning_in};
+use ss_check_scopes::{Globals, Known, LocalModes, meaning_in};
 use ss_names_uses::{Mention, Mentioned, Role};
 use ss_tree::preamble::ClassKind;
 
@@ -84,7 +84,7 @@ pub(crate) fn is_known_subject<G: Globals>(globals: &G, subject: Name) -> bool
 }
 
 // Whether a TALLY or an ACCUMULATE is of what the name means here.
-fn is_watched_here<G: Globals>(globals: &G, locals: &Locals, name: Name) -> bool
+fn is_watched_here<G: Globals>(globals: &G, locals: &LocalModes, name: Name) -> bool
     ensures { result ≡ is_watched_here (G.whole globals.now) locals.now name }
 {
     globals.is_watched(name) && locals.mode(name).is_none()
@@ -115,7 +115,7 @@ fn suits_there(role: Role, meaning: &Known) -> bool
 }
 
 // Whether a name is of the kind that its place needs.
-fn suits<G: Globals>(globals: &G, locals: &Locals, role: Role, name: Name) -> bool
+fn suits<G: Globals>(globals: &G, locals: &LocalModes, role: Role, name: Name) -> bool
     ensures { result ≡ suits (G.whole globals.now) locals.now role name }
 {
     match role {
@@ -140,7 +140,7 @@ fn suits_times(role: Role) -> bool
 }
 
 // Whether a mention is of something that isn't of the kind that its place needs.
-pub(crate) fn is_unknown<G: Globals>(globals: &G, locals: &Locals, mention: &Mention) -> bool
+pub(crate) fn is_unknown<G: Globals>(globals: &G, locals: &LocalModes, mention: &Mention) -> bool
     ensures { result ≡ is_unknown (G.whole globals.now) locals.now mention.now }
 {
     match mention.what {

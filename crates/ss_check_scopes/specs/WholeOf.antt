@@ -15,14 +15,14 @@ use Rattle.ss_names.specs.declared.entry.Class.{Class as ClassSaid}
 use Rattle.ss_names.specs.declared.meaning.Derived.{Derived}
 use Rattle.ss_names.specs.declared.meaning.Derived.TheVariants as deriveds
 use Rattle.ss_names.specs.declared.meaning.History.{History}
-use Rattle.ss_names.specs.declared.meaning.Meaning.{Meaning as Numbered}
-use Rattle.ss_names.specs.declared.meaning.Meaning.TheVariants as numbered
-use Rattle.ss_names.specs.declared.entry.Routine.{Routine as RoutineSaid}
+use Rattle.ss_names.specs.declared.meaning.GlobalMeaning.{GlobalMeaning as Numbered}
+use Rattle.ss_names.specs.declared.meaning.GlobalMeaning.TheVariants as numbered
+use Rattle.ss_names.specs.declared.entry.RoutineSection.{RoutineSection as RoutineSaid}
 use Rattle.ss_names.specs.declared.entry.Set.{Set as SetSaid}
-use Rattle.ss_names.specs.declared.entry.Statistic.{Statistic as StatisticSaid}
-use Rattle.ss_names.specs.declared.meaning.Subject.{Subject}
-use Rattle.ss_names.specs.declared.meaning.Subject.TheVariants as subjects
-use Rattle.ss_names.specs.declared.entry.Variable.{Variable as VariableSaid}
+use Rattle.ss_names.specs.declared.entry.StatisticEntry.{StatisticEntry as StatisticSaid}
+use Rattle.ss_names.specs.declared.meaning.SubjectNumber.{SubjectNumber}
+use Rattle.ss_names.specs.declared.meaning.SubjectNumber.TheVariants as subjects
+use Rattle.ss_names.specs.declared.entry.GlobalVariable.{GlobalVariable as VariableSaid}
 use Rattle.ss_names_declarations.specs.Firsts.{place_in, value_for}
 use Rattle.ss_names.specs.Table.{Table, table}
 use Rattle.ss_check_scopes.specs.declared.known.Holder.{Holder}
@@ -67,7 +67,7 @@ abbrev pub attribute_holder : Table → Option Attribute → Holder
 attribute_holder t (Some a) = holder_at t a.class
 attribute_holder t None = Program
 
-abbrev pub subject_holder : Table → Option Subject → Holder
+abbrev pub subject_holder : Table → Option SubjectNumber → Holder
 subject_holder t (Some (subjects.Attribute attribute)) = attribute_holder t (slice_get (values_of t.attributes) attribute)
 subject_holder t (Some (subjects.MemberCount set)) = set_holder t (slice_get t.sets set)
 subject_holder t _ = Program

@@ -6,7 +6,7 @@ ghost use Rattle.ss_check_scopes.specs.WholeOf.{attribute_holder, holder_at, his
 
 use crate::known::Holder;
 use ss_base::Owner;
-use ss_names::{Names, Statistic, Subject};
+use ss_names::{Names, StatisticEntry, SubjectNumber};
 
 // Each entity of the class of this number.
 fn holder_at(names: &Names, class: usize) -> Holder
@@ -69,13 +69,13 @@ fn attribute_holder(names: &Names, attribute: usize) -> Holder
 }
 
 // Who has the subject of a history.
-fn subject_holder(names: &Names, subject: Option<Subject>) -> Holder
+fn subject_holder(names: &Names, subject: Option<SubjectNumber>) -> Holder
     ensures { result ≡ subject_holder names.now subject }
 {
     match subject {
-        Some(Subject::Attribute(attribute)) => attribute_holder(names, attribute),
-        Some(Subject::MemberCount(set)) => set_holder(names, set),
-        Some(Subject::Variable(_)) | None => Holder::Program,
+        Some(SubjectNumber::Attribute(attribute)) => attribute_holder(names, attribute),
+        Some(SubjectNumber::MemberCount(set)) => set_holder(names, set),
+        Some(SubjectNumber::Variable(_)) | None => Holder::Program,
     }
 }
 
@@ -90,7 +90,7 @@ fn history_holder(names: &Names, history: usize) -> Holder
 }
 
 // Who has a statistic.
-pub(crate) fn statistic_holder(names: &Names, statistic: Statistic) -> Holder
+pub(crate) fn statistic_holder(names: &Names, statistic: StatisticEntry) -> Holder
     ensures { result ≡ statistic_holder names.now statistic }
 {
     history_holder(names, statistic.history)

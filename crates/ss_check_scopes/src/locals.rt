@@ -24,11 +24,11 @@ use std::marker::Model;
 ///
 /// A contract sees the list of their names with their modes.
 #[derive(Drop)]
-pub struct Locals {
+pub struct LocalModes {
     entries: Table<Name, Option<Mode>>,
 }
 
-impl Model for Locals {
+impl Model for LocalModes {
     ghost use Rattle.std.specs.Prelude.{List, ℕ, Option};
     ghost use Rattle.ss_tree.specs.declared.preamble.Mode.{Mode};
 
@@ -103,7 +103,7 @@ fn add_mentioned<G: Globals>(
     }
 }
 
-impl Locals {
+impl LocalModes {
     /// The local variables of a section: its parameters, given ones before yielded ones, those that its
     /// DEFINEs name, and those that its statements only use. Their modes are those of its DEFINEs, else
     /// that of NORMALLY. `all` is what the section mentions.
@@ -115,13 +115,13 @@ impl Locals {
         globals: &G,
         section: &Section,
         all: &[Mention],
-    ) -> Result<Locals, AllocError>
+    ) -> Result<LocalModes, AllocError>
         requires { all.now ≡ mentions (view_section section.now) }
         ensures { IfOk result (λ l. l ≡ locals_of (G.whole globals.now) (view_section section.now)) }
     {
         let modes = modes_of(alloc, &section.definitions)?;
         let entries = collect(alloc, globals, &modes, globals.usual(), all)?;
-        Ok(Locals { entries })
+        Ok(LocalModes { entries })
     }
 
     /// How many there are.

@@ -8,7 +8,7 @@ use crate::holders::{membership_holder, set_holder, statistic_holder};
 use crate::known::{Holder, Known};
 use crate::scope::value_mode;
 use ss_base::{Mode as ValueMode, Name};
-use ss_names::{Attribute, Derived, Meaning as Numbered, Names};
+use ss_names::{Attribute, Derived, GlobalMeaning as Numbered, Names};
 use ss_tree::preamble::{Mode, StatisticKind};
 
 // The global variable of this number.

@@ -15,7 +15,7 @@ use crate::meanings::{attribute_mode_by_name, known_of_entry};
 use crate::scope::value_mode;
 use crate::signature::Signature;
 use ss_base::{Mode as ValueMode, Name};
-use ss_names::{Meaning as Numbered, Names};
+use ss_names::{GlobalMeaning as Numbered, Names};
 use ss_tree::preamble::Mode;
 use ss_tree::program::{Program, Section};
 use std::alloc::{AllocError, Global};

@@ -11,8 +11,8 @@ use Rattle.ss_parse.specs.declared.error.ParseError.{ParseError}
 use Rattle.ss_parse.specs.declared.error.ParseError.TheVariants as parsing
 use Rattle.ss_parse.specs.Promise.{Is_refused, Has_line}
 use Rattle.ss_parse.specs.SpelledPrograms.{Spell}
-use Rattle.ss_tables_rules.specs.declared.rule.Rule.{Rule as DeclarationRule}
-use Rattle.ss_tables_rules.specs.declared.rule.Rule.TheVariants as declaring
+use Rattle.ss_tables_rules.specs.declared.rule.DeclarationRule.{DeclarationRule}
+use Rattle.ss_tables_rules.specs.declared.rule.DeclarationRule.TheVariants as declaring
 use Rattle.ss_tables_rules.specs.Broken.{refusal_of_declarations as declaration_refusal}
 use Rattle.ss_check_rules.specs.declared.rule.Rule.{Rule as UseRule}
 use Rattle.ss_check_rules.specs.declared.rule.Rule.TheVariants as using

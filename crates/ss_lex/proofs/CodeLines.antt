@@ -5,8 +5,8 @@ use Rattle.std.specs.Option.{option_or}
 use Rattle.std.proofs.lemmas.List.{append-nil}
 use Rattle.std.proofs.lemmas.Bool.Decides.{nat_tests}
 use Rattle.ss_lex.specs.declared.token.Token.{Token}
-use Rattle.ss_lex.specs.declared.meaning.Meaning.{Meaning}
-use Rattle.ss_lex.specs.declared.meaning.Meaning.TheVariants as meanings
+use Rattle.ss_lex.specs.declared.meaning.PieceMeaning.{PieceMeaning}
+use Rattle.ss_lex.specs.declared.meaning.PieceMeaning.TheVariants as meanings
 use Rattle.ss_lex.specs.declared.meaning.Fault.{Fault}
 use Rattle.ss_lex.specs.declared.error.LexError.TheVariants as errors
 use Rattle.ss_lex.specs.Pieces.{LinePiece, spelled, piece_meaning, fault_in, first_fault}
@@ -24,22 +24,22 @@ pieces_more b bs =
     ap (λ ps. (piece_at b bs).0 ∷ ps) (cut_complete (pieces (piece_at b bs).1) (length bs) (piece_at b bs).1 (omega (arith, place.0, place.1)) (pieces_sound (piece_at b bs).1))
 
 -- a step of the code: what the first piece means, and what follows it
-pub record Stepped (rest : List ℕ) (m : Meaning) (after : List ℕ) : Type 0 where
+pub record Stepped (rest : List ℕ) (m : PieceMeaning) (after : List ℕ) : Type 0 where
   pub piece : LinePiece
   pub means : piece_meaning piece ≡ m
   pub all : pieces rest ≡ piece ∷ pieces after
   pub place : length (spelled piece) + length after ≡ length rest
   pub less : length after < length rest
 
-pub stepped : (rest : List ℕ) (m : Meaning) (after : List ℕ) → 0 < length rest → (m, after) ≡ step_of rest → Stepped rest m after
+pub stepped : (rest : List ℕ) (m : PieceMeaning) (after : List ℕ) → 0 < length rest → (m, after) ≡ step_of rest → Stepped rest m after
 unfolding step_of
 stepped [] m after some e = absurd (omega arith)
 stepped (b ∷ bs) m after some e =
     let place = piece_place b bs in
-    let after_is : after ≡ (piece_at b bs).1 = ap (λ (p : Meaning × List ℕ). p.1) e in
+    let after_is : after ≡ (piece_at b bs).1 = ap (λ (p : PieceMeaning × List ℕ). p.1) e in
     record {
       piece = (piece_at b bs).0;
-      means = sym (ap (λ (p : Meaning × List ℕ). p.0) e);
+      means = sym (ap (λ (p : PieceMeaning × List ℕ). p.0) e);
       all = pieces_more b bs ∙ ap (λ l. (piece_at b bs).0 ∷ pieces l) (sym after_is);
       place = ap (λ l. length (spelled (piece_at b bs).0) + length l) after_is ∙ place.1;
       less = omega (arith, ap length after_is, place.0, place.1);
@@ -58,10 +58,10 @@ trigger_step rest after t some e =
     let after_is : after ≡ (step_of rest).1 = ap (λ (p : Bool × List ℕ). p.1) e in
     (stepped rest (step_of rest).0 after some (ap (λ l. ((step_of rest).0, l)) after_is), ap (λ (p : Bool × List ℕ). p.0) e)
 
-pub trigger_here : (rest : List ℕ) (m : Meaning) (after : List ℕ) → Stepped rest m after → means_trigger m ≡ true → has_trigger (pieces rest) ≡ true
+pub trigger_here : (rest : List ℕ) (m : PieceMeaning) (after : List ℕ) → Stepped rest m after → means_trigger m ≡ true → has_trigger (pieces rest) ≡ true
 trigger_here rest m after s t = ap has_trigger s.all ∙ ap (λ b. b || has_trigger (pieces after)) (ap means_trigger s.means ∙ t)
 
-pub trigger_after : (rest : List ℕ) (m : Meaning) (after : List ℕ) → Stepped rest m after → means_trigger m ≡ false → has_trigger (pieces rest) ≡ has_trigger (pieces after)
+pub trigger_after : (rest : List ℕ) (m : PieceMeaning) (after : List ℕ) → Stepped rest m after → means_trigger m ≡ false → has_trigger (pieces rest) ≡ has_trigger (pieces after)
 trigger_after rest m after s t = ap has_trigger s.all ∙ ap (λ b. b || has_trigger (pieces after)) (ap means_trigger s.means ∙ t)
 
 any_append : (ts us : List Token) → has_kind is_trigger (ts ++ us) ≡ (has_kind is_trigger ts || has_kind is_trigger us)
@@ -72,7 +72,7 @@ any_append (t ∷ ts) us = ap (λ b. is_trigger t.kind || b) (any_append ts us) 
     go true b c = refl
     go false b c = refl
 
-trigger_in : (m : Meaning) (start line : ℕ) → has_kind is_trigger (token_in m start line) ≡ means_trigger m
+trigger_in : (m : PieceMeaning) (start line : ℕ) → has_kind is_trigger (token_in m start line) ≡ means_trigger m
 trigger_in meanings.Nothing start line = refl
 trigger_in (meanings.Token kind spelling) start line = go (is_trigger kind)
   where
@@ -118,7 +118,7 @@ due_more due before t ts =
       ]
     ]
 
-due_step : (due : ℕ) (before : List Token) (m : Meaning) (start line : ℕ) (ts : List Token) → due_from due before (token_in m start line ++ ts) ≡ due_from (due_from due before (token_in m start line)) (before ++ token_in m start line) ts
+due_step : (due : ℕ) (before : List Token) (m : PieceMeaning) (start line : ℕ) (ts : List Token) → due_from due before (token_in m start line ++ ts) ≡ due_from (due_from due before (token_in m start line)) (before ++ token_in m start line) ts
 due_step due before meanings.Nothing start line ts = ap (λ l. due_from due l ts) (sym (append-nil before))
 due_step due before (meanings.Token kind spelling) start line ts = due_more due before (record { kind = kind; span = record { start = start; length = spelling }; line = record { 0 = line } }) ts
 due_step due before (meanings.Fault fault) start line ts = ap (λ l. due_from due l ts) (sym (append-nil before))
@@ -162,7 +162,7 @@ read_none bytes start line left old = record {
   first = ap (λ n. option_or (refusal_for (first_fault (to_trigger (pieces bytes))) line) (option_or (cut_of left n line) (refusal_for (first_fault (pieces bytes)) line))) (from_none old (tokens_of (pieces bytes) start line));
 }
 
-pub read_more : (bytes : List ℕ) (start line left : ℕ) (old tokens new : List Token) (rest after : List ℕ) (at due due' : ℕ) (m : Meaning) → IsReadTo bytes start line left old tokens rest at due → Stepped rest m after → fault_in m ≡ None → new ≡ tokens ++ token_in m at line → due' ≡ due_from due tokens (token_in m at line) → IsReadTo bytes start line left old new after (at + (length rest - length after)) due'
+pub read_more : (bytes : List ℕ) (start line left : ℕ) (old tokens new : List Token) (rest after : List ℕ) (at due due' : ℕ) (m : PieceMeaning) → IsReadTo bytes start line left old tokens rest at due → Stepped rest m after → fault_in m ≡ None → new ≡ tokens ++ token_in m at line → due' ≡ due_from due tokens (token_in m at line) → IsReadTo bytes start line left old new after (at + (length rest - length after)) due'
 read_more bytes start line left old tokens new rest after at due due' m r s f n d =
     let p = s.piece in
     let here : token_in m at line ≡ token_in (piece_meaning p) at line = ap (λ x. token_in x at line) (sym s.means) in
@@ -178,12 +178,12 @@ read_more bytes start line left old tokens new rest after at due due' m r s f n 
       first = (λ i. refusal_from (due_is i) (new_is i) (pieces after) (at_is i) line left) ∙ (sym (refusal_step due tokens p (pieces after) at line left (ap fault_in s.means ∙ f)) ∙ (ap (λ ps. refusal_from due tokens ps at line left) (sym s.all) ∙ r.first));
     }
 
-fault_at : (m : Meaning) (f : Fault) → fault_in m ≡ Some f → m ≡ meanings.Fault f
+fault_at : (m : PieceMeaning) (f : Fault) → fault_in m ≡ Some f → m ≡ meanings.Fault f
 fault_at meanings.Nothing f e = absurd cc
 fault_at (meanings.Token kind spelling) f e = absurd cc
 fault_at (meanings.Fault g) f e = cc
 
-pub read_fault : (bytes : List ℕ) (start line left : ℕ) (old tokens : List Token) (rest after : List ℕ) (at due : ℕ) (m : Meaning) (fault : Fault) → IsReadTo bytes start line left old tokens rest at due → Stepped rest m after → fault_in m ≡ Some fault → line_refusal (pieces bytes) old start line left ≡ Some (fault_refusal fault after due left line)
+pub read_fault : (bytes : List ℕ) (start line left : ℕ) (old tokens : List Token) (rest after : List ℕ) (at due : ℕ) (m : PieceMeaning) (fault : Fault) → IsReadTo bytes start line left old tokens rest at due → Stepped rest m after → fault_in m ≡ Some fault → line_refusal (pieces bytes) old start line left ≡ Some (fault_refusal fault after due left line)
 unfolding refusal_from
 read_fault bytes start line left old tokens rest after at due m fault r s f =
     let p = s.piece in

@@ -5,7 +5,7 @@ use Rattle.std.proofs.lemmas.Bool.{eqb-true}
 use Rattle.std.proofs.lemmas.List.{append-nil, drop-drop}
 use Rattle.ss_base.specs.Values.{is_text_byte}
 use Rattle.ss_lex.specs.Pieces.{LinePiece, separator, word, comment, open_comment, quoted, open_quoted, single, spelled, is_blank_byte, is_word_part, is_quotable, is_apostrophe, passes_first, opens_comment, is_apart, is_closed, FitsBefore, IsCutInto, piece_meaning}
-use Rattle.ss_lex.specs.declared.meaning.Meaning.TheVariants as meanings
+use Rattle.ss_lex.specs.declared.meaning.PieceMeaning.TheVariants as meanings
 use Rattle.ss_lex.specs.Reading.{longer, comment_at, quotable_length, quoted_at, run_length, piece_at, cut, pieces}
 
 pub which : (b : Bool) → (b ≡ true) ⊎ (b ≡ false)

@@ -2,8 +2,8 @@
 use Rattle.std.proofs.Common.{◌≡◌, ℕ, suc, ◌+◌, true, false, ◌==◌, List, [], ◌∷◌, length, take, drop, refl, sym, ap, ◌∙◌, arith}
 use Rattle.std.proofs.lemmas.List.{drop-drop}
 use Rattle.ss_base.specs.Values.{text_of}
-use Rattle.ss_lex.specs.declared.meaning.Meaning.{Meaning}
-use Rattle.ss_lex.specs.declared.meaning.Meaning.TheVariants as meanings
+use Rattle.ss_lex.specs.declared.meaning.PieceMeaning.{PieceMeaning}
+use Rattle.ss_lex.specs.declared.meaning.PieceMeaning.TheVariants as meanings
 use Rattle.ss_lex.specs.declared.meaning.Fault.TheVariants.{OpenText}
 use Rattle.ss_lex.specs.Words.{without_end_periods, word_meaning}
 use Rattle.ss_lex.specs.Pieces.{passes_first, is_blank_byte, is_word_part, opens_comment, is_closed, text_meaning}
@@ -38,6 +38,6 @@ step_comment bytes b bs rest e p q r a =
     let t = comment_meaning (drop 1 bs) in
     rw (e, p, q, r, t, a) refl
 
-pub step_quote : (bytes : List ℕ) (b : ℕ) (bs : List ℕ) (answer : Meaning × List ℕ) → bytes ≡ b ∷ bs → is_blank_byte b ≡ false → is_word_part b ≡ false → opens_comment b bs ≡ false → (b == 34) ≡ true → answer ≡ quote_step_of bs → answer ≡ step_of bytes
+pub step_quote : (bytes : List ℕ) (b : ℕ) (bs : List ℕ) (answer : PieceMeaning × List ℕ) → bytes ≡ b ∷ bs → is_blank_byte b ≡ false → is_word_part b ≡ false → opens_comment b bs ≡ false → (b == 34) ≡ true → answer ≡ quote_step_of bs → answer ≡ step_of bytes
 unfolding step_of piece_at quote_step_of
 step_quote bytes b bs answer e p q r s a = a ∙ rw (e, p, q, r, s) refl

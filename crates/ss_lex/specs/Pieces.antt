@@ -10,8 +10,8 @@ use Rattle.ss_lex.specs.declared.token.Symbol.TheVariants.{OpenParenthesis, Clos
 use Rattle.ss_lex.specs.declared.token.TokenKind.TheVariants as kinds
 use Rattle.ss_lex.specs.declared.meaning.Fault.{Fault}
 use Rattle.ss_lex.specs.declared.meaning.Fault.TheVariants.{OpenText, AlphaTooLong}
-use Rattle.ss_lex.specs.declared.meaning.Meaning.{Meaning}
-use Rattle.ss_lex.specs.declared.meaning.Meaning.TheVariants as meanings
+use Rattle.ss_lex.specs.declared.meaning.PieceMeaning.{PieceMeaning}
+use Rattle.ss_lex.specs.declared.meaning.PieceMeaning.TheVariants as meanings
 
 -- A piece of a line. A comment or a text that the line's end cuts off is open.
 pub data LinePiece : Type 0 where
@@ -94,12 +94,12 @@ symbol_of b =
     else Other b))))))
 
 -- the meaning of what is between quotes: this text, if it is short enough to be one
-abbrev pub text_meaning : Option (List ℕ) → ℕ → Meaning
+abbrev pub text_meaning : Option (List ℕ) → ℕ → PieceMeaning
 text_meaning None spelling = meanings.Fault AlphaTooLong
 text_meaning (Some text) spelling = meanings.Token (kinds.Text text) spelling
 
 -- What a piece means: nothing, a token with the length of its spelling, or a fault.
-abbrev pub piece_meaning : LinePiece → Meaning
+abbrev pub piece_meaning : LinePiece → PieceMeaning
 piece_meaning (separator b) = meanings.Nothing
 piece_meaning (word w) = word_meaning (without_end_periods w)
 piece_meaning (comment body) = meanings.Nothing
@@ -109,7 +109,7 @@ piece_meaning (open_quoted body) = meanings.Fault OpenText
 piece_meaning (single b) = meanings.Token (kinds.Symbol (symbol_of b)) 1
 
 -- the fault of a piece, if it means one
-abbrev pub fault_in : Meaning → Option Fault
+abbrev pub fault_in : PieceMeaning → Option Fault
 fault_in meanings.Nothing = None
 fault_in (meanings.Token kind spelling) = None
 fault_in (meanings.Fault fault) = Some fault

@@ -4,8 +4,8 @@ use Rattle.std.specs.Prelude.{◌≡◌, ℕ, zero, suc, ◌+◌, ◌≤◌, Boo
 use Rattle.std.specs.Option.{option_or}
 use Rattle.std.specs.List.{prefix_len}
 use Rattle.ss_lex.specs.declared.token.Token.{Token}
-use Rattle.ss_lex.specs.declared.meaning.Meaning.{Meaning}
-use Rattle.ss_lex.specs.declared.meaning.Meaning.TheVariants as meanings
+use Rattle.ss_lex.specs.declared.meaning.PieceMeaning.{PieceMeaning}
+use Rattle.ss_lex.specs.declared.meaning.PieceMeaning.TheVariants as meanings
 use Rattle.ss_lex.specs.declared.error.LexError.{LexError}
 use Rattle.ss_lex.specs.declared.error.LexError.TheVariants as errors
 use Rattle.ss_lex.specs.declared.meaning.Fault.{Fault}
@@ -62,12 +62,12 @@ unfoldable pub pieces : List ℕ → List LinePiece
 pieces bytes = cut (length bytes) bytes
 
 -- what the piece at the front means, and what follows it
-unfoldable pub step_of : List ℕ → Meaning × List ℕ
+unfoldable pub step_of : List ℕ → PieceMeaning × List ℕ
 step_of [] = (meanings.Nothing, [])
 step_of (b ∷ bs) = (piece_meaning (piece_at b bs).0, (piece_at b bs).1)
 
 -- what a text means whose quote is read, and what follows it
-unfoldable pub quote_step_of : List ℕ → Meaning × List ℕ
+unfoldable pub quote_step_of : List ℕ → PieceMeaning × List ℕ
 quote_step_of bytes = (piece_meaning (quoted_at bytes).0, (quoted_at bytes).1)
 
 -- whether the piece at the front is a trigger word, and what follows it

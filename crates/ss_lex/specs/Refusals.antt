@@ -2,8 +2,8 @@
 use Rattle.std.specs.Prelude.{◌≡◌, ℕ, zero, suc, ◌+◌, Bool, false, ◌||◌, List, [], ◌∷◌, ◌++◌, length, nat_lt, MatchBool, Option, Some, None, MatchOption, if◌then◌else◌}
 use Rattle.std.specs.Option.{option_or}
 use Rattle.ss_lex.specs.declared.token.Token.{Token}
-use Rattle.ss_lex.specs.declared.meaning.Meaning.{Meaning}
-use Rattle.ss_lex.specs.declared.meaning.Meaning.TheVariants as meanings
+use Rattle.ss_lex.specs.declared.meaning.PieceMeaning.{PieceMeaning}
+use Rattle.ss_lex.specs.declared.meaning.PieceMeaning.TheVariants as meanings
 use Rattle.ss_lex.specs.declared.meaning.Fault.{Fault}
 use Rattle.ss_lex.specs.declared.meaning.Fault.TheVariants as faults
 use Rattle.ss_lex.specs.declared.error.LexError.{LexError}
@@ -23,7 +23,7 @@ abbrev pub refusal_for : Option Fault → ℕ → Option LexError
 refusal_for None line = None
 refusal_for (Some fault) line = Some (error_of_fault fault line)
 
-abbrev pub means_trigger : Meaning → Bool
+abbrev pub means_trigger : PieceMeaning → Bool
 means_trigger meanings.Nothing = false
 means_trigger (meanings.Token kind spelling) = is_trigger kind
 means_trigger (meanings.Fault fault) = false

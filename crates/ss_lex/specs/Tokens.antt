@@ -6,8 +6,8 @@ use Rattle.ss_lex.specs.declared.word.Word.TheVariants as words
 use Rattle.ss_lex.specs.declared.token.TokenKind.{TokenKind}
 use Rattle.ss_lex.specs.declared.token.TokenKind.TheVariants as kinds
 use Rattle.ss_lex.specs.declared.token.Token.{Token}
-use Rattle.ss_lex.specs.declared.meaning.Meaning.{Meaning}
-use Rattle.ss_lex.specs.declared.meaning.Meaning.TheVariants as meanings
+use Rattle.ss_lex.specs.declared.meaning.PieceMeaning.{PieceMeaning}
+use Rattle.ss_lex.specs.declared.meaning.PieceMeaning.TheVariants as meanings
 use Rattle.ss_lex.specs.Lines.{source_limit, is_character, lines_of, picture_of}
 use Rattle.ss_lex.specs.Pieces.{LinePiece, spelled, IsCutInto, piece_meaning, first_fault}
 
@@ -17,7 +17,7 @@ token_at kind spelling start line =
     record { kind = kind; span = record { start = start; length = spelling }; line = record { 0 = line } }
 
 -- the token of a meaning, if it is one
-abbrev pub token_in : Meaning → ℕ → ℕ → List Token
+abbrev pub token_in : PieceMeaning → ℕ → ℕ → List Token
 token_in meanings.Nothing start line = []
 token_in (meanings.Token kind spelling) start line = token_at kind spelling start line ∷ []
 token_in (meanings.Fault fault) start line = []

@@ -9,8 +9,8 @@ use Rattle.ss_lex.specs.declared.word.Word.TheVariants as words
 use Rattle.ss_lex.specs.declared.token.TokenKind.{TokenKind}
 use Rattle.ss_lex.specs.declared.token.TokenKind.TheVariants as kinds
 use Rattle.ss_lex.specs.declared.meaning.Fault.TheVariants.{BadNumber, NameTooLong}
-use Rattle.ss_lex.specs.declared.meaning.Meaning.{Meaning}
-use Rattle.ss_lex.specs.declared.meaning.Meaning.TheVariants as meanings
+use Rattle.ss_lex.specs.declared.meaning.PieceMeaning.{PieceMeaning}
+use Rattle.ss_lex.specs.declared.meaning.PieceMeaning.TheVariants as meanings
 
 -- the reserved words and their spellings
 unfoldable pub reserved : List (List ℕ × Word)
@@ -169,7 +169,7 @@ word_or_name None spelling = kinds.Name spelling
 word_or_name (Some word) spelling = kinds.Word word
 
 -- what a word with a letter means
-abbrev pub name_meaning : List ℕ → Meaning
+abbrev pub name_meaning : List ℕ → PieceMeaning
 name_meaning w =
     if nat_lt name_limit (length w) then meanings.Fault NameTooLong
     else meanings.Token (word_or_name (word_in_table reserved (in_capitals w)) (in_capitals w)) (length w)
@@ -187,7 +187,7 @@ abbrev pub largest_number : ℕ
 largest_number = 9223372036854775807
 
 -- what a word without a letter means
-abbrev pub number_meaning : List ℕ → Meaning
+abbrev pub number_meaning : List ℕ → PieceMeaning
 number_meaning w =
     if list_any is_period w || nat_lt largest_number (number_from 0 w) then meanings.Fault BadNumber
     else meanings.Token (kinds.Number (pos (number_from 0 w))) (length w)
@@ -203,7 +203,7 @@ without_end_periods [] = []
 without_end_periods (b ∷ bs) = with_byte_before b (without_end_periods bs)
 
 -- what a word means that has no period at its end
-abbrev pub word_meaning : List ℕ → Meaning
+abbrev pub word_meaning : List ℕ → PieceMeaning
 word_meaning [] = meanings.Nothing
 word_meaning (b ∷ bs) =
     if list_any is_ascii_alphabetic (b ∷ bs) then name_meaning (b ∷ bs) else number_meaning (b ∷ bs)

@@ -7,7 +7,7 @@ ghost use Rattle.ss_lex.specs.Reading.{pieces, trigger_step_of, fault_refusal, I
 
 use crate::collected::{Collected, is_trigger};
 use crate::error::LexError;
-use crate::meaning::{Fault, Meaning};
+use crate::meaning::{Fault, PieceMeaning};
 use crate::pieces::step;
 use ss_base::Line;
 
@@ -23,23 +23,23 @@ fn error_of_fault(fault: Fault, line: Line) -> LexError
     }
 }
 
-fn means_trigger(meaning: &Meaning) -> bool
+fn means_trigger(meaning: &PieceMeaning) -> bool
     ensures { result ≡ means_trigger meaning.now }
 {
     match meaning {
-        Meaning::Nothing => false,
-        Meaning::Token(kind, _) => is_trigger(kind),
-        Meaning::Fault(_) => false,
+        PieceMeaning::Nothing => false,
+        PieceMeaning::Token(kind, _) => is_trigger(kind),
+        PieceMeaning::Fault(_) => false,
     }
 }
 
-fn fault_in(meaning: &Meaning) -> Option<Fault>
+fn fault_in(meaning: &PieceMeaning) -> Option<Fault>
     ensures { result ≡ fault_in meaning.now }
 {
     match meaning {
-        Meaning::Nothing => None,
-        Meaning::Token(_, _) => None,
-        Meaning::Fault(fault) => Some(*fault),
+        PieceMeaning::Nothing => None,
+        PieceMeaning::Token(_, _) => None,
+        PieceMeaning::Fault(fault) => Some(*fault),
     }
 }
 

@@ -13,13 +13,13 @@ ghost use Rattle.ss_machine_world.specs.Filed.{both_known, paired, with_owner, t
 use crate::scene::Scene;
 use crate::sets::is_none;
 use ss_base::{FaultKind, Value};
-use ss_machine_entities::known::{Known, Membership, known_number};
+use ss_machine_entities::known::{EntityId, Membership, known_number};
 use ss_machine_entities::trouble::Trouble;
 
 impl Scene {
     // A number as that of an entity that may be a member of a set.
     #[inline(always)]
-    fn look_member(&mut self, set: usize, known: Known) -> Result<Known, Trouble>
+    fn look_member(&mut self, set: usize, known: EntityId) -> Result<EntityId, Trouble>
         ensures value { where_fit (is_some (set_in self.old.heap.layout set)) (turned (λ _. known.number) (due (joiner self.old.heap set known.number))) ≡ to_meaning (number_found result) }
         ensures there { IfOk result (λ _. set < length self.old.heap.layout.sets) }
         ensures same { self.new ≡ self.old }
@@ -35,7 +35,7 @@ impl Scene {
 
     // The entity that a value refers to as one that may be a member of a set.
     #[inline(always)]
-    pub(crate) fn find_member(&mut self, set: usize, x: Value) -> Result<Known, Trouble>
+    pub(crate) fn find_member(&mut self, set: usize, x: Value) -> Result<EntityId, Trouble>
         ensures value { Looks (member set x) self.old (number_found result) }
         ensures there { IfOk result (λ _. set < length self.old.heap.layout.sets) }
         ensures same { self.new ≡ self.old }
@@ -60,7 +60,7 @@ impl Scene {
 
     // A number as that of an owner of a set, where the layout has the set.
     #[inline(always)]
-    fn look_owner(&mut self, set: usize, known: Known) -> Result<Known, Trouble>
+    fn look_owner(&mut self, set: usize, known: EntityId) -> Result<EntityId, Trouble>
         ensures value { where_fit (is_some (set_in self.old.heap.layout set)) (turned (λ _. known.number) (due (owner self.old.heap set known.number))) ≡ to_meaning (number_found result) }
         ensures same { self.new ≡ self.old }
     {
@@ -75,7 +75,7 @@ impl Scene {
 
     // The owner of a set that a value refers to.
     #[inline(always)]
-    pub(crate) fn find_owner(&mut self, set: usize, owner: Option<Value>) -> Result<Known, Trouble>
+    pub(crate) fn find_owner(&mut self, set: usize, owner: Option<Value>) -> Result<EntityId, Trouble>
         ensures value { Looks (known_owner set owner) self.old (number_found result) }
         ensures same { self.new ≡ self.old }
     {
@@ -135,7 +135,7 @@ impl Scene {
 
     // Whether an entity is in the set of an owner, by its number and what refers to the owner.
     #[inline(always)]
-    fn test(&mut self, set: usize, member: Known, owner: Option<Value>) -> Result<bool, Trouble>
+    fn test(&mut self, set: usize, member: EntityId, owner: Option<Value>) -> Result<bool, Trouble>
         ensures value { Looks (with_owner set owner (tested set member.number)) self.old result }
         ensures same { self.new ≡ self.old }
     {
@@ -150,7 +150,7 @@ impl Scene {
 
     // The trouble of a look at a member, or else one that came later.
     #[inline(never)]
-    pub(crate) fn earliest(&mut self, set: usize, member: Known, later: Trouble) -> Trouble
+    pub(crate) fn earliest(&mut self, set: usize, member: EntityId, later: Trouble) -> Trouble
         ensures value { IsEarliest self.old.heap set member.number later result }
         ensures same { self.new ≡ self.old }
     {
@@ -177,7 +177,7 @@ impl Scene {
 
     // The member of the set of an owner that comes first, by the owner's number, where the layout has the set.
     #[inline(always)]
-    fn outset(&mut self, reverse: bool, set: usize, known: Known) -> Result<i64, Trouble>
+    fn outset(&mut self, reverse: bool, set: usize, known: EntityId) -> Result<i64, Trouble>
         ensures value { where_fit (is_some (set_in self.old.heap.layout set)) (due (outset reverse self.old.heap set known.number)) ≡ to_meaning result }
         ensures same { self.new ≡ self.old }
     {

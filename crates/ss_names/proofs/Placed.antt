@@ -20,9 +20,9 @@ use Rattle.ss_names_declarations.specs.Sayings.{NameBytes, sayings}
 use Rattle.ss_names.specs.declared.entry.Attribute.{Attribute}
 use Rattle.ss_names.specs.declared.entry.Class.{Class}
 use Rattle.ss_names.specs.declared.entry.Set.{Set}
-use Rattle.ss_names.specs.declared.meaning.Meaning.{Meaning}
-use Rattle.ss_names.specs.declared.meaning.Meaning.TheVariants as meanings
-use Rattle.ss_names.specs.declared.entry.Statistic.{Statistic}
+use Rattle.ss_names.specs.declared.meaning.GlobalMeaning.{GlobalMeaning}
+use Rattle.ss_names.specs.declared.meaning.GlobalMeaning.TheVariants as meanings
+use Rattle.ss_names.specs.declared.entry.StatisticEntry.{StatisticEntry}
 use Rattle.ss_names.specs.Entities.{attribute_by, attribute_classes, attribute_entries, attributes_after, classes, defined_modes, attributes_of_class, fields_by_class, member_by, member_entries, orderings, owner_declared, owner_entries, set_members, set_names, set_of, set_owners, usual_mode}
 use Rattle.ss_names_declarations.specs.Firsts.{entry_beside, entry_if, firsts, place_among, place_in, same_name, value_for, with_first}
 use Rattle.ss_names_declarations.proofs.Entries.{keys_append}
@@ -92,7 +92,7 @@ placed_in entries name = subst (λ n. IfSome (place_in entries name) (λ i. i < 
 
 -- ---- meanings of names
 
-both : (says : List Saying) (m : ℕ → ℕ → Meaning) (c v : Option ℕ) → ((class variable : ℕ) → class < length (declared says).classes → variable < length (declared says).variables → IsPlaced (declared says) (m class variable)) → IfSome c (λ i. i < length (declared says).classes) → IfSome v (λ i. i < length (declared says).variables) → IfSome (class_meaning m c v) (IsPlaced (declared says))
+both : (says : List Saying) (m : ℕ → ℕ → GlobalMeaning) (c v : Option ℕ) → ((class variable : ℕ) → class < length (declared says).classes → variable < length (declared says).variables → IsPlaced (declared says) (m class variable)) → IfSome c (λ i. i < length (declared says).classes) → IfSome v (λ i. i < length (declared says).variables) → IfSome (class_meaning m c v) (IsPlaced (declared says))
 both says m None v h k l = tt
 both says m (Some class) None h k l = tt
 both says m (Some class) (Some variable) h k l = h class variable k l
@@ -143,11 +143,11 @@ numbers_are_places p name =
 
 -- ---- statistics and ranks
 
-statistic_placed : (count : ℕ) (kind : StatisticKind) (name : NameBytes) (history : Option ℕ) → IfSome history (λ i. i < count) → AllValues (λ (s : Statistic). s.history < count) (statistic_entry kind name history)
+statistic_placed : (count : ℕ) (kind : StatisticKind) (name : NameBytes) (history : Option ℕ) → IfSome history (λ i. i < count) → AllValues (λ (s : StatisticEntry). s.history < count) (statistic_entry kind name history)
 statistic_placed count kind name None h = tt
 statistic_placed count kind name (Some history) h = (h, tt)
 
-statistic_said : (says : List Saying) (what : Said) (name : Option NameBytes) → AllValues (λ (s : Statistic). s.history < length (weighings says)) (statistic_entries (weighings says) what name)
+statistic_said : (says : List Saying) (what : Said) (name : Option NameBytes) → AllValues (λ (s : StatisticEntry). s.history < length (weighings says)) (statistic_entries (weighings says) what name)
 statistic_said says (said.Statistic weighting kind subject) (Some name) = statistic_placed (length (weighings says)) kind name _ (placed_in (weighings says) subject)
 statistic_said says _ _ = tt
 
@@ -156,7 +156,7 @@ statistics_have_histories p name =
     let says = sayings p in
     let names = (declared says).names in
     subst (λ n. IfSome (value_for (declared says).statistics name) (λ s. s.history < n)) (sym (length-map (weighings says) (history_of names)))
-    (firsts_satisfy (λ (s : Statistic). s.history < length (weighings says)) (statistic_by (weighings says)) says name (λ (s : Saying). statistic_said says s.said s.name))
+    (firsts_satisfy (λ (s : StatisticEntry). s.history < length (weighings says)) (statistic_by (weighings says)) says name (λ (s : Saying). statistic_said says s.said s.name))
 
 chosen : {V : Type 0} (P : V → Type 0) (b : Bool) (xs : List (NameBytes × V)) → AllValues P xs → AllValues P (if b then xs else [])
 chosen P true xs h = h

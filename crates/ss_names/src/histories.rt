@@ -4,7 +4,7 @@ ghost use Rattle.std.specs.Prelude.{◌≡◌, map, IfOk};
 ghost use Rattle.ss_names_declarations.specs.Firsts.{value_for};
 ghost use Rattle.ss_names.specs.Histories.{history_of, subject_of_name};
 
-use crate::meaning::{Derived, History, Meaning, Subject};
+use crate::meaning::{Derived, History, GlobalMeaning, SubjectNumber};
 use crate::meanings::Meanings;
 use ss_base::Name;
 use ss_names_declarations::Table;
@@ -12,18 +12,18 @@ use ss_tree::preamble::Weighting;
 use std::alloc::{AllocError, Global};
 
 // The subject that a meaning is, if it may have a history.
-fn subject_of_name(meaning: Option<Meaning>) -> Option<Subject>
+fn subject_of_name(meaning: Option<GlobalMeaning>) -> Option<SubjectNumber>
     ensures { result ≡ subject_of_name meaning }
 {
     match meaning {
-        Some(Meaning::Variable(variable)) => Some(Subject::Variable(variable)),
-        Some(Meaning::Attribute(attribute)) => Some(Subject::Attribute(attribute)),
+        Some(GlobalMeaning::Variable(variable)) => Some(SubjectNumber::Variable(variable)),
+        Some(GlobalMeaning::Attribute(attribute)) => Some(SubjectNumber::Attribute(attribute)),
         Some(
-            Meaning::Derived {
+            GlobalMeaning::Derived {
                 derived: Derived::MemberCount,
                 set,
             },
-        ) => Some(Subject::MemberCount(set)),
+        ) => Some(SubjectNumber::MemberCount(set)),
         _ => None,
     }
 }

@@ -10,11 +10,11 @@ ghost use Rattle.ss_names.specs.Histories.{histories as histories_said};
 ghost use Rattle.ss_names.specs.Table.{declared};
 
 use crate::classes::usual_mode;
-use crate::entry::{Attribute, Class, Event, Routine, Set, Statistic, Variable};
+use crate::entry::{Attribute, Class, EventSection, RoutineSection, Set, StatisticEntry, GlobalVariable};
 use crate::histories::histories_of;
 use crate::keys::{RankedBy, TiedBy};
 use crate::making::beside;
-use crate::meaning::{History, Meaning};
+use crate::meaning::{History, GlobalMeaning};
 use crate::meanings::{Meanings, meanings_of};
 use crate::notices::{Notices, notices_of};
 use crate::numbers::{Numbers, numbers_of};
@@ -179,14 +179,14 @@ impl Names {
     }
 
     /// The meaning of a name of this table. None if it is none of them.
-    pub fn meaning_of(&self, id: NameId) -> Option<Meaning>
+    pub fn meaning_of(&self, id: NameId) -> Option<GlobalMeaning>
         ensures { result ≡ slice_get (values_of self.now.names) id.0 }
     {
         self.lists.names.at(id.0)
     }
 
     /// The meaning of a name. None if it is no global or derived name.
-    pub fn meaning(&self, name: &Name) -> Option<Meaning>
+    pub fn meaning(&self, name: &Name) -> Option<GlobalMeaning>
         ensures { result ≡ value_for self.now.names name.now }
     {
         self.lists.names.meaning(name)
@@ -277,7 +277,7 @@ impl Names {
     }
 
     /// The global variable of this number.
-    pub fn variable(&self, number: usize) -> Option<Variable>
+    pub fn variable(&self, number: usize) -> Option<GlobalVariable>
         ensures { result ≡ slice_get (values_of self.now.variables) number }
     {
         spelled_at(&self.lists.numbers.variables, number)
@@ -291,14 +291,14 @@ impl Names {
     }
 
     /// The routine of this number.
-    pub fn routine(&self, number: usize) -> Option<Routine>
+    pub fn routine(&self, number: usize) -> Option<RoutineSection>
         ensures { result ≡ slice_get (values_of self.now.routines) number }
     {
         value_at(&self.lists.numbers.others.routines, number)
     }
 
     /// The EVENT section of this name.
-    pub fn event(&self, name: &Name) -> Option<Event>
+    pub fn event(&self, name: &Name) -> Option<EventSection>
         ensures { result ≡ value_for self.now.events name.now }
     {
         self.lists.notices.events.get(name).copied()
@@ -334,7 +334,7 @@ impl Names {
     }
 
     /// The statistic of this number.
-    pub fn statistic(&self, number: usize) -> Option<Statistic>
+    pub fn statistic(&self, number: usize) -> Option<StatisticEntry>
         ensures { result ≡ slice_get (values_of self.now.statistics) number }
     {
         value_at(&self.lists.numbers.others.tellings.statistics, number)

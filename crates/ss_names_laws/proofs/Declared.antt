@@ -11,9 +11,9 @@ use Rattle.ss_names_declarations.specs.declared.saying.Said.{Said}
 use Rattle.ss_names_declarations.specs.declared.saying.Said.TheVariants as said
 use Rattle.ss_names_declarations.specs.declared.saying.Saying.{Saying}
 use Rattle.ss_names_declarations.specs.Sayings.{NameBytes, sayings}
-use Rattle.ss_tables_rules.specs.declared.rule.Rule.{Rule}
-use Rattle.ss_tables_rules.specs.declared.rule.Rule.TheVariants as rules
-use Rattle.ss_tables_rules.specs.declared.rule.Broken.{Broken}
+use Rattle.ss_tables_rules.specs.declared.rule.DeclarationRule.{DeclarationRule}
+use Rattle.ss_tables_rules.specs.declared.rule.DeclarationRule.TheVariants as rules
+use Rattle.ss_tables_rules.specs.declared.rule.BrokenDeclaration.{BrokenDeclaration}
 use Rattle.ss_tables_rules.specs.declared.topic.Topic.{Topic}
 use Rattle.ss_tables_rules.specs.declared.topic.Topic.TheVariants as topics
 use Rattle.ss_tables_rules.specs.Broken.{broken_by, in_order, broken_at, first_of_two, first_broken_rule}
@@ -43,11 +43,11 @@ no_first : (lines : List Line) → first_line lines ≡ None → lines ≡ []
 no_first [] h = refl
 no_first (line ∷ lines) h = absurd (no_sooner line lines h)
 
-rule_unbroken : (rule : Rule) (o : Option Line) (rest : Option Broken) → first_of_two (broken_at rule o) rest ≡ None → (o ≡ None) × (rest ≡ None)
+rule_unbroken : (rule : DeclarationRule) (o : Option Line) (rest : Option BrokenDeclaration) → first_of_two (broken_at rule o) rest ≡ None → (o ≡ None) × (rest ≡ None)
 rule_unbroken rule None rest h = (refl, h)
 rule_unbroken rule (Some line) rest h = absurd cc
 
-none_broken : (says : List Saying) (sections : List SectionTree) (some : List Rule) → first_broken_rule says sections some ≡ None → Every (λ rule. broken_by says sections rule ≡ []) some
+none_broken : (says : List Saying) (sections : List SectionTree) (some : List DeclarationRule) → first_broken_rule says sections some ≡ None → Every (λ rule. broken_by says sections rule ≡ []) some
 none_broken says sections [] h = tt
 none_broken says sections (rule ∷ some) h =
     let parts = rule_unbroken rule (first_line (broken_by says sections rule)) (first_broken_rule says sections some) h in

@@ -22,12 +22,12 @@ use Rattle.ss_names_declarations.specs.declared.saying.Saying.{Saying}
 use Rattle.ss_names_declarations.specs.Sayings.{NameBytes}
 use Rattle.ss_names.specs.declared.entry.Attribute.{Attribute}
 use Rattle.ss_names.specs.declared.entry.Class.{Class}
-use Rattle.ss_names.specs.declared.meaning.Meaning.{Meaning}
-use Rattle.ss_names.specs.declared.meaning.Meaning.TheVariants as meanings
-use Rattle.ss_names.specs.declared.entry.Routine.{Routine}
+use Rattle.ss_names.specs.declared.meaning.GlobalMeaning.{GlobalMeaning}
+use Rattle.ss_names.specs.declared.meaning.GlobalMeaning.TheVariants as meanings
+use Rattle.ss_names.specs.declared.entry.RoutineSection.{RoutineSection}
 use Rattle.ss_names.specs.declared.entry.Set.{Set}
-use Rattle.ss_names.specs.declared.entry.Statistic.{Statistic}
-use Rattle.ss_names.specs.declared.entry.Variable.{Variable}
+use Rattle.ss_names.specs.declared.entry.StatisticEntry.{StatisticEntry}
+use Rattle.ss_names.specs.declared.entry.GlobalVariable.{GlobalVariable}
 use Rattle.ss_names.specs.declared.entry.VariableKind.{VariableKind}
 use Rattle.ss_names.specs.declared.entry.VariableKind.TheVariants.{Defined, OfClass, CountOf}
 use Rattle.ss_names.specs.Entities.{attribute_after, attribute_by, attribute_classes, attribute_entries, attributes, attributes_after, classes, defined_modes, fields, attributes_of_class, member_by, member_entries, orderings, owner_declared, owner_entries, set_members, set_names, set_of, set_owners, sets, usual_mode}
@@ -62,21 +62,21 @@ placed_in es name i h = subst (λ n. i < n) (keys_length es) (placed (keys_of es
 -- ---- meanings of names
 
 -- the numbers in the meaning of a name are those of something of that name in the table
-abbrev pub IsNumbered : Table → NameBytes → Meaning → Type 0
-IsNumbered t name (meanings.Variable n) = (v : Variable) × (slice_get t.variables n ≡ Some (name, v))
-IsNumbered t name (meanings.Class class n) = (c : Class) × (v : Variable) × (slice_get t.classes class ≡ Some (name, c)) × (slice_get t.variables n ≡ Some (name, v))
-IsNumbered t name (meanings.Count class n) = (v : Variable) × (slice_get t.variables n ≡ Some (name, v))
+abbrev pub IsNumbered : Table → NameBytes → GlobalMeaning → Type 0
+IsNumbered t name (meanings.Variable n) = (v : GlobalVariable) × (slice_get t.variables n ≡ Some (name, v))
+IsNumbered t name (meanings.Class class n) = (c : Class) × (v : GlobalVariable) × (slice_get t.classes class ≡ Some (name, c)) × (slice_get t.variables n ≡ Some (name, v))
+IsNumbered t name (meanings.Count class n) = (v : GlobalVariable) × (slice_get t.variables n ≡ Some (name, v))
 IsNumbered t name (meanings.Attribute n) = (a : Attribute) × (slice_get t.attributes n ≡ Some (name, a))
 IsNumbered t name (meanings.Set n) = (s : Set) × (slice_get t.sets n ≡ Some s)
 IsNumbered t name (meanings.Derived d n) = (s : Set) × (slice_get t.sets n ≡ Some s)
-IsNumbered t name (meanings.Statistic n) = (x : Statistic) × (slice_get t.statistics n ≡ Some (name, x))
-IsNumbered t name (meanings.Routine n) = (r : Routine) × (slice_get t.routines n ≡ Some (name, r))
+IsNumbered t name (meanings.Statistic n) = (x : StatisticEntry) × (slice_get t.statistics n ≡ Some (name, x))
+IsNumbered t name (meanings.Routine n) = (r : RoutineSection) × (slice_get t.routines n ≡ Some (name, r))
 
 module _ (says : List Saying) where
-  abbrev Numbered : NameBytes → Meaning → Type 0
+  abbrev Numbered : NameBytes → GlobalMeaning → Type 0
   Numbered = IsNumbered (declared says)
 
-  abbrev AllNumbered : List (NameBytes × Meaning) → Type 0
+  abbrev AllNumbered : List (NameBytes × GlobalMeaning) → Type 0
   AllNumbered = Entries Numbered
 
   class_numbered : (name : NameBytes) (class variable : Option ℕ) → class ≡ place_in (declared says).classes name → variable ≡ place_in (declared says).variables name → IfSome (class_meaning meanings.Class class variable) (Numbered name)
@@ -117,7 +117,7 @@ module _ (says : List Saying) where
       let s = set_there name set (sym h) in
       (s, (s, (s, (s, (s, (s, (s, tt)))))))
 
-  unless : (name : NameBytes) (b : Bool) (o : Option Meaning) → IfSome o (Numbered name) → IfSome (if b then None else o) (Numbered name)
+  unless : (name : NameBytes) (b : Bool) (o : Option GlobalMeaning) → IfSome o (Numbered name) → IfSome (if b then None else o) (Numbered name)
   unless name true o h = tt
   unless name false o h = h
 
@@ -141,25 +141,25 @@ module _ (says : List Saying) where
       (mapped (Numbered name) meanings.Routine (place_in (declared says).routines name) (λ i h. let f = value_by_place (declared says).routines name i h in (f.0, f.2)))
   names_said _ _ = tt
 
-  names_numbered : (name : NameBytes) (m : Meaning) → value_for (declared says).names name ≡ Some m → Numbered name m
+  names_numbered : (name : NameBytes) (m : GlobalMeaning) → value_for (declared says).names name ≡ Some m → Numbered name m
   names_numbered name m h =
       entry_holds Numbered (declared says).names name m (first_entries Numbered (meaning_by (numbered_names says)) says (λ (s : Saying). names_said s.said s.name)) h
 
 -- ---- statistics
 
-histories_below : (count : ℕ) (kind : StatisticKind) (name : NameBytes) (history : Option ℕ) → IfSome history (λ i. i < count) → Entries (λ n (s : Statistic). s.history < count) (statistic_entry kind name history)
+histories_below : (count : ℕ) (kind : StatisticKind) (name : NameBytes) (history : Option ℕ) → IfSome history (λ i. i < count) → Entries (λ n (s : StatisticEntry). s.history < count) (statistic_entry kind name history)
 histories_below count kind name None h = tt
 histories_below count kind name (Some history) h = (h, tt)
 
-statistic_said : (says : List Saying) (what : Said) (name : Option NameBytes) → Entries (λ n (s : Statistic). s.history < length (weighings says)) (statistic_entries (weighings says) what name)
+statistic_said : (says : List Saying) (what : Said) (name : Option NameBytes) → Entries (λ n (s : StatisticEntry). s.history < length (weighings says)) (statistic_entries (weighings says) what name)
 statistic_said says (said.Statistic weighting kind subject) (Some name) =
     histories_below (length (weighings says)) kind name (place_in (weighings says) subject) (if_some (place_in (weighings says) subject) (λ i. i < length (weighings says)) (placed_in (weighings says) subject))
 statistic_said says _ _ = tt
 
-statistics_kept : (says : List Saying) (n : ℕ) (name : NameBytes) (s : Statistic) → slice_get (declared says).statistics n ≡ Some (name, s) → s.history < length (declared says).histories
+statistics_kept : (says : List Saying) (n : ℕ) (name : NameBytes) (s : StatisticEntry) → slice_get (declared says).statistics n ≡ Some (name, s) → s.history < length (declared says).histories
 statistics_kept says n name s h =
-    let all = first_entries (λ n (s : Statistic). s.history < length (weighings says)) (statistic_by (weighings says)) says (λ (x : Saying). statistic_said says x.said x.name) in
-    let one : s.history < length (weighings says) = every_at (λ (e : NameBytes × Statistic). e.1.history < length (weighings says)) (declared says).statistics n (name, s) all h in
+    let all = first_entries (λ n (s : StatisticEntry). s.history < length (weighings says)) (statistic_by (weighings says)) says (λ (x : Saying). statistic_said says x.said x.name) in
+    let one : s.history < length (weighings says) = every_at (λ (e : NameBytes × StatisticEntry). e.1.history < length (weighings says)) (declared says).statistics n (name, s) all h in
     omega (arith, one, length-map (weighings says) (history_of (declared says).names))
 
 -- ---- attributes
@@ -231,17 +231,17 @@ IsClassMode Defined m = Unit {0}
 IsClassMode (OfClass class) m = m ≡ mode_words.Integer
 IsClassMode (CountOf class) m = m ≡ mode_words.Integer
 
-variables_of_class : (kind : ClassKind) (name : NameBytes) (class : Option ℕ) → Entries (λ n (v : Variable). IsClassMode v.kind v.mode) (class_variables kind name class)
+variables_of_class : (kind : ClassKind) (name : NameBytes) (class : Option ℕ) → Entries (λ n (v : GlobalVariable). IsClassMode v.kind v.mode) (class_variables kind name class)
 variables_of_class class_kinds.Permanent name (Some class) = (refl, (refl, tt))
 variables_of_class class_kinds.Temporary name (Some class) = (refl, tt)
 variables_of_class class_kinds.EventNotice name (Some class) = (refl, tt)
 variables_of_class kind name None = tt
 
-defined_unless : (b : Bool) (name : NameBytes) (mode : Mode) → Entries (λ n (v : Variable). IsClassMode v.kind v.mode) (if b then [] else (name, record { kind = Defined; mode = mode }) ∷ [])
+defined_unless : (b : Bool) (name : NameBytes) (mode : Mode) → Entries (λ n (v : GlobalVariable). IsClassMode v.kind v.mode) (if b then [] else (name, record { kind = Defined; mode = mode }) ∷ [])
 defined_unless true name mode = tt
 defined_unless false name mode = (tt, tt)
 
-variable_said : (cs : List (NameBytes × Class)) (own : List (NameBytes × Attribute)) (what : Said) (name : Option NameBytes) → Entries (λ n (v : Variable). IsClassMode v.kind v.mode) (variable_entries cs own what name)
+variable_said : (cs : List (NameBytes × Class)) (own : List (NameBytes × Attribute)) (what : Said) (name : Option NameBytes) → Entries (λ n (v : GlobalVariable). IsClassMode v.kind v.mode) (variable_entries cs own what name)
 variable_said cs own (said.Variable mode) (Some name) = defined_unless (is_some (value_for own name)) name mode
 variable_said cs own (said.Class kind) (Some name) = variables_of_class kind name (place_in cs name)
 variable_said cs own _ _ = tt
@@ -250,15 +250,15 @@ variable_said cs own _ _ = tt
 
 -- what is true of the table of every program
 pub record IsTable (t : Table) : Type 0 where
-  pub names : (name : NameBytes) (m : Meaning) → value_for t.names name ≡ Some m → IsNumbered t name m
+  pub names : (name : NameBytes) (m : GlobalMeaning) → value_for t.names name ≡ Some m → IsNumbered t name m
   pub attributes : (n : ℕ) (name : NameBytes) (a : Attribute) → slice_get t.attributes n ≡ Some (name, a) → value_for t.attributes name ≡ Some a
   pub fields : (n : ℕ) (name : NameBytes) (a : Attribute) → slice_get t.attributes n ≡ Some (name, a) → (a.class < length t.classes) × (slice_get (get_or t.fields a.class []) a.field ≡ Some name)
   pub rows : (class : ℕ) → class < length t.classes → Every (λ name. (a : Attribute) × (value_for t.attributes name ≡ Some a)) (get_or t.fields class [])
   pub owners : (n : ℕ) (s : Set) (class : ℕ) → slice_get t.sets n ≡ Some s → s.owner ≡ Some (owners.Class class) → class < length t.classes
   pub members : (n : ℕ) (s : Set) (class : ℕ) → slice_get t.sets n ≡ Some s → s.member ≡ Some class → class < length t.classes
-  pub class_modes : (n : ℕ) (name : NameBytes) (v : Variable) → slice_get t.variables n ≡ Some (name, v) → IsClassMode v.kind v.mode
+  pub class_modes : (n : ℕ) (name : NameBytes) (v : GlobalVariable) → slice_get t.variables n ≡ Some (name, v) → IsClassMode v.kind v.mode
   pub histories : (n : ℕ) (name : NameBytes) (weighting : Weighting) → slice_get t.weighings n ≡ Some (name, weighting) → slice_get t.histories n ≡ Some (history_of t.names (name, weighting))
-  pub statistics : (n : ℕ) (name : NameBytes) (s : Statistic) → slice_get t.statistics n ≡ Some (name, s) → s.history < length t.histories
+  pub statistics : (n : ℕ) (name : NameBytes) (s : StatisticEntry) → slice_get t.statistics n ≡ Some (name, s) → s.history < length t.histories
 
 module _ (says : List Saying) where
   abbrev owned : List (NameBytes × ℕ)
@@ -316,10 +316,10 @@ module _ (says : List Saying) where
       let all = first_entries (λ k c. c < length (classes says)) (member_by (classes says)) says (λ (x : Saying). member_said (classes says) x.said x.name) in
       entry_holds (λ k c. c < length (classes says)) (set_members says) named.0 class all value
 
-  class_modes_are : (n : ℕ) (name : NameBytes) (v : Variable) → slice_get (variables says) n ≡ Some (name, v) → IsClassMode v.kind v.mode
+  class_modes_are : (n : ℕ) (name : NameBytes) (v : GlobalVariable) → slice_get (variables says) n ≡ Some (name, v) → IsClassMode v.kind v.mode
   class_modes_are n name v h =
-      let all = first_entries (λ k (x : Variable). IsClassMode x.kind x.mode) (variable_by (classes says) (attributes says)) says (λ (x : Saying). variable_said (classes says) (attributes says) x.said x.name) in
-      every_at (λ (e : NameBytes × Variable). IsClassMode e.1.kind e.1.mode) (variables says) n (name, v) all h
+      let all = first_entries (λ k (x : GlobalVariable). IsClassMode x.kind x.mode) (variable_by (classes says) (attributes says)) says (λ (x : Saying). variable_said (classes says) (attributes says) x.said x.name) in
+      every_at (λ (e : NameBytes × GlobalVariable). IsClassMode e.1.kind e.1.mode) (variables says) n (name, v) all h
 
   histories_are : (n : ℕ) (name : NameBytes) (weighting : Weighting) → slice_get (weighings says) n ≡ Some (name, weighting) → slice_get (declared says).histories n ≡ Some (history_of (declared says).names (name, weighting))
   histories_are n name weighting h =

@@ -22,11 +22,11 @@ use Rattle.ss_names.specs.declared.entry.Class.{Class}
 use Rattle.ss_names.specs.declared.meaning.Derived.{Derived}
 use Rattle.ss_names.specs.declared.meaning.Derived.TheVariants as deriveds
 use Rattle.ss_names.specs.declared.meaning.History.{History}
-use Rattle.ss_names.specs.declared.meaning.Meaning.{Meaning}
-use Rattle.ss_names.specs.declared.meaning.Meaning.TheVariants as meanings
-use Rattle.ss_names.specs.declared.meaning.Subject.{Subject}
-use Rattle.ss_names.specs.declared.meaning.Subject.TheVariants as subjects
-use Rattle.ss_names.specs.declared.entry.Variable.{Variable}
+use Rattle.ss_names.specs.declared.meaning.GlobalMeaning.{GlobalMeaning}
+use Rattle.ss_names.specs.declared.meaning.GlobalMeaning.TheVariants as meanings
+use Rattle.ss_names.specs.declared.meaning.SubjectNumber.{SubjectNumber}
+use Rattle.ss_names.specs.declared.meaning.SubjectNumber.TheVariants as subjects
+use Rattle.ss_names.specs.declared.entry.GlobalVariable.{GlobalVariable}
 use Rattle.ss_names.specs.declared.entry.VariableKind.{VariableKind}
 use Rattle.ss_names.specs.declared.entry.VariableKind.TheVariants.{Defined, OfClass, CountOf}
 use Rattle.ss_names.specs.Entities.{set_of, set_owners, set_members, orderings}
@@ -136,7 +136,7 @@ module _ (p : ProgramTree) (h : KeepsDeclarations p) where
 
   -- ---- each kind of subject
 
-  of_variable : (name : NameBytes) (k : ℕ) (o : Option Variable) (meant : Known) → value_for (table p).names name ≡ Some (meanings.Variable k) → slice_get (values_of (table p).variables) k ≡ o →
+  of_variable : (name : NameBytes) (k : ℕ) (o : Option GlobalVariable) (meant : Known) → value_for (table p).names name ≡ Some (meanings.Variable k) → slice_get (values_of (table p).variables) k ≡ o →
       known_of_variable o ≡ Some meant → mode_of_known meant ≡ Some values.Integer → IsWhole (table p) (subjects.Variable k)
   of_variable name k None meant t at e m = absurd cc
   of_variable name k (Some v) meant t at e m =
@@ -147,7 +147,7 @@ module _ (p : ProgramTree) (h : KeepsDeclarations p) where
       let same : value.0 ≡ v = some_equal value.0 v (sym (value_at (table p).variables k name value.0 value.2) ∙ at) in
       let same_meaning : meaning_of_variable k value.0.kind ≡ meanings.Variable k = some_equal (meaning_of_variable k value.0.kind) (meanings.Variable k) (sym (kept.variable_names k name value.0 value.2) ∙ t) in
       let mode : value_mode (Some v.mode) ≡ values.Integer = some_equal (value_mode (Some v.mode)) values.Integer (ap mode_of_known (some_equal (knowns.Variable (value_mode (Some v.mode))) meant e) ∙ m) in
-      (v, at, ap (λ (x : Variable). x.kind) (sym same) ∙ defined_kind k value.0.kind same_meaning, whole_word v.mode (kept.variable_modes k v at) mode)
+      (v, at, ap (λ (x : GlobalVariable). x.kind) (sym same) ∙ defined_kind k value.0.kind same_meaning, whole_word v.mode (kept.variable_modes k v at) mode)
 
   class_attribute : (mode : Option Mode) (o : Option NameBytes) (meant : Known) → attribute_of_class mode o ≡ Some meant → mode_of_known meant ≡ Some values.Integer → value_mode mode ≡ values.Integer
   class_attribute mode None meant e m = absurd cc
@@ -168,8 +168,8 @@ module _ (p : ProgramTree) (h : KeepsDeclarations p) where
       let made = set_of (set_owners (sayings p)) (set_members (sayings p)) (orderings (sayings p)) in
       (made named.0, slice_get-map made (table p).set_names k ∙ ap (option_map made) named.1)
 
-  of_meaning : (name : NameBytes) (m : Meaning) (meant : Known) → value_for (table p).names name ≡ Some m → known_of_entry (table p) m ≡ Some meant → may_be_watched meant ≡ true → mode_of_known meant ≡ Some values.Integer →
-      (subject : Subject) × (subject_of_name (Some m) ≡ Some subject) × IsWhole (table p) subject
+  of_meaning : (name : NameBytes) (m : GlobalMeaning) (meant : Known) → value_for (table p).names name ≡ Some m → known_of_entry (table p) m ≡ Some meant → may_be_watched meant ≡ true → mode_of_known meant ≡ Some values.Integer →
+      (subject : SubjectNumber) × (subject_of_name (Some m) ≡ Some subject) × IsWhole (table p) subject
   of_meaning name (meanings.Variable k) meant t e may mode = (subjects.Variable k, refl, of_variable name k (slice_get (values_of (table p).variables) k) meant t refl e mode)
   of_meaning name (meanings.Attribute k) meant t e may mode = (subjects.Attribute k, refl, of_attribute k (slice_get (values_of (table p).attributes) k) meant refl e mode)
   of_meaning name (meanings.Derived deriveds.MemberCount k) meant t e may mode = (subjects.MemberCount k, refl, of_set name k t)
@@ -182,18 +182,18 @@ module _ (p : ProgramTree) (h : KeepsDeclarations p) where
       absurd (has_no_history meant (statistic_meaning (table p) o) e (of_statistic (λ known. may_be_watched known ≡ false) (λ holder. refl) (λ holder. refl) (table p) o) may)
   of_meaning name (meanings.Routine s) meant t e may mode = absurd (has_no_history meant knowns.Routine e refl may)
 
-  of_known : (name : NameBytes) (o : Option Meaning) (meant : Known) → value_for (table p).names name ≡ o → meaning_of (table p) o ≡ Some meant → may_be_watched meant ≡ true → mode_of_known meant ≡ Some values.Integer →
-      (subject : Subject) × (subject_of_name o ≡ Some subject) × IsWhole (table p) subject
+  of_known : (name : NameBytes) (o : Option GlobalMeaning) (meant : Known) → value_for (table p).names name ≡ o → meaning_of (table p) o ≡ Some meant → may_be_watched meant ≡ true → mode_of_known meant ≡ Some values.Integer →
+      (subject : SubjectNumber) × (subject_of_name o ≡ Some subject) × IsWhole (table p) subject
   of_known name None meant t e may mode = absurd cc
   of_known name (Some m) meant t e may mode = of_meaning name m meant t e may mode
 
   -- ---- histories
 
   pub subjects_are_whole : KeepsUses (whole_of p) p → (n : ℕ) (history : History) → slice_get (table p).histories n ≡ Some history →
-      (subject : Subject) × (history.subject ≡ Some subject) × IsWhole (table p) subject
+      (subject : SubjectNumber) × (history.subject ≡ Some subject) × IsWhole (table p) subject
   subjects_are_whole uses n history at = by (slice_get (weighings (sayings p)) n) refl (sym (slice_get-map (history_of (table p).names) (weighings (sayings p)) n) ∙ at)
     where
-      by : (o : Option (NameBytes × Weighting)) → slice_get (weighings (sayings p)) n ≡ o → option_map (history_of (table p).names) o ≡ Some history → (subject : Subject) × (history.subject ≡ Some subject) × IsWhole (table p) subject
+      by : (o : Option (NameBytes × Weighting)) → slice_get (weighings (sayings p)) n ≡ o → option_map (history_of (table p).names) o ≡ Some history → (subject : SubjectNumber) × (history.subject ≡ Some subject) × IsWhole (table p) subject
       by None e g = absurd cc
       by (Some w) e g =
           let value = value_from_place (weighings (sayings p)) n w.0 w.1 (firsts_once (flat_map weighing_by (sayings p))) e in

@@ -12,10 +12,10 @@ use Rattle.ss_names.specs.declared.entry.Attribute.{Attribute}
 use Rattle.ss_names.specs.declared.entry.Class.{Class}
 use Rattle.ss_names.specs.declared.meaning.Derived.{Derived}
 use Rattle.ss_names.specs.declared.meaning.Derived.TheVariants as deriveds
-use Rattle.ss_names.specs.declared.meaning.Meaning.{Meaning}
-use Rattle.ss_names.specs.declared.meaning.Meaning.TheVariants as meanings
-use Rattle.ss_names.specs.declared.entry.Statistic.{Statistic}
-use Rattle.ss_names.specs.declared.entry.Variable.{Variable}
+use Rattle.ss_names.specs.declared.meaning.GlobalMeaning.{GlobalMeaning}
+use Rattle.ss_names.specs.declared.meaning.GlobalMeaning.TheVariants as meanings
+use Rattle.ss_names.specs.declared.entry.StatisticEntry.{StatisticEntry}
+use Rattle.ss_names.specs.declared.entry.GlobalVariable.{GlobalVariable}
 use Rattle.ss_names_declarations.specs.Firsts.{place_in, value_for}
 use Rattle.ss_names.specs.Meanings.{numbered_names}
 use Rattle.ss_names.specs.Table.{table}
@@ -39,7 +39,7 @@ class_no_set : (o : Option Class) (holder : Holder) → known_class o ≡ Some (
 class_no_set None holder h = absurd cc
 class_no_set (Some c) holder h = absurd cc
 
-variable_no_set : (o : Option Variable) (holder : Holder) → known_variable o ≡ Some (knowns.Set holder) → ⊥
+variable_no_set : (o : Option GlobalVariable) (holder : Holder) → known_variable o ≡ Some (knowns.Set holder) → ⊥
 variable_no_set None holder h = absurd cc
 variable_no_set (Some v) holder h = absurd cc
 
@@ -60,11 +60,11 @@ module _ (p : ProgramTree) (h : KeepsDeclarations p) where
   derived_no_set deriveds.Successor k holder e = absurd cc
   derived_no_set deriveds.Membership k holder e = absurd cc
 
-  statistic_no_set : (o : Option Statistic) (holder : Holder) → Some (statistic_meaning (table p) o) ≡ Some (knowns.Set holder) → ⊥
+  statistic_no_set : (o : Option StatisticEntry) (holder : Holder) → Some (statistic_meaning (table p) o) ≡ Some (knowns.Set holder) → ⊥
   statistic_no_set o holder e = of_statistic (λ known. Some known ≡ Some (knowns.Set holder) → ⊥) (λ other f. absurd cc) (λ other f. absurd cc) (table p) o e
 
   -- a name that means a set is declared as one
-  only_set : (m : Meaning) (holder : Holder) → known_by (table p) m ≡ Some (knowns.Set holder) → kind_of_meaning m ≡ standings.Set
+  only_set : (m : GlobalMeaning) (holder : Holder) → known_by (table p) m ≡ Some (knowns.Set holder) → kind_of_meaning m ≡ standings.Set
   only_set (meanings.Variable k) holder e = absurd (variable_no_set (slice_get (values_of (table p).variables) k) holder e)
   only_set (meanings.Class class variable) holder e = absurd (class_no_set (slice_get (values_of (table p).classes) class) holder e)
   only_set (meanings.Count class variable) holder e = absurd cc
@@ -77,7 +77,7 @@ module _ (p : ProgramTree) (h : KeepsDeclarations p) where
   pub set_declared : (name : NameBytes) (holder : Holder) → (whole_of p).meanings name ≡ Some (knowns.Set holder) → standing_of (declarations (sayings p)) name ≡ Some standings.Set
   set_declared name holder e = by (value_for (table p).names name) refl e
     where
-      by : (o : Option Meaning) → value_for (table p).names name ≡ o → meaning_of (table p) o ≡ Some (knowns.Set holder) → standing_of (declarations (sayings p)) name ≡ Some standings.Set
+      by : (o : Option GlobalMeaning) → value_for (table p).names name ≡ o → meaning_of (table p) o ≡ Some (knowns.Set holder) → standing_of (declarations (sayings p)) name ≡ Some standings.Set
       by None t g = absurd cc
       by (Some m) t g =
           let f = names_fit (sayings p) (facts p h) name m t in
@@ -105,7 +105,7 @@ module _ (p : ProgramTree) (h : KeepsDeclarations p) where
       let key : slice_get (keys_of (table p).classes) a.0.class ≡ Some d.0 = ap (λ (x : Attribute). slice_get (keys_of (table p).classes) x.class) (sym same) ∙ key_at (table p).classes t.0.class d.0 c.0 c.2 in
       (knowns.Attribute d.0 (value_mode a.0.mode), ap (attribute_meaning (table p)) (value_at (table p).attributes k name a.0 a.2) ∙ ap (attribute_of_class a.0.mode) key)
 
-  means : (name : NameBytes) (m : Meaning) → Fits (numbered_names (sayings p)) (kind_of_meaning m) name m → (meant : Known) × (known_by (table p) m ≡ Some meant)
+  means : (name : NameBytes) (m : GlobalMeaning) → Fits (numbered_names (sayings p)) (kind_of_meaning m) name m → (meant : Known) × (known_by (table p) m ≡ Some meant)
   means name (meanings.Variable k) e = variable_means k name (placed_variable (place_in (table p).variables name) k e)
   means name (meanings.Class n k) e = class_means n k name (placed_class (place_in (table p).classes name) (place_in (table p).variables name) n k e)
   means name (meanings.Count class variable) e = (_, refl)

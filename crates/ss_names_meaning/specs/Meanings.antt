@@ -9,11 +9,11 @@ use Rattle.ss_tree.specs.declared.expression.Designator.TheVariants.{Name, TimeV
 use Rattle.ss_names_declarations.specs.Sayings.{NameBytes}
 use Rattle.ss_names.specs.declared.meaning.Derived.{Derived}
 use Rattle.ss_names.specs.declared.meaning.Derived.TheVariants as derived
-use Rattle.ss_names.specs.declared.meaning.Meaning.{Meaning as Global}
-use Rattle.ss_names.specs.declared.meaning.Meaning.TheVariants as globals
+use Rattle.ss_names.specs.declared.meaning.GlobalMeaning.{GlobalMeaning as Global}
+use Rattle.ss_names.specs.declared.meaning.GlobalMeaning.TheVariants as globals
 use Rattle.ss_names.specs.declared.entry.Set.{Set}
-use Rattle.ss_names.specs.declared.meaning.Subject.{Subject}
-use Rattle.ss_names.specs.declared.meaning.Subject.TheVariants as subjects
+use Rattle.ss_names.specs.declared.meaning.SubjectNumber.{SubjectNumber}
+use Rattle.ss_names.specs.declared.meaning.SubjectNumber.TheVariants as subjects
 use Rattle.ss_names.specs.declared.entry.VariableKind.{VariableKind}
 use Rattle.ss_names.specs.declared.entry.VariableKind.TheVariants.{CountOf}
 use Rattle.ss_names_declarations.specs.Firsts.{place_in, value_for, same_name}
@@ -163,7 +163,7 @@ module _ (t : Table) (locals : Moded) where
     Some (figure_of_each fold history implied)
 
   -- a statistic of its subject
-  abbrev pub figure : Option Fold → ℕ → Subject → Option Meaning
+  abbrev pub figure : Option Fold → ℕ → SubjectNumber → Option Meaning
   figure fold history (subjects.Variable n) = Some (figure_alone fold history)
   figure fold history (subjects.Attribute n) = do
     known ← slice_get (values_of t.attributes) n

@@ -17,10 +17,10 @@ use Rattle.ss_tree.specs.declared.preamble.StatisticKind.{StatisticKind}
 use Rattle.ss_tree.specs.declared.preamble.Statistic.{Statistic}
 use Rattle.ss_tree.specs.declared.preamble.PreambleStatement.{PreambleStatement}
 use Rattle.ss_tree.specs.Tree.{ClauseTree, has, owns, belongs_to, OrderTree, fifo, lifo, ranked, PreambleTree, permanent_entities, temporary_entities, event_notices, every, normally, system_owns, define_variables, define_sets, priority_order, break_ties, statistics}
-use Rattle.ss_parse_expressions.specs.declared.failure.Fault.{Fault}
+use Rattle.ss_parse_expressions.specs.declared.failure.ParseFault.{ParseFault}
 use Rattle.ss_parse_expressions.specs.declared.failure.Failure.{Failure}
 use Rattle.ss_parse_expressions.specs.declared.failure.Failure.TheVariants as failures
-use Rattle.ss_parse_expressions.specs.declared.classes.Class.TheVariants as alike
+use Rattle.ss_parse_expressions.specs.declared.classes.WordClass.TheVariants as alike
 use Rattle.ss_parse_expressions.specs.Openers.{openers}
 use Rattle.ss_parse_expressions.specs.Shapes.{Shape, ◌▷◌, nothing, never, either_shape, provided, separator, Word_is, Name_is, Word_for, at, first_token_line, separated_list}
 use Rattle.ss_parse_expressions.specs.Words.{has_word, Item_is, perhaps_listed}
@@ -689,7 +689,7 @@ preambles_more group (t ∷ ts) rest x started e =
     let same = row_enough 0 (length ts) (length rest) (group_after group x) rest (omega arith) (omega arith) in
     rw (started, e, same) refl
 
-pub preambles_fail : (group : Option ClassKind) (ts : List Token) (f : Fault) → begins_preamble ts ≡ true → preamble_in group ts ≡ Err f → preambles group ts ≡ Err f
+pub preambles_fail : (group : Option ClassKind) (ts : List Token) (f : ParseFault) → begins_preamble ts ≡ true → preamble_in group ts ≡ Err f → preambles group ts ≡ Err f
 unfolding preambles
 preambles_fail group [] f started e = absurd cc
 preambles_fail group (t ∷ ts) f started e = rw (started, e) refl
@@ -703,15 +703,15 @@ preambles_done group (t ∷ ts) e = rw e refl
 pub preamble_shrinks : (group : Option ClassKind) (ts : List Token) (x : PreambleTree) (rest : List Token) → preamble_in group ts ≡ Ok (x, rest) → length rest < length ts
 preamble_shrinks group ts x rest e = preamble_less 0 group ts x rest ((preamble_reads 0 group).sound ts x rest e)
 
-pub preamble_grows : (view : PreambleStatement → PreambleTree) (old new : List PreambleStatement) (x : PreambleStatement) (group group' : Option ClassKind) (ts rest : List Token) (total : Result (List PreambleTree × List Token) Fault) → new ≡ old ++ x ∷ [] → begins_preamble ts ≡ true → preamble_in group ts ≡ Ok (view x, rest) → group' ≡ group_after group (view x) → with_front (map view old) (preambles group ts) ≡ total → with_front (map view new) (preambles group' rest) ≡ total
+pub preamble_grows : (view : PreambleStatement → PreambleTree) (old new : List PreambleStatement) (x : PreambleStatement) (group group' : Option ClassKind) (ts rest : List Token) (total : Result (List PreambleTree × List Token) ParseFault) → new ≡ old ++ x ∷ [] → begins_preamble ts ≡ true → preamble_in group ts ≡ Ok (view x, rest) → group' ≡ group_after group (view x) → with_front (map view old) (preambles group ts) ≡ total → with_front (map view new) (preambles group' rest) ≡ total
 preamble_grows view old new x group group' ts rest total pushed started e goes so_far =
     let all : map view new ≡ map view old ++ view x ∷ [] = rw pushed (map_push view old x) in
     rw (all, goes) (with_front_more (map view old) (view x) (preambles (group_after group (view x)) rest)) ∙ ap (with_front (map view old)) (sym (preambles_more group ts rest (view x) started e)) ∙ so_far
 
-pub preamble_ends : (view : PreambleStatement → PreambleTree) (read : List PreambleStatement) (group : Option ClassKind) (ts : List Token) (total : Result (List PreambleTree × List Token) Fault) → begins_preamble ts ≡ false → with_front (map view read) (preambles group ts) ≡ total → total ≡ Ok (map view read, ts)
+pub preamble_ends : (view : PreambleStatement → PreambleTree) (read : List PreambleStatement) (group : Option ClassKind) (ts : List Token) (total : Result (List PreambleTree × List Token) ParseFault) → begins_preamble ts ≡ false → with_front (map view read) (preambles group ts) ≡ total → total ≡ Ok (map view read, ts)
 preamble_ends view read group ts total over so_far = sym so_far ∙ ap (with_front (map view read)) (preambles_done group ts over) ∙ ap (λ (ys : List PreambleTree). Ok (ys, ts)) (append-nil (map view read))
 
-pub preamble_breaks : (view : PreambleStatement → PreambleTree) (read : List PreambleStatement) (group : Option ClassKind) (ts : List Token) (e : Failure) (total : Result (List PreambleTree × List Token) Fault) → begins_preamble ts ≡ true → FailsReading e (preamble_in group ts) → with_front (map view read) (preambles group ts) ≡ total → FailsReading e total
+pub preamble_breaks : (view : PreambleStatement → PreambleTree) (read : List PreambleStatement) (group : Option ClassKind) (ts : List Token) (e : Failure) (total : Result (List PreambleTree × List Token) ParseFault) → begins_preamble ts ≡ true → FailsReading e (preamble_in group ts) → with_front (map view read) (preambles group ts) ≡ total → FailsReading e total
 preamble_breaks view read group ts failures.Memory total started f so_far = tt
 preamble_breaks view read group ts (failures.Refused f left) total started e so_far = sym so_far ∙ ap (with_front (map view read)) (preambles_fail group ts f started e)
 

@@ -11,7 +11,7 @@ use Rattle.ss_tree.specs.declared.preamble.Weighting.TheVariants as weightings
 use Rattle.ss_tree.specs.declared.preamble.StatisticKind.{StatisticKind}
 use Rattle.ss_tree.specs.declared.preamble.Statistic.{Statistic}
 use Rattle.ss_tree.specs.Tree.{ClauseTree, has, owns, belongs_to, OrderTree, fifo, lifo, ranked, PreambleTree, permanent_entities, temporary_entities, event_notices, every, normally, system_owns, define_variables, define_sets, priority_order, break_ties, statistics}
-use Rattle.ss_parse_expressions.specs.declared.classes.Class.TheVariants as alike
+use Rattle.ss_parse_expressions.specs.declared.classes.WordClass.TheVariants as alike
 use Rattle.ss_parse_expressions.specs.Reading.{Reader, ◌>>=◌, word, begins, begins_by, expect, in_table, taken, name_in_token, seq, after_dropped, closed, apply, maybe_list, choose_reader, first_and, list_of}
 use Rattle.ss_parse_expressions.specs.ReadWords.{done, fail, skip_class, begins_noisy, expect_noisy, begins_among, begins_name, names, items}
 use Rattle.ss_parse.specs.SpelledPreambles.{group_after}

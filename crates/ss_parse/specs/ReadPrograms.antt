@@ -4,11 +4,11 @@ use Rattle.ss_base.specs.declared.line.Line.{Line}
 use Rattle.ss_lex.specs.declared.word.Word.{Word}
 use Rattle.ss_lex.specs.declared.word.Word.TheVariants as words
 use Rattle.ss_lex.specs.declared.token.Token.{Token}
-use Rattle.ss_parse_expressions.specs.declared.failure.Fault.{Fault}
-use Rattle.ss_parse_expressions.specs.declared.failure.Fault.TheVariants.{Syntax}
+use Rattle.ss_parse_expressions.specs.declared.failure.ParseFault.{ParseFault}
+use Rattle.ss_parse_expressions.specs.declared.failure.ParseFault.TheVariants.{Syntax}
 use Rattle.ss_tree.specs.declared.preamble.Mode.{Mode}
 use Rattle.ss_tree.specs.Tree.{PreambleTree, DefinitionTree, SectionKindTree, main, routine, event, SectionTree, ProgramTree, StatementTree}
-use Rattle.ss_parse_expressions.specs.declared.classes.Class.TheVariants as classes
+use Rattle.ss_parse_expressions.specs.declared.classes.WordClass.TheVariants as classes
 use Rattle.ss_parse_expressions.specs.ReadWords.{done, fail, skip_class, begins_among, names}
 use Rattle.ss_parse_expressions.specs.Reading.{Reader, ◌>>=◌, word, begins, expect, in_table, taken, name_in_token, flag, seq, after_dropped, closed, apply, lined, maybe_list, rows}
 use Rattle.ss_parse_expressions.specs.WordTables.{mode_of_word}
@@ -86,10 +86,10 @@ unfoldable pub program_in : ℕ → Reader ProgramTree
 program_in room = apply program_tree (seq whole_preamble (rows begins_section (section_in room)))
 
 -- only where no tokens are left
-abbrev pub none_left : {A : Type 0} → A × List Token → Result A Fault
+abbrev pub none_left : {A : Type 0} → A × List Token → Result A ParseFault
 none_left (x, []) = Ok x
 none_left (x, t ∷ ts) = Err Syntax
 
 -- the program that the tokens spell, of so many levels at most
-unfoldable pub program_of : ℕ → List Token → Result ProgramTree Fault
+unfoldable pub program_of : ℕ → List Token → Result ProgramTree ParseFault
 program_of levels ts = program_in (suc levels) ts >>= none_left

@@ -11,7 +11,7 @@ use Rattle.ss_tree.specs.declared.preamble.Weighting.{Weighting}
 use Rattle.ss_tree.specs.declared.preamble.Weighting.TheVariants as weightings
 use Rattle.ss_tree.specs.declared.preamble.Statistic.{Statistic}
 use Rattle.ss_tree.specs.Tree.{ClauseTree, has, owns, belongs_to, OrderTree, fifo, lifo, ranked, PreambleTree, permanent_entities, temporary_entities, event_notices, every, normally, system_owns, define_variables, define_sets, priority_order, break_ties, statistics}
-use Rattle.ss_parse_expressions.specs.declared.classes.Class.TheVariants as alike
+use Rattle.ss_parse_expressions.specs.declared.classes.WordClass.TheVariants as alike
 use Rattle.ss_parse_expressions.specs.Shapes.{Shape, ◌▷◌, nothing, optional, provided, Word_is, Name_is, Word_for, first_and_each, separated_list, at}
 use Rattle.ss_parse_expressions.specs.Words.{One_of, the, Item_is, perhaps_listed}
 use Rattle.ss_parse_statements.specs.SpelledStatements.{noisy}

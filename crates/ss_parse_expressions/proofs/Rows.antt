@@ -2,7 +2,7 @@
 use Rattle.std.proofs.Common.{◌≡◌, ℕ, zero, suc, ◌<◌, ◌≤◌, Bool, true, false, ◌||◌, List, [], ◌∷◌, ◌++◌, length, map, drop, Result, Ok, Err, refl, sym, ap, subst, ◌∙◌, append_assoc, arith, inl, inr}
 use Rattle.std.proofs.lemmas.List.{append-nil, map_push}
 use Rattle.ss_lex.specs.declared.token.Token.{Token}
-use Rattle.ss_parse_expressions.specs.declared.failure.Fault.{Fault}
+use Rattle.ss_parse_expressions.specs.declared.failure.ParseFault.{ParseFault}
 use Rattle.ss_parse_expressions.specs.declared.failure.Failure.{Failure}
 use Rattle.ss_parse_expressions.specs.declared.failure.Failure.TheVariants as failures
 use Rattle.ss_parse_expressions.specs.Openers.{openers}
@@ -174,10 +174,10 @@ module _ {A : Type 0} {k : ℕ} {item item' : Reader A} {S : A → Shape} {c : L
 -- ---- a loop that reads a row
 
 -- what a loop has read, and what reading the rest gives
-abbrev pub with_front : {A : Type 0} → List A → Result (List A × List Token) Fault → Result (List A × List Token) Fault
+abbrev pub with_front : {A : Type 0} → List A → Result (List A × List Token) ParseFault → Result (List A × List Token) ParseFault
 with_front front read = read >>= λ x. Ok (front ++ x.0, x.1)
 
-pub with_front_more : {A : Type 0} (front : List A) (x : A) (read : Result (List A × List Token) Fault) → with_front (front ++ x ∷ []) read ≡ with_front front (read >>= λ xs. Ok (x ∷ xs.0, xs.1))
+pub with_front_more : {A : Type 0} (front : List A) (x : A) (read : Result (List A × List Token) ParseFault) → with_front (front ++ x ∷ []) read ≡ with_front front (read >>= λ xs. Ok (x ∷ xs.0, xs.1))
 with_front_more front x (Ok xs) = ap (λ ys. Ok (ys, xs.1)) (append_assoc front (x ∷ []) xs.0)
 with_front_more front x (Err e) = refl
 
@@ -215,7 +215,7 @@ module _ {A : Type 0} (starts : List Token → Bool) (item : Reader A) (at_end :
       let same = row_enough (length ts) (length rest) rest (omega arith) (omega arith) in
       rw (started, e, same) refl
 
-  pub rows_fail : (ts : List Token) (f : Fault) → starts ts ≡ true → item ts ≡ Err f → rows starts item ts ≡ Err f
+  pub rows_fail : (ts : List Token) (f : ParseFault) → starts ts ≡ true → item ts ≡ Err f → rows starts item ts ≡ Err f
   unfolding rows
   rows_fail [] f started e = absurd (let no_more = at_end in cc)
   rows_fail (t ∷ ts) f started e = rw (started, e) refl
@@ -235,33 +235,33 @@ loop_of law at_end = record { at_end = at_end; shrinks = λ ts x rest started e.
 
 module _ {A V : Type 0} (view : V → A) {starts : List Token → Bool} {item : Reader A} (loop : Loop starts item) where
   -- an item goes to the end of what was read
-  pub grows : (old new : List V) (x : V) (ts rest : List Token) (total : Result (List A × List Token) Fault) → new ≡ old ++ x ∷ [] → starts ts ≡ true → item ts ≡ Ok (view x, rest) → with_front (map view old) (rows starts item ts) ≡ total → with_front (map view new) (rows starts item rest) ≡ total
+  pub grows : (old new : List V) (x : V) (ts rest : List Token) (total : Result (List A × List Token) ParseFault) → new ≡ old ++ x ∷ [] → starts ts ≡ true → item ts ≡ Ok (view x, rest) → with_front (map view old) (rows starts item ts) ≡ total → with_front (map view new) (rows starts item rest) ≡ total
   grows old new x ts rest total pushed started e so_far =
       let all : map view new ≡ map view old ++ view x ∷ [] = rw pushed (map_push view old x) in
       rw all (with_front_more (map view old) (view x) (rows starts item rest)) ∙ ap (with_front (map view old)) (sym (rows_more starts item loop.at_end loop.shrinks ts rest (view x) started e)) ∙ so_far
 
   -- no more follows
-  pub is_done : (read : List V) (ts : List Token) (total : Result (List A × List Token) Fault) → starts ts ≡ false → with_front (map view read) (rows starts item ts) ≡ total → total ≡ Ok (map view read, ts)
+  pub is_done : (read : List V) (ts : List Token) (total : Result (List A × List Token) ParseFault) → starts ts ≡ false → with_front (map view read) (rows starts item ts) ≡ total → total ≡ Ok (map view read, ts)
   is_done read ts total over so_far = sym so_far ∙ ap (with_front (map view read)) (rows_done starts item loop.at_end loop.shrinks ts over) ∙ ap (λ ys. Ok (ys, ts)) (append-nil (map view read))
 
   -- an item fails
-  pub breaks : (read : List V) (ts : List Token) (e : Failure) (total : Result (List A × List Token) Fault) → starts ts ≡ true → FailsReading e (item ts) → with_front (map view read) (rows starts item ts) ≡ total → FailsReading e total
+  pub breaks : (read : List V) (ts : List Token) (e : Failure) (total : Result (List A × List Token) ParseFault) → starts ts ≡ true → FailsReading e (item ts) → with_front (map view read) (rows starts item ts) ≡ total → FailsReading e total
   breaks read ts failures.Memory total started f so_far = tt
   breaks read ts (failures.Refused f left) total started e so_far = sym so_far ∙ ap (with_front (map view read)) (rows_fail starts item loop.at_end loop.shrinks ts f started e)
 
 -- the laws of a loop, where the items need no view
 module _ {A : Type 0} {starts : List Token → Bool} {item : Reader A} (loop : Loop starts item) where
-  pub grows_plain : (old new : List A) (x : A) (ts rest : List Token) (total : Result (List A × List Token) Fault) → new ≡ old ++ x ∷ [] → starts ts ≡ true → item ts ≡ Ok (x, rest) → with_front old (rows starts item ts) ≡ total → with_front new (rows starts item rest) ≡ total
+  pub grows_plain : (old new : List A) (x : A) (ts rest : List Token) (total : Result (List A × List Token) ParseFault) → new ≡ old ++ x ∷ [] → starts ts ≡ true → item ts ≡ Ok (x, rest) → with_front old (rows starts item ts) ≡ total → with_front new (rows starts item rest) ≡ total
   grows_plain old new x ts rest total pushed started e so_far =
       rw pushed (with_front_more old x (rows starts item rest)) ∙ ap (with_front old) (sym (rows_more starts item loop.at_end loop.shrinks ts rest x started e)) ∙ so_far
 
-  pub is_done_plain : (read : List A) (ts : List Token) (total : Result (List A × List Token) Fault) → starts ts ≡ false → with_front read (rows starts item ts) ≡ total → total ≡ Ok (read, ts)
+  pub is_done_plain : (read : List A) (ts : List Token) (total : Result (List A × List Token) ParseFault) → starts ts ≡ false → with_front read (rows starts item ts) ≡ total → total ≡ Ok (read, ts)
   is_done_plain read ts total over so_far = sym so_far ∙ ap (with_front read) (rows_done starts item loop.at_end loop.shrinks ts over) ∙ ap (λ ys. Ok (ys, ts)) (append-nil read)
 
-  pub breaks_plain : (read : List A) (ts : List Token) (e : Failure) (total : Result (List A × List Token) Fault) → starts ts ≡ true → FailsReading e (item ts) → with_front read (rows starts item ts) ≡ total → FailsReading e total
+  pub breaks_plain : (read : List A) (ts : List Token) (e : Failure) (total : Result (List A × List Token) ParseFault) → starts ts ≡ true → FailsReading e (item ts) → with_front read (rows starts item ts) ≡ total → FailsReading e total
   breaks_plain read ts failures.Memory total started f so_far = tt
   breaks_plain read ts (failures.Refused f left) total started e so_far = sym so_far ∙ ap (with_front read) (rows_fail starts item loop.at_end loop.shrinks ts f started e)
 
 -- r leaves all tokens but the first, and these are all but the first
-pub first_taken : {A : Type 0} (r : Result (A × List Token) Fault) (x : A) (ts rest : List Token) → r ≡ Ok (x, drop 1 ts) → rest ≡ drop 1 ts → r ≡ Ok (x, rest)
+pub first_taken : {A : Type 0} (r : Result (A × List Token) ParseFault) (x : A) (ts rest : List Token) → r ≡ Ok (x, drop 1 ts) → rest ≡ drop 1 ts → r ≡ Ok (x, rest)
 first_taken r x ts rest e f = e ∙ ap (λ (a : List Token). Ok (x, a)) (sym f)

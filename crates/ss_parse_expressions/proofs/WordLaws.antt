@@ -7,8 +7,8 @@ use Rattle.ss_lex.specs.declared.token.Span.{Span}
 use Rattle.ss_lex.specs.declared.token.TokenKind.{TokenKind}
 use Rattle.ss_lex.specs.declared.token.TokenKind.TheVariants as kinds
 use Rattle.ss_lex.specs.declared.token.Token.{Token}
-use Rattle.ss_parse_expressions.specs.declared.classes.Class.{Class}
-use Rattle.ss_parse_expressions.specs.declared.classes.Class.TheVariants as classes
+use Rattle.ss_parse_expressions.specs.declared.classes.WordClass.{WordClass}
+use Rattle.ss_parse_expressions.specs.declared.classes.WordClass.TheVariants as classes
 use Rattle.ss_parse_expressions.specs.Openers.{openers}
 use Rattle.ss_parse_expressions.specs.Shapes.{Shape, ◌▷◌, nothing, never, either_shape, optional, provided, noise, Token_is, Name_is, Word_for, separated_list, flagged}
 use Rattle.ss_parse_expressions.specs.Words.{has_word, One_of, Item_is, perhaps_listed}
@@ -34,35 +34,35 @@ word_in_reads k table = reshaped_reads (taken_reads k (in_table table)) (Word_fo
 
 -- ---- words of a class
 
-class_word : (c : Class) (k : TokenKind) → in_class c k ≡ true → (w : Word) × (has_word c w ≡ true) × (k ≡ kinds.Word w)
+class_word : (c : WordClass) (k : TokenKind) → in_class c k ≡ true → (w : Word) × (has_word c w ≡ true) × (k ≡ kinds.Word w)
 class_word c (kinds.Word w) e = (w, e, refl)
 class_word c _ e = absurd cc
 
-pub one_of_token : (c : Class) (t : Token) (ts : List Token) → in_class c t.kind ≡ true → One_of c (t ∷ ts) ts
+pub one_of_token : (c : WordClass) (t : Token) (ts : List Token) → in_class c t.kind ≡ true → One_of c (t ∷ ts) ts
 one_of_token c t ts e = let w = class_word c t.kind e in (w.0, w.1, token_of t ts (kinds.Word w.0) w.2)
 
-pub one_begins : (c : Class) (ts rest : List Token) → One_of c ts rest → begins_class c ts ≡ true
+pub one_begins : (c : WordClass) (ts rest : List Token) → One_of c ts rest → begins_class c ts ≡ true
 one_begins c ts rest (w, has, (span, line, e)) = ap (begins_class c) e ∙ has
 
-pub one_skips : (c : Class) (ts rest : List Token) → One_of c ts rest → skip_class c ts ≡ rest
+pub one_skips : (c : WordClass) (ts rest : List Token) → One_of c ts rest → skip_class c ts ≡ rest
 one_skips c ts rest (w, has, (span, line, e)) = rw (e, has) refl
 
-pub one_less : (c : Class) (ts rest : List Token) → One_of c ts rest → suc (length rest) ≡ length ts
+pub one_less : (c : WordClass) (ts rest : List Token) → One_of c ts rest → suc (length rest) ≡ length ts
 one_less c ts rest (w, has, at) = token_less (kinds.Word w) ts rest at
 
-no_skip_class : (c : Class) (ts : List Token) → begins_class c ts ≡ false → skip_class c ts ≡ ts
+no_skip_class : (c : WordClass) (ts : List Token) → begins_class c ts ≡ false → skip_class c ts ≡ ts
 no_skip_class c [] e = refl
 no_skip_class c (t ∷ ts) e = rw e refl
 
-begins_one : (c : Class) (ts : List Token) → begins_class c ts ≡ true → One_of c ts (skip_class c ts)
+begins_one : (c : WordClass) (ts : List Token) → begins_class c ts ≡ true → One_of c ts (skip_class c ts)
 begins_one c [] e = absurd cc
 begins_one c (t ∷ ts) e = rw e (one_of_token c t ts e)
 
-skip_class_openers : (c : Class) (ts : List Token) → openers (skip_class c ts) ≤ openers ts
+skip_class_openers : (c : WordClass) (ts : List Token) → openers (skip_class c ts) ≤ openers ts
 skip_class_openers c [] = omega arith
 skip_class_openers c (t ∷ ts) = elim (which (in_class c t.kind)) [ inl p ↦ rw p (omega arith) | inr p ↦ rw p (omega arith) ]
 
-pub expect_class_reads : (k : ℕ) (c : Class) → Reads k (expect_class c) (expect_class c) (λ u. One_of c) continues_never
+pub expect_class_reads : (k : ℕ) (c : WordClass) → Reads k (expect_class c) (expect_class c) (λ u. One_of c) continues_never
 expect_class_reads k c = record {
   sound = sound;
   complete = λ ts u rest s stop. complete ts rest u s;
@@ -87,7 +87,7 @@ expect_class_reads k c = record {
     opening (t ∷ ts) = elim (which (in_class c t.kind)) [ inl p ↦ rw p (omega arith) | inr p ↦ rw p tt ]
 
 -- a word of the class that may be left out
-module _ {A : Type 0} {k : ℕ} {q q' : Reader A} {S : A → Shape} {d : List Token → Bool} (law : Reads k q q' S d) (c : Class) where
+module _ {A : Type 0} {k : ℕ} {q q' : Reader A} {S : A → Shape} {d : List Token → Bool} (law : Reads k q q' S d) (c : WordClass) where
   pub optional_class_reads : ((x : A) (ts rest : List Token) → S x ts rest → begins_class c ts ≡ false) → Reads k (λ ts. q (skip_class c ts)) (λ ts. q' (skip_class c ts)) (λ x. optional (One_of c) ▷ S x) d
   optional_class_reads first = record {
     sound = λ ts x rest e. (skip_class c ts, front ts, law.sound (skip_class c ts) x rest e);
@@ -266,7 +266,7 @@ no_word p w held (t ∷ ts) e =
       | inr none ↦ none
     ]
 
-pub no_class : (p : Word → Bool) (c : Class) → ((w : Word) → has_word c w ≡ true → p w ≡ true) → (ts : List Token) → begins_among p ts ≡ false → begins_class c ts ≡ false
+pub no_class : (p : Word → Bool) (c : WordClass) → ((w : Word) → has_word c w ≡ true → p w ≡ true) → (ts : List Token) → begins_among p ts ≡ false → begins_class c ts ≡ false
 no_class p c held [] e = refl
 no_class p c held (t ∷ ts) e =
     elim (which (in_class c t.kind)) [

@@ -6,7 +6,7 @@ use Rattle.ss_lex.specs.declared.token.Token.{Token}
 use Rattle.ss_tree.specs.declared.head.PhraseKind.{PhraseKind}
 use Rattle.ss_tree.specs.declared.head.GuardKind.{GuardKind}
 use Rattle.ss_tree.specs.Tree.{ExpressionTree, NamedTree, ConditionTree, PhraseTree, GuardTree, StartTree, from_end, from_member, after_member, HeadTree, over_range, over_members, over_class, LoopHeadTree, guarded}
-use Rattle.ss_parse_expressions.specs.declared.classes.Class.TheVariants as classes
+use Rattle.ss_parse_expressions.specs.declared.classes.WordClass.TheVariants as classes
 use Rattle.ss_parse_expressions.specs.WordTables.{phrase_of, guard_of}
 use Rattle.ss_parse_expressions.specs.Reading.{Reader, ◌>>=◌, word, symbol, begins, begins_by, skip, expect, in_table, taken, name_in_token, seq, after_dropped, apply, maybe, flag, choose_reader, rows, skip_comma}
 use Rattle.ss_parse_expressions.specs.ReadWords.{done, begins_class, expect_class}

@@ -4,29 +4,29 @@ use Rattle.ss_lex.specs.declared.word.Word.{Word}
 use Rattle.ss_lex.specs.declared.token.TokenKind.{TokenKind}
 use Rattle.ss_lex.specs.declared.token.TokenKind.TheVariants as kinds
 use Rattle.ss_lex.specs.declared.token.Token.{Token}
-use Rattle.ss_parse_expressions.specs.declared.failure.Fault.TheVariants.{Syntax}
-use Rattle.ss_parse_expressions.specs.declared.classes.Class.{Class}
-use Rattle.ss_parse_expressions.specs.declared.classes.Class.TheVariants as classes
+use Rattle.ss_parse_expressions.specs.declared.failure.ParseFault.TheVariants.{Syntax}
+use Rattle.ss_parse_expressions.specs.declared.classes.WordClass.{WordClass}
+use Rattle.ss_parse_expressions.specs.declared.classes.WordClass.TheVariants as classes
 use Rattle.ss_parse_expressions.specs.Words.{has_word}
 use Rattle.ss_parse_expressions.specs.Reading.{Reader, Mark, begins, skip, expect, begins_by, taken, name_in_token, list_of, skip_comma}
 
 -- ---- single tokens
 
-abbrev pub in_class : Class → TokenKind → Bool
+abbrev pub in_class : WordClass → TokenKind → Bool
 in_class class (kinds.Word w) = has_word class w
 in_class class _ = false
 
-abbrev pub begins_class : Class → List Token → Bool
+abbrev pub begins_class : WordClass → List Token → Bool
 begins_class class [] = false
 begins_class class (t ∷ ts) = in_class class t.kind
 
 -- the tokens after a word of the class, where one is first
-abbrev pub skip_class : Class → List Token → List Token
+abbrev pub skip_class : WordClass → List Token → List Token
 skip_class class [] = []
 skip_class class (t ∷ ts) = if in_class class t.kind then ts else t ∷ ts
 
 -- a word of the class
-abbrev pub expect_class : Class → Reader (Unit {0})
+abbrev pub expect_class : WordClass → Reader (Unit {0})
 expect_class class [] = Err Syntax
 expect_class class (t ∷ ts) = if in_class class t.kind then Ok (tt, ts) else Err Syntax
 

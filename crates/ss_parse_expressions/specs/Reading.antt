@@ -11,26 +11,26 @@ use Rattle.ss_lex.specs.declared.token.TokenKind.TheVariants as kinds
 use Rattle.ss_lex.specs.declared.token.Token.{Token}
 use Rattle.ss_base.specs.declared.line.Line.{Line}
 use Rattle.ss_parse_expressions.specs.Shapes.{first_token_line}
-use Rattle.ss_parse_expressions.specs.declared.failure.Fault.{Fault}
-use Rattle.ss_parse_expressions.specs.declared.failure.Fault.TheVariants.{Syntax, TooDeep}
+use Rattle.ss_parse_expressions.specs.declared.failure.ParseFault.{ParseFault}
+use Rattle.ss_parse_expressions.specs.declared.failure.ParseFault.TheVariants.{Syntax, TooDeep}
 use Rattle.ss_parse_expressions.specs.declared.failure.Failure.{Failure}
 use Rattle.ss_parse_expressions.specs.declared.failure.Failure.TheVariants as failures
 
 -- A reader gives what it read and the tokens after it, or a fault.
 abbrev pub Reader : Type 0 → Type 0
-Reader T = List Token → Result (T × List Token) Fault
+Reader T = List Token → Result (T × List Token) ParseFault
 
 infixl 10 ◌>>=◌
-abbrev pub ◌>>=◌ : {A B : Type 0} → Result A Fault → (A → Result B Fault) → Result B Fault
+abbrev pub ◌>>=◌ : {A B : Type 0} → Result A ParseFault → (A → Result B ParseFault) → Result B ParseFault
 (Ok x) >>= f = f x
 (Err e) >>= f = Err e
 
 -- What a function returned, seen through `view`, is what reading gives, unless memory ran out.
-abbrev pub FailsReading : {Y : Type 0} → Failure → Result Y Fault → Type 0
+abbrev pub FailsReading : {Y : Type 0} → Failure → Result Y ParseFault → Type 0
 FailsReading failures.Memory read = Unit {0}
 FailsReading (failures.Refused f left) read = read ≡ Err f
 
-abbrev pub GivesReading : {X Y : Type 0} → (X → Y) → Result X Failure → Result Y Fault → Type 0
+abbrev pub GivesReading : {X Y : Type 0} → (X → Y) → Result X Failure → Result Y ParseFault → Type 0
 GivesReading view (Ok x) read = read ≡ Ok (view x)
 GivesReading view (Err e) read = FailsReading e read
 
@@ -93,7 +93,7 @@ first_by table (t ∷ ts) = table t.kind
 abbrev pub begins_by : {A : Type 0} → (TokenKind → Option A) → List Token → Bool
 begins_by table ts = is_some (first_by table ts)
 
-abbrev pub found_then : {A : Type 0} → Option A → List Token → Result (A × List Token) Fault
+abbrev pub found_then : {A : Type 0} → Option A → List Token → Result (A × List Token) ParseFault
 found_then None ts = Err Syntax
 found_then (Some x) ts = Ok (x, ts)
 

@@ -9,7 +9,7 @@ use Rattle.ss_tree.specs.declared.head.GuardKind.{GuardKind}
 use Rattle.ss_tree.specs.declared.head.GuardKind.TheVariants as guards
 use Rattle.ss_tree.specs.Tree.{TestTree, compare, empty, member, data_ended, ConditionTree, PhraseTree, GuardTree, StartTree, from_end, from_member, after_member, HeadTree, over_range, over_members, over_class, LoopHeadTree, for_head, guarded}
 use Rattle.ss_parse_expressions.specs.Shapes.{Shape, ◌▷◌, nothing, never, either_shape, optional, provided, Word_is, Symbol_is, Name_is, Word_for, noise, each, first_and_each, perhaps, flagged}
-use Rattle.ss_parse_expressions.specs.declared.classes.Class.TheVariants as classes
+use Rattle.ss_parse_expressions.specs.declared.classes.WordClass.TheVariants as classes
 use Rattle.ss_parse_expressions.specs.Words.{One_of, the}
 use Rattle.ss_parse_expressions.specs.SpelledExpressions.{Sum_is, Reference_is}
 use Rattle.ss_parse_expressions.specs.WordTables.{relation_of, phrase_of, guard_of}

@@ -6,7 +6,7 @@ ghost use Rattle.ss_parse_expressions.specs.WordTables.{phrase_of, guard_of};
 ghost use Rattle.ss_parse_expressions.specs.Reading.{GivesReading, taken, in_table, apply, skip_comma};
 ghost use Rattle.ss_parse_expressions.specs.ReadHeads.{begins_phrase, begins_guard, phrase_in, guard_in, phrases_in, further_guards, step_in, range_in, start_in, reverse, members_in, class_in, class_tree, each_named, each_in, for_in, guarded_in};
 
-use crate::classes::{Class, begins_class, expect_class};
+use crate::classes::{WordClass, begins_class, expect_class};
 use crate::conditions::condition;
 use crate::expressions::sum;
 use crate::failure::Failure;
@@ -291,7 +291,7 @@ fn each_named(
 fn each(alloc: Global, tokens: &[Token], room: u8) -> Result<(Head, &[Token]), Failure>
     ensures { GivesReading (λ x. (view_head x.0, x.1.now)) result (each_in room tokens.now) }
 {
-    let rest = expect_class(tokens, Class::Each)?;
+    let rest = expect_class(tokens, WordClass::Each)?;
     let variable = name(rest)?;
     each_named(alloc, variable, after_first(rest), room)
 }
@@ -301,7 +301,7 @@ fn each(alloc: Global, tokens: &[Token], room: u8) -> Result<(Head, &[Token]), F
 pub fn for_head(alloc: Global, tokens: &[Token], room: u8) -> Result<(Head, &[Token]), Failure>
     ensures { GivesReading (λ x. (view_head x.0, x.1.now)) result (for_in room tokens.now) }
 {
-    if begins_class(tokens, Class::Each) {
+    if begins_class(tokens, WordClass::Each) {
         each(alloc, tokens, room)
     } else {
         range(alloc, tokens, room)

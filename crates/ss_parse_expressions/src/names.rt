@@ -4,7 +4,7 @@ ghost use Rattle.std.specs.Prelude.{◌≡◌, drop};
 ghost use Rattle.ss_parse_expressions.specs.Reading.{GivesReading, taken, name_in_token, begins_more};
 ghost use Rattle.ss_parse_expressions.specs.ReadWords.{begins_name, names, begins_item, items};
 
-use crate::classes::{Class, skip_class};
+use crate::classes::{WordClass, skip_class};
 use crate::failure::Failure;
 use crate::steps::alone;
 use crate::tokens::{after_first, begins_symbol, begins_word, skip_separator, syntax};
@@ -65,7 +65,7 @@ pub fn names(alloc: Global, tokens: &[Token]) -> Result<(Vec<Name>, &[Token]), F
 fn begins_item(tokens: &[Token]) -> bool
     ensures { result ≡ begins_item tokens.now }
 {
-    begins_name(skip_class(tokens, Class::Article))
+    begins_name(skip_class(tokens, WordClass::Article))
 }
 
 /// Whether a separator and then a name, with an article before it or not, follow.
@@ -80,12 +80,12 @@ fn begins_more_items(tokens: &[Token]) -> bool
 pub fn items(alloc: Global, tokens: &[Token]) -> Result<(Vec<Name>, &[Token]), Failure>
     ensures { GivesReading (λ x. (x.0.items, x.1.now)) result (items tokens.now) }
 {
-    let from = skip_class(tokens, Class::Article);
+    let from = skip_class(tokens, WordClass::Article);
     let first = name(from)?;
     let mut all = alone(alloc, first)?;
     let mut rest = after_first(from);
     'more: while begins_more_items(rest) {
-        let from = skip_class(skip_separator(rest), Class::Article);
+        let from = skip_class(skip_separator(rest), WordClass::Article);
         let next = name(from)?;
         all.push(next)?;
         rest = after_first(from);

@@ -1,25 +1,25 @@
 //! Single tokens.
 
 ghost use Rattle.std.specs.Prelude.{◌≡◌, length, drop};
-ghost use Rattle.ss_parse_expressions.specs.declared.failure.Fault.TheVariants.{Syntax, TooDeep};
+ghost use Rattle.ss_parse_expressions.specs.declared.failure.ParseFault.TheVariants.{Syntax, TooDeep};
 ghost use Rattle.ss_parse_expressions.specs.declared.failure.Failure.TheVariants.{Refused};
 ghost use Rattle.ss_parse_expressions.specs.Reading.{GivesReading, word, symbol, same_symbol, expect, begins, skip, skip_separator};
 
-use crate::failure::{Failure, Fault};
+use crate::failure::{Failure, ParseFault};
 use ss_lex::{Symbol, Token, TokenKind, Word};
 
 /// The failure where these tokens spell nothing that may be here.
 pub fn syntax(tokens: &[Token]) -> Failure
     ensures { result ≡ Refused Syntax (length tokens.now) }
 {
-    Failure::Refused(Fault::Syntax, tokens.len())
+    Failure::Refused(ParseFault::Syntax, tokens.len())
 }
 
 /// The failure where these tokens go deeper than is allowed.
 pub fn too_deep(tokens: &[Token]) -> Failure
     ensures { result ≡ Refused TooDeep (length tokens.now) }
 {
-    Failure::Refused(Fault::TooDeep, tokens.len())
+    Failure::Refused(ParseFault::TooDeep, tokens.len())
 }
 
 fn same_symbol(found: Symbol, wanted: Symbol) -> bool

@@ -11,7 +11,7 @@ use Rattle.ss_tree.specs.declared.head.GuardKind.{GuardKind}
 use Rattle.ss_tree.specs.declared.head.GuardKind.TheVariants as guards
 use Rattle.ss_tree.specs.declared.statement.SetEnd.{SetEnd}
 use Rattle.ss_tree.specs.Tree.{ExpressionTree, NamedTree, PositionTree, WhenTree, LoopHeadTree, for_head, guarded, StatementTree, let_statement, add_statement, subtract_statement, call_statement, return_statement, stop_statement, read_statement, start_simulation, if_statement, loop_statement, find_statement, find_if_statement, create_statement, create_every, destroy_statement, file_statement, remove_end, remove_statement, schedule_new, schedule_statement, cancel_statement, reset_statement, print_statement, skip_statement}
-use Rattle.ss_parse_expressions.specs.declared.classes.Class.TheVariants as classes
+use Rattle.ss_parse_expressions.specs.declared.classes.WordClass.TheVariants as classes
 use Rattle.ss_parse_expressions.specs.Shapes.{Shape, ◌▷◌, nothing, either_shape, optional, provided, Token_is, Word_is, Symbol_is, Name_is, Word_for, separated_list}
 use Rattle.ss_parse_expressions.specs.Words.{has_word, One_of, the, perhaps_listed}
 use Rattle.ss_parse_expressions.specs.SpelledExpressions.{Sum_is, Target_is, Reference_is}

@@ -8,7 +8,7 @@ use Rattle.ss_lex.specs.declared.token.TokenKind.{TokenKind}
 use Rattle.ss_lex.specs.declared.token.TokenKind.TheVariants as kinds
 use Rattle.ss_lex.specs.declared.token.Token.{Token}
 use Rattle.ss_tree.specs.Tree.{ExpressionTree, NamedTree, PositionTree, by_discipline, at_first, at_last, before, after, WhenTree, at_time, in_units, now}
-use Rattle.ss_parse_expressions.specs.declared.classes.Class.TheVariants as classes
+use Rattle.ss_parse_expressions.specs.declared.classes.WordClass.TheVariants as classes
 use Rattle.ss_parse_expressions.specs.Shapes.{Shape, ◌▷◌, nothing, either_shape, provided, Token_is, Word_is, each}
 use Rattle.ss_parse_expressions.specs.Words.{has_word, One_of, the, perhaps_listed}
 use Rattle.ss_parse_expressions.specs.SpelledExpressions.{Sum_is, Target_is, Reference_is}

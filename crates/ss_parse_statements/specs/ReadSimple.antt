@@ -7,7 +7,7 @@ use Rattle.ss_lex.specs.declared.token.Symbol.TheVariants.{Equals}
 use Rattle.ss_lex.specs.declared.token.TokenKind.{TokenKind}
 use Rattle.ss_lex.specs.declared.token.TokenKind.TheVariants as kinds
 use Rattle.ss_tree.specs.Tree.{ExpressionTree, NamedTree, PositionTree, by_discipline, at_first, at_last, before, after, WhenTree, at_time, in_units, now, StatementTree, let_statement, add_statement, subtract_statement, call_statement, return_statement, stop_statement, read_statement, start_simulation, create_statement, create_every, destroy_statement, file_statement, remove_end, remove_statement, schedule_new, schedule_statement, cancel_statement, reset_statement, print_statement, skip_statement}
-use Rattle.ss_parse_expressions.specs.declared.classes.Class.TheVariants as classes
+use Rattle.ss_parse_expressions.specs.declared.classes.WordClass.TheVariants as classes
 use Rattle.ss_parse_expressions.specs.Reading.{Reader, ◌>>=◌, Mark, word, symbol, begins, begins_by, skip, expect, in_table, taken, name_in_token, seq, after_dropped, closed, apply, maybe, maybe_list, choose_reader}
 use Rattle.ss_parse_expressions.specs.ReadWords.{done, fail, begins_class, skip_class, expect_class, names}
 use Rattle.ss_parse_expressions.specs.ReadExpressions.{sum_in}

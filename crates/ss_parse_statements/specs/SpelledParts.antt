@@ -6,7 +6,7 @@ use Rattle.ss_lex.specs.declared.word.Word.TheVariants as words
 use Rattle.ss_tree.specs.declared.statement.SetEnd.{SetEnd}
 use Rattle.ss_tree.specs.declared.statement.SetEnd.TheVariants as ends
 use Rattle.ss_tree.specs.Tree.{ExpressionTree, PositionTree, by_discipline, at_first, at_last, before, after, WhenTree, at_time, in_units, now}
-use Rattle.ss_parse_expressions.specs.declared.classes.Class.TheVariants as classes
+use Rattle.ss_parse_expressions.specs.declared.classes.WordClass.TheVariants as classes
 use Rattle.ss_parse_expressions.specs.Shapes.{Shape, ◌▷◌, nothing, either_shape, Token_is, Word_is, perhaps}
 use Rattle.ss_parse_expressions.specs.Words.{One_of, perhaps_listed}
 use Rattle.ss_parse_expressions.specs.SpelledExpressions.{Sum_is}

@@ -10,7 +10,7 @@ ghost use Rattle.ss_parse_statements.specs.ReadSimple.{equals, set_reader, calle
 
 use ss_base::PictureLine;
 use ss_lex::{Symbol, Token, TokenKind, Word};
-use ss_parse_expressions::classes::{Class, begins_class, skip_class};
+use ss_parse_expressions::classes::{WordClass, begins_class, skip_class};
 use ss_parse_expressions::expressions::{sum, sums};
 use ss_parse_expressions::failure::Failure;
 use ss_parse_expressions::places::{reference, target, targets};
@@ -147,10 +147,10 @@ pub fn given(
 ) -> Result<(Vec<Expression>, &[Token]), Failure>
     ensures { GivesReading (λ x. (map view_expression x.0.items, x.1.now)) result (given_in room tokens.now) }
 {
-    if !begins_class(tokens, Class::Given) {
+    if !begins_class(tokens, WordClass::Given) {
         return Ok((Vec::new(alloc), tokens));
     }
-    sums(alloc, skip_class(tokens, Class::Given), room)
+    sums(alloc, skip_class(tokens, WordClass::Given), room)
 }
 
 /// The targets of what is yielded, if there are any.

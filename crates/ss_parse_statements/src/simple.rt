@@ -11,7 +11,7 @@ use crate::parts::{
 };
 use ss_base::Line;
 use ss_lex::{Token, Word};
-use ss_parse_expressions::classes::{Class, expect_class, skip_class};
+use ss_parse_expressions::classes::{WordClass, expect_class, skip_class};
 use ss_parse_expressions::expressions::sum;
 use ss_parse_expressions::failure::Failure;
 use ss_parse_expressions::names::{name, names};
@@ -137,7 +137,7 @@ fn new_form(
 ) -> Result<(Statement, &[Token]), Failure>
     ensures { GivesReading (λ x. (view_statement x.0, x.1.now)) result (new_at line room tokens.now) }
 {
-    let rest = skip_class(tokens, Class::Indefinite);
+    let rest = skip_class(tokens, WordClass::Indefinite);
     let class = name(rest)?;
     let (called, rest) = called_target(alloc, after_first(rest), room)?;
     let form = Statement::Create {
@@ -319,7 +319,7 @@ fn schedule_a_form(
 ) -> Result<(Statement, &[Token]), Failure>
     ensures { GivesReading (λ x. (view_statement x.0, x.1.now)) result (schedule_a_at line room tokens.now) }
 {
-    let rest = expect_class(tokens, Class::Indefinite)?;
+    let rest = expect_class(tokens, WordClass::Indefinite)?;
     let class = name(rest)?;
     let (called, rest) = called_target(alloc, after_first(rest), room)?;
     let (called, (given, when, rest)) = beside(called, given_and_due(alloc, rest, room))?;

@@ -1,8 +1,8 @@
 -- The tables of a program, and why a program has none.
 use Rattle.std.specs.Prelude.{◌≡◌, Option, Some, None, IfSome}
 use Rattle.ss_tree.specs.Tree.{ProgramTree}
-use Rattle.ss_tables_rules.specs.declared.rule.Broken.{Broken}
-use Rattle.ss_tables_rules.specs.declared.rule.Rule.TheVariants as rules
+use Rattle.ss_tables_rules.specs.declared.rule.BrokenDeclaration.{BrokenDeclaration}
+use Rattle.ss_tables_rules.specs.declared.rule.DeclarationRule.TheVariants as rules
 use Rattle.ss_tables_rules.specs.Broken.{refusal_of_declarations}
 use Rattle.ss_names.specs.Table.{Table, table}
 use Rattle.ss_tables.specs.declared.error.TableError.{TableError}
@@ -22,7 +22,7 @@ abbrev pub AreTables : Table → Type 0
 AreTables t = (p : ProgramTree) × AreTablesOf p t
 
 -- the rule and the line that an error reports; none where memory was refused
-abbrev pub table_error_rule : TableError → Option Broken
+abbrev pub table_error_rule : TableError → Option BrokenDeclaration
 table_error_rule errors.Memory = None
 table_error_rule (errors.Twice line) = Some (record { rule = rules.Twice; line = line })
 table_error_rule (errors.RealMode line) = Some (record { rule = rules.RealMode; line = line })
@@ -36,5 +36,5 @@ table_error_rule (errors.TooMany line) = Some (record { rule = rules.TooMany; li
 table_error_rule (errors.TieKey line) = Some (record { rule = rules.TieKey; line = line })
 
 -- the error reports the first rule that is broken, and its line, unless memory was refused
-abbrev pub ReportsTableError : TableError → Option Broken → Type 0
+abbrev pub ReportsTableError : TableError → Option BrokenDeclaration → Type 0
 ReportsTableError e found = ReportsIfAny (table_error_rule e) found

@@ -11,9 +11,9 @@ use Rattle.ss_tree.specs.declared.preamble.StatisticKind.TheVariants.{Sum}
 use Rattle.ss_tree.specs.declared.preamble.Weighting.TheVariants.{Tally, Accumulate}
 use Rattle.ss_tree.specs.Tree.{ClauseTree, has, owns, belongs_to, fifo, lifo, ranked, PreambleTree, temporary_entities, event_notices, every, normally, system_owns, define_variables, define_sets, priority_order, break_ties, statistics, DefinitionTree, SectionKindTree, main, routine, event, SectionTree, ProgramTree, ExpressionTree, ExpressionRow, no_expression, and_expression, number, NamedTree, over_range, over_class, for_head, StatementTree, let_statement, reset_statement, loop_statement, no_statement}
 use Rattle.ss_names_declarations.specs.Sayings.{NameBytes}
-use Rattle.ss_tables_rules.specs.declared.rule.Rule.{Rule}
-use Rattle.ss_tables_rules.specs.declared.rule.Rule.TheVariants.{Twice, RealMode, UnknownClass, UnknownSet, NoOwner, NoMember, RankKey, TallyTwice, TooMany, TieKey}
-use Rattle.ss_tables_rules.specs.declared.rule.Broken.{Broken}
+use Rattle.ss_tables_rules.specs.declared.rule.DeclarationRule.{DeclarationRule}
+use Rattle.ss_tables_rules.specs.declared.rule.DeclarationRule.TheVariants.{Twice, RealMode, UnknownClass, UnknownSet, NoOwner, NoMember, RankKey, TallyTwice, TooMany, TieKey}
+use Rattle.ss_tables_rules.specs.declared.rule.BrokenDeclaration.{BrokenDeclaration}
 use Rattle.ss_tables_rules.specs.Broken.{broken, refusal_of_declarations}
 
 -- ---- words for small programs
@@ -22,7 +22,7 @@ abbrev line : ℕ → Line
 line n = record { 0 = n }
 
 -- a rule is broken in this line
-abbrev at : Rule → ℕ → Option Broken
+abbrev at : DeclarationRule → ℕ → Option BrokenDeclaration
 at rule n = Some (record { rule = rule; line = line n })
 
 abbrev names1 : NameBytes → List NameBytes

@@ -60,16 +60,16 @@ pub fn may_hide(standing: Option<Standing>) -> bool
 /// The names that are declared, each with its kind by its first declaration, and the first line
 /// where one is declared as another thing.
 #[derive(Drop)]
-pub struct Globals {
+pub struct DeclaredNames {
     map: Table<Spelling, Standing>,
     clash: Option<Line>,
 }
 
-impl Globals {
-    fn new(alloc: Global, seed: Seed) -> Globals
+impl DeclaredNames {
+    fn new(alloc: Global, seed: Seed) -> DeclaredNames
         ensures { IsGlobalsOf [] result }
     {
-        Globals {
+        DeclaredNames {
             map: Table::new(alloc, seed),
             clash: None,
         }
@@ -195,10 +195,10 @@ fn globals_with(
     seed: Seed,
     attributes: &Things,
     sayings: &[Saying],
-) -> Result<Globals, AllocError>
+) -> Result<DeclaredNames, AllocError>
     ensures { IfOk result (IsGlobalsOf (flat_map (saying_declares (has_global attributes.now)) sayings.now)) }
 {
-    let mut globals = Globals::new(alloc, seed);
+    let mut globals = DeclaredNames::new(alloc, seed);
     for saying in sayings {
         globals.note(attributes, saying)?;
     }
@@ -209,7 +209,7 @@ fn globals_with(
 ///
 /// # Errors
 /// `AllocError` where memory is refused.
-pub fn globals_of(alloc: Global, seed: Seed, sayings: &[Saying]) -> Result<Globals, AllocError>
+pub fn globals_of(alloc: Global, seed: Seed, sayings: &[Saying]) -> Result<DeclaredNames, AllocError>
     ensures { IfOk result (IsGlobalsOf (declarations sayings.now)) }
 {
     let attributes = things_said(alloc, seed, Topic::Attribute, sayings)?;

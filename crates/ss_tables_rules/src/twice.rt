@@ -10,7 +10,7 @@ ghost use Rattle.ss_tables_rules.specs.Things.{has_thing};
 ghost use Rattle.ss_tables_rules.specs.Topics.{has_topic, thing_of, is_said};
 ghost use Rattle.ss_tables_rules.specs.Twice.{again, anything, sets_again, statements_again, classes_again, locals_again, repeats, hides, hidings, twice};
 
-use crate::globals::{Globals, may_hide};
+use crate::globals::{DeclaredNames, may_hide};
 use crate::lines::sooner_if;
 use crate::things::{Things, things_said};
 use crate::topic::{Topic, has_topic, thing_of};
@@ -175,7 +175,7 @@ fn repeats(
 }
 
 /// Whether a saying is about a parameter or a local variable that hides what may not be hidden.
-fn hides(globals: &Globals, saying: &Saying) -> bool
+fn hides(globals: &DeclaredNames, saying: &Saying) -> bool
     ensures { (ds : List Declaration) → IsGlobalsOf ds globals.now → result ≡ hides ds saying.now }
 {
     let said = &saying.said;
@@ -190,7 +190,7 @@ fn hides(globals: &Globals, saying: &Saying) -> bool
 
 /// What was found so far, or the first line where a parameter or a local variable hides what may not be
 /// hidden.
-fn hidings(globals: &Globals, sayings: &[Saying], found: Option<Line>) -> Option<Line>
+fn hidings(globals: &DeclaredNames, sayings: &[Saying], found: Option<Line>) -> Option<Line>
     ensures { IsGlobalsOf (declarations sayings.now) globals.now → result ≡ soonest found (hidings sayings.now) }
 {
     let mut found = found;
@@ -206,7 +206,7 @@ fn hidings(globals: &Globals, sayings: &[Saying], found: Option<Line>) -> Option
 /// `AllocError` where memory is refused.
 pub fn twice(
     alloc: Global,
-    globals: &Globals,
+    globals: &DeclaredNames,
     sayings: &[Saying],
 ) -> Result<Option<Line>, AllocError>
     requires { IsGlobalsOf (declarations sayings.now) globals.now }

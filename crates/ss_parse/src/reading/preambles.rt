@@ -11,7 +11,7 @@ ghost use Rattle.ss_parse.specs.ReadPreambles.{then_rank, keys, statistic_kind, 
 
 use ss_base::{Line, Name};
 use ss_lex::{Symbol, Token, TokenKind, Word};
-use ss_parse_expressions::classes::{Class, skip_class};
+use ss_parse_expressions::classes::{WordClass, skip_class};
 use ss_parse_expressions::failure::Failure;
 use ss_parse_expressions::names::{begins_name, items, name, names};
 use ss_parse_expressions::steps::{alone, beside};
@@ -383,7 +383,7 @@ fn define(
 {
     let (names, rest) = names(alloc, tokens)?;
     let (names, rest) = beside(names, expect_word(rest, Word::As))?;
-    define_end(alloc, line, names, skip_class(rest, Class::Article))
+    define_end(alloc, line, names, skip_class(rest, WordClass::Article))
 }
 
 /// The rest of PRIORITY ORDER, after its first word.

@@ -10,7 +10,7 @@ ghost use Rattle.ss_parse.specs.ReadPrograms.{begins_section, saving, routine_ki
 use crate::reading::preambles::{preamble, variable_mode};
 use ss_base::{Line, Name};
 use ss_lex::{Token, TokenKind, Word};
-use ss_parse_expressions::classes::{Class, skip_class};
+use ss_parse_expressions::classes::{WordClass, skip_class};
 use ss_parse_expressions::failure::Failure;
 use ss_parse_expressions::names::{name, names};
 use ss_parse_expressions::nesting::levels;
@@ -65,7 +65,7 @@ fn saving(tokens: &[Token]) -> Result<(bool, &[Token]), Failure>
 fn routine(alloc: Global, tokens: &[Token]) -> Result<(SectionKind, &[Token]), Failure>
     ensures { GivesReading (λ x. (view_kind x.0, x.1.now)) result (routine_kind tokens.now) }
 {
-    let rest = skip_class(tokens, Class::Towards);
+    let rest = skip_class(tokens, WordClass::Towards);
     let name = name(rest)?;
     let (given, rest) = names_after(alloc, after_first(rest), Word::Given)?;
     let yielding = names_after(alloc, rest, Word::Yielding);
@@ -117,7 +117,7 @@ fn variables(alloc: Global, tokens: &[Token]) -> Result<(Vec<Name>, Mode, &[Toke
 {
     let (names, rest) = names(alloc, tokens)?;
     let (names, rest) = beside(names, expect_word(rest, Word::As))?;
-    let mode = variable_mode(skip_class(rest, Class::Article));
+    let mode = variable_mode(skip_class(rest, WordClass::Article));
     let (names, (mode, rest)) = beside(names, mode)?;
     Ok((names, mode, rest))
 }

@@ -1,6 +1,6 @@
 use Rattle.std.proofs.Common.{sym, ap, subst, ◌∙◌}
 use Rattle.std.proofs.lemmas.Result.{err_from_is_err_and}
-use Rattle.ss_parse_expressions.specs.declared.classes.Class.TheVariants as classes
+use Rattle.ss_parse_expressions.specs.declared.classes.WordClass.TheVariants as classes
 use Rattle.ss_parse_expressions.specs.Reading.{taken, name_in_token, FailsReading}
 use Rattle.ss_parse_expressions.specs.ReadWords.{skip_class}
 use Rattle.ss_parse_expressions.proofs.WordLaws.{items_loop}

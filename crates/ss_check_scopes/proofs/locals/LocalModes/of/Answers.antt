@@ -10,7 +10,7 @@ use Rattle.ss_names_declarations.specs.Firsts.{firsts}
 use Rattle.ss_check_scopes.specs.Locals.{all_defined, local_mentioned, moded}
 use Rattle.ss_check_scopes.specs.Whole.{is_global}
 use Rattle.ss_check_scopes.proofs.Entering.{moded_found}
-use Rattle.ss_check_scopes.proofs.locals.Locals.of.Goals as goal
+use Rattle.ss_check_scopes.proofs.locals.LocalModes.of.Goals as goal
 
 pub returns : goal.returns
 returns g c =

@@ -4,7 +4,7 @@ use Rattle.ss_names_declarations.specs.Sayings.{NameBytes}
 use Rattle.ss_tables_rules.specs.Declarations.{declaration, derived}
 use Rattle.ss_tables_rules.specs.Globals.{AddsDeclarations}
 use Rattle.ss_tables_rules.proofs.Declaring.{adds_both}
-use Rattle.ss_tables_rules.proofs.globals.Globals.declare_set.Goals as goal
+use Rattle.ss_tables_rules.proofs.globals.DeclaredNames.declare_set.Goals as goal
 
 pub returns : goal.returns
 returns c =
