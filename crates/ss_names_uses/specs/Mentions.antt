@@ -206,31 +206,31 @@ abbrev pub in_statement : StatementTree → List Mention
 in_statement s = in_itself s ++ in_inner s
 
 -- the line of a statement
-abbrev pub line_of : StatementTree → Line
-line_of (let_statement line place e) = line
-line_of (add_statement line e place) = line
-line_of (subtract_statement line e place) = line
-line_of (call_statement line name given yielding) = line
-line_of (return_statement line) = line
-line_of (stop_statement line) = line
-line_of (read_statement line targets) = line
-line_of (start_simulation line) = line
-line_of (if_statement line condition first second) = line
-line_of (loop_statement line head body) = line
-line_of (find_statement line head) = line
-line_of (find_if_statement line head outcome first second) = line
-line_of (create_statement line class called) = line
-line_of (create_every line classes) = line
-line_of (destroy_statement line class called) = line
-line_of (file_statement line x position set) = line
-line_of (remove_end line end place set) = line
-line_of (remove_statement line x set) = line
-line_of (schedule_new line class called given when) = line
-line_of (schedule_statement line class called given when) = line
-line_of (cancel_statement line class called) = line
-line_of (reset_statement line targets) = line
-line_of (print_statement line items pictures) = line
-line_of (skip_statement line count) = line
+abbrev pub line_of_statement : StatementTree → Line
+line_of_statement (let_statement line place e) = line
+line_of_statement (add_statement line e place) = line
+line_of_statement (subtract_statement line e place) = line
+line_of_statement (call_statement line name given yielding) = line
+line_of_statement (return_statement line) = line
+line_of_statement (stop_statement line) = line
+line_of_statement (read_statement line targets) = line
+line_of_statement (start_simulation line) = line
+line_of_statement (if_statement line condition first second) = line
+line_of_statement (loop_statement line head body) = line
+line_of_statement (find_statement line head) = line
+line_of_statement (find_if_statement line head outcome first second) = line
+line_of_statement (create_statement line class called) = line
+line_of_statement (create_every line classes) = line
+line_of_statement (destroy_statement line class called) = line
+line_of_statement (file_statement line x position set) = line
+line_of_statement (remove_end line end place set) = line
+line_of_statement (remove_statement line x set) = line
+line_of_statement (schedule_new line class called given when) = line
+line_of_statement (schedule_statement line class called given when) = line
+line_of_statement (cancel_statement line class called) = line
+line_of_statement (reset_statement line targets) = line
+line_of_statement (print_statement line items pictures) = line
+line_of_statement (skip_statement line count) = line
 
 -- ---- sections
 

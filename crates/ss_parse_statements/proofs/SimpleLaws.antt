@@ -28,7 +28,7 @@ use Rattle.ss_parse_expressions.proofs.ExpressionLaws.{in_begins, continues_sum}
 use Rattle.ss_parse_expressions.proofs.PlaceLaws.{targets_in_reads, continues_place, continues_sums}
 use Rattle.ss_parse_expressions.proofs.ConditionLaws.{stops_place}
 use Rattle.ss_parse_statements.specs.SpelledParts.{CalledName, end_of, Position_is}
-use Rattle.ss_parse_statements.specs.SpelledStatements.{line_of, opening_word, Statement_rest}
+use Rattle.ss_parse_statements.specs.SpelledStatements.{line_of_first_word, opening_word, Statement_rest}
 use Rattle.ss_parse_statements.specs.ReadSimple.{equals, after_the, set_reader, called, let_at, add_at, subtract_at, call_at, read_at, start_at, new_at, create_at, destroy_at, cancel_at, file_at, remove_end_at, remove_this_at, remove_at, schedule_the_at, schedule_a_at, schedule_at, reset_at, print_at, skip_at}
 use Rattle.ss_parse_statements.specs.ReadStatements.{form_word, nested_word}
 use Rattle.ss_parse_statements.proofs.StatementParts.{continues_simple, ended, over_place, over_targets, over_given, over_yielding, over_called, over_called_place, sum_reads, target_reads, set_reads, given_reads, yielding_reads, called_sum_reads, called_target_reads, continues_position, position_reads, position_stops, Due_is, due_reads, due_stops, Print_head_is, print_head_reads, Pictures_are, pictures_reads}
@@ -63,15 +63,15 @@ form_first _ = refl
 -- ---- a statement after its first word
 
 abbrev pub Form_is : ℕ → Line → Word → StatementTree → Shape
-Form_is n line w x ts rest = (line_of x ≡ line) × (opening_word x ≡ w) × Statement_rest x n ts rest
+Form_is n line w x ts rest = (line_of_first_word x ≡ line) × (opening_word x ≡ w) × Statement_rest x n ts rest
 
 -- a reader of a statement needs only that its trees have this shape
-pub formed : {k n : ℕ} {r r' : Reader StatementTree} {T : StatementTree → Shape} {c : List Token → Bool} → Reads k r r' T c → (line : Line) (w : Word) → nested_word w ≡ false → ((x : StatementTree) (ts rest : List Token) → T x ts rest → Form_is n line w x ts rest) → ((x : StatementTree) → is_nested x ≡ false → opening_word x ≡ w → line_of x ≡ line → (ts rest : List Token) → Statement_rest x n ts rest → T x ts rest) → ((ts : List Token) → continues_simple ts ≡ false → c ts ≡ false) → Reads k r r' (Form_is n line w) continues_simple
+pub formed : {k n : ℕ} {r r' : Reader StatementTree} {T : StatementTree → Shape} {c : List Token → Bool} → Reads k r r' T c → (line : Line) (w : Word) → nested_word w ≡ false → ((x : StatementTree) (ts rest : List Token) → T x ts rest → Form_is n line w x ts rest) → ((x : StatementTree) → is_nested x ≡ false → opening_word x ≡ w → line_of_first_word x ≡ line → (ts rest : List Token) → Statement_rest x n ts rest → T x ts rest) → ((ts : List Token) → continues_simple ts ≡ false → c ts ≡ false) → Reads k r r' (Form_is n line w) continues_simple
 formed {n = n} law line w simple to from stops =
     fewer_reads (reshaped_reads law (Form_is n line w) to (λ x ts rest s. from x (sym (nested_first x) ∙ ap nested_word s.1 ∙ simple) s.1 s.0 ts rest s.2)) continues_simple stops
 
 -- a statement that is made of the parts that were read
-pub made_form : {k n : ℕ} {A : Type 0} {r r' : Reader A} {P : A → Shape} {c : List Token → Bool} → Reads k r r' P c → (f : A → StatementTree) (line : Line) (w : Word) → nested_word w ≡ false → ((p : A) → (line_of (f p) ≡ line) × (opening_word (f p) ≡ w)) → ((p : A) (ts rest : List Token) → P p ts rest → Statement_rest (f p) n ts rest) → ((x : StatementTree) → is_nested x ≡ false → opening_word x ≡ w → line_of x ≡ line → (ts rest : List Token) → Statement_rest x n ts rest → Made f P x ts rest) → ((ts : List Token) → continues_simple ts ≡ false → c ts ≡ false) → Reads k (apply f r) (apply f r') (Form_is n line w) continues_simple
+pub made_form : {k n : ℕ} {A : Type 0} {r r' : Reader A} {P : A → Shape} {c : List Token → Bool} → Reads k r r' P c → (f : A → StatementTree) (line : Line) (w : Word) → nested_word w ≡ false → ((p : A) → (line_of_first_word (f p) ≡ line) × (opening_word (f p) ≡ w)) → ((p : A) (ts rest : List Token) → P p ts rest → Statement_rest (f p) n ts rest) → ((x : StatementTree) → is_nested x ≡ false → opening_word x ≡ w → line_of_first_word x ≡ line → (ts rest : List Token) → Statement_rest x n ts rest → Made f P x ts rest) → ((ts : List Token) → continues_simple ts ≡ false → c ts ≡ false) → Reads k (apply f r) (apply f r') (Form_is n line w) continues_simple
 made_form {n = n} {P = P} law f line w simple line_and_word same from stops =
     formed (made_reads law f) line w simple
     (λ x ts rest s. subst (λ x. Form_is n line w x ts rest) s.1 ((line_and_word s.0).0, (line_and_word s.0).1, same s.0 ts rest s.2))
@@ -129,7 +129,7 @@ module _ (n m : ℕ) (le : n ≤ m) where
       made_form (seq_reads (target_reads n m le) (marked_reads equals (sum_reads n m le)) (λ e ts rest s stop. ap continues_place s.1.2)) (λ p. let_statement line p.0 p.1) line words.Let refl
       (λ p. (refl, refl)) (λ p ts rest s. s) from (λ ts stop. (ended ts stop).no_sum)
     where
-      from : (x : StatementTree) → is_nested x ≡ false → opening_word x ≡ words.Let → line_of x ≡ line → (ts rest : List Token) → Statement_rest x n ts rest → Made (λ (p : NamedTree × ExpressionTree). let_statement line p.0 p.1) (λ p. Target_is n p.0 ▷ Symbol_is Equals ▷ Sum_is n p.1) x ts rest
+      from : (x : StatementTree) → is_nested x ≡ false → opening_word x ≡ words.Let → line_of_first_word x ≡ line → (ts rest : List Token) → Statement_rest x n ts rest → Made (λ (p : NamedTree × ExpressionTree). let_statement line p.0 p.1) (λ p. Target_is n p.0 ▷ Symbol_is Equals ▷ Sum_is n p.1) x ts rest
       from (let_statement l target value) u w at ts rest s = ((target, value), ap (λ (l : Line). let_statement l target value) (sym at), s)
       from _ u w at ts rest s = absurd cc
 
@@ -139,7 +139,7 @@ module _ (n m : ℕ) (le : n ≤ m) where
       made_form (seq_reads (sum_reads n m le) (marked_reads (word words.To) (target_reads n m le)) (λ e ts rest s stop. ap continues_sum s.1.2)) (λ p. add_statement line p.0 p.1) line words.Add refl
       (λ p. (refl, refl)) (λ p ts rest s. s) from (λ ts stop. over_place ts (ended ts stop))
     where
-      from : (x : StatementTree) → is_nested x ≡ false → opening_word x ≡ words.Add → line_of x ≡ line → (ts rest : List Token) → Statement_rest x n ts rest → Made (λ (p : ExpressionTree × NamedTree). add_statement line p.0 p.1) (λ p. Sum_is n p.0 ▷ Word_is words.To ▷ Target_is n p.1) x ts rest
+      from : (x : StatementTree) → is_nested x ≡ false → opening_word x ≡ words.Add → line_of_first_word x ≡ line → (ts rest : List Token) → Statement_rest x n ts rest → Made (λ (p : ExpressionTree × NamedTree). add_statement line p.0 p.1) (λ p. Sum_is n p.0 ▷ Word_is words.To ▷ Target_is n p.1) x ts rest
       from (add_statement l amount target) u w at ts rest s = ((amount, target), ap (λ (l : Line). add_statement l amount target) (sym at), s)
       from _ u w at ts rest s = absurd cc
 
@@ -149,7 +149,7 @@ module _ (n m : ℕ) (le : n ≤ m) where
       made_form (seq_reads (sum_reads n m le) (marked_reads (word words.From) (target_reads n m le)) (λ e ts rest s stop. ap continues_sum s.1.2)) (λ p. subtract_statement line p.0 p.1) line words.Subtract refl
       (λ p. (refl, refl)) (λ p ts rest s. s) from (λ ts stop. over_place ts (ended ts stop))
     where
-      from : (x : StatementTree) → is_nested x ≡ false → opening_word x ≡ words.Subtract → line_of x ≡ line → (ts rest : List Token) → Statement_rest x n ts rest → Made (λ (p : ExpressionTree × NamedTree). subtract_statement line p.0 p.1) (λ p. Sum_is n p.0 ▷ Word_is words.From ▷ Target_is n p.1) x ts rest
+      from : (x : StatementTree) → is_nested x ≡ false → opening_word x ≡ words.Subtract → line_of_first_word x ≡ line → (ts rest : List Token) → Statement_rest x n ts rest → Made (λ (p : ExpressionTree × NamedTree). subtract_statement line p.0 p.1) (λ p. Sum_is n p.0 ▷ Word_is words.From ▷ Target_is n p.1) x ts rest
       from (subtract_statement l amount target) u w at ts rest s = ((amount, target), ap (λ (l : Line). subtract_statement l amount target) (sym at), s)
       from _ u w at ts rest s = absurd cc
 
@@ -165,21 +165,21 @@ module _ (n m : ℕ) (le : n ≤ m) where
       made_form (seq_reads (name_reads (suc n)) (seq_reads (given_reads n m le) (fewer_reads (yielding_reads n m le) continues_simple (λ ts stop. over_yielding ts (ended ts stop))) given_stops) (λ p ts rest s stop. refl)) (λ p. call_statement line p.0 p.1.0 p.1.1) line words.Call refl
       (λ p. (refl, refl)) (λ p ts rest s. s) from (λ ts stop. stop)
     where
-      from : (x : StatementTree) → is_nested x ≡ false → opening_word x ≡ words.Call → line_of x ≡ line → (ts rest : List Token) → Statement_rest x n ts rest → Made (λ (p : List ℕ × (List ExpressionTree × List NamedTree)). call_statement line p.0 p.1.0 p.1.1) (λ p. Name_is p.0 ▷ perhaps_listed (One_of classes.Given) (Sum_is n) p.1.0 ▷ perhaps_listed (Word_is words.Yielding) (Target_is n) p.1.1) x ts rest
+      from : (x : StatementTree) → is_nested x ≡ false → opening_word x ≡ words.Call → line_of_first_word x ≡ line → (ts rest : List Token) → Statement_rest x n ts rest → Made (λ (p : List ℕ × (List ExpressionTree × List NamedTree)). call_statement line p.0 p.1.0 p.1.1) (λ p. Name_is p.0 ▷ perhaps_listed (One_of classes.Given) (Sum_is n) p.1.0 ▷ perhaps_listed (Word_is words.Yielding) (Target_is n) p.1.1) x ts rest
       from (call_statement l routine given yielding) u w at ts rest s = ((routine, (given, yielding)), ap (λ (l : Line). call_statement l routine given yielding) (sym at), s)
       from _ u w at ts rest s = absurd cc
 
   pub return_reads : (line : Line) → Reads (suc n) (done (return_statement line)) (done (return_statement line)) (Form_is n line words.Return) continues_simple
   return_reads line = formed (done_reads (suc n) (return_statement line)) line words.Return refl (λ x ts rest s. subst (λ x. Form_is n line words.Return x ts rest) s.0 (refl, refl, s.1)) from (λ ts stop. refl)
     where
-      from : (x : StatementTree) → is_nested x ≡ false → opening_word x ≡ words.Return → line_of x ≡ line → (ts rest : List Token) → Statement_rest x n ts rest → provided (return_statement line ≡ x) nothing ts rest
+      from : (x : StatementTree) → is_nested x ≡ false → opening_word x ≡ words.Return → line_of_first_word x ≡ line → (ts rest : List Token) → Statement_rest x n ts rest → provided (return_statement line ≡ x) nothing ts rest
       from (return_statement l) u w at ts rest s = (ap return_statement (sym at), s)
       from _ u w at ts rest s = absurd cc
 
   pub stop_reads : (line : Line) → Reads (suc n) (done (stop_statement line)) (done (stop_statement line)) (Form_is n line words.Stop) continues_simple
   stop_reads line = formed (done_reads (suc n) (stop_statement line)) line words.Stop refl (λ x ts rest s. subst (λ x. Form_is n line words.Stop x ts rest) s.0 (refl, refl, s.1)) from (λ ts stop. refl)
     where
-      from : (x : StatementTree) → is_nested x ≡ false → opening_word x ≡ words.Stop → line_of x ≡ line → (ts rest : List Token) → Statement_rest x n ts rest → provided (stop_statement line ≡ x) nothing ts rest
+      from : (x : StatementTree) → is_nested x ≡ false → opening_word x ≡ words.Stop → line_of_first_word x ≡ line → (ts rest : List Token) → Statement_rest x n ts rest → provided (stop_statement line ≡ x) nothing ts rest
       from (stop_statement l) u w at ts rest s = (ap stop_statement (sym at), s)
       from _ u w at ts rest s = absurd cc
 
@@ -189,7 +189,7 @@ module _ (n m : ℕ) (le : n ≤ m) where
       made_form (targets_in_reads (suc n) (suc m) (omega arith)) (read_statement line) line words.Read refl
       (λ p. (refl, refl)) (λ p ts rest s. s) from (λ ts stop. over_targets ts (ended ts stop))
     where
-      from : (x : StatementTree) → is_nested x ≡ false → opening_word x ≡ words.Read → line_of x ≡ line → (ts rest : List Token) → Statement_rest x n ts rest → Made (read_statement line) (separated_list (Target_is n)) x ts rest
+      from : (x : StatementTree) → is_nested x ≡ false → opening_word x ≡ words.Read → line_of_first_word x ≡ line → (ts rest : List Token) → Statement_rest x n ts rest → Made (read_statement line) (separated_list (Target_is n)) x ts rest
       from (read_statement l targets) u w at ts rest s = (targets, ap (λ (l : Line). read_statement l targets) (sym at), s)
       from _ u w at ts rest s = absurd cc
 
@@ -199,7 +199,7 @@ module _ (n m : ℕ) (le : n ≤ m) where
       made_form (expect_reads (suc n) (word words.Simulation)) (λ u. start_simulation line) line words.Start refl
       (λ p. (refl, refl)) (λ p ts rest s. s) from (λ ts stop. refl)
     where
-      from : (x : StatementTree) → is_nested x ≡ false → opening_word x ≡ words.Start → line_of x ≡ line → (ts rest : List Token) → Statement_rest x n ts rest → Made (λ (u : Unit {0}). start_simulation line) (λ u. Word_is words.Simulation) x ts rest
+      from : (x : StatementTree) → is_nested x ≡ false → opening_word x ≡ words.Start → line_of_first_word x ≡ line → (ts rest : List Token) → Statement_rest x n ts rest → Made (λ (u : Unit {0}). start_simulation line) (λ u. Word_is words.Simulation) x ts rest
       from (start_simulation l) u w at ts rest s = (tt, ap start_simulation (sym at), s)
       from _ u w at ts rest s = absurd cc
 
@@ -230,7 +230,7 @@ module _ (n m : ℕ) (le : n ≤ m) where
       to x ts rest (inl (p, is, s)) = subst (λ x. Form_is n line words.Create x ts rest) is (refl, refl, s)
       to x ts rest (inr (p, is, s)) = subst (λ x. Form_is n line words.Create x ts rest) is (refl, refl, s)
 
-      from : (x : StatementTree) → is_nested x ≡ false → opening_word x ≡ words.Create → line_of x ≡ line → (ts rest : List Token) → Statement_rest x n ts rest → either_shape (Made (create_every line) Every_parts x) (Made (λ p. create_statement line p.0 p.1) New_parts x) ts rest
+      from : (x : StatementTree) → is_nested x ≡ false → opening_word x ≡ words.Create → line_of_first_word x ≡ line → (ts rest : List Token) → Statement_rest x n ts rest → either_shape (Made (create_every line) Every_parts x) (Made (λ p. create_statement line p.0 p.1) New_parts x) ts rest
       from (create_every l classes) u w at ts rest s = inl (classes, ap (λ (l : Line). create_every l classes) (sym at), s)
       from (create_statement l class called) u w at ts rest s = inr ((class, called), ap (λ (l : Line). create_statement l class called) (sym at), s)
       from _ u w at ts rest s = absurd cc
@@ -247,7 +247,7 @@ module _ (n m : ℕ) (le : n ≤ m) where
       made_form taken_reads' (λ p. destroy_statement line p.0 p.1) line words.Destroy refl
       (λ p. (refl, refl)) (λ p ts rest s. s) from (λ ts stop. over_called ts (ended ts stop))
     where
-      from : (x : StatementTree) → is_nested x ≡ false → opening_word x ≡ words.Destroy → line_of x ≡ line → (ts rest : List Token) → Statement_rest x n ts rest → Made (λ p. destroy_statement line p.0 p.1) Taken_parts x ts rest
+      from : (x : StatementTree) → is_nested x ≡ false → opening_word x ≡ words.Destroy → line_of_first_word x ≡ line → (ts rest : List Token) → Statement_rest x n ts rest → Made (λ p. destroy_statement line p.0 p.1) Taken_parts x ts rest
       from (destroy_statement l class called) u w at ts rest s = ((class, called), ap (λ (l : Line). destroy_statement l class called) (sym at), s)
       from _ u w at ts rest s = absurd cc
 
@@ -257,7 +257,7 @@ module _ (n m : ℕ) (le : n ≤ m) where
       made_form taken_reads' (λ p. cancel_statement line p.0 p.1) line words.Cancel refl
       (λ p. (refl, refl)) (λ p ts rest s. s) from (λ ts stop. over_called ts (ended ts stop))
     where
-      from : (x : StatementTree) → is_nested x ≡ false → opening_word x ≡ words.Cancel → line_of x ≡ line → (ts rest : List Token) → Statement_rest x n ts rest → Made (λ p. cancel_statement line p.0 p.1) Taken_parts x ts rest
+      from : (x : StatementTree) → is_nested x ≡ false → opening_word x ≡ words.Cancel → line_of_first_word x ≡ line → (ts rest : List Token) → Statement_rest x n ts rest → Made (λ p. cancel_statement line p.0 p.1) Taken_parts x ts rest
       from (cancel_statement l class called) u w at ts rest s = ((class, called), ap (λ (l : Line). cancel_statement l class called) (sym at), s)
       from _ u w at ts rest s = absurd cc
 
@@ -278,7 +278,7 @@ module _ (n m : ℕ) (le : n ≤ m) where
       made_form {P = File_parts} (optional_reads (seq_reads (sum_reads n m le) (seq_reads (position_reads n m le) in_set_reads (λ set ts rest s stop. ap (continues_position n m le) s.1.2)) (λ p ts rest s stop. position_stops n m le p.0 ts s.0 s.1 (ap continues_sum s.2.1.2))) (word words.The) (λ x ts rest s. no_the_sum ts x.0 s.0 s.1)) (λ p. file_statement line p.0 p.1.0 p.1.1) line words.File refl
       (λ p. (refl, refl)) (λ p ts rest s. s) from (λ ts stop. over_place ts (ended ts stop))
     where
-      from : (x : StatementTree) → is_nested x ≡ false → opening_word x ≡ words.File → line_of x ≡ line → (ts rest : List Token) → Statement_rest x n ts rest → Made (λ p. file_statement line p.0 p.1.0 p.1.1) File_parts x ts rest
+      from : (x : StatementTree) → is_nested x ≡ false → opening_word x ≡ words.File → line_of_first_word x ≡ line → (ts rest : List Token) → Statement_rest x n ts rest → Made (λ p. file_statement line p.0 p.1.0 p.1.1) File_parts x ts rest
       from (file_statement l e position set) u w at ts rest s = ((e, (position, set)), ap (λ (l : Line). file_statement l e position set) (sym at), s)
       from _ u w at ts rest s = absurd cc
 
@@ -318,7 +318,7 @@ module _ (n m : ℕ) (le : n ≤ m) where
       to x ts rest (a, t, inl (p, is, s)) = subst (λ x. Form_is n line words.Remove x ts rest) is (refl, refl, (a, t, s))
       to x ts rest (a, t, inr (p, is, s)) = subst (λ x. Form_is n line words.Remove x ts rest) is (refl, refl, (a, t, s))
 
-      from : (x : StatementTree) → is_nested x ≡ false → opening_word x ≡ words.Remove → line_of x ≡ line → (ts rest : List Token) → Statement_rest x n ts rest → (the ▷ Removed line x) ts rest
+      from : (x : StatementTree) → is_nested x ≡ false → opening_word x ≡ words.Remove → line_of_first_word x ≡ line → (ts rest : List Token) → Statement_rest x n ts rest → (the ▷ Removed line x) ts rest
       from (remove_end l end target set) u w at ts rest (a, t, s) = (a, t, inl ((end, (target, set)), ap (λ (l : Line). remove_end l end target set) (sym at), s))
       from (remove_statement l e set) u w at ts rest (a, t, s) = (a, t, inr ((e, set), ap (λ (l : Line). remove_statement l e set) (sym at), s))
       from _ u w at ts rest s = absurd cc
@@ -359,7 +359,7 @@ module _ (n m : ℕ) (le : n ≤ m) where
       to x ts rest (inl (p, is, s)) = subst (λ x. Form_is n line words.Schedule x ts rest) is (refl, refl, s)
       to x ts rest (inr (p, is, s)) = subst (λ x. Form_is n line words.Schedule x ts rest) is (refl, refl, s)
 
-      from : (x : StatementTree) → is_nested x ≡ false → opening_word x ≡ words.Schedule → line_of x ≡ line → (ts rest : List Token) → Statement_rest x n ts rest → either_shape (Made (λ p. schedule_statement line p.0 p.1.0 p.1.1.0 p.1.1.1) The_parts x) (Made (λ p. schedule_new line p.0 p.1.0 p.1.1.0 p.1.1.1) A_parts x) ts rest
+      from : (x : StatementTree) → is_nested x ≡ false → opening_word x ≡ words.Schedule → line_of_first_word x ≡ line → (ts rest : List Token) → Statement_rest x n ts rest → either_shape (Made (λ p. schedule_statement line p.0 p.1.0 p.1.1.0 p.1.1.1) The_parts x) (Made (λ p. schedule_new line p.0 p.1.0 p.1.1.0 p.1.1.1) A_parts x) ts rest
       from (schedule_statement l class called given when) u w at ts rest s = inl ((class, (called, (given, when))), ap (λ (l : Line). schedule_statement l class called given when) (sym at), s)
       from (schedule_new l class called given when) u w at ts rest s = inr ((class, (called, (given, when))), ap (λ (l : Line). schedule_new l class called given when) (sym at), s)
       from _ u w at ts rest s = absurd cc
@@ -375,7 +375,7 @@ module _ (n m : ℕ) (le : n ≤ m) where
       made_form {P = Reset_parts} (optional_reads (marked_reads (word words.Totals) (marked_reads (word words.Of) (targets_in_reads (suc n) (suc m) (omega arith)))) (word words.The) (λ x ts rest s. ap (begins (word words.The)) s.1.2)) (reset_statement line) line words.Reset refl
       (λ p. (refl, refl)) (λ p ts rest s. s) from (λ ts stop. over_targets ts (ended ts stop))
     where
-      from : (x : StatementTree) → is_nested x ≡ false → opening_word x ≡ words.Reset → line_of x ≡ line → (ts rest : List Token) → Statement_rest x n ts rest → Made (reset_statement line) Reset_parts x ts rest
+      from : (x : StatementTree) → is_nested x ≡ false → opening_word x ≡ words.Reset → line_of_first_word x ≡ line → (ts rest : List Token) → Statement_rest x n ts rest → Made (reset_statement line) Reset_parts x ts rest
       from (reset_statement l targets) u w at ts rest s = (targets, ap (λ (l : Line). reset_statement l targets) (sym at), s)
       from _ u w at ts rest s = absurd cc
 
@@ -392,7 +392,7 @@ module _ (n m : ℕ) (le : n ≤ m) where
       to x ts rest ((k, items), (a, (b, (some, number), (c, lines, (d, with, thus))), (ps, is, (counts, pictures)))) =
           subst (λ x. Form_is n line words.Print x ts rest) is (refl, refl, (subst (λ n. 0 < n) (sym counts) some, (b, subst (λ n. Token_is (kinds.Number (pos n)) ts b) (sym counts) number, (c, lines, (d, with, (a, thus, pictures))))))
 
-      from : (x : StatementTree) → is_nested x ≡ false → opening_word x ≡ words.Print → line_of x ≡ line → (ts rest : List Token) → Statement_rest x n ts rest → Printed line x ts rest
+      from : (x : StatementTree) → is_nested x ≡ false → opening_word x ≡ words.Print → line_of_first_word x ≡ line → (ts rest : List Token) → Statement_rest x n ts rest → Printed line x ts rest
       from (print_statement l items ps) u w at ts rest (some, (b, number, (c, lines, (d, with, (a, thus, pictures))))) =
           ((length ps, items), (a, (b, (some, number), (c, lines, (d, with, thus))), (ps, ap (λ (l : Line). print_statement l items ps) (sym at), (refl, pictures))))
       from _ u w at ts rest s = absurd cc
@@ -410,6 +410,6 @@ module _ (n m : ℕ) (le : n ≤ m) where
       made_form {P = Skip_parts} (closed_reads (sum_reads n m le) (optional_reads (expect_reads (suc n) (word words.Line)) (word words.Output) (λ u ts rest s. ap (begins (word words.Output)) s.2)) line_stops) (skip_statement line) line words.Skip refl
       (λ p. (refl, refl)) (λ p ts rest s. s) from (λ ts stop. refl)
     where
-      from : (x : StatementTree) → is_nested x ≡ false → opening_word x ≡ words.Skip → line_of x ≡ line → (ts rest : List Token) → Statement_rest x n ts rest → Made (skip_statement line) Skip_parts x ts rest
+      from : (x : StatementTree) → is_nested x ≡ false → opening_word x ≡ words.Skip → line_of_first_word x ≡ line → (ts rest : List Token) → Statement_rest x n ts rest → Made (skip_statement line) Skip_parts x ts rest
       from (skip_statement l count) u w at ts rest s = (count, ap (λ (l : Line). skip_statement l count) (sym at), s)
       from _ u w at ts rest s = absurd cc

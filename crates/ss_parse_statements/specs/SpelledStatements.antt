@@ -26,31 +26,31 @@ Find_words = noisy words.Find ▷ the ▷ Word_is words.First ▷ Word_is words.
 -- ---- statements
 
 -- the line of its first word
-abbrev pub line_of : StatementTree → Line
-line_of (let_statement line target value) = line
-line_of (add_statement line amount target) = line
-line_of (subtract_statement line amount target) = line
-line_of (call_statement line routine given yielding) = line
-line_of (return_statement line) = line
-line_of (stop_statement line) = line
-line_of (read_statement line targets) = line
-line_of (start_simulation line) = line
-line_of (if_statement line condition then otherwise) = line
-line_of (loop_statement line head body) = line
-line_of (find_statement line head) = line
-line_of (find_if_statement line head outcome then otherwise) = line
-line_of (create_statement line class called) = line
-line_of (create_every line classes) = line
-line_of (destroy_statement line class called) = line
-line_of (file_statement line x position set) = line
-line_of (remove_end line end target set) = line
-line_of (remove_statement line x set) = line
-line_of (schedule_new line class called given when) = line
-line_of (schedule_statement line class called given when) = line
-line_of (cancel_statement line class called) = line
-line_of (reset_statement line targets) = line
-line_of (print_statement line items pictures) = line
-line_of (skip_statement line count) = line
+abbrev pub line_of_first_word : StatementTree → Line
+line_of_first_word (let_statement line target value) = line
+line_of_first_word (add_statement line amount target) = line
+line_of_first_word (subtract_statement line amount target) = line
+line_of_first_word (call_statement line routine given yielding) = line
+line_of_first_word (return_statement line) = line
+line_of_first_word (stop_statement line) = line
+line_of_first_word (read_statement line targets) = line
+line_of_first_word (start_simulation line) = line
+line_of_first_word (if_statement line condition then otherwise) = line
+line_of_first_word (loop_statement line head body) = line
+line_of_first_word (find_statement line head) = line
+line_of_first_word (find_if_statement line head outcome then otherwise) = line
+line_of_first_word (create_statement line class called) = line
+line_of_first_word (create_every line classes) = line
+line_of_first_word (destroy_statement line class called) = line
+line_of_first_word (file_statement line x position set) = line
+line_of_first_word (remove_end line end target set) = line
+line_of_first_word (remove_statement line x set) = line
+line_of_first_word (schedule_new line class called given when) = line
+line_of_first_word (schedule_statement line class called given when) = line
+line_of_first_word (cancel_statement line class called) = line
+line_of_first_word (reset_statement line targets) = line
+line_of_first_word (print_statement line items pictures) = line
+line_of_first_word (skip_statement line count) = line
 
 -- the word that it begins with
 abbrev pub opening_word : StatementTree → Word
@@ -86,7 +86,7 @@ May_be_governed _ = Unit {0}
 
 -- a statement from its first word on, with this shape after that word
 abbrev pub Begun : StatementTree → Shape → Shape
-Begun s P = at (line_of s) (Word_is (opening_word s) ▷ P)
+Begun s P = at (line_of_first_word s) (Word_is (opening_word s) ▷ P)
 
 -- what follows a condition: two branches and ALWAYS
 abbrev pub Branching : Shape → Shape → Shape
