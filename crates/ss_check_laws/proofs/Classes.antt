@@ -9,7 +9,7 @@ use Rattle.ss_tree.specs.declared.preamble.ClassKind.TheVariants as class_words
 use Rattle.ss_tree.specs.Tree.{ExpressionTree, NamedTree, create_statement, create_every, destroy_statement, cancel_statement}
 use Rattle.ss_names_uses.specs.declared.mention.Role.TheVariants as roles
 use Rattle.ss_names_uses.specs.Mentions as mentioned
-use Rattle.ss_names_uses.specs.Mentions.{NameBytes}
+use Rattle.ss_tree.specs.Names.{NameBytes}
 use Rattle.ss_names_uses.specs.Demands as demanded
 use Rattle.ss_check_scopes.specs.declared.known.Known.{Known}
 use Rattle.ss_check_scopes.specs.declared.known.Known.TheVariants as knowns

@@ -6,7 +6,7 @@ use Rattle.std.specs.Map.{lookup, keys_of}
 use Rattle.std.specs.Cmp.Lexicographic.{bytes_decides}
 use Rattle.std.proofs.lemmas.List.{append-nil, append_assoc}
 use Rattle.ss_tree.specs.declared.preamble.Mode.{Mode}
-use Rattle.ss_names_uses.specs.Mentions.{NameBytes}
+use Rattle.ss_tree.specs.Names.{NameBytes}
 use Rattle.ss_names_declarations.specs.Firsts.{same_name, entry_beside, with_first, firsts}
 use Rattle.ss_check_scopes.specs.Locals.{Moded}
 use Rattle.ss_check_laws.specs.Parameters.{AreDistinctNames}

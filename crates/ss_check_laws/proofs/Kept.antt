@@ -2,7 +2,7 @@
 use Rattle.std.proofs.Common.{◌≢◌, List, [], ◌∷◌, ◌++◌}
 use Rattle.std.specs.List.{AllByRecursion as Every}
 use Rattle.ss_tree.specs.Tree.{SectionTree, ProgramTree}
-use Rattle.ss_names_declarations.specs.Sayings.{NameBytes}
+use Rattle.ss_tree.specs.Names.{NameBytes}
 use Rattle.ss_names.specs.Table.{table}
 use Rattle.ss_check_scopes.specs.WholeOf.{whole_of}
 use Rattle.ss_names_laws.specs.Declarations as declarations

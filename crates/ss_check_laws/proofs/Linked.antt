@@ -11,7 +11,7 @@ use Rattle.ss_tree.specs.declared.expression.Designator.TheVariants.{Name}
 use Rattle.ss_tree.specs.declared.preamble.ClassKind.{ClassKind as ClassWord}
 use Rattle.ss_tree.specs.declared.preamble.ClassKind.TheVariants as class_words
 use Rattle.ss_tree.specs.declared.preamble.Mode.{Mode as ModeWord}
-use Rattle.ss_names_declarations.specs.Sayings.{NameBytes}
+use Rattle.ss_tree.specs.Names.{NameBytes}
 use Rattle.ss_names.specs.declared.entry.Class.{Class}
 use Rattle.ss_names.specs.declared.meaning.Derived.TheVariants as derived
 use Rattle.ss_names.specs.declared.meaning.History.{History}

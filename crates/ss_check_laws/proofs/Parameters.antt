@@ -12,7 +12,7 @@ use Rattle.ss_tree.specs.declared.preamble.Mode.{Mode}
 use Rattle.ss_tree.specs.Tree.{DefinitionTree, SectionKindTree, main, routine, event, SectionTree}
 use Rattle.ss_names_uses.specs.declared.mention.Role.TheVariants.{Given, Yielding}
 use Rattle.ss_names_uses.specs.Mentions as mentioned
-use Rattle.ss_names_uses.specs.Mentions.{NameBytes}
+use Rattle.ss_tree.specs.Names.{NameBytes}
 use Rattle.ss_names_uses.specs.declared.demand.Aspect.TheVariants as aspects
 use Rattle.ss_names_uses.specs.declared.demand.Demand.{Demand}
 use Rattle.ss_names_uses.specs.Demands as demanded

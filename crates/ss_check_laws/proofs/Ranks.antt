@@ -13,7 +13,8 @@ use Rattle.ss_tree.specs.Tree as tree
 use Rattle.ss_names_declarations.specs.declared.saying.Said.{Said}
 use Rattle.ss_names_declarations.specs.declared.saying.Said.TheVariants as said
 use Rattle.ss_names_declarations.specs.declared.saying.Saying.{Saying}
-use Rattle.ss_names_declarations.specs.Sayings.{NameBytes, definition_says, head_says, preambles_say, section_says, sections_say, sayings}
+use Rattle.ss_tree.specs.Names.{NameBytes}
+use Rattle.ss_names_declarations.specs.Sayings.{definition_says, head_says, preambles_say, section_says, sections_say, sayings}
 use Rattle.ss_names.specs.declared.entry.Class.{Class}
 use Rattle.ss_names.specs.declared.entry.EventSection.{EventSection}
 use Rattle.ss_names.specs.Entities.{class_by, class_entries, classes}

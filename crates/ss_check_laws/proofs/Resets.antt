@@ -7,7 +7,8 @@ use Rattle.ss_tree.specs.declared.expression.Designator.TheVariants.{Name, TimeV
 use Rattle.ss_tree.specs.Tree.{ExpressionRow, NamedTree, reset_statement}
 use Rattle.ss_names_uses.specs.declared.mention.Role.TheVariants as roles
 use Rattle.ss_names_uses.specs.Mentions as mentioned
-use Rattle.ss_names_uses.specs.Mentions.{NameBytes, place, row_length}
+use Rattle.ss_tree.specs.Names.{NameBytes}
+use Rattle.ss_names_uses.specs.Mentions.{place, row_length}
 use Rattle.ss_names_uses.specs.Demands as demanded
 use Rattle.ss_check_scopes.specs.declared.known.Holder.TheVariants.{Program as TheProgram, Entity as EachOf}
 use Rattle.ss_check_scopes.specs.declared.known.Known.{Known}

@@ -15,7 +15,7 @@ use Rattle.ss_program.specs.declared.statement.Counted.{Counted}
 use Rattle.ss_check_laws.specs.Parameters as parameters
 use Rattle.ss_check_scopes.specs.Locals.{mode_of_local}
 use Rattle.ss_tree.specs.Tree as tree
-use Rattle.ss_names_declarations.specs.Sayings.{NameBytes}
+use Rattle.ss_tree.specs.Names.{NameBytes}
 use Rattle.ss_names.specs.declared.meaning.GlobalMeaning.TheVariants as globals
 use Rattle.ss_names_declarations.specs.Firsts.{value_for}
 use Rattle.ss_names.specs.Table.{table}

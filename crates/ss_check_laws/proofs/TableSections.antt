@@ -8,7 +8,8 @@ use Rattle.ss_tree.specs.declared.preamble.ClassKind.TheVariants as class_kinds
 use Rattle.ss_tree.specs.Tree as tree
 use Rattle.ss_names_declarations.specs.declared.saying.Said.TheVariants as said
 use Rattle.ss_names_declarations.specs.declared.saying.Saying.{Saying}
-use Rattle.ss_names_declarations.specs.Sayings.{NameBytes, clause_says, definition_says, head_says, order_says, preamble_says, preambles_say, rank_says, rule_of, saying_of_name, said_of_all, section_says, sections_say, sayings, statistic_says, tie_says}
+use Rattle.ss_tree.specs.Names.{NameBytes}
+use Rattle.ss_names_declarations.specs.Sayings.{clause_says, definition_says, head_says, order_says, preamble_says, preambles_say, rank_says, rule_of, saying_of_name, said_of_all, section_says, sections_say, sayings, statistic_says, tie_says}
 use Rattle.ss_names.specs.declared.entry.Class.{Class}
 use Rattle.ss_names.specs.declared.entry.EventSection.{EventSection}
 use Rattle.ss_names.specs.declared.entry.RoutineSection.{RoutineSection}

@@ -13,7 +13,7 @@ use Rattle.ss_tree.specs.declared.preamble.StatisticKind.TheVariants.{Sum}
 use Rattle.ss_tree.specs.declared.preamble.Weighting.TheVariants.{Tally}
 use Rattle.ss_tree.specs.Tree.{ExpressionTree, number, text, named, call, parenthesised, sum, no_expression, and_expression, no_term, and_term, NamedTree, by_discipline, now, StatementTree, let_statement, call_statement, start_simulation, create_statement, file_statement, schedule_new, reset_statement, print_statement, event_notices, every, statistics, SectionKindTree, main, routine, event, SectionTree}
 use Rattle.ss_picture.specs.Pictures.{picture_fields}
-use Rattle.ss_names_uses.specs.Mentions.{NameBytes}
+use Rattle.ss_tree.specs.Names.{NameBytes}
 use Rattle.ss_check_scopes.specs.declared.known.Holder.TheVariants.{Program, Entity}
 use Rattle.ss_check_scopes.specs.declared.known.Known.{Known}
 use Rattle.ss_check_scopes.specs.declared.known.Known.TheVariants as meanings

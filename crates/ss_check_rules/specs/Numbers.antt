@@ -1,7 +1,7 @@
 -- Rule 73 where a number has to be and a name without subscript is: all demands on it at once.
 use Rattle.std.specs.Prelude.{Bool, ◌||◌, Some}
 use Rattle.ss_base.specs.declared.layout.Mode.TheVariants as modes
-use Rattle.ss_names_uses.specs.Mentions.{NameBytes}
+use Rattle.ss_tree.specs.Names.{NameBytes}
 use Rattle.ss_check_scopes.specs.declared.known.Known.{Known}
 use Rattle.ss_check_scopes.specs.Locals.{Moded}
 use Rattle.ss_check_scopes.specs.Whole.{Whole}

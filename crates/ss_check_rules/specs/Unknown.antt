@@ -9,7 +9,7 @@ use Rattle.ss_names_uses.specs.declared.mention.Role.TheVariants as roles
 use Rattle.ss_names_uses.specs.declared.mention.Mentioned.{Mentioned}
 use Rattle.ss_names_uses.specs.declared.mention.Mentioned.TheVariants.{Name, TimeV, TimeA, Simulation}
 use Rattle.ss_names_uses.specs.declared.mention.Mention.{Mention}
-use Rattle.ss_names_uses.specs.Mentions.{NameBytes}
+use Rattle.ss_tree.specs.Names.{NameBytes}
 use Rattle.ss_check_scopes.specs.declared.known.Known.{Known}
 use Rattle.ss_check_scopes.specs.declared.known.Known.TheVariants.{Local, Variable, Class, Attribute, Set, MemberCount, Routine}
 use Rattle.ss_names_declarations.specs.Firsts.{same_name}

@@ -2,7 +2,7 @@
 use Rattle.std.proofs.Common.{◌≡◌, ℕ, Some}
 use Rattle.std.specs.Prelude.{slice_get}
 use Rattle.std.specs.Map.{keys_of}
-use Rattle.ss_names_uses.specs.Mentions.{NameBytes}
+use Rattle.ss_tree.specs.Names.{NameBytes}
 use Rattle.ss_names_declarations.specs.Firsts.{firsts}
 use Rattle.ss_names_declarations.proofs.Entries.{entry_of_key, firsts_once, place_from}
 use Rattle.ss_check_scopes.specs.Locals.{Moded, number_of_local}

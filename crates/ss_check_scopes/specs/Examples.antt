@@ -6,7 +6,7 @@ use Rattle.ss_tree.specs.declared.expression.Designator.TheVariants as designato
 use Rattle.ss_tree.specs.declared.preamble.ClassKind.TheVariants.{Temporary}
 use Rattle.ss_tree.specs.declared.preamble.Mode.TheVariants.{Integer, Alpha}
 use Rattle.ss_tree.specs.Tree.{ExpressionTree, number, named, no_expression, and_expression, NamedTree, from_end, over_members, over_class, for_head, let_statement, create_statement, loop_statement, reset_statement, no_statement, StatementTree, main, routine, event, SectionKindTree, DefinitionTree, SectionTree}
-use Rattle.ss_names_uses.specs.Mentions.{NameBytes}
+use Rattle.ss_tree.specs.Names.{NameBytes}
 use Rattle.ss_check_scopes.specs.declared.heading.Heading.TheVariants.{Routine, Event}
 use Rattle.ss_check_scopes.specs.declared.known.Known.{Known}
 use Rattle.ss_check_scopes.specs.declared.known.Known.TheVariants as meanings

@@ -9,7 +9,8 @@ use Rattle.ss_names_uses.specs.declared.mention.Role.TheVariants.{Value, Target,
 use Rattle.ss_names_uses.specs.declared.mention.Mentioned.{Mentioned}
 use Rattle.ss_names_uses.specs.declared.mention.Mentioned.TheVariants.{Name}
 use Rattle.ss_names_uses.specs.declared.mention.Mention.{Mention}
-use Rattle.ss_names_uses.specs.Mentions.{NameBytes, mentions}
+use Rattle.ss_tree.specs.Names.{NameBytes}
+use Rattle.ss_names_uses.specs.Mentions.{mentions}
 use Rattle.ss_names_declarations.specs.Firsts.{firsts, same_name}
 
 -- names with their modes; None is a mode that nothing gives

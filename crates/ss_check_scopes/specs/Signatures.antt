@@ -2,7 +2,7 @@
 use Rattle.std.specs.Prelude.{List, [], map, Option}
 use Rattle.ss_tree.specs.declared.preamble.Mode.{Mode}
 use Rattle.ss_tree.specs.Tree.{SectionKindTree, main, routine, event, SectionTree}
-use Rattle.ss_names_uses.specs.Mentions.{NameBytes}
+use Rattle.ss_tree.specs.Names.{NameBytes}
 use Rattle.ss_check_scopes.specs.declared.heading.Heading.{Heading}
 use Rattle.ss_check_scopes.specs.declared.heading.Heading.TheVariants.{Main, Routine, Event}
 use Rattle.ss_check_scopes.specs.Locals.{mode_of_local}

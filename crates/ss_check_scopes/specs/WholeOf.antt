@@ -9,7 +9,7 @@ use Rattle.ss_tree.specs.declared.preamble.Mode.{Mode}
 use Rattle.ss_tree.specs.declared.preamble.StatisticKind.{StatisticKind}
 use Rattle.ss_tree.specs.declared.preamble.StatisticKind.TheVariants as kinds
 use Rattle.ss_tree.specs.Tree.{ProgramTree}
-use Rattle.ss_names_uses.specs.Mentions.{NameBytes}
+use Rattle.ss_tree.specs.Names.{NameBytes}
 use Rattle.ss_names.specs.declared.entry.Attribute.{Attribute}
 use Rattle.ss_names.specs.declared.entry.Class.{Class as ClassSaid}
 use Rattle.ss_names.specs.declared.meaning.Derived.{Derived}

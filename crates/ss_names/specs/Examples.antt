@@ -11,7 +11,7 @@ use Rattle.ss_tree.specs.declared.preamble.StatisticKind.TheVariants as folds
 use Rattle.ss_tree.specs.declared.preamble.Weighting.TheVariants.{Tally, Accumulate}
 use Rattle.ss_tree.specs.Tree.{has, owns, belongs_to, ranked, permanent_entities, temporary_entities, event_notices, every, normally, system_owns, define_variables, define_sets, priority_order, break_ties, statistics, main, routine, event, ProgramTree, SectionKindTree, SectionTree}
 use Rattle.ss_names_declarations.specs.declared.saying.SetRule.TheVariants as rules
-use Rattle.ss_names_declarations.specs.Sayings.{NameBytes}
+use Rattle.ss_tree.specs.Names.{NameBytes}
 use Rattle.ss_names.specs.declared.entry.Attribute.{Attribute}
 use Rattle.ss_names.specs.declared.entry.Class.{Class}
 use Rattle.ss_names.specs.declared.meaning.Derived.TheVariants.{Predecessor}

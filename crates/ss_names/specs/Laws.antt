@@ -4,7 +4,7 @@ use Rattle.std.specs.Map.{keys_of}
 use Rattle.ss_base.specs.declared.layout.Owner.{Owner}
 use Rattle.ss_base.specs.declared.layout.Owner.TheVariants as owners
 use Rattle.ss_tree.specs.Tree.{ProgramTree}
-use Rattle.ss_names_declarations.specs.Sayings.{NameBytes}
+use Rattle.ss_tree.specs.Names.{NameBytes}
 use Rattle.ss_names.specs.declared.meaning.GlobalMeaning.{GlobalMeaning}
 use Rattle.ss_names.specs.declared.meaning.GlobalMeaning.TheVariants as meanings
 use Rattle.ss_names_declarations.specs.Firsts.{place_in, value_for}

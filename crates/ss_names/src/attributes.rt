@@ -5,7 +5,7 @@ ghost use Rattle.std.specs.List.{flat_map, fold};
 ghost use Rattle.ss_names.specs.Entities.{AreAttributes, attribute_by, fields_by_class, defined_mode};
 ghost use Rattle.ss_names_declarations.specs.Firsts.{entry_if, firsts, place_in, with_first};
 ghost use Rattle.ss_names.specs.Rows.{row_of};
-ghost use Rattle.ss_names_declarations.specs.Sayings.{NameBytes};
+ghost use Rattle.ss_tree.specs.Names.{NameBytes};
 
 use crate::entry::{Attribute, Class};
 use ss_base::Name;

@@ -38,7 +38,7 @@ pub struct Meanings {
 impl Model for Meanings {
     ghost use Rattle.std.specs.Prelude.{◌≡◌, true, List};
     ghost use Rattle.std.specs.Map.{keys_of};
-    ghost use Rattle.ss_names_declarations.specs.Sayings.{NameBytes};
+    ghost use Rattle.ss_tree.specs.Names.{NameBytes};
     ghost use Rattle.ss_names.specs.declared.meaning.GlobalMeaning.{GlobalMeaning};
     ghost use Rattle.ss_names_declarations.specs.Spellings.{are_short};
 

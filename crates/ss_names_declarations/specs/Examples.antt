@@ -11,7 +11,8 @@ use Rattle.ss_names_declarations.specs.declared.saying.SetRule.TheVariants as ru
 use Rattle.ss_names_declarations.specs.declared.saying.Said.{Said}
 use Rattle.ss_names_declarations.specs.declared.saying.Said.TheVariants as said
 use Rattle.ss_names_declarations.specs.declared.saying.Saying.{Saying}
-use Rattle.ss_names_declarations.specs.Sayings.{NameBytes, saying_of_name, said_alone, sayings}
+use Rattle.ss_tree.specs.Names.{NameBytes}
+use Rattle.ss_names_declarations.specs.Sayings.{saying_of_name, said_alone, sayings}
 
 abbrev line : ℕ → Line
 line n = record { 0 = n }

@@ -1,6 +1,7 @@
 -- What a program declares: the list of its sayings, in the order of the text.
 use Rattle.std.specs.Prelude.{ℕ, ◌+◌, List, [], ◌∷◌, ◌++◌, length, map, Some, None}
 use Rattle.std.specs.List.{flat_map}
+use Rattle.ss_tree.specs.Names.{NameBytes}
 use Rattle.ss_base.specs.declared.line.Line.{Line}
 use Rattle.ss_tree.specs.declared.preamble.ClassKind.TheVariants as class_kinds
 use Rattle.ss_tree.specs.declared.preamble.Key.{Key}
@@ -12,10 +13,6 @@ use Rattle.ss_names_declarations.specs.declared.saying.SetRule.TheVariants as ru
 use Rattle.ss_names_declarations.specs.declared.saying.Said.{Said}
 use Rattle.ss_names_declarations.specs.declared.saying.Said.TheVariants as said
 use Rattle.ss_names_declarations.specs.declared.saying.Saying.{Saying}
-
--- a name, as the list of its bytes, in capitals
-abbrev pub NameBytes : Type 0
-NameBytes = List ℕ
 
 -- a saying about a name
 abbrev pub saying_of_name : Line → Said → NameBytes → Saying

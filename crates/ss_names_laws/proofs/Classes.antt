@@ -8,7 +8,8 @@ use Rattle.ss_tree.specs.Tree.{ClauseTree, has, owns, belongs_to, OrderTree, fif
 use Rattle.ss_names_declarations.specs.declared.saying.Said.{Said}
 use Rattle.ss_names_declarations.specs.declared.saying.Said.TheVariants as said
 use Rattle.ss_names_declarations.specs.declared.saying.Saying.{Saying}
-use Rattle.ss_names_declarations.specs.Sayings.{NameBytes, saying_of_name, said_alone, said_of_all, clause_says, rule_of, rank_says, order_says, tie_says, statistic_says, preamble_says, preambles_say, head_says, definition_says, section_says, sections_say, sayings}
+use Rattle.ss_tree.specs.Names.{NameBytes}
+use Rattle.ss_names_declarations.specs.Sayings.{saying_of_name, said_alone, said_of_all, clause_says, rule_of, rank_says, order_says, tie_says, statistic_says, preamble_says, preambles_say, head_says, definition_says, section_says, sections_say, sayings}
 use Rattle.ss_names_laws.specs.Declarations.{Says, ClassesAreThere}
 use Rattle.ss_names_laws.proofs.Lists.{joined, each, all_of, images, pieces, in_left, in_right, at_item}
 use Rattle.ss_names_laws.proofs.Sayings.{saying_of}

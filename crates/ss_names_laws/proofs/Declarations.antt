@@ -5,7 +5,8 @@ use Rattle.ss_tree.specs.declared.preamble.ClassKind.{ClassKind}
 use Rattle.ss_tree.specs.Tree.{SectionTree, ProgramTree, main}
 use Rattle.ss_names_declarations.specs.declared.saying.Said.TheVariants as said
 use Rattle.ss_names_declarations.specs.declared.saying.Saying.{Saying}
-use Rattle.ss_names_declarations.specs.Sayings.{NameBytes, sayings}
+use Rattle.ss_tree.specs.Names.{NameBytes}
+use Rattle.ss_names_declarations.specs.Sayings.{sayings}
 use Rattle.ss_check_rules.specs.Uses.{is_main}
 use Rattle.ss_check_scopes.specs.Whole.{Whole}
 use Rattle.ss_tables_rules.specs.declared.topic.Topic.{Topic}

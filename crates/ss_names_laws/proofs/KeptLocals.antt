@@ -15,7 +15,8 @@ use Rattle.ss_names_uses.specs.Mentions.{mentions}
 use Rattle.ss_names_declarations.specs.declared.saying.Said.{Said}
 use Rattle.ss_names_declarations.specs.declared.saying.Said.TheVariants as said
 use Rattle.ss_names_declarations.specs.declared.saying.Saying.{Saying}
-use Rattle.ss_names_declarations.specs.Sayings.{NameBytes, section_says, preambles_say, sections_say, sayings}
+use Rattle.ss_tree.specs.Names.{NameBytes}
+use Rattle.ss_names_declarations.specs.Sayings.{section_says, preambles_say, sections_say, sayings}
 use Rattle.ss_tables_rules.specs.declared.globals.Standing.TheVariants as standings
 use Rattle.ss_tables_rules.specs.Declarations.{declarations, standing_of}
 use Rattle.ss_tables_rules.specs.RealMode.{is_variable_role, says_real}

@@ -9,7 +9,7 @@ use Rattle.ss_names_uses.specs.declared.mention.Mentioned.{Mentioned}
 use Rattle.ss_names_uses.specs.declared.mention.Mentioned.TheVariants.{Name}
 use Rattle.ss_names_uses.specs.declared.mention.Mention.{Mention}
 use Rattle.ss_names_uses.specs.Mentions.{mentions}
-use Rattle.ss_names_declarations.specs.Sayings.{NameBytes}
+use Rattle.ss_tree.specs.Names.{NameBytes}
 use Rattle.ss_names_declarations.specs.Firsts.{same_name}
 use Rattle.ss_check_scopes.specs.Locals.{mode_of_local, moded, is_local_at, local_named, local_mentioned, locals}
 use Rattle.ss_names_laws.proofs.Lists.{Among, in_one_of, names_equal, some_equal}

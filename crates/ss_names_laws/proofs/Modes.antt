@@ -11,7 +11,8 @@ use Rattle.ss_tree.specs.Tree.{SectionTree, PreambleTree, ProgramTree}
 use Rattle.ss_names_declarations.specs.declared.saying.Said.{Said}
 use Rattle.ss_names_declarations.specs.declared.saying.Said.TheVariants as said
 use Rattle.ss_names_declarations.specs.declared.saying.Saying.{Saying}
-use Rattle.ss_names_declarations.specs.Sayings.{NameBytes, sayings}
+use Rattle.ss_tree.specs.Names.{NameBytes}
+use Rattle.ss_names_declarations.specs.Sayings.{sayings}
 use Rattle.ss_tables_rules.specs.declared.topic.Topic.TheVariants as topics
 use Rattle.ss_tables_rules.specs.RealMode.{gives_mode}
 use Rattle.ss_tables_rules.specs.Topics.{thing_of, section_of, has_topic}

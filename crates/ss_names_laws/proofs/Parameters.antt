@@ -6,7 +6,8 @@ use Rattle.ss_base.specs.declared.line.Line.{Line}
 use Rattle.ss_tree.specs.Tree.{SectionKindTree, main, routine, event, SectionTree, ProgramTree}
 use Rattle.ss_names_declarations.specs.declared.saying.Said.TheVariants as said
 use Rattle.ss_names_declarations.specs.declared.saying.Saying.{Saying}
-use Rattle.ss_names_declarations.specs.Sayings.{NameBytes, saying_of_name, said_of_all, head_says, definition_says, section_says, preambles_say, sections_say, sayings}
+use Rattle.ss_tree.specs.Names.{NameBytes}
+use Rattle.ss_names_declarations.specs.Sayings.{saying_of_name, said_of_all, head_says, definition_says, section_says, preambles_say, sections_say, sayings}
 use Rattle.ss_tables_rules.specs.declared.topic.Topic.TheVariants as topics
 use Rattle.ss_tables_rules.specs.Topics.{has_topic, thing_of}
 use Rattle.ss_check_scopes.specs.Signatures.{given_to, yielded_by}

@@ -10,7 +10,7 @@ use Rattle.ss_tree.specs.declared.preamble.Mode.{Mode}
 use Rattle.ss_names_declarations.specs.declared.saying.Said.{Said}
 use Rattle.ss_names_declarations.specs.declared.saying.Said.TheVariants as said
 use Rattle.ss_names_declarations.specs.declared.saying.Saying.{Saying}
-use Rattle.ss_names_declarations.specs.Sayings.{NameBytes}
+use Rattle.ss_tree.specs.Names.{NameBytes}
 use Rattle.ss_tables_rules.specs.declared.topic.Topic.{Topic}
 use Rattle.ss_tables_rules.specs.declared.topic.Topic.TheVariants as topics
 use Rattle.ss_tables_rules.specs.Topics.{Thing, global_thing, thing_of, section_of, same_thing, has_topic, is_said_by, is_said, class_declared, class_given, class_of}

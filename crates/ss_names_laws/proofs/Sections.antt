@@ -15,7 +15,8 @@ use Rattle.ss_names_uses.specs.Mentions.{plain_mention, in_kind, in_definition, 
 use Rattle.ss_names_declarations.specs.declared.saying.Said.{Said}
 use Rattle.ss_names_declarations.specs.declared.saying.Said.TheVariants as said
 use Rattle.ss_names_declarations.specs.declared.saying.Saying.{Saying}
-use Rattle.ss_names_declarations.specs.Sayings.{NameBytes, said_of_all, head_says, definition_says, section_says, preambles_say, sections_say, sayings}
+use Rattle.ss_tree.specs.Names.{NameBytes}
+use Rattle.ss_names_declarations.specs.Sayings.{said_of_all, head_says, definition_says, section_says, preambles_say, sections_say, sayings}
 use Rattle.ss_names_declarations.specs.Firsts.{same_name, value_for}
 use Rattle.ss_check_scopes.specs.Locals.{defined_in, all_defined, declares_local}
 use Rattle.ss_names_laws.specs.Lists.{Somewhere}

@@ -7,7 +7,8 @@ use Rattle.ss_tree.specs.Tree.{ClauseTree, has, owns, belongs_to, OrderTree, fif
 use Rattle.ss_names_declarations.specs.declared.saying.Said.{Said}
 use Rattle.ss_names_declarations.specs.declared.saying.Said.TheVariants as said
 use Rattle.ss_names_declarations.specs.declared.saying.Saying.{Saying}
-use Rattle.ss_names_declarations.specs.Sayings.{NameBytes, saying_of_name, said_of_all, clause_says, rule_of, rank_says, order_says, tie_says, statistic_says, preamble_says, preambles_say, head_says, definition_says, section_says, sections_say, sayings}
+use Rattle.ss_tree.specs.Names.{NameBytes}
+use Rattle.ss_names_declarations.specs.Sayings.{saying_of_name, said_of_all, clause_says, rule_of, rank_says, order_says, tie_says, statistic_says, preamble_says, preambles_say, head_says, definition_says, section_says, sections_say, sayings}
 use Rattle.ss_names_laws.proofs.Lists.{joined, all_of, images, pieces}
 
 module _ (T : NameBytes → Type 0) (L : ℕ → Type 0) where

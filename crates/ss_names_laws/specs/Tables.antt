@@ -8,7 +8,7 @@ use Rattle.ss_tree.specs.declared.preamble.Mode.{Mode}
 use Rattle.ss_tree.specs.declared.preamble.Mode.TheVariants as modes
 use Rattle.ss_tree.specs.Tree.{ProgramTree}
 use Rattle.ss_names_declarations.specs.declared.saying.SetRule.TheVariants.{Ranked}
-use Rattle.ss_names_declarations.specs.Sayings.{NameBytes}
+use Rattle.ss_tree.specs.Names.{NameBytes}
 use Rattle.ss_names.specs.declared.keys.RankedBy.{RankedBy}
 use Rattle.ss_names.specs.declared.keys.TiedBy.{TiedBy}
 use Rattle.ss_names.specs.declared.entry.Attribute.{Attribute}

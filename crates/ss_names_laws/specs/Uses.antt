@@ -7,7 +7,8 @@ use Rattle.ss_tree.specs.declared.preamble.ClassKind.{ClassKind}
 use Rattle.ss_tree.specs.declared.preamble.ClassKind.TheVariants as class_kinds
 use Rattle.ss_tree.specs.Tree.{PreambleTree, event_notices, every, statistics, SectionKindTree, main, routine, event, SectionTree, ProgramTree}
 use Rattle.ss_names_uses.specs.declared.mention.Mention.{Mention}
-use Rattle.ss_names_uses.specs.Mentions.{NameBytes, mentions}
+use Rattle.ss_tree.specs.Names.{NameBytes}
+use Rattle.ss_names_uses.specs.Mentions.{mentions}
 use Rattle.ss_names_uses.specs.declared.demand.Aspect.{Aspect}
 use Rattle.ss_names_uses.specs.declared.demand.Aspect.TheVariants as aspects
 use Rattle.ss_names_uses.specs.declared.demand.Demand.{Demand}

@@ -6,7 +6,7 @@ use Rattle.ss_tree.specs.declared.head.PhraseKind.TheVariants as phrase_words
 use Rattle.ss_tree.specs.declared.head.GuardKind.{GuardKind as GuardWord}
 use Rattle.ss_tree.specs.declared.head.GuardKind.TheVariants as guard_words
 use Rattle.ss_tree.specs.Tree.{PhraseTree, GuardTree, StartTree, from_end, from_member, after_member, HeadTree, over_range, over_members, over_class}
-use Rattle.ss_names_declarations.specs.Sayings.{NameBytes}
+use Rattle.ss_tree.specs.Names.{NameBytes}
 use Rattle.ss_program.specs.declared.expression.Variable.{Variable}
 use Rattle.ss_program.specs.declared.head.PhraseKind.{PhraseKind}
 use Rattle.ss_program.specs.declared.head.PhraseKind.TheVariants as phrase_kinds

@@ -11,7 +11,7 @@ use Rattle.ss_base.specs.Layout.{layout_of}
 use Rattle.ss_base.specs.Plain.{PlainClass, PlainLayout}
 use Rattle.ss_names_declarations.specs.declared.saying.SetRule.{SetRule}
 use Rattle.ss_names_declarations.specs.declared.saying.SetRule.TheVariants as rules
-use Rattle.ss_names_declarations.specs.Sayings.{NameBytes}
+use Rattle.ss_tree.specs.Names.{NameBytes}
 use Rattle.ss_names.specs.declared.keys.RankedBy.{RankedBy}
 use Rattle.ss_names.specs.declared.keys.TiedBy.{TiedBy}
 use Rattle.ss_names.specs.declared.entry.Attribute.{Attribute}

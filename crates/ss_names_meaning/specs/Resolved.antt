@@ -6,7 +6,7 @@ use Rattle.ss_base.specs.declared.layout.Mode.{Mode}
 use Rattle.ss_base.specs.declared.layout.RankKey.{RankKey}
 use Rattle.ss_base.specs.declared.line.Line.{Line}
 use Rattle.ss_tree.specs.Tree.{SectionKindTree, main, routine, event, SectionTree, statement_row}
-use Rattle.ss_names_declarations.specs.Sayings.{NameBytes}
+use Rattle.ss_tree.specs.Names.{NameBytes}
 use Rattle.ss_names.specs.declared.entry.EventSection.{EventSection}
 use Rattle.ss_names.specs.declared.meaning.GlobalMeaning.{GlobalMeaning as Global}
 use Rattle.ss_names.specs.declared.meaning.GlobalMeaning.TheVariants as globals

@@ -1,6 +1,7 @@
 -- The demands of a section on the modes and counts of its values, in the order of the text.
 use Rattle.std.specs.Prelude.{ℕ, zero, suc, ◌+◌, ◌==◌, nat_le, true, false, List, [], ◌∷◌, ◌++◌, length, slice_get, Option, Some, None}
 use Rattle.std.specs.List.{flat_map}
+use Rattle.ss_tree.specs.Names.{NameBytes}
 use Rattle.ss_base.specs.declared.line.Line.{Line}
 use Rattle.ss_tree.specs.declared.expression.Sign.{Sign}
 use Rattle.ss_tree.specs.declared.expression.Designator.{Designator}
@@ -13,10 +14,6 @@ use Rattle.ss_names_uses.specs.declared.handed.Receiver.TheVariants as receivers
 use Rattle.ss_names_uses.specs.declared.demand.Aspect.{Aspect}
 use Rattle.ss_names_uses.specs.declared.demand.Aspect.TheVariants.{Integer, Alpha, Named, Implied, Given, Yielded, Attribute, Count, ArgumentCount, GivenCount, YieldedCount, AttributeCount, Fits, Value, Mean}
 use Rattle.ss_names_uses.specs.declared.demand.Demand.{Demand}
-
--- a name, as the list of its bytes, in capitals
-abbrev pub NameBytes : Type 0
-NameBytes = List ℕ
 
 -- ---- single demands
 

@@ -1,6 +1,7 @@
 -- The mentions of a section, in the order of the text.
 use Rattle.std.specs.Prelude.{ℕ, zero, suc, Bool, true, false, not, is_some, List, [], ◌∷◌, ◌++◌, map, Option, Some, None}
 use Rattle.std.specs.List.{flat_map}
+use Rattle.ss_tree.specs.Names.{NameBytes}
 use Rattle.ss_base.specs.declared.line.Line.{Line}
 use Rattle.ss_tree.specs.declared.expression.Sign.{Sign}
 use Rattle.ss_tree.specs.declared.expression.Designator.{Designator}
@@ -11,10 +12,6 @@ use Rattle.ss_names_uses.specs.declared.mention.Role.TheVariants.{Value, Target,
 use Rattle.ss_names_uses.specs.declared.mention.Mentioned.{Mentioned}
 use Rattle.ss_names_uses.specs.declared.mention.Mentioned.TheVariants.{Name, TimeV, TimeA, Simulation}
 use Rattle.ss_names_uses.specs.declared.mention.Mention.{Mention}
-
--- a name, as the list of its bytes, in capitals
-abbrev pub NameBytes : Type 0
-NameBytes = List ℕ
 
 -- ---- single mentions
 

@@ -4,7 +4,7 @@ use Rattle.std.specs.List.{find}
 use Rattle.std.specs.Option.{option_or}
 use Rattle.std.specs.Map.{lookup}
 use Rattle.ss_names_declarations.specs.declared.saying.Saying.{Saying}
-use Rattle.ss_names_declarations.specs.Sayings.{NameBytes}
+use Rattle.ss_tree.specs.Names.{NameBytes}
 use Rattle.ss_tables_rules.specs.declared.topic.Topic.{Topic}
 use Rattle.ss_tables_rules.specs.declared.classes.Classes.{Classes}
 use Rattle.ss_tables_rules.specs.Classes.{kept_of, class_kept, class_said, AreClasses, KeepsClass}

@@ -5,7 +5,7 @@ use Rattle.std.proofs.lemmas.Bool.{eqb-true, eq-eqb}
 use Rattle.ss_names_declarations.specs.declared.saying.Said.TheVariants as said
 use Rattle.ss_names_declarations.specs.declared.saying.SetRule.{SetRule}
 use Rattle.ss_names_declarations.specs.declared.saying.Saying.{Saying}
-use Rattle.ss_names_declarations.specs.Sayings.{NameBytes}
+use Rattle.ss_tree.specs.Names.{NameBytes}
 use Rattle.ss_tables_rules.specs.declared.topic.Topic.TheVariants as topics
 use Rattle.ss_tables_rules.specs.declared.rank_key.Ranks.{Ranks}
 use Rattle.ss_tables_rules.specs.Ranks.{is_foreign_to, ranked_members, AreRanks}

@@ -3,7 +3,7 @@ use Rattle.std.specs.Prelude.{◌≡◌, ℕ, ◌+◌, cond, min, List, Option, 
 use Rattle.std.specs.List.{count_by}
 use Rattle.std.specs.Map.{lookup}
 use Rattle.ss_names_declarations.specs.declared.saying.Saying.{Saying}
-use Rattle.ss_names_declarations.specs.Sayings.{NameBytes}
+use Rattle.ss_tree.specs.Names.{NameBytes}
 use Rattle.ss_tables_rules.specs.TooMany.{is_attribute_of}
 use Rattle.ss_names_declarations.specs.Firsts.{same_name}
 use Rattle.ss_tables_rules.specs.declared.too_many.Counts.{Counts}

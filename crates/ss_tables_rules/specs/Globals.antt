@@ -1,7 +1,7 @@
 -- The table of global names that the code fills.
 use Rattle.std.specs.Prelude.{◌≡◌, List, ◌++◌, Option}
 use Rattle.std.specs.Map.{lookup}
-use Rattle.ss_names_declarations.specs.Sayings.{NameBytes}
+use Rattle.ss_tree.specs.Names.{NameBytes}
 use Rattle.ss_tables_rules.specs.declared.globals.Standing.{Standing}
 use Rattle.ss_tables_rules.specs.declared.globals.DeclaredNames.{DeclaredNames}
 use Rattle.ss_tables_rules.specs.Declarations.{Declaration, standing_of}

@@ -4,7 +4,7 @@ use Rattle.std.specs.List.{list_any}
 use Rattle.std.specs.Option.{option_eq}
 use Rattle.std.specs.Map.{lookup}
 use Rattle.ss_names_declarations.specs.declared.saying.Saying.{Saying}
-use Rattle.ss_names_declarations.specs.Sayings.{NameBytes}
+use Rattle.ss_tree.specs.Names.{NameBytes}
 use Rattle.ss_tables_rules.specs.declared.rank_key.Members.{Members}
 use Rattle.ss_tables_rules.specs.declared.rank_key.Members.TheVariants.{One, Several}
 use Rattle.ss_tables_rules.specs.declared.rank_key.Ranks.{Ranks}

@@ -2,7 +2,7 @@
 use Rattle.std.specs.Prelude.{Bool, true, false, not, ◌&&◌, ◌||◌, List, ◌++◌, Option, Some, None}
 use Rattle.ss_base.specs.declared.line.Line.{Line}
 use Rattle.ss_names_declarations.specs.declared.saying.Saying.{Saying}
-use Rattle.ss_names_declarations.specs.Sayings.{NameBytes}
+use Rattle.ss_tree.specs.Names.{NameBytes}
 use Rattle.ss_tables_rules.specs.declared.topic.Topic.{Topic}
 use Rattle.ss_tables_rules.specs.declared.topic.Topic.TheVariants as topics
 use Rattle.ss_tables_rules.specs.declared.globals.Standing.{Standing}

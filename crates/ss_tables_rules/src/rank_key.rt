@@ -2,7 +2,7 @@
 
 ghost use Rattle.std.specs.Prelude.{◌≡◌, ◌||◌, ◌++◌, ◌∷◌, [], nat_eq, cond, ℕ, List, Option, OnOk, IfOk};
 ghost use Rattle.ss_names_declarations.specs.declared.saying.Saying.{Saying};
-ghost use Rattle.ss_names_declarations.specs.Sayings.{NameBytes};
+ghost use Rattle.ss_tree.specs.Names.{NameBytes};
 ghost use Rattle.ss_tables_rules.specs.declared.topic.Topic.TheVariants as topics;
 ghost use Rattle.ss_tables_rules.specs.Classes.{AreClasses};
 ghost use Rattle.ss_tables_rules.specs.Ranks.{is_foreign_to, ranked_members, AreRanks};

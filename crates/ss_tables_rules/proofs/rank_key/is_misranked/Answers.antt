@@ -1,5 +1,5 @@
 use Rattle.std.proofs.Common.{Option, ap, sym, ◌∙◌}
-use Rattle.ss_names_declarations.specs.Sayings.{NameBytes}
+use Rattle.ss_tree.specs.Names.{NameBytes}
 use Rattle.ss_tables_rules.specs.declared.topic.Topic.TheVariants as topics
 use Rattle.ss_tables_rules.specs.Classes.{class_kept, kept_of}
 use Rattle.ss_tables_rules.specs.Ranks.{is_foreign_to, ranked_members}

@@ -3,7 +3,8 @@ use Rattle.std.specs.List.{flat_map}
 use Rattle.ss_tree.specs.declared.program.LocalDefinition.{LocalDefinition}
 use Rattle.ss_tree.specs.View.{view_definition, view_section}
 use Rattle.ss_names_uses.specs.declared.mention.Mention.{Mention}
-use Rattle.ss_names_uses.specs.Mentions.{NameBytes, mentions}
+use Rattle.ss_tree.specs.Names.{NameBytes}
+use Rattle.ss_names_uses.specs.Mentions.{mentions}
 use Rattle.ss_tree.specs.declared.preamble.Mode.{Mode}
 use Rattle.std.specs.Prelude.{Option}
 use Rattle.ss_names_declarations.specs.Firsts.{firsts}

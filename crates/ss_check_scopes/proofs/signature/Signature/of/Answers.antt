@@ -5,7 +5,7 @@ use Rattle.std.proofs.Math.Path.{fun_ext}
 use Rattle.ss_tree.specs.declared.preamble.Mode.{Mode}
 use Rattle.ss_tree.specs.declared.program.LocalDefinition.{LocalDefinition}
 use Rattle.ss_tree.specs.View.{view_definition, view_section}
-use Rattle.ss_names_uses.specs.Mentions.{NameBytes}
+use Rattle.ss_tree.specs.Names.{NameBytes}
 use Rattle.ss_check_scopes.specs.declared.heading.Heading.{Heading}
 use Rattle.ss_names_declarations.specs.Firsts.{firsts, same_name}
 use Rattle.ss_check_scopes.specs.Locals.{all_defined, mode_of_local, or_usual}

@@ -1,6 +1,6 @@
 use Rattle.std.proofs.Common.{[], ◌∷◌, subst}
 use Rattle.ss_tables_rules.specs.declared.globals.Standing.TheVariants.{Set, OfSet}
-use Rattle.ss_names_declarations.specs.Sayings.{NameBytes}
+use Rattle.ss_tree.specs.Names.{NameBytes}
 use Rattle.ss_tables_rules.specs.Declarations.{declaration, derived}
 use Rattle.ss_tables_rules.specs.Globals.{AddsDeclarations}
 use Rattle.ss_tables_rules.proofs.Declaring.{adds_both}
