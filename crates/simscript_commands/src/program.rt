@@ -4,7 +4,7 @@ ghost use Rattle.ss_engine.specs.Outcomes.{status_of};
 ghost use Rattle.simscript_commands.specs.Statuses.{ended_status};
 
 use simscript_order::{
-    FileStore, Order, Retrying, Streams, ProgramFailure, explain, open, read_file, read_source,
+    FileStore, Order, ProgramFailure, Retrying, Streams, explain, open, read_file, read_source,
     report_trouble, write_whole,
 };
 use ss_base::Counted;
@@ -129,7 +129,11 @@ fn report<R: Read + Drop, W: Write + Drop>(
 }
 
 // Compiles a text, and prints that it is accepted.
-fn check<O: Write + Drop>(alloc: Global, text: &[u8], output: O) -> Result<Outcome, ProgramFailure> {
+fn check<O: Write + Drop>(
+    alloc: Global,
+    text: &[u8],
+    output: O,
+) -> Result<Outcome, ProgramFailure> {
     match compile(alloc, text) {
         Ok(model) => {
             model.release();

@@ -39,12 +39,20 @@ impl<R: Files> FileStore for Disk<'_, R> {
 }
 
 /// The file of this name, open for reading; where it can't be opened, this trouble.
-pub fn open<F: FileStore>(files: &F, name: &str, trouble: ProgramFailure) -> Result<F::File, ProgramFailure> {
+pub fn open<F: FileStore>(
+    files: &F,
+    name: &str,
+    trouble: ProgramFailure,
+) -> Result<F::File, ProgramFailure> {
     files.open(name).map_err(|_error| trouble)
 }
 
 /// The text in the file of this name, or as much of it as shows that it is too long.
-pub fn read_file<F: FileStore>(alloc: Global, files: &F, name: &str) -> Result<Vec<u8>, ProgramFailure> {
+pub fn read_file<F: FileStore>(
+    alloc: Global,
+    files: &F,
+    name: &str,
+) -> Result<Vec<u8>, ProgramFailure> {
     read_source(alloc, open(files, name, ProgramFailure::Source)?)
 }
 

@@ -33,7 +33,10 @@ pub(crate) fn entity_of(implied: Variable, subscript: Option<Resolved>) -> Resol
 }
 
 /// What takes no subscript.
-pub(crate) fn without_subscript<T: Drop>(subscript: Option<Resolved>, value: T) -> Result<T, ResolveError>
+pub(crate) fn without_subscript<T: Drop>(
+    subscript: Option<Resolved>,
+    value: T,
+) -> Result<T, ResolveError>
     ensures { Gives (λ x. x) result (without_subscript (view_option view_resolved subscript) value) }
 {
     match subscript {
@@ -66,7 +69,10 @@ pub(crate) fn resolved_value(
     ensures { Gives view_resolved result (resolved_value meaning (view_option view_resolved subscript)) }
 {
     match meaning {
-        Meaning::Variable { variable, .. } => without_subscript(subscript, Resolved::Fetch { variable }),
+        Meaning::Variable { variable, .. } => without_subscript(
+            subscript,
+            Resolved::Fetch { variable },
+        ),
         Meaning::Count { count } => {
             let variable = Variable::Global {
                 number: count.variable,

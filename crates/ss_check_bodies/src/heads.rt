@@ -217,7 +217,10 @@ pub(crate) fn resolve_head<S: Scope>(
         } => {
             let variable = loop_variable(scope, *variable)?;
             let set = resolve_set(alloc, scope, set)?;
-            let ((set, owner), resolved_start) = beside(set, resolve_start(alloc, scope, resolved_start))?;
+            let ((set, owner), resolved_start) = beside(
+                set,
+                resolve_start(alloc, scope, resolved_start),
+            )?;
             Ok(ResolvedHead::Members {
                 variable,
                 set,

@@ -8,7 +8,9 @@ ghost use Rattle.ss_program.specs.View.{view_expression as view_resolved, view_i
 ghost use Rattle.ss_names_meaning.specs.Answers.{Gives, each};
 ghost use Rattle.ss_names_meaning.specs.Expressions.{expression, item, resolved_item, resolved_value};
 
-use crate::expressions::{entity_of, without_subscript, resolve_expression, resolve_subscript, resolved_value};
+use crate::expressions::{
+    entity_of, resolve_expression, resolve_subscript, resolved_value, without_subscript,
+};
 use ss_names_meaning::{Meaning, ResolveError, Scope};
 use ss_program::expression::Expression as Resolved;
 use ss_program::statement::Item;

@@ -7,7 +7,7 @@ ghost use Rattle.ss_names_meaning.specs.Answers.{Gives, each};
 ghost use Rattle.ss_names_meaning.specs.Expressions.{resolved_set, place_of, set_named, target};
 ghost use Rattle.ss_names_meaning.specs.Statements.{entity_called, mode_of_target, new_place, reader, restart, owner_of_statistic};
 
-use crate::expressions::{entity_of, without_subscript, resolve_expression, resolve_subscript};
+use crate::expressions::{entity_of, resolve_expression, resolve_subscript, without_subscript};
 use ss_base::Mode;
 use ss_names_meaning::{Meaning, ResolveError, Scope, SetMeant};
 use ss_program::expression::{Expression as Resolved, SetOwner, Variable};
@@ -23,7 +23,10 @@ fn place_of(meaning: Meaning, subscript: Option<Resolved>) -> Result<Place, Reso
     ensures { Gives view_place result (place_of meaning (option_seen view_resolved subscript)) }
 {
     match meaning {
-        Meaning::Variable { variable, .. } => without_subscript(subscript, Place::ToVariable { variable }),
+        Meaning::Variable { variable, .. } => without_subscript(
+            subscript,
+            Place::ToVariable { variable },
+        ),
         Meaning::Count { count } => without_subscript(subscript, Place::ToCount { count }),
         Meaning::Attribute {
             class,
@@ -157,7 +160,10 @@ pub(crate) fn resolve_entity_called<S: Scope>(
 
 // The number of a set, and its owner.
 #[tactic(auto, using(crate::proofs::Seen::plain_seen))]
-fn resolved_set(set: SetMeant, subscript: Option<Resolved>) -> Result<(usize, SetOwner), ResolveError>
+fn resolved_set(
+    set: SetMeant,
+    subscript: Option<Resolved>,
+) -> Result<(usize, SetOwner), ResolveError>
     ensures { Gives (λ p. (p.0, view_owner p.1)) result (resolved_set set (option_seen view_resolved subscript)) }
 {
     match set {

@@ -46,7 +46,11 @@ fn is_target(role: Role) -> bool
 }
 
 // Whether a mention is a target to which nothing can be assigned.
-pub(crate) fn is_not_assignable<G: Globals>(globals: &G, locals: &LocalModes, mention: &Mention) -> bool
+pub(crate) fn is_not_assignable<G: Globals>(
+    globals: &G,
+    locals: &LocalModes,
+    mention: &Mention,
+) -> bool
     ensures { result ≡ is_not_assignable (G.whole globals.now) locals.now mention.now }
 {
     is_target(mention.role) && !may_be_assigned(globals, locals, &mention.what)

@@ -258,7 +258,11 @@ fn let_go(scene: &mut Scene, event: TakenEvent) -> Result<Fate, Unmade>
 /// An event that was taken out begins: its routine takes the values, which are those of the first attributes of the
 /// notice, in place of what was there. The notice is destroyed unless it is to be saved. Faults: 9 and 10. Nothing
 /// changes after a fault, or where memory for the values was refused.
-pub fn begin_event(scene: &mut Scene, event: TakenEvent, values: &mut Vec<Value>) -> Result<Fate, Unmade>
+pub fn begin_event(
+    scene: &mut Scene,
+    event: TakenEvent,
+    values: &mut Vec<Value>,
+) -> Result<Fate, Unmade>
     ensures { (ties : List KeySeen) → Begins event ties values.new.items scene.old scene.new result }
 {
     let known = EntityId {

@@ -15,7 +15,7 @@ use ss_base::Value;
 use ss_code::code::Code;
 use ss_code_instructions::instruction::Instruction;
 use ss_machine_entities::trouble::{Trouble, Unmade};
-use ss_machine_events::coming::{self, TakenEvent, Fate, next_event};
+use ss_machine_events::coming::{self, Fate, TakenEvent, next_event};
 use ss_program::expression::Variable;
 use std::alloc::AllocError;
 

@@ -97,7 +97,12 @@ impl Working {
 
     /// Jumps back where a loop goes on, and goes on to the next instruction otherwise.
     #[inline(always)]
-    pub fn go_back(&mut self, answer: Result<bool, Trouble>, back: usize, line: Line) -> InstructionOutcome
+    pub fn go_back(
+        &mut self,
+        answer: Result<bool, Trouble>,
+        back: usize,
+        line: Line,
+    ) -> InstructionOutcome
         requires { self.old.place + 1 < 2 ^ 64 }
         ensures { Follows self.old self.new result line answer (λ b here c. To (core_with (backwards back b c.place) here c.frames c.store)) }
     {

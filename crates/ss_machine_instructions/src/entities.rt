@@ -14,7 +14,11 @@ use std::alloc::AllocError;
 
 /// Puts the number of a new entity on top.
 #[inline(always)]
-pub fn create(working: &mut Working, class: usize, line: Line) -> Result<InstructionOutcome, AllocError>
+pub fn create(
+    working: &mut Working,
+    class: usize,
+    line: Line,
+) -> Result<InstructionOutcome, AllocError>
     requires { working.old.place + 1 < 2 ^ 64 }
     ensures { IfOk result (λ outcome. (code : CodeSeen) (input : List ℕ) → IsOutcome outcome (act code (Instruction.Create class line) (core_of working.old input)) (core_of working.new input)) }
 {
@@ -56,7 +60,13 @@ pub fn destroy(working: &mut Working, class: usize, line: Line) -> InstructionOu
 
 /// Files a member in the set of an owner, which lies on top, above the one beside which it is filed, if any.
 #[inline(always)]
-pub fn file(working: &mut Working, filing: Filing, set: usize, system: bool, line: Line) -> InstructionOutcome
+pub fn file(
+    working: &mut Working,
+    filing: Filing,
+    set: usize,
+    system: bool,
+    line: Line,
+) -> InstructionOutcome
     requires { working.old.place + 1 < 2 ^ 64 }
     ensures { (code : CodeSeen) (input : List ℕ) → IsOutcome result (act code (Instruction.File filing set system line) (core_of working.old input)) (core_of working.new input) }
 {

@@ -20,7 +20,11 @@ use std::alloc::AllocError;
 
 /// Puts the time that a value says or, if later, that is so many units from now, in its place.
 #[inline(always)]
-pub fn when(working: &mut Working, later: bool, line: Line) -> Result<InstructionOutcome, AllocError>
+pub fn when(
+    working: &mut Working,
+    later: bool,
+    line: Line,
+) -> Result<InstructionOutcome, AllocError>
     requires { working.old.place + 1 < 2 ^ 64 }
     ensures { IfOk result (λ outcome. (code : CodeSeen) (input : List ℕ) → IsOutcome outcome (act code (Instruction.When later line) (core_of working.old input)) (core_of working.new input)) }
 {
@@ -55,7 +59,11 @@ pub fn make_notice(
 }
 
 /// Files the notice on top among those that are pending, for the time below it.
-pub fn file_notice(working: &mut Working, class: usize, line: Line) -> Result<InstructionOutcome, AllocError>
+pub fn file_notice(
+    working: &mut Working,
+    class: usize,
+    line: Line,
+) -> Result<InstructionOutcome, AllocError>
     requires { working.old.place + 1 < 2 ^ 64 }
     ensures { IfOk result (λ outcome. (code : CodeSeen) (input : List ℕ) → IsOutcome outcome (act code (Instruction.FileNotice class line) (core_of working.old input)) (core_of working.new input)) }
 {

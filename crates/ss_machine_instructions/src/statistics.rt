@@ -35,7 +35,12 @@ pub fn figure(
 
 /// Looks at the mean that a statistic is, of the entity that has its subject, the reference to which stays on top, unless
 /// the system has it.
-pub fn look_mean(working: &mut Working, statistic: usize, system: bool, line: Line) -> InstructionOutcome
+pub fn look_mean(
+    working: &mut Working,
+    statistic: usize,
+    system: bool,
+    line: Line,
+) -> InstructionOutcome
     requires { working.old.place + 1 < 2 ^ 64 }
     ensures { (code : CodeSeen) (input : List ℕ) → IsOutcome result (act code (Instruction.LookMean statistic system line) (core_of working.old input)) (core_of working.new input) }
 {
@@ -48,7 +53,12 @@ pub fn look_mean(working: &mut Working, statistic: usize, system: bool, line: Li
 
 /// The history of a statistic starts afresh with the present value, that of the entity that the value on top refers
 /// to, unless the system has its subject.
-pub fn reset(working: &mut Working, statistic: usize, system: bool, line: Line) -> InstructionOutcome
+pub fn reset(
+    working: &mut Working,
+    statistic: usize,
+    system: bool,
+    line: Line,
+) -> InstructionOutcome
     requires { working.old.place + 1 < 2 ^ 64 }
     ensures { (code : CodeSeen) (input : List ℕ) → IsOutcome result (act code (Instruction.Reset statistic system line) (core_of working.old input)) (core_of working.new input) }
 {

@@ -79,7 +79,11 @@ impl Working {
 
     /// Makes a calculation of two values.
     #[inline(always)]
-    pub fn calculate(&mut self, operator: Operator, line: Line) -> Result<InstructionOutcome, AllocError>
+    pub fn calculate(
+        &mut self,
+        operator: Operator,
+        line: Line,
+    ) -> Result<InstructionOutcome, AllocError>
         requires { self.old.place + 1 < 2 ^ 64 }
         ensures { IfOk result (λ outcome. (code : CodeSeen) (input : List ℕ) → IsOutcome outcome (act code (Instruction.Calculate operator line) (core_of self.old input)) (core_of self.new input)) }
     {

@@ -75,7 +75,11 @@ impl Scene {
 
     // The owner of a set that a value refers to.
     #[inline(always)]
-    pub(crate) fn find_owner(&mut self, set: usize, owner: Option<Value>) -> Result<EntityId, Trouble>
+    pub(crate) fn find_owner(
+        &mut self,
+        set: usize,
+        owner: Option<Value>,
+    ) -> Result<EntityId, Trouble>
         ensures value { Looks (known_owner set owner) self.old (number_found result) }
         ensures same { self.new ≡ self.old }
     {

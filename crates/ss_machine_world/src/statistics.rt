@@ -94,7 +94,11 @@ impl Scene {
     pub fn note_variable(&mut self, number: usize, value: Value) -> Result<(), Trouble>
         ensures { Changes (noted (OfVariable number) (pos 0) value) self.old self.new result }
     {
-        self.note(Subject::OfVariable { number }, EntityId { number: 0 }, value)
+        self.note(
+            Subject::OfVariable { number },
+            EntityId { number: 0 },
+            value,
+        )
     }
 
     // Notes N. of the set of an owner, by its number, in its histories.

@@ -4,7 +4,7 @@ ghost use Rattle.std.specs.Prelude.{◌≡◌, map, IfOk};
 ghost use Rattle.ss_names_declarations.specs.Firsts.{value_for};
 ghost use Rattle.ss_names.specs.Histories.{history_of, subject_of_name};
 
-use crate::meaning::{Derived, History, GlobalMeaning, SubjectNumber};
+use crate::meaning::{Derived, GlobalMeaning, History, SubjectNumber};
 use crate::meanings::Meanings;
 use ss_base::Name;
 use ss_names_declarations::Table;

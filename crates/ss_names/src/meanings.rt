@@ -69,7 +69,11 @@ impl Meanings {
     }
 
     // Adds the meaning of a name, if there is one, unless it has one already.
-    fn insert_if(&mut self, name: Spelling, meaning: Option<GlobalMeaning>) -> Result<(), AllocError>
+    fn insert_if(
+        &mut self,
+        name: Spelling,
+        meaning: Option<GlobalMeaning>,
+    ) -> Result<(), AllocError>
         ensures { OnOk result (self.new ≡ fold with_first self.old (entry_if name meaning)) }
     {
         match meaning {

@@ -10,11 +10,13 @@ ghost use Rattle.ss_names.specs.Histories.{histories as histories_said};
 ghost use Rattle.ss_names.specs.Table.{declared};
 
 use crate::classes::usual_mode;
-use crate::entry::{Attribute, Class, EventSection, RoutineSection, Set, StatisticEntry, GlobalVariable};
+use crate::entry::{
+    Attribute, Class, EventSection, GlobalVariable, RoutineSection, Set, StatisticEntry,
+};
 use crate::histories::histories_of;
 use crate::keys::{RankedBy, TiedBy};
 use crate::making::beside;
-use crate::meaning::{History, GlobalMeaning};
+use crate::meaning::{GlobalMeaning, History};
 use crate::meanings::{Meanings, meanings_of};
 use crate::notices::{Notices, notices_of};
 use crate::numbers::{Numbers, numbers_of};

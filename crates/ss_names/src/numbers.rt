@@ -9,7 +9,7 @@ ghost use Rattle.ss_names.specs.declared.meaning.GlobalMeaning.TheVariants as me
 ghost use Rattle.ss_names.specs.Meanings.{class_name_meaning, count_meaning, numbered_names, variable_meaning};
 
 use crate::entities::{Entities, entities_of};
-use crate::entry::{RoutineSection, GlobalVariable};
+use crate::entry::{GlobalVariable, RoutineSection};
 use crate::making::beside;
 use crate::meaning::GlobalMeaning;
 use crate::sections::routines_of;
@@ -76,7 +76,10 @@ impl Numbers {
     pub fn attribute(&self, name: &Name) -> Option<GlobalMeaning>
         ensures { result ≡ option_map meanings.Attribute (place_in self.now.attributes name.now) }
     {
-        self.entities.attributes.place(name).map(GlobalMeaning::Attribute)
+        self.entities
+            .attributes
+            .place(name)
+            .map(GlobalMeaning::Attribute)
     }
 
     /// The number of a set.

@@ -16,7 +16,11 @@ use ss_program::statement::Counted;
 use ss_tree::expression::Designator;
 
 // A global or derived name as a value or a target.
-fn global_meaning(names: &Names, locals: &LocalModes, global: Global) -> Result<Meaning, ResolveError>
+fn global_meaning(
+    names: &Names,
+    locals: &LocalModes,
+    global: Global,
+) -> Result<Meaning, ResolveError>
     ensures { Gives (λ x. x) result (global_meaning names.now locals.now global) }
 {
     match global {

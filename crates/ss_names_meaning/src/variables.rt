@@ -23,7 +23,11 @@ pub(crate) fn variable_of(locals: &LocalModes, name: Name, global: usize) -> Var
 }
 
 // The variable that the name of a class means.
-fn variable_of_class(locals: &LocalModes, name: Name, global: Global) -> Result<Variable, ResolveError>
+fn variable_of_class(
+    locals: &LocalModes,
+    name: Name,
+    global: Global,
+) -> Result<Variable, ResolveError>
     ensures { Gives (λ x. x) result (variable_of_class locals.now name global) }
 {
     match global {

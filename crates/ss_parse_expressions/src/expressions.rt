@@ -75,7 +75,11 @@ pub fn begins_more_sums(tokens: &[Token]) -> bool
 
 /// A term and further ones, of which there may be none.
 #[tactic(auto, using(ss_tree::specs::Views::view_sum_made))]
-fn sum_of_terms(alloc: Global, first: Expression, further: Vec<Term>) -> Result<Expression, AllocError>
+fn sum_of_terms(
+    alloc: Global,
+    first: Expression,
+    further: Vec<Term>,
+) -> Result<Expression, AllocError>
     ensures { IfOk result (λ e. view_expression e ≡ sum_of_terms (view_expression first) (map view_term further.items)) }
 {
     if further.is_empty() {

@@ -209,7 +209,11 @@ fn globals_with(
 ///
 /// # Errors
 /// `AllocError` where memory is refused.
-pub fn globals_of(alloc: Global, seed: Seed, sayings: &[Saying]) -> Result<DeclaredNames, AllocError>
+pub fn globals_of(
+    alloc: Global,
+    seed: Seed,
+    sayings: &[Saying],
+) -> Result<DeclaredNames, AllocError>
     ensures { IfOk result (IsGlobalsOf (declarations sayings.now)) }
 {
     let attributes = things_said(alloc, seed, Topic::Attribute, sayings)?;

@@ -268,7 +268,11 @@ fn said_of_none(alloc: Global, topic: DirectiveTopic, words: &str) -> Result<(),
 }
 
 // What is wrong with words about this case, which is none.
-fn take_down_of_none<'a>(case: &mut Case<'a>, topic: DirectiveTopic, words: &'a str) -> Result<(), Wrong> {
+fn take_down_of_none<'a>(
+    case: &mut Case<'a>,
+    topic: DirectiveTopic,
+    words: &'a str,
+) -> Result<(), Wrong> {
     case.take_down(topic, words)?;
     Err(Wrong::NoCase)
 }

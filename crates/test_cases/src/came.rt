@@ -1,6 +1,6 @@
 //! What comes of a text, and whether that is wanted.
 
-use crate::ending::{TreeCounts, Ending};
+use crate::ending::{Ending, TreeCounts};
 use std::{fmt, str};
 
 /// What comes of a text.

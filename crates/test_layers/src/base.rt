@@ -1,7 +1,7 @@
 use ss_base::{
     Alpha, ClassKind, ClassLayout, Discipline, FaultKind, Faulty, FaultyRead, FaultyWrite, Layout,
-    Line, MemoryRead, MemoryWrite, Mode, Owner, Plan, RankKey, RankKeys, Refused, SetLayout,
-    WriteFailure, Value, div_f, minus, mod_f, plus, times,
+    Line, MemoryRead, MemoryWrite, Mode, Owner, Plan, RankKey, RankKeys, Refused, SetLayout, Value,
+    WriteFailure, div_f, minus, mod_f, plus, times,
 };
 use std::alloc::{AllocError, Global};
 use std::cmp::Ordering;

@@ -1,7 +1,7 @@
 ghost use Rattle.std.specs.Prelude.{◌≡◌, true};
 ghost use Rattle.ss_picture.specs.Suited.{Suits, EachSuits};
 
-use ss_base::{Alpha, Faulty, FaultyWrite, MemoryWrite, Plan, WriteFailure, Value};
+use ss_base::{Alpha, Faulty, FaultyWrite, MemoryWrite, Plan, Value, WriteFailure};
 use ss_picture::{Field, Item, Picture, Sink, SinkError};
 use std::alloc::{AllocError, Global};
 use std::io;
@@ -348,7 +348,14 @@ static STALLED: Sent = Sent {
 
 #[test]
 fn a_thousand_writes_of_no_byte(rt: HostRuntime) {
-    assert!(rt; sends(rt.alloc(), stalling(u64::MAX), WriteFailure::NoByte, &STALLED));
+    assert!(rt;
+        sends(
+            rt.alloc(),
+            stalling(u64::MAX),
+            WriteFailure::NoByte,
+            &STALLED
+        )
+    );
 }
 
 static NEARLY_STALLED: Sent = Sent {
@@ -360,7 +367,14 @@ static NEARLY_STALLED: Sent = Sent {
 
 #[test]
 fn nearly_a_thousand_writes_of_no_byte(rt: HostRuntime) {
-    assert!(rt; sends(rt.alloc(), stalling(999), WriteFailure::NoByte, &NEARLY_STALLED));
+    assert!(rt;
+        sends(
+            rt.alloc(),
+            stalling(999),
+            WriteFailure::NoByte,
+            &NEARLY_STALLED
+        )
+    );
 }
 
 // It takes a byte at each thousandth call, and none at those between.

@@ -7,7 +7,7 @@ use ss_lex::{Tokens, tokens};
 use ss_parse::parse;
 use ss_tree::release::release_tree;
 use std::alloc::{AllocError, Global};
-use test_cases::{TreeCounts, Simulator, CaseStreams, counted};
+use test_cases::{CaseStreams, Simulator, TreeCounts, counted};
 
 /// The engine.
 pub struct Engine;
