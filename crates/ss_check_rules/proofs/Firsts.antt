@@ -17,7 +17,8 @@ use Rattle.ss_check_scopes.specs.Whole.{Whole}
 use Rattle.ss_check_rules.specs.declared.rule.Rule.{Rule}
 use Rattle.ss_check_rules.specs.declared.rule.Rule.TheVariants as rules
 use Rattle.ss_check_rules.specs.declared.rule.Broken.{Broken}
-use Rattle.ss_check_rules.specs.Lines.{line_if, first_of_lines, demand_lines}
+use Rattle.ss_base.specs.Lines.{line_if}
+use Rattle.ss_check_rules.specs.Lines.{first_of_lines, demand_lines}
 use Rattle.ss_check_rules.specs.Modes.{class_implied, class_mode, differ, is_mean, known_class, known_mode, mode_of_known}
 use Rattle.ss_check_rules.specs.Numbers.{is_no_number, means_no_number}
 use Rattle.ss_check_rules.specs.Refusal.{demand_breaks, first_broken, or_next}

@@ -15,7 +15,7 @@ use Rattle.ss_check_scopes.specs.declared.known.Known.TheVariants as meanings
 use Rattle.ss_check_scopes.specs.Locals.{Moded}
 use Rattle.ss_check_scopes.specs.Whole.{Whole, mode_in_place}
 use Rattle.ss_check_scopes.specs.Meanings.{meaning_in}
-use Rattle.ss_check_rules.specs.Lines.{line_if}
+use Rattle.ss_base.specs.Lines.{line_if}
 use Rattle.ss_check_rules.specs.Unknown.{if_known}
 
 -- the mode of what a name means; a set and a routine have none

@@ -16,7 +16,7 @@ use Rattle.ss_names_declarations.specs.Firsts.{same_name}
 use Rattle.ss_check_scopes.specs.Locals.{Moded}
 use Rattle.ss_check_scopes.specs.Whole.{Whole}
 use Rattle.ss_check_scopes.specs.Meanings.{meaning_in}
-use Rattle.ss_check_rules.specs.Lines.{line_if}
+use Rattle.ss_base.specs.Lines.{line_if}
 
 -- what may be a value or a target: all but sets and routines
 abbrev pub has_value : Known → Bool

@@ -1,7 +1,8 @@
 //! Lines in which a rule is broken.
 
 ghost use Rattle.std.specs.Prelude.{◌≡◌};
-ghost use Rattle.ss_check_rules.specs.Lines.{first_of_lines, line_if};
+ghost use Rattle.ss_base.specs.Lines.{line_if};
+ghost use Rattle.ss_check_rules.specs.Lines.{first_of_lines};
 
 use ss_base::Line;
 

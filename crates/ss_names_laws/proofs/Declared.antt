@@ -18,7 +18,8 @@ use Rattle.ss_tables_rules.specs.declared.rule.BrokenDeclaration.{BrokenDeclarat
 use Rattle.ss_tables_rules.specs.declared.topic.Topic.{Topic}
 use Rattle.ss_tables_rules.specs.declared.topic.Topic.TheVariants as topics
 use Rattle.ss_tables_rules.specs.Broken.{broken_by, in_order, broken_at, first_of_two, first_broken_rule}
-use Rattle.ss_tables_rules.specs.Lines.{sooner, first_line, line_if, lines_where}
+use Rattle.ss_base.specs.Lines.{line_if}
+use Rattle.ss_tables_rules.specs.Lines.{sooner, first_line, lines_where}
 use Rattle.ss_tables_rules.specs.Missing.{lacks, missing}
 use Rattle.ss_tables_rules.specs.RankKey.{is_foreign, defines, misranks, is_bad_rank, is_misranked}
 use Rattle.ss_tables_rules.specs.TieKey.{is_bad_tie, is_mistied}

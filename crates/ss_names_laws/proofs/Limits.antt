@@ -8,7 +8,8 @@ use Rattle.std.proofs.lemmas.List.Sums.{sum_by-cons, sum_by_push}
 use Rattle.ss_base.specs.declared.line.Line.{Line}
 use Rattle.ss_names_declarations.specs.declared.saying.Saying.{Saying}
 use Rattle.ss_tree.specs.Names.{NameBytes}
-use Rattle.ss_tables_rules.specs.Lines.{line_if, lines_where, later_lines}
+use Rattle.ss_base.specs.Lines.{line_if}
+use Rattle.ss_tables_rules.specs.Lines.{lines_where, later_lines}
 use Rattle.ss_tables_rules.specs.TooMany.{past_most, is_class, lines_of_classes, lines_of_sets, attribute_class, is_attribute_of, is_class_full, is_past, too_many}
 use Rattle.ss_names_declarations.specs.Firsts.{same_name}
 use Rattle.ss_tables_rules.specs.Topics.{line_of}

@@ -14,7 +14,8 @@ use Rattle.ss_tables_rules.specs.declared.topic.Topic.{Topic}
 use Rattle.ss_tables_rules.specs.declared.topic.Topic.TheVariants as topics
 use Rattle.ss_tables_rules.specs.declared.globals.Standing.TheVariants as standings
 use Rattle.ss_tables_rules.specs.Declarations.{Declaration, declaration, class_declares, said_declares, named_declares, saying_declares, is_attribute}
-use Rattle.ss_tables_rules.specs.Lines.{line_if, lines_after}
+use Rattle.ss_base.specs.Lines.{line_if}
+use Rattle.ss_tables_rules.specs.Lines.{lines_after}
 use Rattle.ss_tables_rules.specs.Topics.{Thing, global_thing, thing_of, section_of, line_of, has_topic, is_said_by, is_said}
 use Rattle.ss_tables_rules.specs.Twice.{is_again, again, anything}
 use Rattle.ss_names_laws.specs.Lists.{Pairwise}

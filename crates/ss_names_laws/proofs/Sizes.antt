@@ -15,7 +15,8 @@ use Rattle.ss_names_declarations.specs.declared.saying.Said.TheVariants as said
 use Rattle.ss_names_declarations.specs.declared.saying.Saying.{Saying}
 use Rattle.ss_tree.specs.Names.{NameBytes}
 use Rattle.ss_tables_rules.specs.declared.topic.Topic.TheVariants as topics
-use Rattle.ss_tables_rules.specs.Lines.{line_if, lines_after}
+use Rattle.ss_base.specs.Lines.{line_if}
+use Rattle.ss_tables_rules.specs.Lines.{lines_after}
 use Rattle.ss_tables_rules.specs.TooMany.{attribute_class, is_class, is_new_set, is_attribute_of, lines_of_sets as new_sets}
 use Rattle.ss_tables_rules.specs.Topics.{has_topic, is_said, line_of, section_of, thing_of}
 use Rattle.ss_names.specs.declared.entry.Class.{Class}

@@ -27,7 +27,8 @@ use Rattle.ss_check_rules.specs.declared.rule.Rule.TheVariants as rules
 use Rattle.ss_check_rules.specs.declared.rule.Broken.{Broken}
 use Rattle.ss_check_rules.specs.Arguments.{argument_count, is_other, is_more, is_miscounted, counts_differ, miscounts}
 use Rattle.ss_check_rules.specs.Events.{is_main_section, has_main, event_named, event_in, event_names, lacks_event, eventless, declares_eventless, is_start}
-use Rattle.ss_check_rules.specs.Lines.{line_if, first_of_lines, mention_line, mention_lines, demand_line, demand_lines}
+use Rattle.ss_base.specs.Lines.{line_if}
+use Rattle.ss_check_rules.specs.Lines.{first_of_lines, mention_line, mention_lines, demand_line, demand_lines}
 use Rattle.ss_check_rules.specs.Modes.{mixes, misplaces, breaks_modes, differ, known_mode, mode_of_known, text_subjects}
 use Rattle.ss_check_rules.specs.Refusal.{in_preamble, mention_breaks, demand_breaks, in_section, in_program, breaking_lines, rules_in_order, or_next, first_broken}
 use Rattle.ss_check_rules.specs.Unknown.{is_unknown, is_known_notice, if_known, may_be_watched, unknown_subjects}

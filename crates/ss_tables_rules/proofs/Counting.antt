@@ -10,7 +10,8 @@ use Rattle.ss_names_declarations.specs.declared.saying.Saying.{Saying}
 use Rattle.ss_tree.specs.Names.{NameBytes}
 use Rattle.ss_names_declarations.specs.Firsts.{same_name}
 use Rattle.ss_tables_rules.specs.Laws.{LaterLinesGrow}
-use Rattle.ss_tables_rules.specs.Lines.{sooner, soonest, line_if, later_lines}
+use Rattle.ss_base.specs.Lines.{line_if}
+use Rattle.ss_tables_rules.specs.Lines.{sooner, soonest, later_lines}
 use Rattle.ss_tables_rules.specs.TooMany.{attribute_class, is_attribute_of, is_past}
 use Rattle.ss_tables_rules.specs.Topics.{line_of}
 use Rattle.ss_tables_rules.specs.declared.too_many.Counts.{Counts}

@@ -12,7 +12,8 @@ use Rattle.ss_tables_rules.specs.declared.globals.Standing.{Standing}
 use Rattle.ss_tables_rules.specs.declared.globals.DeclaredNames.{DeclaredNames}
 use Rattle.ss_tables_rules.specs.Declarations.{Declaration, declares, standing_declared, standing_of, saying_declares}
 use Rattle.ss_tables_rules.specs.Globals.{IsGlobalsOf, AddsDeclarations, kind_by_name}
-use Rattle.ss_tables_rules.specs.Lines.{soonest, first_line, line_if}
+use Rattle.ss_base.specs.Lines.{line_if}
+use Rattle.ss_tables_rules.specs.Lines.{soonest, first_line}
 use Rattle.ss_names_declarations.specs.Firsts.{same_name}
 use Rattle.ss_tables_rules.specs.Twice.{is_another, is_clash, declared_at, clashes}
 use Rattle.ss_tables_rules.proofs.Finding.{take_next, later_more, soonest_both}

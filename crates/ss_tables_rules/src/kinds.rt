@@ -3,7 +3,7 @@
 ghost use Rattle.std.specs.Prelude.{◌≡◌, ◌++◌, List, OnOk, IfOk};
 ghost use Rattle.ss_names_declarations.specs.declared.saying.Saying.{Saying};
 ghost use Rattle.ss_tables_rules.specs.declared.topic.Topic.TheVariants as topics;
-ghost use Rattle.ss_tables_rules.specs.Lines.{line_if};
+ghost use Rattle.ss_base.specs.Lines.{line_if};
 ghost use Rattle.ss_tables_rules.specs.Things.{AreSaid};
 ghost use Rattle.ss_tables_rules.specs.TooMany.{lines_of_classes, is_new_set, lines_of_sets};
 

@@ -1,5 +1,6 @@
 use Rattle.std.proofs.Common.{Bool, sym, ap}
-use Rattle.ss_check_rules.specs.Lines.{first_of_lines, line_if, demand_line}
+use Rattle.ss_base.specs.Lines.{line_if}
+use Rattle.ss_check_rules.specs.Lines.{first_of_lines, demand_line}
 use Rattle.ss_check_rules.specs.Refusal.{demand_breaks}
 use Rattle.ss_check_rules.specs.Seen.{uses_seen}
 use Rattle.ss_check_rules.proofs.Firsts.{no_lines}
