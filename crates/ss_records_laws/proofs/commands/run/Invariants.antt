@@ -5,7 +5,7 @@ use Rattle.ss_records_laws.proofs.commands.run.Given as goal
 -- the answers so far and those to what is left are those to all, and the calls so far are made
 abbrev pub invariant-loop-command : goal.invariant-loop-command
 invariant-loop-command l = record {
-  answer_without_value : l.answers.items ++ answers_of (drop l.command-index l.commands) l.heap.state ≡ answers_of l.commands l.fn.heap.state;
+  given : l.answers.items ++ answers_of (drop l.command-index l.commands) l.heap.state ≡ answers_of l.commands l.fn.heap.state;
   rest : after_commands (drop l.command-index l.commands) l.heap.state ≡ after_commands l.commands l.fn.heap.state;
   made : l.heap.state ≡ after_commands (take l.command-index l.commands) l.fn.heap.state;
   layout : l.heap.state.layout ≡ l.fn.heap.state.layout;
