@@ -4,7 +4,7 @@ ghost use Rattle.ss_engine.specs.Outcomes.{status_of};
 ghost use Rattle.simscript_commands.specs.Statuses.{ended_status};
 
 use simscript_order::{
-    FileStore, Order, Retrying, Streams, Trouble, explain, open, read_file, read_source,
+    FileStore, Order, ProgramFailure, Retrying, Streams, explain, open, read_file, read_source,
     report_trouble, write_whole,
 };
 use ss_base::Counted;
@@ -47,7 +47,7 @@ fn obey<F: FileStore, I: Read + Drop, O: Write + Drop>(
     files: &F,
     input: I,
     output: O,
-) -> Result<Outcome, Trouble> {
+) -> Result<Outcome, ProgramFailure> {
     match order {
         Order::Plain => run(alloc, &read_source(alloc, input)?, &[][..], output, TICKS),
         Order::Check(name) => check(alloc, &read_file(alloc, files, name)?, output),
@@ -73,11 +73,11 @@ fn run_text<F: FileStore, O: Write + Drop>(
     data: Option<&str>,
     output: O,
     ticks: u64,
-) -> Result<Outcome, Trouble> {
+) -> Result<Outcome, ProgramFailure> {
     match data {
         None => run(alloc, text, &[][..], output, ticks),
         Some(name) => {
-            let input = open(files, name, Trouble::Input)?;
+            let input = open(files, name, ProgramFailure::Input)?;
             run_with_input(alloc, text, input, output, ticks)
         }
     }
@@ -90,10 +90,10 @@ fn run_with_input<R: Read + Drop, O: Write + Drop>(
     input: R,
     output: O,
     ticks: u64,
-) -> Result<Outcome, Trouble> {
+) -> Result<Outcome, ProgramFailure> {
     match BufReader::new(alloc, Retrying::new(input)) {
         Ok(reader) => run(alloc, text, reader, output, ticks),
-        Err(_) => Err(Trouble::Memory),
+        Err(_) => Err(ProgramFailure::Memory),
     }
 }
 
@@ -104,10 +104,10 @@ fn run<R: Read + Drop, O: Write + Drop>(
     input: R,
     output: O,
     ticks: u64,
-) -> Result<Outcome, Trouble> {
+) -> Result<Outcome, ProgramFailure> {
     match BufWriter::new(alloc, Retrying::new(output)) {
         Ok(writer) => report(alloc, text, input, writer, ticks),
-        Err(_) => Err(Trouble::Memory),
+        Err(_) => Err(ProgramFailure::Memory),
     }
 }
 
@@ -119,17 +119,21 @@ fn report<R: Read + Drop, W: Write + Drop>(
     input: R,
     output: W,
     ticks: u64,
-) -> Result<Outcome, Trouble> {
+) -> Result<Outcome, ProgramFailure> {
     let (reader, writer) = (Counted::new(input), Counted::new(output));
     let (outcome, _reader, writer) = simulate(alloc, text, reader, writer, &[ticks]);
     match writer.into_inner().flush() {
         Ok(()) => Ok(outcome),
-        Err(_) => Err(Trouble::Report),
+        Err(_) => Err(ProgramFailure::Report),
     }
 }
 
 // Compiles a text, and prints that it is accepted.
-fn check<O: Write + Drop>(alloc: Global, text: &[u8], output: O) -> Result<Outcome, Trouble> {
+fn check<O: Write + Drop>(
+    alloc: Global,
+    text: &[u8],
+    output: O,
+) -> Result<Outcome, ProgramFailure> {
     match compile(alloc, text) {
         Ok(model) => {
             model.release();
@@ -140,7 +144,7 @@ fn check<O: Write + Drop>(alloc: Global, text: &[u8], output: O) -> Result<Outco
 }
 
 // Compiles a text, and prints its code.
-fn list<O: Write + Drop>(alloc: Global, text: &[u8], output: O) -> Result<Outcome, Trouble> {
+fn list<O: Write + Drop>(alloc: Global, text: &[u8], output: O) -> Result<Outcome, ProgramFailure> {
     match compile(alloc, text) {
         Ok(model) => {
             let listing = model.listing(alloc);
@@ -155,15 +159,15 @@ fn list<O: Write + Drop>(alloc: Global, text: &[u8], output: O) -> Result<Outcom
 fn print_listing<O: Write + Drop>(
     listing: Result<Vec<u8>, AllocError>,
     output: O,
-) -> Result<Outcome, Trouble> {
+) -> Result<Outcome, ProgramFailure> {
     match listing {
         Ok(lines) => print(output, &lines),
-        Err(_) => Err(Trouble::Memory),
+        Err(_) => Err(ProgramFailure::Memory),
     }
 }
 
 // Prints these bytes, with which all is done.
-fn print<O: Write + Drop>(output: O, bytes: &[u8]) -> Result<Outcome, Trouble> {
+fn print<O: Write + Drop>(output: O, bytes: &[u8]) -> Result<Outcome, ProgramFailure> {
     match write_whole(output, bytes) {
         Ok(()) => Ok(Outcome::Stopped(Stop::Ended, 0)),
         Err(trouble) => Err(trouble),
@@ -174,7 +178,7 @@ fn print<O: Write + Drop>(output: O, bytes: &[u8]) -> Result<Outcome, Trouble> {
 /// program, or that of memory where its line could not be made.
 pub fn report_ending<E: Write + Drop>(
     alloc: Global,
-    ended: Result<Outcome, Trouble>,
+    ended: Result<Outcome, ProgramFailure>,
     errors: E,
 ) -> u8
     ensures { (result ≡ ended_status ended) ⊎ (result ≡ 5) }
@@ -194,6 +198,6 @@ fn report_outcome<E: Write + Drop>(alloc: Global, outcome: &Outcome, mut errors:
             let _ = errors.write_all(&line);
             outcome_status(outcome)
         }
-        Err(_) => report_trouble(Trouble::Memory, errors),
+        Err(_) => report_trouble(ProgramFailure::Memory, errors),
     }
 }

@@ -87,12 +87,12 @@ ticks_in text = if accepts false tick_reader text
     then Some (digits_value 10 (without_leading_plus text)) else None
 
 -- a run of this file, with this input and these ticks, where file and ticks are there
-abbrev pub run_of : Option Text → Option Text → Option ℕ → Option Asked
-run_of file input ticks = option_and_then (λ name. option_map (run name input) ticks) file
+abbrev pub run_asked : Option Text → Option Text → Option ℕ → Option Asked
+run_asked file input ticks = option_and_then (λ name. option_map (run name input) ticks) file
 
 -- what the matches of `run` ask for
 abbrev pub run_in : List Row → Option Asked
-run_in rows = run_of (first_of (codes "FILE") rows) (first_of (codes "input") rows)
+run_in rows = run_asked (first_of (codes "FILE") rows) (first_of (codes "input") rows)
     (option_and_then ticks_in (one_of (codes "ticks") rows))
 
 -- what the matches of a command ask for, by the command's name

@@ -1,6 +1,6 @@
 //! The files that the program reads.
 
-use crate::trouble::Trouble;
+use crate::trouble::ProgramFailure;
 use std::alloc::Global;
 use std::io::{ErrorKind, Read};
 use std::rt::Files;
@@ -39,17 +39,25 @@ impl<R: Files> FileStore for Disk<'_, R> {
 }
 
 /// The file of this name, open for reading; where it can't be opened, this trouble.
-pub fn open<F: FileStore>(files: &F, name: &str, trouble: Trouble) -> Result<F::File, Trouble> {
+pub fn open<F: FileStore>(
+    files: &F,
+    name: &str,
+    trouble: ProgramFailure,
+) -> Result<F::File, ProgramFailure> {
     files.open(name).map_err(|_error| trouble)
 }
 
 /// The text in the file of this name, or as much of it as shows that it is too long.
-pub fn read_file<F: FileStore>(alloc: Global, files: &F, name: &str) -> Result<Vec<u8>, Trouble> {
-    read_source(alloc, open(files, name, Trouble::Source)?)
+pub fn read_file<F: FileStore>(
+    alloc: Global,
+    files: &F,
+    name: &str,
+) -> Result<Vec<u8>, ProgramFailure> {
+    read_source(alloc, open(files, name, ProgramFailure::Source)?)
 }
 
 /// The text that this reader gives, or as much of it as shows that it is too long.
-pub fn read_source<R: Read + Drop>(alloc: Global, reader: R) -> Result<Vec<u8>, Trouble> {
+pub fn read_source<R: Read + Drop>(alloc: Global, reader: R) -> Result<Vec<u8>, ProgramFailure> {
     let mut text = Vec::new(alloc);
     match reader.take(SOURCE_READ).read_to_end(&mut text) {
         Ok(_) => Ok(text),
@@ -58,10 +66,10 @@ pub fn read_source<R: Read + Drop>(alloc: Global, reader: R) -> Result<Vec<u8>, 
 }
 
 // What stops the program where a text can't be read.
-fn unread(kind: ErrorKind) -> Trouble {
+fn unread(kind: ErrorKind) -> ProgramFailure {
     if kind == ErrorKind::OutOfMemory {
-        Trouble::Memory
+        ProgramFailure::Memory
     } else {
-        Trouble::Source
+        ProgramFailure::Source
     }
 }

@@ -16,4 +16,4 @@ pub use misuse::Misuse;
 pub use order::Order;
 pub use retrying::Retrying;
 pub use streams::{Streams, explain, report_trouble, write_whole};
-pub use trouble::Trouble;
+pub use trouble::ProgramFailure;

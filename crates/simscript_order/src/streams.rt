@@ -4,7 +4,7 @@ ghost use Rattle.simscript_order.specs.TroubleStatuses.{trouble_status};
 
 use crate::misuse::Misuse;
 use crate::retrying::Retrying;
-use crate::trouble::Trouble;
+use crate::trouble::ProgramFailure;
 use std::io::Write;
 
 /// The standard streams of a process.
@@ -15,18 +15,18 @@ pub struct Streams<I, O, E> {
 }
 
 /// Writes these bytes, and flushes. A call that a signal interrupted is made again.
-pub fn write_whole<O: Write + Drop>(output: O, bytes: &[u8]) -> Result<(), Trouble> {
+pub fn write_whole<O: Write + Drop>(output: O, bytes: &[u8]) -> Result<(), ProgramFailure> {
     let mut output = Retrying::new(output);
     let written = output.write_all(bytes).and_then(|()| output.flush());
     match written {
         Ok(()) => Ok(()),
-        Err(_) => Err(Trouble::Report),
+        Err(_) => Err(ProgramFailure::Report),
     }
 }
 
 /// Reports what stopped the program, and answers the exit status. The line is one write, so that it
 /// stays whole where several programs share their errors.
-pub fn report_trouble<E: Write + Drop>(trouble: Trouble, mut errors: E) -> u8
+pub fn report_trouble<E: Write + Drop>(trouble: ProgramFailure, mut errors: E) -> u8
     ensures { result ≡ trouble_status trouble }
 {
     let _ = errors.write_all(trouble.line().as_bytes());
@@ -43,6 +43,6 @@ pub fn explain<O: Write + Drop, E: Write + Drop>(misuse: &Misuse, output: O, mut
     let written = write!(output, "{misuse}").and_then(|()| output.flush());
     match written {
         Ok(()) => 0,
-        Err(_) => report_trouble(Trouble::Report, errors),
+        Err(_) => report_trouble(ProgramFailure::Report, errors),
     }
 }

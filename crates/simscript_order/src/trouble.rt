@@ -4,7 +4,7 @@ ghost use Rattle.simscript_order.specs.TroubleStatuses.{trouble_status};
 
 /// Why the program stops with no outcome of a run.
 #[derive(Clone, Copy, Debug, PartialEq, Eq)]
-pub enum Trouble {
+pub enum ProgramFailure {
     /// The text can't be opened or read.
     Source,
     /// The input data can't be opened.
@@ -15,24 +15,24 @@ pub enum Trouble {
     Memory,
 }
 
-impl Trouble {
+impl ProgramFailure {
     /// The exit status.
     pub fn status(self) -> u8
         ensures { result ≡ trouble_status self }
     {
         match self {
-            Trouble::Memory => 5,
-            Trouble::Source | Trouble::Input | Trouble::Report => 6,
+            ProgramFailure::Memory => 5,
+            ProgramFailure::Source | ProgramFailure::Input | ProgramFailure::Report => 6,
         }
     }
 
     /// The line that reports it, with its end.
     pub fn line(self) -> &'static str {
         match self {
-            Trouble::Source => "cannot read source\n",
-            Trouble::Input => "cannot read input\n",
-            Trouble::Report => "cannot write report\n",
-            Trouble::Memory => "out of memory\n",
+            ProgramFailure::Source => "cannot read source\n",
+            ProgramFailure::Input => "cannot read input\n",
+            ProgramFailure::Report => "cannot write report\n",
+            ProgramFailure::Memory => "out of memory\n",
         }
     }
 }

@@ -3,7 +3,7 @@ use Rattle.std.proofs.Common.{◌≡◌, ℕ, suc, ◌+◌, ◌-◌, ◌<◌, �
 use Rattle.std.specs.Char.{to_ascii_uppercase}
 use Rattle.std.proofs.lemmas.Bool.Decides.{nat_tests}
 use Rattle.std.proofs.lemmas.List.{take_at, set_at, length-map, length-take-le, map_more}
-use Rattle.ss_base.specs.Names.{in_capitals, IsRoom, name_of}
+use Rattle.ss_base.specs.Names.{in_capitals, IsNameRoom, name_of}
 
 upper_twice : (b : ℕ) → to_ascii_uppercase (to_ascii_uppercase b) ≡ to_ascii_uppercase b
 upper_twice b = grind (arith, nat_tests)
@@ -32,7 +32,7 @@ stored_is bytes room e =
     ap (take (length bytes)) e ∙ take_at (in_capitals bytes) (replicate (32 - length bytes) 0) (length bytes) (length-map bytes to_ascii_uppercase)
 
 -- the room that is written holds a name
-pub room_is : (bytes room : List ℕ) → 0 < length bytes → length bytes ≤ 32 → room ≡ in_capitals bytes ++ replicate (32 - length bytes) 0 → IsRoom room (length bytes)
+pub room_is : (bytes room : List ℕ) → 0 < length bytes → length bytes ≤ 32 → room ≡ in_capitals bytes ++ replicate (32 - length bytes) 0 → IsNameRoom room (length bytes)
 room_is bytes room some short e =
     let stored = stored_is bytes room e in
     let n : length (in_capitals bytes) ≡ length bytes = length-map bytes to_ascii_uppercase in

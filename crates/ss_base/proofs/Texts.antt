@@ -5,7 +5,7 @@ use Rattle.std.proofs.lemmas.List.{take_more, drop-replicate}
 use Rattle.std.specs.Prelude.{◌≢◌, ◌==◌, nat_le, replicate, Some, None}
 use Rattle.std.specs.List.{list_all}
 use Rattle.ss_base.specs.Values.{text_limit, is_text_byte, in_front, without_end_blanks, IsText, text_of}
-use Rattle.ss_base.specs.Room.{before_zero, padded, IsRoom}
+use Rattle.ss_base.specs.Room.{before_zero, padded_text, IsTextRoom}
 
 -- a blank at the end is dropped
 pub without_end_blanks-blank : (xs : List ℕ) → without_end_blanks (xs ++ 32 ∷ []) ≡ without_end_blanks xs
@@ -61,21 +61,21 @@ before_zero-padded (suc b ∷ bs) k h =
     let p = and_parts (is_text_byte (suc b)) (list_all is_text_byte bs) h in ap (λ rest. suc b ∷ rest) (before_zero-padded bs k p.1)
 
 -- a text of these bytes, with the zeros after it, fills its room
-pub is_room-of : (bytes : List ℕ) → list_all is_text_byte bytes ≡ true → length (without_end_blanks bytes) ≤ text_limit → IsRoom (padded (without_end_blanks bytes))
+pub is_room-of : (bytes : List ℕ) → list_all is_text_byte bytes ≡ true → length (without_end_blanks bytes) ≤ text_limit → IsTextRoom (padded_text (without_end_blanks bytes))
 is_room-of bytes h k =
     let text = without_end_blanks bytes in
     let printable = without_end_blanks-printable bytes h in
     let is = before_zero-padded text (text_limit - length text) printable in
     record {
       text = rw is (record { printable = printable; short = k; trimmed = without_end_blanks-again bytes });
-      zeros = ap padded is;
+      zeros = ap padded_text is;
     }
 
 -- a text that is copied into zeros has zeros after it
-pub placed : (bytes text copied : List ℕ) → text ≡ without_end_blanks bytes → copied ≡ text → copied ++ drop (length text) (replicate text_limit 0) ≡ padded (without_end_blanks bytes)
+pub placed : (bytes text copied : List ℕ) → text ≡ without_end_blanks bytes → copied ≡ text → copied ++ drop (length text) (replicate text_limit 0) ≡ padded_text (without_end_blanks bytes)
 placed bytes text copied is same = rw (same, is, drop-replicate {X = ℕ} (length (without_end_blanks bytes)) text_limit 0) refl
 
-pub placed-room : (bytes text copied : List ℕ) → list_all is_text_byte bytes ≡ true → text ≡ without_end_blanks bytes → length text ≤ text_limit → copied ≡ text → IsRoom (copied ++ drop (length text) (replicate text_limit 0))
+pub placed-room : (bytes text copied : List ℕ) → list_all is_text_byte bytes ≡ true → text ≡ without_end_blanks bytes → length text ≤ text_limit → copied ≡ text → IsTextRoom (copied ++ drop (length text) (replicate text_limit 0))
 placed-room bytes text copied h is k same = rw (placed bytes text copied is same) (is_room-of bytes h (rw is at k))
 
 pub placed-value : (bytes text copied : List ℕ) → list_all is_text_byte bytes ≡ true → text ≡ without_end_blanks bytes → length text ≤ text_limit → copied ≡ text → Some (before_zero (copied ++ drop (length text) (replicate text_limit 0))) ≡ text_of bytes

@@ -2,9 +2,9 @@
 use Rattle.std.specs.Prelude.{ℕ, ◌-◌, min, List, [], length, Option, Some, None}
 use Rattle.ss_base.specs.declared.plan.Plan.{Plan}
 use Rattle.ss_base.specs.declared.plan.Progress.{Progress}
-use Rattle.ss_base.specs.declared.memory.Trouble.{Trouble}
-use Rattle.ss_base.specs.declared.memory.Trouble.TheVariants.{Error, NoByte}
-use Rattle.ss_base.specs.Plan.{start, bytes_passed}
+use Rattle.ss_base.specs.declared.memory.WriteFailure.{WriteFailure}
+use Rattle.ss_base.specs.declared.memory.WriteFailure.TheVariants.{Error, NoByte}
+use Rattle.ss_base.specs.Plan.{start_of_plan, bytes_passed}
 
 -- a reader: the bytes that it has yet to give, how many it gave, its progress and how often it failed
 pub record Reading : Type 0 where
@@ -15,7 +15,7 @@ pub record Reading : Type 0 where
 
 -- a reader of these bytes before its first call
 abbrev pub reader_of : List ℕ → Plan → Reading
-reader_of bytes plan = record { remaining = bytes; passed = 0; progress = start plan; faults = 0 }
+reader_of bytes plan = record { remaining = bytes; passed = 0; progress = start_of_plan plan; faults = 0 }
 
 -- how many bytes the next read gives into so much room, or none where it fails
 abbrev pub bytes_given : Reading → ℕ → Option ℕ
@@ -26,18 +26,18 @@ bytes_given r room = bytes_passed r.progress r.passed (min room (length r.remain
 pub record Writing : Type 0 where
   pub bytes : List ℕ
   pub room : ℕ
-  pub trouble : Trouble
+  pub trouble : WriteFailure
   pub progress : Progress
   pub faults : ℕ
   pub errors : ℕ
   pub idle : ℕ
 
 -- a writer before its first call
-abbrev pub writer_of : ℕ → Plan → Trouble → Writing
-writer_of room plan trouble = record { bytes = []; room = room; trouble = trouble; progress = start plan; faults = 0; errors = 0; idle = 0 }
+abbrev pub writer_of : ℕ → Plan → WriteFailure → Writing
+writer_of room plan trouble = record { bytes = []; room = room; trouble = trouble; progress = start_of_plan plan; faults = 0; errors = 0; idle = 0 }
 
 -- what a call that goes wrong returns: an error, or that it took no byte
-abbrev pub answer_in : Trouble → Option ℕ → Option ℕ
+abbrev pub answer_in : WriteFailure → Option ℕ → Option ℕ
 answer_in trouble (Some n) = Some n
 answer_in Error None = None
 answer_in NoByte None = Some 0

@@ -17,14 +17,14 @@ pub record IsName (bytes : List ℕ) : Type 0 where
   pub capitals : in_capitals bytes ≡ bytes
 
 -- a name with zeros after it, as many as fill its room
-abbrev pub padded : List ℕ → List ℕ
-padded bytes = bytes ++ replicate (name_limit - length bytes) 0
+abbrev pub padded_name : List ℕ → List ℕ
+padded_name bytes = bytes ++ replicate (name_limit - length bytes) 0
 
 -- what is true of the bytes and the length of every name
-pub record IsRoom (room : List ℕ) (len : ℕ) : Type 0 where
+pub record IsNameRoom (room : List ℕ) (len : ℕ) : Type 0 where
   pub name : IsName (take len room)
   pub counted : length (take len room) ≡ len
-  pub zeros : padded (take len room) ≡ room
+  pub zeros : padded_name (take len room) ≡ room
 
 -- the name that bytes are, if they are some and few enough
 abbrev pub name_of : List ℕ → Option (List ℕ)

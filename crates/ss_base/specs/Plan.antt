@@ -5,8 +5,8 @@ use Rattle.ss_base.specs.declared.plan.Progress.{Progress}
 use Rattle.ss_base.specs.Failures.{raised}
 
 -- a plan before its first call
-abbrev pub start : Plan → Progress
-start plan = record { plan = plan; calls = 0; wrong = 0 }
+abbrev pub start_of_plan : Plan → Progress
+start_of_plan plan = record { plan = plan; calls = 0; wrong = 0 }
 
 -- whether the next call goes wrong: it is late enough, enough bytes were passed, and not enough calls went wrong yet
 abbrev pub goes_wrong : Progress → ℕ → Bool

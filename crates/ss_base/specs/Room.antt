@@ -9,10 +9,10 @@ before_zero (zero ∷ _) = []
 before_zero (suc b ∷ bs) = suc b ∷ before_zero bs
 
 -- a text with zeros after it, as many as fill its room
-abbrev pub padded : List ℕ → List ℕ
-padded text = text ++ replicate (text_limit - length text) 0
+abbrev pub padded_text : List ℕ → List ℕ
+padded_text text = text ++ replicate (text_limit - length text) 0
 
 -- what is true of the bytes of every text
-pub record IsRoom (room : List ℕ) : Type 0 where
+pub record IsTextRoom (room : List ℕ) : Type 0 where
   pub text : IsText (before_zero room)
-  pub zeros : padded (before_zero room) ≡ room
+  pub zeros : padded_text (before_zero room) ≡ room

@@ -25,15 +25,15 @@ pub struct Alpha {
 
 impl Model for Alpha {
     ghost use Rattle.std.specs.Prelude.{ℕ, List, [], ◌≡◌};
-    ghost use Rattle.ss_base.specs.Room.{before_zero, padded, IsRoom};
+    ghost use Rattle.ss_base.specs.Room.{before_zero, padded_text, IsTextRoom};
 
     ghost Value = { List ℕ };
 
     ghost view = { λ a. before_zero a.room };
 
-    ghost invariant = { λ a. IsRoom a.room × ([] ≡ a.aligned) };
+    ghost invariant = { λ a. IsTextRoom a.room × ([] ≡ a.aligned) };
 
-    ghost inverse = { λ bytes. record { room = padded bytes; aligned = [] } };
+    ghost inverse = { λ bytes. record { room = padded_text bytes; aligned = [] } };
 
     ghost inverse_ok = { λ a h i. record { room = h.0.zeros i; aligned = h.1 i } };
 }

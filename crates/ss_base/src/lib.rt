@@ -25,7 +25,7 @@ pub use layout::{
     copied_disciplines,
 };
 pub use line::Line;
-pub use memory::{MemoryRead, MemoryWrite, Trouble};
+pub use memory::{MemoryRead, MemoryWrite, WriteFailure};
 pub use name::{NAME_LIMIT, Name};
 pub use picture_line::PictureLine;
 pub use plan::Plan;

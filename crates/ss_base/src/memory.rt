@@ -88,7 +88,7 @@ impl FaultyRead for MemoryRead {
 
 /// What a call of a writer over memory does that goes wrong.
 #[derive(Clone, Copy, Debug, PartialEq, Eq)]
-pub enum Trouble {
+pub enum WriteFailure {
     /// It returns an error.
     Error,
     /// It takes no byte.
@@ -100,7 +100,7 @@ pub enum Trouble {
 pub struct MemoryWrite {
     bytes: Vec<u8>,
     room: usize,
-    trouble: Trouble,
+    trouble: WriteFailure,
     progress: Progress,
     faults: u64,
     errors: u64,
@@ -127,7 +127,7 @@ impl MemoryWrite {
         alloc: Global,
         room: usize,
         plan: Plan,
-        trouble: Trouble,
+        trouble: WriteFailure,
     ) -> Result<MemoryWrite, AllocError>
         ensures { IfOk result (λ writer. writer ≡ writer_of room plan trouble) }
     {
@@ -182,8 +182,8 @@ impl FaultyWrite for MemoryWrite {
         let could = buf.len().min(self.room - held);
         let count = match (self.progress.next_call(held, could), self.trouble) {
             (Some(count), _) => count,
-            (None, Trouble::NoByte) => 0,
-            (None, Trouble::Error) => {
+            (None, WriteFailure::NoByte) => 0,
+            (None, WriteFailure::Error) => {
                 self.faults = self.faults.saturating_add(1);
                 self.errors = self.errors.saturating_add(1);
                 self.idle = 0;

@@ -25,15 +25,15 @@ pub struct Name {
 
 impl Model for Name {
     ghost use Rattle.std.specs.Prelude.{List, ℕ, length, take};
-    ghost use Rattle.ss_base.specs.Names.{padded, IsRoom};
+    ghost use Rattle.ss_base.specs.Names.{padded_name, IsNameRoom};
 
     ghost Value = { List ℕ };
 
     ghost view = { λ n. take n.len n.room };
 
-    ghost invariant = { λ n. IsRoom n.room n.len };
+    ghost invariant = { λ n. IsNameRoom n.room n.len };
 
-    ghost inverse = { λ bytes. record { room = padded bytes; len = length bytes } };
+    ghost inverse = { λ bytes. record { room = padded_name bytes; len = length bytes } };
 
     ghost inverse_ok = { λ n h i. record { room = h.zeros i; len = h.counted i } };
 }

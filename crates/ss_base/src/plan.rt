@@ -62,11 +62,11 @@ pub struct Progress {
 }
 
 impl Progress {
-    ghost use Rattle.ss_base.specs.Plan.{start, goes_wrong, most_bytes, bytes_passed, after_call};
+    ghost use Rattle.ss_base.specs.Plan.{start_of_plan, goes_wrong, most_bytes, bytes_passed, after_call};
 
     /// No call was made yet.
     pub fn new(plan: Plan) -> Progress
-        ensures { result ≡ start plan }
+        ensures { result ≡ start_of_plan plan }
     {
         Progress {
             plan,

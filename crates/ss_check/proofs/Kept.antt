@@ -4,8 +4,8 @@ use Rattle.ss_tree.specs.Nodes.{nodes as tree_nodes}
 use Rattle.ss_tree.specs.Tree.{ProgramTree}
 use Rattle.ss_check_scopes.specs.Locals.{Moded}
 use Rattle.ss_check_scopes.specs.Whole.{Whole, locals_of}
-use Rattle.ss_check_rules.specs.Refusal.{refusal}
-use Rattle.ss_tables_rules.specs.Broken.{refusal as declared_refusal}
+use Rattle.ss_check_rules.specs.Refusal.{refusal_of_uses}
+use Rattle.ss_tables_rules.specs.Broken.{refusal_of_declarations as declared_refusal}
 use Rattle.ss_names.specs.Table.{Table, table}
 use Rattle.ss_check_scopes.specs.WholeOf.{whole_of}
 use Rattle.ss_program.specs.declared.sections.Program.{Program as ProgramValue}
@@ -35,19 +35,19 @@ typed_as p found r h g known =
     subst WellTyped one known.2
 
 pub typed : KeptProgramsResolve → (t : Table) (w : Whole) (p : ProgramTree) (found : Option ProgramValue) (r : ProgramValue) →
-    declared_refusal p ≡ None → refusal w p ≡ None → t ≡ table p → w ≡ whole_of p → view_option view_program found ≡ resolved t w p.sections → found ≡ Some r → WellTyped (view_program r)
+    declared_refusal p ≡ None → refusal_of_uses w p ≡ None → t ≡ table p → w ≡ whole_of p → view_option view_program found ≡ resolved t w p.sections → found ≡ Some r → WellTyped (view_program r)
 typed law t w p found r declared kept e f h g =
     typed_as p (view_option view_program found) (view_program r) (found_so t w p (view_option view_program found) e f h) (ap (view_option view_program) g)
-    (law p declared (subst (λ z. refusal z p ≡ None) f kept))
+    (law p declared (subst (λ z. refusal_of_uses z p ≡ None) f kept))
 
 missing_not : (p : ProgramTree) (found : Option Program) → found ≡ program_of p → found ≡ None → ((x : Program) × (program_of p ≡ Some x) × WellTyped x) → ⊥
 missing_not p found h g known = let same : None ≡ Some known.0 = sym g ∙ h ∙ known.1 in cc
 
 pub not_missing : KeptProgramsResolve → (t : Table) (w : Whole) (p : ProgramTree) (found : Option ProgramValue) →
-    declared_refusal p ≡ None → refusal w p ≡ None → t ≡ table p → w ≡ whole_of p → view_option view_program found ≡ resolved t w p.sections → found ≡ None → ⊥
+    declared_refusal p ≡ None → refusal_of_uses w p ≡ None → t ≡ table p → w ≡ whole_of p → view_option view_program found ≡ resolved t w p.sections → found ≡ None → ⊥
 not_missing law t w p found declared kept e f h g =
     missing_not p (view_option view_program found) (found_so t w p (view_option view_program found) e f h) (ap (view_option view_program) g)
-    (law p declared (subst (λ z. refusal z p ≡ None) f kept))
+    (law p declared (subst (λ z. refusal_of_uses z p ≡ None) f kept))
 
 pub small : ProgramsStaySmall → (t : Table) (w : Whole) (p : ProgramTree) (found : Option ProgramValue) (r made : ProgramValue) →
     t ≡ table p → view_option view_program found ≡ resolved t w p.sections → found ≡ Some r → made ≡ r → nodes (view_program made) ≤ tree_nodes p
@@ -57,8 +57,8 @@ small law t w p found r made e h g same =
 
 -- a program that breaks no rule becomes what it is resolved to
 pub becomes : (t : Table) (w : Whole) (p : ProgramTree) (found : Option ProgramValue) (r made : ProgramValue) →
-    refusal w p ≡ None → t ≡ table p → w ≡ whole_of p → view_option view_program found ≡ resolved t w p.sections → found ≡ Some r → made ≡ r → Becomes p made
+    refusal_of_uses w p ≡ None → t ≡ table p → w ≡ whole_of p → view_option view_program found ≡ resolved t w p.sections → found ≡ Some r → made ≡ r → Becomes p made
 becomes t w p found r made kept e f h g same = record {
-  kept = subst (λ z. refusal z p ≡ None) f kept;
+  kept = subst (λ z. refusal_of_uses z p ≡ None) f kept;
   resolved = sym (found_so t w p (view_option view_program found) e f h) ∙ ap (view_option view_program) g ∙ ap (λ (z : ProgramValue). Some (view_program z)) (sym same);
 }

@@ -3,23 +3,23 @@
 ghost use Rattle.std.specs.Prelude.{◌≡◌, ◌≤◌, map, None, OnOk, IfOk, IfErr};
 ghost use Rattle.ss_tree.specs.Nodes.{nodes as tree_nodes};
 ghost use Rattle.ss_tree.specs.View.{view_program, view_section};
-ghost use Rattle.ss_tables_rules.specs.Broken.{refusal as declared_refusal};
+ghost use Rattle.ss_tables_rules.specs.Broken.{refusal_of_declarations as declared_refusal};
 ghost use Rattle.ss_names.specs.Table.{table};
 ghost use Rattle.ss_check_scopes.specs.WholeOf.{whole_in, whole_of};
 ghost use Rattle.ss_check_scopes.specs.Whole.{locals_of};
-ghost use Rattle.ss_check_rules.specs.Refusal.{refusal};
+ghost use Rattle.ss_check_rules.specs.Refusal.{refusal_of_uses};
 ghost use Rattle.ss_program.specs.Checking.{program_in};
 ghost use Rattle.ss_program.specs.Nodes.{nodes};
 ghost use Rattle.ss_program.specs.View.{view_program as program_seen};
 ghost use Rattle.ss_tables.specs.Tables.{AreTablesOf};
-ghost use Rattle.ss_check.specs.Checking.{Becomes, Reports, refusal_of};
+ghost use Rattle.ss_check.specs.Checking.{Becomes, ReportsCheckError, refusal_of};
 
 use crate::error::{CheckError, error_of};
 use ss_check_laws::program_laws::kept_programs_resolve;
 use ss_check_laws::size_laws::laws as laws_of_nodes;
 use ss_check_programs::resolve;
 use ss_check_rules::judge;
-use ss_check_scopes::{Locals, ProgramGlobals};
+use ss_check_scopes::{LocalModes, ProgramGlobals};
 use ss_program::checked::Checked;
 use ss_tables::Tables;
 use ss_tree::program::Program;
@@ -31,10 +31,10 @@ fn keep_rules(
     alloc: Global,
     program: &Program,
     globals: &ProgramGlobals,
-) -> Result<Vec<Locals>, CheckError>
+) -> Result<Vec<LocalModes>, CheckError>
     ensures locals { IfOk result (λ found. found.items ≡ map (locals_of (whole_in globals.now.names globals.now.signatures.items)) (map view_section program.now.sections.items)) }
-    ensures kept { OnOk result (refusal (whole_in globals.now.names globals.now.signatures.items) (view_program program.now) ≡ None) }
-    ensures refused { IfErr result (λ e. Reports e (refusal (whole_in globals.now.names globals.now.signatures.items) (view_program program.now))) }
+    ensures kept { OnOk result (refusal_of_uses (whole_in globals.now.names globals.now.signatures.items) (view_program program.now) ≡ None) }
+    ensures refused { IfErr result (λ e. ReportsCheckError e (refusal_of_uses (whole_in globals.now.names globals.now.signatures.items) (view_program program.now))) }
 {
     let (broken, locals) = judge(alloc, program, globals)?;
     match broken {
@@ -50,7 +50,7 @@ fn judged(alloc: Global, program: &Program, globals: &ProgramGlobals) -> Result<
     requires declared { declared_refusal (view_program program.now) ≡ None }
     ensures checked { IfOk result (λ c. Becomes (view_program program.now) (program_in c)) }
     ensures nodes { IfOk result (λ c. nodes (program_seen (program_in c)) ≤ tree_nodes (view_program program.now)) }
-    ensures refused { IfErr result (λ e. Reports e (refusal_of (view_program program.now))) }
+    ensures refused { IfErr result (λ e. ReportsCheckError e (refusal_of (view_program program.now))) }
 {
     kept_programs_resolve();
     laws_of_nodes();
@@ -66,7 +66,7 @@ fn checked(alloc: Global, program: &Program, tables: Tables) -> Result<Checked, 
     requires tables { AreTablesOf (view_program program.now) tables }
     ensures checked { IfOk result (λ c. Becomes (view_program program.now) (program_in c)) }
     ensures nodes { IfOk result (λ c. nodes (program_seen (program_in c)) ≤ tree_nodes (view_program program.now)) }
-    ensures refused { IfErr result (λ e. Reports e (refusal_of (view_program program.now))) }
+    ensures refused { IfErr result (λ e. ReportsCheckError e (refusal_of (view_program program.now))) }
 {
     let globals = ProgramGlobals::of(alloc, program, tables.into_names())?;
     let result = judged(alloc, program, &globals);
@@ -86,7 +86,7 @@ pub fn check(alloc: Global, program: Program, tables: Tables) -> Result<Checked,
     requires tables { AreTablesOf (view_program program) tables }
     ensures checked { IfOk result (λ c. Becomes (view_program program) (program_in c)) }
     ensures nodes { IfOk result (λ c. nodes (program_seen (program_in c)) ≤ tree_nodes (view_program program)) }
-    ensures refused { IfErr result (λ e. Reports e (refusal_of (view_program program))) }
+    ensures refused { IfErr result (λ e. ReportsCheckError e (refusal_of (view_program program))) }
 {
     let result = checked(alloc, &program, tables);
     release_tree(program);

@@ -2,7 +2,7 @@
 
 ghost use Rattle.std.specs.Prelude.{◌≡◌, Some};
 ghost use Rattle.ss_check.specs.declared.error.CheckError.TheVariants.{Memory};
-ghost use Rattle.ss_check.specs.Checking.{Reports};
+ghost use Rattle.ss_check.specs.Checking.{ReportsCheckError};
 
 use ss_base::Line;
 use ss_check_rules::{Broken, Rule};
@@ -55,7 +55,7 @@ impl From<AllocError> for CheckError {
 
 // The error of a program that breaks this rule first.
 pub(crate) fn error_of(broken: Broken) -> CheckError
-    ensures { Reports result (Some broken) }
+    ensures { ReportsCheckError result (Some broken) }
 {
     match broken.rule {
         Rule::NoMain => CheckError::NoMain(broken.line),

@@ -28,25 +28,25 @@ use Rattle.ss_names_meaning.specs.declared.error.ResolveError.TheVariants.{Memor
 use Rattle.ss_names_meaning.specs.Answers.{◌>>=◌, each, Fails}
 use Rattle.ss_names_meaning.specs.Contexts.{Context}
 use Rattle.ss_names_meaning.specs.Conditions.{condition}
-use Rattle.ss_names_meaning.specs.Heads.{guard, head, phrase, phrases_of}
-use Rattle.ss_names_meaning.specs.Statements.{find, find_by, for_over, if_over, inner, loop, statement, statements}
+use Rattle.ss_names_meaning.specs.Heads.{guard, head, resolved_phrase, phrases_of}
+use Rattle.ss_names_meaning.specs.Statements.{find, find_by, for_over, if_over, inner, resolved_loop, statement, statements}
 use Rattle.ss_names_meaning.proofs.Steps.{none_after}
 
 -- ---- loops around resolved statements
 
 pub find_made : (c : Context) (line : Line) (t : HeadTree) (h : Head) (ps : Vec Phrase) (a b : Vec Made) →
-    head c t ≡ Some (head_seen h) → each (phrase c) (phrases_of t) ≡ Some (map phrase_seen ps.items) →
+    head c t ≡ Some (head_seen h) → each (resolved_phrase c) (phrases_of t) ≡ Some (map phrase_seen ps.items) →
     find line c t (view_body a.items) (view_body b.items) ≡ Some (view_made (made.Find line h ps a b))
 find_made c line t h ps a b p q = rw (p, q) (ap (λ z. Some z) (sym (find_seen line h ps a b)))
 
 pub for_made : (c : Context) (line : Line) (t : HeadTree) (h : Head) (ps : Vec Phrase) (a : Vec Made) →
-    head c t ≡ Some (head_seen h) → each (phrase c) (phrases_of t) ≡ Some (map phrase_seen ps.items) →
+    head c t ≡ Some (head_seen h) → each (resolved_phrase c) (phrases_of t) ≡ Some (map phrase_seen ps.items) →
     for_over line c t (view_body a.items) ≡ Some (view_made (made.For line h ps a))
 for_made c line t h ps a p q = rw (p, q) (ap (λ z. Some z) (sym (for_seen line h ps a)))
 
 pub loop_made : (c : Context) (line : Line) (t : LoopHeadTree) (gs : List GuardTree) (rs : Vec Guard) (a : Vec Made) →
     t ≡ guarded gs → each (guard c) gs ≡ Some (map guard_seen rs.items) →
-    loop line c t (view_body a.items) ≡ Some (view_made (made.Loop line rs a))
+    resolved_loop line c t (view_body a.items) ≡ Some (view_made (made.Loop line rs a))
 loop_made c line t gs rs a is q = rw (is, q) (ap (λ z. Some z) (sym (loop_seen line rs a)))
 
 -- ---- statements that have statements in them
@@ -80,7 +80,7 @@ one_missing (Some x) d f h = absurd cc
 no_inner : (c : Context) (t : StatementTree) → inner c t ≡ None → statement c t ≡ None
 unfolding statement
 no_inner c (if_statement line test first second) h = both_missing (statements c first) (statements c second) (λ a b. if_over line c test a b) h
-no_inner c (loop_statement line over row) h = one_missing (statements c row) Done (loop line c over) h
+no_inner c (loop_statement line over row) h = one_missing (statements c row) Done (resolved_loop line c over) h
 no_inner c (find_if_statement line over outcome first second) h = both_missing (statements c first) (statements c second) (λ a b. find_by outcome line c over a b) h
 no_inner c _ h = absurd cc
 
@@ -97,11 +97,11 @@ if_around c t line x a b p q is h =
     sym (ap (statement c) e ∙ f)
 
 pub loop_around : (c : Context) (t : Parsed) (line : Line) (x : LoopHead) (a : Vec Parsed) (p q : Block) →
-    t ≡ parsed.Loop line x a → inner c (view_statement t) ≡ Some (p, q) → loop line c (view_loop_head x) p ≡ statement c (view_statement t)
+    t ≡ parsed.Loop line x a → inner c (view_statement t) ≡ Some (p, q) → resolved_loop line c (view_loop_head x) p ≡ statement c (view_statement t)
 unfolding statement
 loop_around c t line x a p q is h =
     let e = ap view_statement is ∙ view_loop_made line x a in
-    let f = one_found (statements c (statement_row (map view_statement a.items))) Done (loop line c (view_loop_head x)) p q (subst (λ z. inner c z ≡ Some (p, q)) e h) in
+    let f = one_found (statements c (statement_row (map view_statement a.items))) Done (resolved_loop line c (view_loop_head x)) p q (subst (λ z. inner c z ≡ Some (p, q)) e h) in
     sym (ap (statement c) e ∙ f)
 
 pub find_if_around : (c : Context) (t : Parsed) (line : Line) (x : HeadParsed) (o : FindOutcome) (a b : Vec Parsed) (p q : Block) →

@@ -24,7 +24,7 @@ use Rattle.ss_names_meaning.specs.declared.error.ResolveError.{ResolveError}
 use Rattle.ss_names_meaning.specs.declared.error.ResolveError.TheVariants.{Memory, Unresolved}
 use Rattle.ss_names_meaning.specs.Answers.{◌>>=◌, Fails}
 use Rattle.ss_names_meaning.specs.Contexts.{Context}
-use Rattle.ss_names_meaning.specs.Expressions.{operator_of, expression, subscript, one, two, factors, terms}
+use Rattle.ss_names_meaning.specs.Expressions.{resolved_operator, expression, subscript, one, two, factors, terms}
 use Rattle.ss_names_meaning.proofs.Steps.{fails_then, none_after, some_after}
 
 -- ---- the items of a vector
@@ -144,14 +144,14 @@ factors_more c (f ∷ es) e left r x h k =
     (λ y q. factors_more c es e (Calculate Multiply left y) r x q k)
 
 terms_more : (c : Context) (es : List (SignWord × ExpressionTree)) (e : SignWord × ExpressionTree) (left r x : Expression) →
-    terms c left (term_row es) ≡ Some r → expression c e.1 ≡ Some x → terms c left (term_row (es ++ e ∷ [])) ≡ Some (Calculate (operator_of e.0) r x)
+    terms c left (term_row es) ≡ Some r → expression c e.1 ≡ Some x → terms c left (term_row (es ++ e ∷ [])) ≡ Some (Calculate (resolved_operator e.0) r x)
 unfolding expression terms
 terms_more c [] e left r x h k =
     let same : left ≡ r = cc in
     rw (k, same) refl
 terms_more c (f ∷ es) e left r x h k =
-    some_after (expression c f.1) (λ y. terms c (Calculate (operator_of f.0) left y) (term_row es)) (λ y. terms c (Calculate (operator_of f.0) left y) (term_row (es ++ e ∷ []))) r (Calculate (operator_of e.0) r x) h
-    (λ y q. terms_more c es e (Calculate (operator_of f.0) left y) r x q k)
+    some_after (expression c f.1) (λ y. terms c (Calculate (resolved_operator f.0) left y) (term_row es)) (λ y. terms c (Calculate (resolved_operator f.0) left y) (term_row (es ++ e ∷ []))) r (Calculate (resolved_operator e.0) r x) h
+    (λ y q. terms_more c es e (Calculate (resolved_operator f.0) left y) r x q k)
 
 factors_none : (c : Context) (xs : List Parsed) (i : ℕ) (d : Parsed) (left : Expression) → i < length xs →
     expression c (view_expression (get_or xs i d)) ≡ None → factors c left (expression_row (map view_expression xs)) ≡ None
@@ -167,7 +167,7 @@ unfolding expression terms
 terms_none c [] i d left lt h = absurd (omega (arith, lt))
 terms_none c (x ∷ xs) zero d left lt h = rw h refl
 terms_none c (x ∷ xs) (suc i) d left lt h =
-    none_after (expression c (view_expression x.value)) (λ y. terms c (Calculate (operator_of x.sign) left y) (term_row (map view_term xs))) (λ y. terms_none c xs i d (Calculate (operator_of x.sign) left y) (omega (arith, lt)) h)
+    none_after (expression c (view_expression x.value)) (λ y. terms c (Calculate (resolved_operator x.sign) left y) (term_row (map view_term xs))) (λ y. terms_none c xs i d (Calculate (resolved_operator x.sign) left y) (omega (arith, lt)) h)
 
 pub factors_fail : (c : Context) (xs : List Parsed) (i : ℕ) (x : Parsed) (e : ResolveError) (left : Expression) → i < length xs → x ≡ get_or xs i x →
     Fails e (expression c (view_expression x)) → Fails e (factors c left (expression_row (map view_expression xs)))
@@ -205,7 +205,7 @@ factors_next c xs i x old new o lt is e m h g left =
     rw (taken, grown, m) (factors_more c before (view_expression x) left (fold with_operation left old) (view_made o.operand) (h left) g)
 
 pub terms_next : (c : Context) (xs : List Term) (i : ℕ) (x : Term) (old new : List Operation) (o : Operation) →
-    i < length xs → x ≡ get_or xs i x → new ≡ old ++ o ∷ [] → o.operator ≡ operator_of x.sign →
+    i < length xs → x ≡ get_or xs i x → new ≡ old ++ o ∷ [] → o.operator ≡ resolved_operator x.sign →
     ((left : Expression) → terms c left (term_row (map view_term (take i xs))) ≡ Some (fold with_operation left old)) →
     expression c (view_expression x.value) ≡ Some (view_made o.operand) →
     (left : Expression) → terms c left (term_row (map view_term (take (i + 1) xs))) ≡ Some (fold with_operation left new)

@@ -12,18 +12,18 @@ use Rattle.ss_names_meaning.specs.declared.error.ResolveError.{ResolveError}
 use Rattle.ss_names_meaning.specs.Answers.{◌>>=◌, each}
 use Rattle.ss_names_meaning.specs.Contexts.{Context}
 use Rattle.ss_names_meaning.specs.Expressions.{two}
-use Rattle.ss_names_meaning.specs.Heads.{head, phrase, phrases_of}
+use Rattle.ss_names_meaning.specs.Heads.{head, resolved_phrase, phrases_of}
 
 -- what was made first, beside what was made next, unless that failed
-abbrev pub Beside : {A B : Type 0} → A → Result B ResolveError → Result (A × B) ResolveError → Type 0
-Beside first next (Ok p) = (p.0 ≡ first) × (next ≡ Ok p.1)
-Beside first next (Err e) = next ≡ Err e
+abbrev pub MadeBeside : {A B : Type 0} → A → Result B ResolveError → Result (A × B) ResolveError → Type 0
+MadeBeside first next (Ok p) = (p.0 ≡ first) × (next ≡ Ok p.1)
+MadeBeside first next (Err e) = next ≡ Err e
 
 -- what a FOR goes over, and its phrases
-abbrev pub over : Context → HeadTree → Option (Head × List Phrase)
-over c t = do
+abbrev pub resolved_over : Context → HeadTree → Option (Head × List Phrase)
+resolved_over c t = do
   h ← head c t
-  phrases ← each (phrase c) (phrases_of t)
+  phrases ← each (resolved_phrase c) (phrases_of t)
   Some (h, phrases)
 
 abbrev pub over_seen : HeadMade × Vec PhraseMade → Head × List Phrase

@@ -9,7 +9,7 @@ ghost use Rattle.ss_names_meaning.specs.Conditions.{condition, conjunction, one_
 use crate::expressions::resolve_expression;
 use crate::places::resolve_set;
 use crate::results::beside;
-use crate::words::relation_of;
+use crate::words::resolved_relation;
 use ss_names_meaning::{ResolveError, Scope};
 use ss_program::condition::{
     Condition as ResolvedCondition, Conjunction as ResolvedConjunction, Test as ResolvedTest,
@@ -36,7 +36,7 @@ fn resolve_test<S: Scope>(
             let (left, right) = beside(left, resolve_expression(alloc, scope, right))?;
             Ok(ResolvedTest::Compare {
                 left,
-                relation: relation_of(*relation),
+                relation: resolved_relation(*relation),
                 right,
             })
         }

@@ -11,7 +11,7 @@ use crate::classes::{all_counted, single_class};
 use crate::expressions::resolve_expression;
 use crate::places::{resolve_entity_called, resolve_new_place, resolve_set, resolve_target};
 use crate::results::beside;
-use crate::words::end_of;
+use crate::words::resolved_end;
 use ss_base::{Line, Name};
 use ss_names_meaning::{ResolveError, Scope};
 use ss_program::statement::{Position as ResolvedPosition, Statement as Resolved};
@@ -136,7 +136,7 @@ pub(crate) fn resolve_remove_end<S: Scope>(
     let (into, (set, owner)) = beside(into, resolve_set(alloc, scope, set))?;
     Ok(Resolved::RemoveEnd {
         line,
-        end: end_of(end),
+        end: resolved_end(end),
         set,
         into,
         owner,

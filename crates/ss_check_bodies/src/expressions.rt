@@ -8,11 +8,11 @@ ghost use Rattle.ss_program.specs.Program.{Calculate};
 ghost use Rattle.ss_program.specs.View.{view_expression as view_resolved, view_option};
 ghost use Rattle.ss_program.specs.Views.{with_operation};
 ghost use Rattle.ss_names_meaning.specs.Answers.{Gives};
-ghost use Rattle.ss_names_meaning.specs.Expressions.{entity_of, expression, factors, one, plain, subscript, terms, time_of, two, value_of};
+ghost use Rattle.ss_names_meaning.specs.Expressions.{entity_of, expression, factors, one, without_subscript, subscript, terms, resolved_time, two, resolved_value};
 ghost use Rattle.ss_check_bodies.specs.Results.{operation};
 
 use crate::results::unresolved;
-use crate::words::{operator_of, sign_of};
+use crate::words::{resolved_operator, resolved_sign};
 use ss_base::Value;
 use ss_names_meaning::{Meaning, ResolveError, Scope};
 use ss_program::expression::{Expression as Resolved, Operation, Operator, Variable};
@@ -33,8 +33,11 @@ pub(crate) fn entity_of(implied: Variable, subscript: Option<Resolved>) -> Resol
 }
 
 /// What takes no subscript.
-pub(crate) fn plain<T: Drop>(subscript: Option<Resolved>, value: T) -> Result<T, ResolveError>
-    ensures { Gives (λ x. x) result (plain (view_option view_resolved subscript) value) }
+pub(crate) fn without_subscript<T: Drop>(
+    subscript: Option<Resolved>,
+    value: T,
+) -> Result<T, ResolveError>
+    ensures { Gives (λ x. x) result (without_subscript (view_option view_resolved subscript) value) }
 {
     match subscript {
         Some(_) => Err(ResolveError::Unresolved),
@@ -44,8 +47,8 @@ pub(crate) fn plain<T: Drop>(subscript: Option<Resolved>, value: T) -> Result<T,
 
 // TIME.A.
 #[tactic(auto, unfolding(ss_program::specs::View::view_expression))]
-fn time_of(alloc: Global, subscript: Option<Resolved>) -> Result<Resolved, ResolveError>
-    ensures { Gives view_resolved result (time_of (view_option view_resolved subscript)) }
+fn resolved_time(alloc: Global, subscript: Option<Resolved>) -> Result<Resolved, ResolveError>
+    ensures { Gives view_resolved result (resolved_time (view_option view_resolved subscript)) }
 {
     match subscript {
         Some(notice) => {
@@ -58,20 +61,23 @@ fn time_of(alloc: Global, subscript: Option<Resolved>) -> Result<Resolved, Resol
 
 // The value of what is named, with the subscript if there is one; a mean is no value.
 #[tactic(auto, unfolding(ss_program::specs::View::view_expression), using(crate::proofs::Seen::plain_seen))]
-pub(crate) fn value_of(
+pub(crate) fn resolved_value(
     alloc: Global,
     meaning: Meaning,
     subscript: Option<Resolved>,
 ) -> Result<Resolved, ResolveError>
-    ensures { Gives view_resolved result (value_of meaning (view_option view_resolved subscript)) }
+    ensures { Gives view_resolved result (resolved_value meaning (view_option view_resolved subscript)) }
 {
     match meaning {
-        Meaning::Variable { variable, .. } => plain(subscript, Resolved::Fetch { variable }),
+        Meaning::Variable { variable, .. } => without_subscript(
+            subscript,
+            Resolved::Fetch { variable },
+        ),
         Meaning::Count { count } => {
             let variable = Variable::Global {
                 number: count.variable,
             };
-            plain(subscript, Resolved::Fetch { variable })
+            without_subscript(subscript, Resolved::Fetch { variable })
         }
         Meaning::Attribute {
             class,
@@ -83,7 +89,7 @@ pub(crate) fn value_of(
             Ok(Resolved::Attribute { class, field, of })
         }
         Meaning::OfSystemSet { query, set } => {
-            plain(subscript, Resolved::OfSystemSet { query, set })
+            without_subscript(subscript, Resolved::OfSystemSet { query, set })
         }
         Meaning::OfSet {
             query,
@@ -102,7 +108,7 @@ pub(crate) fn value_of(
             Ok(Resolved::OfMember { query, set, member })
         }
         Meaning::Figure { fold, statistic } => {
-            plain(subscript, Resolved::Figure { fold, statistic })
+            without_subscript(subscript, Resolved::Figure { fold, statistic })
         }
         Meaning::FigureOf {
             fold,
@@ -116,8 +122,8 @@ pub(crate) fn value_of(
                 entity,
             })
         }
-        Meaning::Clock => plain(subscript, Resolved::Clock),
-        Meaning::NoticeTime => time_of(alloc, subscript),
+        Meaning::Clock => without_subscript(subscript, Resolved::Clock),
+        Meaning::NoticeTime => resolved_time(alloc, subscript),
         Meaning::Mean { .. } | Meaning::MeanOf { .. } => Err(unresolved(subscript)),
     }
 }
@@ -159,7 +165,7 @@ pub(crate) fn resolve_expression<S: Scope>(
             let term = resolve_expression(alloc, scope, term)?;
             let term = Box::new(alloc, term)?;
             Ok(Resolved::Signed {
-                sign: sign_of(*sign),
+                sign: resolved_sign(*sign),
                 term,
             })
         }
@@ -185,7 +191,7 @@ fn resolve_named<S: Scope>(
 {
     let meaning = scope.meaning(designator)?;
     let subscript = resolve_subscript(alloc, scope, subscripts)?;
-    value_of(alloc, meaning, subscript)
+    resolved_value(alloc, meaning, subscript)
 }
 
 // The subscript, if there is one.
@@ -319,7 +325,7 @@ fn resolve_terms<S: Scope>(
     for tree in trees {
         let operand = resolve_expression(alloc, scope, &tree.value)?;
         operations.push(Operation {
-            operator: operator_of(tree.sign),
+            operator: resolved_operator(tree.sign),
             operand,
         })?;
     }

@@ -6,7 +6,7 @@ ghost use Rattle.ss_program.specs.View.{view_expression as view_resolved, view_g
 ghost use Rattle.ss_names_meaning.specs.Answers.{Gives, each, if_there};
 ghost use Rattle.ss_names_meaning.specs.Contexts.{if_permanent, permanent_class};
 ghost use Rattle.ss_names_meaning.specs.Expressions.{expression};
-ghost use Rattle.ss_names_meaning.specs.Heads.{called_variable, guard, head, if_variable, loop_variable, phrase, phrases_of, start};
+ghost use Rattle.ss_names_meaning.specs.Heads.{called_variable, guard, head, if_variable, loop_variable, resolved_phrase, phrases_of, resolved_start};
 
 use crate::classes::permanent_class;
 use crate::conditions::resolve_condition;
@@ -32,7 +32,7 @@ fn resolve_phrase<S: Scope>(
     scope: &S,
     tree: &Phrase,
 ) -> Result<ResolvedPhrase, ResolveError>
-    ensures { Gives phrase_seen result (phrase (S.context scope.now) (view_phrase tree.now)) }
+    ensures { Gives phrase_seen result (resolved_phrase (S.context scope.now) (view_phrase tree.now)) }
 {
     let condition = resolve_condition(alloc, scope, &tree.condition)?;
     Ok(ResolvedPhrase {
@@ -47,7 +47,7 @@ pub(crate) fn resolve_phrases<S: Scope>(
     scope: &S,
     trees: &[Phrase],
 ) -> Result<Vec<ResolvedPhrase>, ResolveError>
-    ensures { Gives (λ v. map phrase_seen v.items) result (each (phrase (S.context scope.now)) (map view_phrase trees.now)) }
+    ensures { Gives (λ v. map phrase_seen v.items) result (each (resolved_phrase (S.context scope.now)) (map view_phrase trees.now)) }
 {
     let mut resolved = Vec::new(alloc);
     for tree in trees {
@@ -148,7 +148,7 @@ fn resolve_start<S: Scope>(
     scope: &S,
     tree: &MemberStart,
 ) -> Result<Start, ResolveError>
-    ensures { Gives start_seen result (start (S.context scope.now) (view_start tree.now)) }
+    ensures { Gives start_seen result (resolved_start (S.context scope.now) (view_start tree.now)) }
 {
     match tree {
         MemberStart::End => Ok(Start::AtEnd),
@@ -211,18 +211,21 @@ pub(crate) fn resolve_head<S: Scope>(
         Head::Members {
             variable,
             set,
-            start,
+            resolved_start,
             reverse,
             ..
         } => {
             let variable = loop_variable(scope, *variable)?;
             let set = resolve_set(alloc, scope, set)?;
-            let ((set, owner), start) = beside(set, resolve_start(alloc, scope, start))?;
+            let ((set, owner), resolved_start) = beside(
+                set,
+                resolve_start(alloc, scope, resolved_start),
+            )?;
             Ok(ResolvedHead::Members {
                 variable,
                 set,
                 owner,
-                start,
+                resolved_start,
                 reverse: *reverse,
             })
         }

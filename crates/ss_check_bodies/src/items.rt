@@ -6,9 +6,11 @@ ghost use Rattle.ss_tree.specs.View.{view_expression};
 ghost use Rattle.ss_program.specs.Program.{AValue};
 ghost use Rattle.ss_program.specs.View.{view_expression as view_resolved, view_item, view_option};
 ghost use Rattle.ss_names_meaning.specs.Answers.{Gives, each};
-ghost use Rattle.ss_names_meaning.specs.Expressions.{expression, item, item_of, value_of};
+ghost use Rattle.ss_names_meaning.specs.Expressions.{expression, item, resolved_item, resolved_value};
 
-use crate::expressions::{entity_of, plain, resolve_expression, resolve_subscript, value_of};
+use crate::expressions::{
+    entity_of, resolve_expression, resolve_subscript, resolved_value, without_subscript,
+};
 use ss_names_meaning::{Meaning, ResolveError, Scope};
 use ss_program::expression::Expression as Resolved;
 use ss_program::statement::Item;
@@ -23,23 +25,23 @@ fn named_value(
     meaning: Meaning,
     subscript: Option<Resolved>,
 ) -> Result<Item, ResolveError>
-    ensures { Gives view_item result (option_map AValue (value_of meaning (view_option view_resolved subscript))) }
+    ensures { Gives view_item result (option_map AValue (resolved_value meaning (view_option view_resolved subscript))) }
 {
-    let value = value_of(alloc, meaning, subscript)?;
+    let value = resolved_value(alloc, meaning, subscript)?;
     Ok(Item::Value { value })
 }
 
 // What PRINT shows of what is named, with the subscript if there is one.
 #[tactic(auto, using(crate::proofs::Seen::plain_seen))]
-fn item_of(
+fn resolved_item(
     alloc: Global,
     meaning: Meaning,
     subscript: Option<Resolved>,
 ) -> Result<Item, ResolveError>
-    ensures { Gives view_item result (item_of meaning (view_option view_resolved subscript)) }
+    ensures { Gives view_item result (resolved_item meaning (view_option view_resolved subscript)) }
 {
     match meaning {
-        Meaning::Mean { statistic } => plain(subscript, Item::Mean { statistic }),
+        Meaning::Mean { statistic } => without_subscript(subscript, Item::Mean { statistic }),
         Meaning::MeanOf { statistic, implied } => {
             let entity = entity_of(implied, subscript);
             Ok(Item::MeanOf { statistic, entity })
@@ -70,7 +72,7 @@ fn resolve_named<S: Scope>(
 {
     let meaning = scope.meaning(designator)?;
     let subscript = resolve_subscript(alloc, scope, subscripts)?;
-    item_of(alloc, meaning, subscript)
+    resolved_item(alloc, meaning, subscript)
 }
 
 // A value.

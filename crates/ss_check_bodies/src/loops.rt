@@ -4,8 +4,8 @@ ghost use Rattle.std.specs.Prelude.{◌≡◌};
 ghost use Rattle.ss_tree.specs.View.{view_head, view_loop_head};
 ghost use Rattle.ss_program.specs.View.{view_body, view_statement as view_resolved};
 ghost use Rattle.ss_names_meaning.specs.Answers.{Gives};
-ghost use Rattle.ss_names_meaning.specs.Statements.{find, find_by, for_over, loop};
-ghost use Rattle.ss_check_bodies.specs.Results.{over, over_seen};
+ghost use Rattle.ss_names_meaning.specs.Statements.{find, find_by, for_over, resolved_loop};
+ghost use Rattle.ss_check_bodies.specs.Results.{resolved_over, over_seen};
 
 use crate::heads::{phrases_of, resolve_guards, resolve_head, resolve_phrases};
 use crate::results::beside;
@@ -23,7 +23,7 @@ fn resolve_over<S: Scope>(
     scope: &S,
     head: &Head,
 ) -> Result<(ResolvedHead, Vec<Phrase>), ResolveError>
-    ensures { Gives over_seen result (over (S.context scope.now) (view_head head.now)) }
+    ensures { Gives over_seen result (resolved_over (S.context scope.now) (view_head head.now)) }
 {
     let over = resolve_head(alloc, scope, head)?;
     beside(over, resolve_phrases(alloc, scope, phrases_of(head)))
@@ -56,7 +56,7 @@ pub(crate) fn resolve_loop<S: Scope>(
     head: &LoopHead,
     body: Vec<Resolved>,
 ) -> Result<Resolved, ResolveError>
-    ensures { Gives view_resolved result (loop line (S.context scope.now) (view_loop_head head.now) (view_body body.items)) }
+    ensures { Gives view_resolved result (resolved_loop line (S.context scope.now) (view_loop_head head.now) (view_body body.items)) }
 {
     match head {
         LoopHead::For(head) => resolve_for(alloc, scope, line, head, body),

@@ -4,10 +4,10 @@ ghost use Rattle.std.specs.Prelude.{◌≡◌, map, Some, None};
 ghost use Rattle.ss_tree.specs.View.{view_expression, view_named, view_option};
 ghost use Rattle.ss_program.specs.View.{view_expression as view_resolved, view_option as option_seen, view_owner, view_place, view_restart, view_target};
 ghost use Rattle.ss_names_meaning.specs.Answers.{Gives, each};
-ghost use Rattle.ss_names_meaning.specs.Expressions.{owned_by, place_of, set_named, target};
-ghost use Rattle.ss_names_meaning.specs.Statements.{entity_called, mode_of, new_place, reader, restart, owner_of_statistic};
+ghost use Rattle.ss_names_meaning.specs.Expressions.{resolved_set, place_of, set_named, target};
+ghost use Rattle.ss_names_meaning.specs.Statements.{entity_called, mode_of_target, new_place, reader, restart, owner_of_statistic};
 
-use crate::expressions::{entity_of, plain, resolve_expression, resolve_subscript};
+use crate::expressions::{entity_of, resolve_expression, resolve_subscript, without_subscript};
 use ss_base::Mode;
 use ss_names_meaning::{Meaning, ResolveError, Scope, SetMeant};
 use ss_program::expression::{Expression as Resolved, SetOwner, Variable};
@@ -23,8 +23,11 @@ fn place_of(meaning: Meaning, subscript: Option<Resolved>) -> Result<Place, Reso
     ensures { Gives view_place result (place_of meaning (option_seen view_resolved subscript)) }
 {
     match meaning {
-        Meaning::Variable { variable, .. } => plain(subscript, Place::ToVariable { variable }),
-        Meaning::Count { count } => plain(subscript, Place::ToCount { count }),
+        Meaning::Variable { variable, .. } => without_subscript(
+            subscript,
+            Place::ToVariable { variable },
+        ),
+        Meaning::Count { count } => without_subscript(subscript, Place::ToCount { count }),
         Meaning::Attribute {
             class,
             field,
@@ -77,7 +80,7 @@ pub(crate) fn resolve_targets<S: Scope>(
 
 // The mode of a target.
 fn mode_of(meaning: Meaning) -> Result<Mode, ResolveError>
-    ensures { Gives (λ x. x) result (mode_of meaning) }
+    ensures { Gives (λ x. x) result (mode_of_target meaning) }
 {
     let mode = match meaning {
         Meaning::Variable { mode, .. } => mode,
@@ -157,11 +160,14 @@ pub(crate) fn resolve_entity_called<S: Scope>(
 
 // The number of a set, and its owner.
 #[tactic(auto, using(crate::proofs::Seen::plain_seen))]
-fn owned_by(set: SetMeant, subscript: Option<Resolved>) -> Result<(usize, SetOwner), ResolveError>
-    ensures { Gives (λ p. (p.0, view_owner p.1)) result (owned_by set (option_seen view_resolved subscript)) }
+fn resolved_set(
+    set: SetMeant,
+    subscript: Option<Resolved>,
+) -> Result<(usize, SetOwner), ResolveError>
+    ensures { Gives (λ p. (p.0, view_owner p.1)) result (resolved_set set (option_seen view_resolved subscript)) }
 {
     match set {
-        SetMeant::OfSystem { set } => plain(subscript, (set, SetOwner::TheSystem)),
+        SetMeant::OfSystem { set } => without_subscript(subscript, (set, SetOwner::TheSystem)),
         SetMeant::OfEntity { set, implied } => {
             let entity = entity_of(implied, subscript);
             Ok((set, SetOwner::Entity { entity }))
@@ -179,7 +185,7 @@ pub(crate) fn resolve_set<S: Scope>(
 {
     let set = scope.set(tree.designator)?;
     let subscript = resolve_subscript(alloc, scope, &tree.subscripts)?;
-    owned_by(set, subscript)
+    resolved_set(set, subscript)
 }
 
 // ---- statistics
@@ -194,11 +200,11 @@ fn owner_of_statistic(
 {
     match meaning {
         Meaning::Variable { variable, .. } => match variable {
-            Variable::Global { .. } => plain(subscript, None),
+            Variable::Global { .. } => without_subscript(subscript, None),
             Variable::Local { .. } => Err(ResolveError::Unresolved),
         },
         Meaning::Attribute { implied, .. } => Ok(Some(entity_of(implied, subscript))),
-        Meaning::OfSystemSet { .. } => plain(subscript, None),
+        Meaning::OfSystemSet { .. } => without_subscript(subscript, None),
         Meaning::OfSet { implied, .. } => Ok(Some(entity_of(implied, subscript))),
         Meaning::Count { .. }
         | Meaning::OfMember { .. }

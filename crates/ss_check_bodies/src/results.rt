@@ -3,7 +3,7 @@
 ghost use Rattle.std.specs.Prelude.{◌≡◌};
 ghost use Rattle.ss_names_meaning.specs.declared.error.ResolveError.TheVariants.{Unresolved};
 ghost use Rattle.ss_names_meaning.specs.Answers.{Gives, where_holds};
-ghost use Rattle.ss_check_bodies.specs.Results.{Beside};
+ghost use Rattle.ss_check_bodies.specs.Results.{MadeBeside};
 
 use ss_names_meaning::ResolveError;
 
@@ -12,7 +12,7 @@ pub(crate) fn beside<A: Drop, B>(
     first: A,
     next: Result<B, ResolveError>,
 ) -> Result<(A, B), ResolveError>
-    ensures { Beside first next result }
+    ensures { MadeBeside first next result }
 {
     match next {
         Ok(next) => Ok((first, next)),

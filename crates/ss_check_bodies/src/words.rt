@@ -1,10 +1,10 @@
 //! Words whose meaning no name changes: relations, operators, signs and ends.
 
 ghost use Rattle.std.specs.Prelude.{◌≡◌};
-ghost use Rattle.ss_names_meaning.specs.Conditions.{relation_of};
-ghost use Rattle.ss_names_meaning.specs.Expressions.{operator_of, sign_of};
+ghost use Rattle.ss_names_meaning.specs.Conditions.{resolved_relation};
+ghost use Rattle.ss_names_meaning.specs.Expressions.{resolved_operator, resolved_sign};
 ghost use Rattle.ss_names_meaning.specs.Heads.{guard_kind_of, phrase_kind_of};
-ghost use Rattle.ss_names_meaning.specs.Statements.{end_of};
+ghost use Rattle.ss_names_meaning.specs.Statements.{resolved_end};
 
 use ss_program::condition::Relation;
 use ss_program::expression::{Operator, Sign};
@@ -16,8 +16,8 @@ use ss_tree::head::{GuardKind as GuardWord, PhraseKind as PhraseWord};
 use ss_tree::statement::SetEnd as EndWord;
 
 // The sign before a term.
-pub(crate) fn sign_of(sign: SignWord) -> Sign
-    ensures { result ≡ sign_of sign }
+pub(crate) fn resolved_sign(sign: SignWord) -> Sign
+    ensures { result ≡ resolved_sign sign }
 {
     match sign {
         SignWord::Plus => Sign::Plus,
@@ -26,8 +26,8 @@ pub(crate) fn sign_of(sign: SignWord) -> Sign
 }
 
 // What joins a further term to a sum.
-pub(crate) fn operator_of(sign: SignWord) -> Operator
-    ensures { result ≡ operator_of sign }
+pub(crate) fn resolved_operator(sign: SignWord) -> Operator
+    ensures { result ≡ resolved_operator sign }
 {
     match sign {
         SignWord::Plus => Operator::Add,
@@ -36,8 +36,8 @@ pub(crate) fn operator_of(sign: SignWord) -> Operator
 }
 
 // How two values compare.
-pub(crate) fn relation_of(relation: RelationWord) -> Relation
-    ensures { result ≡ relation_of relation }
+pub(crate) fn resolved_relation(relation: RelationWord) -> Relation
+    ensures { result ≡ resolved_relation relation }
 {
     match relation {
         RelationWord::Equal => Relation::Equal,
@@ -72,8 +72,8 @@ pub(crate) fn guard_kind_of(kind: GuardWord) -> GuardKind
 }
 
 // An end of a set.
-pub(crate) fn end_of(end: EndWord) -> End
-    ensures { result ≡ end_of end }
+pub(crate) fn resolved_end(end: EndWord) -> End
+    ensures { result ≡ resolved_end end }
 {
     match end {
         EndWord::First => End::First,

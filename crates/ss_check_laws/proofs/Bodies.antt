@@ -16,11 +16,11 @@ use Rattle.ss_program.specs.WellTyped.{Scope, Good, GoodBlock}
 use Rattle.ss_names_meaning.specs.Answers.{each}
 use Rattle.ss_names_meaning.specs.Contexts.{Context}
 use Rattle.ss_names_meaning.specs.Conditions.{condition}
-use Rattle.ss_names_meaning.specs.Heads.{phrase, guard, phrases_of, head}
-use Rattle.ss_names_meaning.specs.Statements.{find, find_by, for_over, if_over, loop, statement, statements}
+use Rattle.ss_names_meaning.specs.Heads.{resolved_phrase, guard, phrases_of, head}
+use Rattle.ss_names_meaning.specs.Statements.{find, find_by, for_over, if_over, resolved_loop, statement, statements}
 use Rattle.ss_names_laws.specs.Rules.{KeptMention, KeptMentions, KeptDemands}
 use Rattle.ss_check_laws.specs.Rules.{KeptStarts}
-use Rattle.ss_check_laws.specs.Links.{Linked}
+use Rattle.ss_check_laws.specs.Links.{ContextAgrees}
 use Rattle.ss_check_laws.specs.BodyLaws.{ConditionResolves, ForResolves, HeadResolves, BodyResolves}
 use Rattle.ss_check_laws.proofs.Steps.{left_of, right_of, step, two_steps}
 use Rattle.ss_check_laws.proofs.Conditions.{GoesWell, condition_resolves}
@@ -32,7 +32,7 @@ use Rattle.ss_check_laws.proofs.Classes.{create_resolves, create_every_resolves,
 use Rattle.ss_check_laws.proofs.Schedules.{schedule_new_resolves, schedule_resolves}
 use Rattle.ss_check_laws.proofs.Resets.{reset_resolves}
 
-module _ (w : Whole) (locals : Moded) (c : Context) (s : Scope) (linked : Linked w locals c s) where
+module _ (w : Whole) (locals : Moded) (c : Context) (s : Scope) (linked : ContextAgrees w locals c s) where
   -- ---- forms with statements in them
 
   abbrev Resolved : StatementTree → Type 0
@@ -51,10 +51,10 @@ module _ (w : Whole) (locals : Moded) (c : Context) (s : Scope) (linked : Linked
   for_made : (line : Line) (over : HeadTree) (body : Block) → ForResolves c s over → GoodBlock s body → GoesWell w locals (Good s) (for_over line c over body)
   for_made line over body h b =
       let made : Statement = For line h.0 h.3 body in
-      (made, two_steps (head c over) (each (phrase c) (phrases_of over)) (λ u v. Some (For line u v body)) h.0 h.3 made h.1 h.4 refl, (h.2, h.5, b))
+      (made, two_steps (head c over) (each (resolved_phrase c) (phrases_of over)) (λ u v. Some (For line u v body)) h.0 h.3 made h.1 h.4 refl, (h.2, h.5, b))
 
   -- a loop, with its body
-  over_made : (line : Line) (over : LoopHeadTree) (body : Block) → HeadResolves c s over → GoodBlock s body → GoesWell w locals (Good s) (loop line c over body)
+  over_made : (line : Line) (over : LoopHeadTree) (body : Block) → HeadResolves c s over → GoodBlock s body → GoesWell w locals (Good s) (resolved_loop line c over body)
   over_made line (for_head over) body h b = for_made line over body h b
   over_made line (guarded guards) body h b =
       let made : Statement = Loop line h.0 body in
@@ -64,13 +64,13 @@ module _ (w : Whole) (locals : Moded) (c : Context) (s : Scope) (linked : Linked
   unfolding statement
   loop_made line over row h b =
       let made = over_made line over b.0 h b.2 in
-      (made.0, step (statements c row) (λ u. loop line c over u) b.0 made.0 b.1 made.1, made.2)
+      (made.0, step (statements c row) (λ u. resolved_loop line c over u) b.0 made.0 b.1 made.1, made.2)
 
   -- a FIND, with what follows
   find_made : (line : Line) (over : HeadTree) (found missing : Block) → ForResolves c s over → GoodBlock s found → GoodBlock s missing → GoesWell w locals (Good s) (find line c over found missing)
   find_made line over found missing h a b =
       let made : Statement = Find line h.0 h.3 found missing in
-      (made, two_steps (head c over) (each (phrase c) (phrases_of over)) (λ u v. Some (Find line u v found missing)) h.0 h.3 made h.1 h.4 refl, (h.2, h.5, a, b))
+      (made, two_steps (head c over) (each (resolved_phrase c) (phrases_of over)) (λ u v. Some (Find line u v found missing)) h.0 h.3 made h.1 h.4 refl, (h.2, h.5, a, b))
 
   by_outcome : (outcome : FindOutcome) (line : Line) (over : HeadTree) (first second : Block) → ForResolves c s over → GoodBlock s first → GoodBlock s second → GoesWell w locals (Good s) (find_by outcome line c over first second)
   by_outcome outcomes.Found line over first second h a b = find_made line over first second h a b

@@ -9,14 +9,14 @@ use Rattle.ss_base.specs.declared.layout.Mode.{Mode}
 use Rattle.ss_tree.specs.Tree.{ExpressionTree, NamedTree, call_statement}
 use Rattle.ss_names_uses.specs.declared.mention.Role.TheVariants as roles
 use Rattle.ss_names_uses.specs.Mentions as mentioned
-use Rattle.ss_names_uses.specs.Mentions.{NameBytes}
+use Rattle.ss_tree.specs.Names.{NameBytes}
 use Rattle.ss_names_uses.specs.declared.demand.Aspect.{Aspect}
 use Rattle.ss_names_uses.specs.declared.demand.Aspect.TheVariants as aspects
 use Rattle.ss_names_uses.specs.Demands as demanded
 use Rattle.ss_check_scopes.specs.declared.known.Known.{Known}
 use Rattle.ss_check_scopes.specs.declared.known.Known.TheVariants as knowns
 use Rattle.ss_check_scopes.specs.Locals.{Moded}
-use Rattle.ss_check_scopes.specs.Whole.{Whole, mode_at}
+use Rattle.ss_check_scopes.specs.Whole.{Whole, mode_in_place}
 use Rattle.ss_check_rules.specs.Unknown.{is_routine}
 use Rattle.ss_check_rules.specs.Arguments.{is_other}
 use Rattle.ss_program.specs.Program.{Statement, Call}
@@ -26,7 +26,7 @@ use Rattle.ss_names_meaning.specs.Contexts.{Context}
 use Rattle.ss_names_meaning.specs.Expressions.{expression, target}
 use Rattle.ss_names_meaning.specs.Statements.{call_of, statement}
 use Rattle.ss_names_laws.specs.Rules.{KeptMentions, KeptDemands}
-use Rattle.ss_check_laws.specs.Links.{Linked}
+use Rattle.ss_check_laws.specs.Links.{ContextAgrees}
 use Rattle.ss_check_laws.proofs.Steps.{known_of, same_number}
 use Rattle.ss_check_laws.proofs.Heads.{ml, mr, dl, dr, three_steps}
 use Rattle.ss_check_laws.proofs.Statements.{StatementResolves}
@@ -43,10 +43,10 @@ counted count o modes e h =
     let k : not (count == length modes) ≡ false = subst (λ p. is_other count (option_map length p) ≡ false) e h in
     same_number count (length modes) k
 
-pub from_first : (o : Option (List Mode)) (modes : List Mode) → o ≡ Some modes → Follow (λ i. mode_at o i) 0 modes
+pub from_first : (o : Option (List Mode)) (modes : List Mode) → o ≡ Some modes → Follow (λ i. mode_in_place o i) 0 modes
 from_first o modes e k =
     let n : 0 + k ≡ k = omega arith in
-    ap (λ i. mode_at o i) n ∙ ap (λ p. mode_at p k) e
+    ap (λ i. mode_in_place o i) n ∙ ap (λ p. mode_in_place p k) e
 
 both_same : (a b x y : ℕ) → a ≡ x → b ≡ y → ((a == x) && (b == y)) ≡ true
 both_same a b x y h g = rw (eq-eqb a x h, eq-eqb b y g) refl
@@ -61,7 +61,7 @@ all_placed Q ys n modes e h =
     let few : length modes ≤ n = omega (arith, e) in
     subst (AllZip Q ys) (take_all n modes few) h
 
-module _ (w : Whole) (locals : Moded) (c : Context) (s : Scope) (linked : Linked w locals c s) (line : Line) where
+module _ (w : Whole) (locals : Moded) (c : Context) (s : Scope) (linked : ContextAgrees w locals c s) (line : Line) where
   pub call_resolves : (name : NameBytes) (given : List ExpressionTree) (yielding : List NamedTree) → KeptMentions w locals (mentioned.in_itself (call_statement line name given yielding)) → KeptDemands w locals (demanded.in_itself (call_statement line name given yielding)) →
       StatementResolves w locals c s linked line (call_statement line name given yielding)
   unfolding statement

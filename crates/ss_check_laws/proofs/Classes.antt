@@ -9,22 +9,22 @@ use Rattle.ss_tree.specs.declared.preamble.ClassKind.TheVariants as class_words
 use Rattle.ss_tree.specs.Tree.{ExpressionTree, NamedTree, create_statement, create_every, destroy_statement, cancel_statement}
 use Rattle.ss_names_uses.specs.declared.mention.Role.TheVariants as roles
 use Rattle.ss_names_uses.specs.Mentions as mentioned
-use Rattle.ss_names_uses.specs.Mentions.{NameBytes}
+use Rattle.ss_tree.specs.Names.{NameBytes}
 use Rattle.ss_names_uses.specs.Demands as demanded
 use Rattle.ss_check_scopes.specs.declared.known.Known.{Known}
 use Rattle.ss_check_scopes.specs.declared.known.Known.TheVariants as knowns
 use Rattle.ss_check_scopes.specs.Locals.{Moded}
 use Rattle.ss_check_scopes.specs.Whole.{Whole}
-use Rattle.ss_check_rules.specs.Unknown.{is_transient, is_notice, is_permanent}
+use Rattle.ss_check_rules.specs.Unknown.{is_transient, is_known_notice, is_known_permanent}
 use Rattle.ss_program.specs.declared.statement.Counted.{Counted}
 use Rattle.ss_program.specs.Program.{Fetch, ToVariable, Statement, Create, CreateEvery, Destroy, Cancel}
-use Rattle.ss_program.specs.WellTyped.{Scope, HasMode, TakesMode, kind_of, is_created_singly}
+use Rattle.ss_program.specs.WellTyped.{Scope, HasMode, TakesMode, kind_of_class, is_created_singly}
 use Rattle.ss_names_meaning.specs.declared.meaning.ClassMeant.{ClassMeant}
 use Rattle.ss_names_meaning.specs.Answers.{◌>>=◌, each}
 use Rattle.ss_names_meaning.specs.Contexts.{Context, if_single, if_notice, if_permanent, single_class, notice_class, permanent_class, counted}
 use Rattle.ss_names_meaning.specs.Statements.{new_place, entity_called, statement}
 use Rattle.ss_names_laws.specs.Rules.{KeptMention, KeptMentions, KeptDemands}
-use Rattle.ss_check_laws.specs.Links.{Linked, IsClass, kind_said, count_of}
+use Rattle.ss_check_laws.specs.Links.{ContextAgrees, IsClass, kind_said, counted_class}
 use Rattle.ss_check_laws.proofs.Steps.{step, two_steps, known_of}
 use Rattle.ss_check_laws.proofs.Conditions.{GoesWell, number_kept}
 use Rattle.ss_check_laws.proofs.Heads.{known_permanent, permanent_is, class_takes}
@@ -42,16 +42,16 @@ known_single (knowns.Class class_words.EventNotice) h = (class_words.EventNotice
 known_single (knowns.Class class_words.Permanent) h = absurd cc
 known_single _ h = absurd cc
 
-known_notice : (known : Known) → is_notice known ≡ true → known ≡ knowns.Class class_words.EventNotice
+known_notice : (known : Known) → is_known_notice known ≡ true → known ≡ knowns.Class class_words.EventNotice
 known_notice (knowns.Class class_words.EventNotice) h = refl
 known_notice (knowns.Class class_words.Temporary) h = absurd cc
 known_notice (knowns.Class class_words.Permanent) h = absurd cc
 known_notice _ h = absurd cc
 
-module _ (w : Whole) (locals : Moded) (c : Context) (s : Scope) (linked : Linked w locals c s) (line : Line) where
+module _ (w : Whole) (locals : Moded) (c : Context) (s : Scope) (linked : ContextAgrees w locals c s) (line : Line) where
   -- a class of such a kind
   abbrev IsSingle : NameBytes → Type 0
-  IsSingle name = (referent : ClassMeant) × (kind : ClassWord) × (single_class c name ≡ Some referent) × IsClass w locals s name kind referent × (is_created_singly (kind_of s.program referent.class) ≡ true)
+  IsSingle name = (referent : ClassMeant) × (kind : ClassWord) × (single_class c name ≡ Some referent) × IsClass w locals s name kind referent × (is_created_singly (kind_of_class s.program referent.class) ≡ true)
 
   single_there : (name : NameBytes) (known : Known) → w.meanings name ≡ Some known → is_transient known ≡ true → IsSingle name
   single_there name known e h =
@@ -70,7 +70,7 @@ module _ (w : Whole) (locals : Moded) (c : Context) (s : Scope) (linked : Linked
   abbrev pub IsNotice : NameBytes → Type 0
   IsNotice name = (referent : ClassMeant) × (notice_class c name ≡ Some referent) × IsClass w locals s name class_words.EventNotice referent
 
-  pub notice_there : (name : NameBytes) (known : Known) → w.meanings name ≡ Some known → is_notice known ≡ true → IsNotice name
+  pub notice_there : (name : NameBytes) (known : Known) → w.meanings name ≡ Some known → is_known_notice known ≡ true → IsNotice name
   notice_there name known e h =
       let meant = linked.class name class_words.EventNotice (e ∙ ap Some (known_notice known h)) in
       let referent = meant.0 in
@@ -127,7 +127,7 @@ module _ (w : Whole) (locals : Moded) (c : Context) (s : Scope) (linked : Linked
       StatementResolves w locals c s linked line (cancel_statement line name called)
   unfolding statement
   cancel_resolves name called m d =
-      let known = known_of (w.meanings name) is_notice m.0.0 in
+      let known = known_of (w.meanings name) is_known_notice m.0.0 in
       let class = notice_there name known.0 known.1 known.2 in
       let x = old_resolves name class_words.EventNotice class.0 class.2 called m.1 d in
       let made : Statement = Cancel line class.0.class x.0 in (
@@ -139,21 +139,21 @@ module _ (w : Whole) (locals : Moded) (c : Context) (s : Scope) (linked : Linked
 
   -- ---- CREATE EVERY
 
-  counted_there : (name : NameBytes) → KeptMention w locals (mentioned.plain line roles.CreateEvery name) → GoesWell w locals (Contains s.program.counts) (counted c name)
+  counted_there : (name : NameBytes) → KeptMention w locals (mentioned.plain_mention line roles.CreateEvery name) → GoesWell w locals (Contains s.program.counts) (counted c name)
   counted_there name m =
-      let known = known_of (w.meanings name) is_permanent m.0 in
+      let known = known_of (w.meanings name) is_known_permanent m.0 in
       let class = linked.class name class_words.Permanent (known.1 ∙ ap Some (known_permanent known.0 known.2)) in
       let referent = class.0 in
       let found : permanent_class c name ≡ Some referent = step (c.class name) (λ k. if_permanent k k.kind) referent referent class.1 (permanent_is referent referent.kind class.2.kind_meant) in
       let count = class.2.count_there in
-      let made : Counted = count_of referent count.0 in (
+      let made : Counted = counted_class referent count.0 in (
         made,
-        step (permanent_class c name) (λ k. k.count >>= λ v. Some (count_of k v)) referent made found
-            (step referent.count (λ v. Some (count_of referent v)) count.0 made count.1 refl),
+        step (permanent_class c name) (λ k. k.count >>= λ v. Some (counted_class k v)) referent made found
+            (step referent.count (λ v. Some (counted_class referent v)) count.0 made count.1 refl),
         count.2,
       )
 
-  all_counted : (names : List NameBytes) → KeptMentions w locals (map (mentioned.plain line roles.CreateEvery) names) → GoesWell w locals (Every (Contains s.program.counts)) (each (counted c) names)
+  all_counted : (names : List NameBytes) → KeptMentions w locals (map (mentioned.plain_mention line roles.CreateEvery) names) → GoesWell w locals (Every (Contains s.program.counts)) (each (counted c) names)
   unfolding each
   all_counted [] m = ([], refl, tt)
   all_counted (name ∷ names) m =

@@ -18,9 +18,9 @@ use Rattle.ss_program.specs.WellTyped.{Scope, HasMode, GoodTest}
 use Rattle.ss_names_meaning.specs.Answers.{each}
 use Rattle.ss_names_meaning.specs.Contexts.{Context}
 use Rattle.ss_names_meaning.specs.Expressions.{expression, set_named}
-use Rattle.ss_names_meaning.specs.Conditions.{relation_of, one_test, conjunction}
+use Rattle.ss_names_meaning.specs.Conditions.{resolved_relation, one_test, conjunction}
 use Rattle.ss_names_laws.specs.Rules.{KeptMention, KeptDemand, KeptMentions, KeptDemands}
-use Rattle.ss_check_laws.specs.Links.{Linked}
+use Rattle.ss_check_laws.specs.Links.{ContextAgrees}
 use Rattle.ss_check_laws.specs.BodyLaws.{ConditionResolves}
 use Rattle.ss_check_laws.proofs.Steps.{left_of, right_of, step, two_steps}
 use Rattle.ss_check_laws.proofs.Expressions.{Number, resolves, as_number}
@@ -49,7 +49,7 @@ module _ (w : Whole) (locals : Moded) where
       let rest = each_resolves act ms ds Q good xs (right_of (KeptMention w locals) (ms a) (flat_map ms xs) m) (right_of (KeptDemand w locals) (ds a) (flat_map ds xs) d) in
       (first.0 ∷ rest.0, two_steps (act a) (each act xs) (λ y ys. Some (y ∷ ys)) first.0 rest.0 (first.0 ∷ rest.0) first.1 rest.1 refl, (first.2, rest.2))
 
-module _ (w : Whole) (locals : Moded) (c : Context) (s : Scope) (linked : Linked w locals c s) (line : Line) where
+module _ (w : Whole) (locals : Moded) (c : Context) (s : Scope) (linked : ContextAgrees w locals c s) (line : Line) where
   -- an expression that is a number
   pub number_kept : (e : ExpressionTree) → KeptMentions w locals (mentioned.in_expression line e) → KeptDemands w locals (demanded.in_number line e) → Number w locals c s e
   number_kept e m d = as_number w locals c s line e (resolves w locals c s linked line e m d.1) d.0
@@ -63,12 +63,12 @@ module _ (w : Whole) (locals : Moded) (c : Context) (s : Scope) (linked : Linked
       let y = resolves w locals c s linked line right
       (right_of (KeptMention w locals) (mentioned.in_expression line left) (mentioned.in_expression line right) m)
       (right_of (KeptDemand w locals) (demanded.in_expression line left) (demanded.in_expression line right) d.1) in
-      let one : differ (Some x.1) (aspect_mode w locals (demanded.mode_of right)) ≡ false =
-      subst (λ o. differ o (aspect_mode w locals (demanded.mode_of right)) ≡ false) x.3 d.0.0 in
+      let one : differ (Some x.1) (aspect_mode w locals (demanded.mode_of_expression right)) ≡ false =
+      subst (λ o. differ o (aspect_mode w locals (demanded.mode_of_expression right)) ≡ false) x.3 d.0.0 in
       let both : differ (Some x.1) (Some y.1) ≡ false = subst (λ o. differ (Some x.1) o ≡ false) y.3 one in
-      let made : Test = Compare (relation_of relation) x.0 y.0 in (
+      let made : Test = Compare (resolved_relation relation) x.0 y.0 in (
         made,
-        two_steps (expression c left) (expression c right) (λ u v. Some (Compare (relation_of relation) u v)) x.0 y.0 made x.2 y.2 refl,
+        two_steps (expression c left) (expression c right) (λ u v. Some (Compare (resolved_relation relation) u v)) x.0 y.0 made x.2 y.2 refl,
         (x.1, x.4, subst (HasMode s y.0) (same_mode x.1 y.1 both) y.4),
       )
   test_resolves (empty set negated) m d =

@@ -6,10 +6,10 @@ use Rattle.std.specs.Map.{lookup, keys_of}
 use Rattle.std.specs.Cmp.Lexicographic.{bytes_decides}
 use Rattle.std.proofs.lemmas.List.{append-nil, append_assoc}
 use Rattle.ss_tree.specs.declared.preamble.Mode.{Mode}
-use Rattle.ss_names_uses.specs.Mentions.{NameBytes}
+use Rattle.ss_tree.specs.Names.{NameBytes}
 use Rattle.ss_names_declarations.specs.Firsts.{same_name, entry_beside, with_first, firsts}
 use Rattle.ss_check_scopes.specs.Locals.{Moded}
-use Rattle.ss_check_laws.specs.Parameters.{AreDistinct}
+use Rattle.ss_check_laws.specs.Parameters.{AreDistinctNames}
 
 -- ---- names
 
@@ -47,7 +47,7 @@ fresh_last es e (x ∷ xs) f d = (lookup_last (same_name x.0) es e f.0 (apart x.
 entered : (es : Moded) (e : NameBytes × Option Mode) → lookup (same_name e.0) es ≡ None → with_first es e ≡ es ++ e ∷ []
 entered es e h = ap (λ o. entry_beside es e o) h
 
-entered_all : (es xs : Moded) → Fresh es xs → AreDistinct (keys_of xs) → fold with_first es xs ≡ es ++ xs
+entered_all : (es xs : Moded) → Fresh es xs → AreDistinctNames (keys_of xs) → fold with_first es xs ≡ es ++ xs
 entered_all es [] f d = sym (append-nil es)
 entered_all es (x ∷ xs) f d =
     ap (λ z. fold with_first z xs) (entered es x f.0) ∙ entered_all (es ++ x ∷ []) xs (fresh_last es x xs f.1 d.0) d.1 ∙ append_assoc es (x ∷ []) xs
@@ -57,7 +57,7 @@ fresh_first [] = tt
 fresh_first (x ∷ xs) = (refl, fresh_first xs)
 
 -- distinct names are entered as they come
-pub distinct_entered : (xs : Moded) → AreDistinct (keys_of xs) → firsts xs ≡ xs
+pub distinct_entered : (xs : Moded) → AreDistinctNames (keys_of xs) → firsts xs ≡ xs
 distinct_entered xs d = entered_all [] xs (fresh_first xs) d
 
 -- ---- what is first stays first

@@ -13,7 +13,7 @@ use Rattle.ss_names_meaning.specs.declared.meaning.Meaning.TheVariants as meanin
 use Rattle.ss_names_meaning.specs.declared.meaning.SetMeant.{SetMeant}
 use Rattle.ss_names_meaning.specs.declared.meaning.SetMeant.TheVariants.{OfSystem, OfEntity}
 use Rattle.ss_names_meaning.specs.Contexts.{Context}
-use Rattle.ss_names_meaning.specs.Expressions.{entity_of, value_of, item_of, place_of, owned_by, operator_of, expression, subscript, one, two, factors, terms, item, target, set_named}
+use Rattle.ss_names_meaning.specs.Expressions.{entity_of, resolved_value, resolved_item, place_of, resolved_set, resolved_operator, expression, subscript, one, two, factors, terms, item, target, set_named}
 use Rattle.ss_check_laws.proofs.Within.{Within, up, after, after_lookup, plain_small}
 
 plain_less : (e : Expression) (n : ℕ) → unless_plain e n ≤ n
@@ -25,7 +25,7 @@ pub entity_small : (implied : Variable) (e : Option Expression) (n : ℕ) → op
 entity_small implied None n h = omega arith
 entity_small implied (Some e) n h = omega (arith, plain_less e (expression_nodes e), h)
 
-value_small : (m : Meaning) (e : Option Expression) (n : ℕ) → option_nodes expression_nodes e ≤ n → Within expression_nodes (1 + n) (value_of m e)
+value_small : (m : Meaning) (e : Option Expression) (n : ℕ) → option_nodes expression_nodes e ≤ n → Within expression_nodes (1 + n) (resolved_value m e)
 value_small (meanings.Variable x mode) e n h = plain_small expression_nodes (1 + n) e _ (omega arith)
 value_small (meanings.Count k) e n h = plain_small expression_nodes (1 + n) e _ (omega arith)
 value_small (meanings.Attribute class field mode implied) e n h = omega (arith, entity_small implied e n h)
@@ -45,10 +45,10 @@ shown_small : (n : ℕ) (r : Option Expression) → Within expression_nodes n r 
 shown_small n None h = tt
 shown_small n (Some e) h = h
 
-named_item_small : (m : Meaning) (e : Option Expression) (n : ℕ) → option_nodes expression_nodes e ≤ n → Within item_nodes (1 + n) (item_of m e)
+named_item_small : (m : Meaning) (e : Option Expression) (n : ℕ) → option_nodes expression_nodes e ≤ n → Within item_nodes (1 + n) (resolved_item m e)
 named_item_small (meanings.Mean statistic) e n h = plain_small item_nodes (1 + n) e _ (omega arith)
 named_item_small (meanings.MeanOf statistic implied) e n h = omega (arith, entity_small implied e n h)
-named_item_small m e n h = shown_small (1 + n) (value_of m e) (value_small m e n h)
+named_item_small m e n h = shown_small (1 + n) (resolved_value m e) (value_small m e n h)
 
 place_small : (m : Meaning) (e : Option Expression) (n : ℕ) → option_nodes expression_nodes e ≤ n → Within place_nodes (1 + n) (place_of m e)
 place_small (meanings.Variable x mode) e n h = plain_small place_nodes (1 + n) e _ (omega arith)
@@ -56,7 +56,7 @@ place_small (meanings.Count k) e n h = plain_small place_nodes (1 + n) e _ (omeg
 place_small (meanings.Attribute class field mode implied) e n h = omega (arith, entity_small implied e n h)
 place_small _ e n h = tt
 
-owner_small : (s : SetMeant) (e : Option Expression) (n : ℕ) → option_nodes expression_nodes e ≤ n → Within (λ (p : ℕ × SetOwner). set_nodes p.1) (1 + n) (owned_by s e)
+owner_small : (s : SetMeant) (e : Option Expression) (n : ℕ) → option_nodes expression_nodes e ≤ n → Within (λ (p : ℕ × SetOwner). set_nodes p.1) (1 + n) (resolved_set s e)
 owner_small (OfSystem set) e n h = plain_small (λ (p : ℕ × SetOwner). set_nodes p.1) (1 + n) e _ (omega arith)
 owner_small (OfEntity set implied) e n h = omega (arith, entity_small implied e n h)
 
@@ -125,8 +125,8 @@ module _ (c : Context) where
     terms_small left no_term = omega arith
     terms_small left (and_term sign e es) =
         after expression_nodes expression_nodes (tree.expression_nodes e) (expression_nodes left + (1 + tree.expression_nodes e + tree.term_nodes es)) (expression c e) _ (small e) (λ x lt.
-        up expression_nodes (expression_nodes (Calculate (operator_of sign) left x) + tree.term_nodes es) (expression_nodes left + (1 + tree.expression_nodes e + tree.term_nodes es)) (terms c (Calculate (operator_of sign) left x) es)
-        (terms_small (Calculate (operator_of sign) left x) es) (omega (arith, lt)))
+        up expression_nodes (expression_nodes (Calculate (resolved_operator sign) left x) + tree.term_nodes es) (expression_nodes left + (1 + tree.expression_nodes e + tree.term_nodes es)) (terms c (Calculate (resolved_operator sign) left x) es)
+        (terms_small (Calculate (resolved_operator sign) left x) es) (omega (arith, lt)))
 
   pub item_small : (e : ExpressionTree) → Within item_nodes (tree.expression_nodes e) (item c e)
   item_small (parenthesised e) = item_small e

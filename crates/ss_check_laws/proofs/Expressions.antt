@@ -10,7 +10,8 @@ use Rattle.ss_tree.specs.declared.expression.Function.{Function}
 use Rattle.ss_tree.specs.declared.expression.Function.TheVariants.{Div, Mod, Abs, Min, Max}
 use Rattle.ss_tree.specs.Tree.{ExpressionTree, number, text, named, call, parenthesised, product, signed, sum, ExpressionRow, no_expression, and_expression, TermRow, no_term, and_term}
 use Rattle.ss_names_uses.specs.declared.mention.Role.TheVariants as roles
-use Rattle.ss_names_uses.specs.Mentions.{NameBytes, place, row_length, in_expression, in_expressions, in_terms}
+use Rattle.ss_tree.specs.Names.{NameBytes}
+use Rattle.ss_names_uses.specs.Mentions.{place, row_length, in_expression, in_expressions, in_terms}
 use Rattle.ss_names_uses.specs.declared.demand.Aspect.TheVariants as aspects
 use Rattle.ss_names_uses.specs.Demands as demanded
 use Rattle.ss_check_scopes.specs.declared.known.Known.{Known}
@@ -18,7 +19,7 @@ use Rattle.ss_check_scopes.specs.Locals.{Moded}
 use Rattle.ss_check_scopes.specs.Meanings.{meaning_in}
 use Rattle.ss_check_scopes.specs.Whole.{Whole}
 use Rattle.ss_check_rules.specs.Unknown.{has_value, if_known}
-use Rattle.ss_check_rules.specs.Subscripts.{is_single}
+use Rattle.ss_check_rules.specs.Subscripts.{takes_no_subscript}
 use Rattle.ss_check_rules.specs.Modes.{aspect_mode, class_mode, known_class, known_mode, differ, is_mean}
 use Rattle.ss_program.specs.declared.expression.Operator.{Operator}
 use Rattle.ss_program.specs.declared.expression.Operator.TheVariants.{Multiply, Quotient, Remainder, Least, Greatest}
@@ -27,9 +28,9 @@ use Rattle.ss_program.specs.WellTyped.{Scope, HasMode}
 use Rattle.ss_names_meaning.specs.declared.meaning.Meaning.TheVariants as meanings
 use Rattle.ss_names_meaning.specs.Answers.{◌>>=◌}
 use Rattle.ss_names_meaning.specs.Contexts.{Context}
-use Rattle.ss_names_meaning.specs.Expressions.{expression, subscript, one, two, factors, terms, value_of, sign_of, operator_of}
+use Rattle.ss_names_meaning.specs.Expressions.{expression, subscript, one, two, factors, terms, resolved_value, resolved_sign, resolved_operator}
 use Rattle.ss_names_laws.specs.Rules.{KeptMention, KeptDemand, KeptMentions, KeptDemands}
-use Rattle.ss_check_laws.specs.Links.{Linked}
+use Rattle.ss_check_laws.specs.Links.{ContextAgrees}
 use Rattle.ss_check_laws.specs.BodyLaws.{Resolves}
 use Rattle.ss_check_laws.proofs.Steps.{left_of, right_of, step, two_steps, known_of, same_number, is_integer}
 use Rattle.ss_check_laws.proofs.Named.{SubscriptFits, known_value}
@@ -49,13 +50,13 @@ module _ (w : Whole) (locals : Moded) (c : Context) (s : Scope) where
   NumberTerms (and_term sign e es) = Number e × NumberTerms es
 
   -- what is a number by a demand
-  pub as_number : (line : Line) (e : ExpressionTree) → Resolves w locals c s e → KeptDemand w locals (demanded.a_number line (demanded.mode_of e)) → Number e
+  pub as_number : (line : Line) (e : ExpressionTree) → Resolves w locals c s e → KeptDemand w locals (demanded.a_number line (demanded.mode_of_expression e)) → Number e
   as_number line e r d =
       let k : differ (Some r.1) (Some modes.Integer) ≡ false = subst (λ o. differ o (Some modes.Integer) ≡ false) r.3 d.0 in
       (r.0, r.2, subst (HasMode s r.0) (is_integer r.1 k) r.4)
 
   -- a number has the mode of a number
-  from_number : (e : ExpressionTree) → Number e → aspect_mode w locals (demanded.mode_of e) ≡ Some modes.Integer → Resolves w locals c s e
+  from_number : (e : ExpressionTree) → Number e → aspect_mode w locals (demanded.mode_of_expression e) ≡ Some modes.Integer → Resolves w locals c s e
   from_number e n h = (n.0, modes.Integer, n.1, h, n.2)
 
   -- ---- single forms
@@ -75,8 +76,8 @@ module _ (w : Whole) (locals : Moded) (c : Context) (s : Scope) where
   signed_resolves : (sign : _) (e : ExpressionTree) → Number e → Resolves w locals c s (signed sign e)
   unfolding expression
   signed_resolves sign e n =
-      let x : Expression = Signed (sign_of sign) n.0 in
-      (x, modes.Integer, step (expression c e) (λ y. Some (Signed (sign_of sign) y)) n.0 x n.1 refl, refl, (refl, n.2))
+      let x : Expression = Signed (resolved_sign sign) n.0 in
+      (x, modes.Integer, step (expression c e) (λ y. Some (Signed (resolved_sign sign) y)) n.0 x n.1 refl, refl, (refl, n.2))
 
   -- ---- products and sums
 
@@ -94,8 +95,8 @@ module _ (w : Whole) (locals : Moded) (c : Context) (s : Scope) where
   unfolding terms
   terms_resolve left h no_term n = (left, refl, h)
   terms_resolve left h (and_term sign e es) n =
-      let r : Continued (terms c (Calculate (operator_of sign) left n.0.0) es) = terms_resolve (Calculate (operator_of sign) left n.0.0) (refl, h, n.0.2) es n.1 in
-      (r.0, step (expression c e) (λ x. terms c (Calculate (operator_of sign) left x) es) n.0.0 r.0 n.0.1 r.1, r.2)
+      let r : Continued (terms c (Calculate (resolved_operator sign) left n.0.0) es) = terms_resolve (Calculate (resolved_operator sign) left n.0.0) (refl, h, n.0.2) es n.1 in
+      (r.0, step (expression c e) (λ x. terms c (Calculate (resolved_operator sign) left x) es) n.0.0 r.0 n.0.1 r.1, r.2)
 
   product_resolves : (e : ExpressionTree) (es : ExpressionRow) → Number e → Numbers es → Resolves w locals c s (product e es)
   unfolding expression
@@ -154,7 +155,7 @@ module _ (w : Whole) (locals : Moded) (c : Context) (s : Scope) where
 
   -- ---- what is named
 
-  module _ (linked : Linked w locals c s) (line : Line) where
+  module _ (linked : ContextAgrees w locals c s) (line : Line) where
     -- the value of what is named, with its subscript
     abbrev pub NamedValue : Designator → ExpressionRow → Type 0
     NamedValue d es = Resolves w locals c s (named d es)
@@ -168,7 +169,7 @@ module _ (w : Whole) (locals : Moded) (c : Context) (s : Scope) where
         let r = known_value w locals s known referent.0 e referent.2 f i in (
           r.2.0,
           r.0,
-          two_steps (subscript c es) (c.meaning (Name name)) (λ y m. value_of m y) e referent.0 r.2.0 h referent.1 r.2.1,
+          two_steps (subscript c es) (c.meaning (Name name)) (λ y m. resolved_value m y) e referent.0 r.2.0 h referent.1 r.2.1,
           ap known_mode k ∙ r.1,
           r.2.2,
         )
@@ -182,7 +183,7 @@ module _ (w : Whole) (locals : Moded) (c : Context) (s : Scope) where
     one_subscript e n = step (expression c e) (λ x. Some (Some x)) n.0 (Some n.0) n.1 refl
 
     named_resolves : (d : Designator) (es : ExpressionRow) → KeptMention w locals (place line roles.Value d (row_length es)) →
-        KeptDemands w locals (demanded.valued line d) → KeptDemands w locals (demanded.implied line d (demanded.row_length es)) → Numbers es → NamedValue d es
+        KeptDemands w locals (demanded.value_demand line d) → KeptDemands w locals (demanded.implied line d (demanded.row_length es)) → Numbers es → NamedValue d es
     unfolding expression
     named_resolves (Name name) no_expression m v d n =
         let known = known_of (meaning_in w.meanings locals name) has_value m.0 in
@@ -192,16 +193,16 @@ module _ (w : Whole) (locals : Moded) (c : Context) (s : Scope) where
     named_resolves (Name name) (and_expression e no_expression) m v d n =
         let known = known_of (meaning_in w.meanings locals name) has_value m.0 in
         name_resolves name (and_expression e no_expression) (Some n.0.0) known.0 (one_subscript e n.0) known.1 known.2
-        (subst (λ o. if_known is_single o ≡ false) known.1 m.1, n.0.2)
+        (subst (λ o. if_known takes_no_subscript o ≡ false) known.1 m.1, n.0.2)
         (subst (λ o. if_known is_mean o ≡ false) known.1 v.0.3)
     named_resolves (Name name) (and_expression e (and_expression f es)) m v d n = absurd cc
     named_resolves TimeV no_expression m v d n =
-        (Clock, modes.Integer, two_steps (subscript c no_expression) (c.meaning TimeV) (λ y m. value_of m y) None meanings.Clock Clock no_subscript linked.clock refl, refl, refl)
+        (Clock, modes.Integer, two_steps (subscript c no_expression) (c.meaning TimeV) (λ y m. resolved_value m y) None meanings.Clock Clock no_subscript linked.clock refl, refl, refl)
     named_resolves TimeV (and_expression e es) m v d n = absurd cc
     named_resolves TimeA no_expression m v d n = absurd cc
     named_resolves TimeA (and_expression e no_expression) m v d n =
         let x : Expression = TimeOf n.0.0 in
-        (x, modes.Integer, two_steps (subscript c (and_expression e no_expression)) (c.meaning TimeA) (λ y m. value_of m y) (Some n.0.0) meanings.NoticeTime x (one_subscript e n.0) linked.notice_time refl, refl, (refl, n.0.2))
+        (x, modes.Integer, two_steps (subscript c (and_expression e no_expression)) (c.meaning TimeA) (λ y m. resolved_value m y) (Some n.0.0) meanings.NoticeTime x (one_subscript e n.0) linked.notice_time refl, refl, (refl, n.0.2))
     named_resolves TimeA (and_expression e (and_expression f es)) m v d n = absurd cc
 
     -- ---- expressions
@@ -211,7 +212,7 @@ module _ (w : Whole) (locals : Moded) (c : Context) (s : Scope) where
       resolves (number z) m d = number_resolves z
       resolves (text t) m d = text_resolves t
       resolves (named designator es) m d =
-          let v = demanded.valued line designator in
+          let v = demanded.value_demand line designator in
           let i = demanded.implied line designator (demanded.row_length es) in
           let front = left_of (KeptDemand w locals) (v ++ i) (demanded.in_numbers line es) d in
           named_resolves designator es m.0 (left_of (KeptDemand w locals) v i front) (right_of (KeptDemand w locals) v i front)

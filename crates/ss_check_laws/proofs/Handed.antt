@@ -19,7 +19,7 @@ use Rattle.ss_names_meaning.specs.Answers.{each}
 use Rattle.ss_names_meaning.specs.Contexts.{Context}
 use Rattle.ss_names_meaning.specs.Expressions.{expression, target}
 use Rattle.ss_names_laws.specs.Rules.{KeptMention, KeptDemand, KeptMentions, KeptDemands}
-use Rattle.ss_check_laws.specs.Links.{Linked}
+use Rattle.ss_check_laws.specs.Links.{ContextAgrees}
 use Rattle.ss_check_laws.proofs.Steps.{left_of, right_of, two_steps}
 use Rattle.ss_check_laws.proofs.Expressions.{resolves}
 use Rattle.ss_check_laws.proofs.Places.{target_resolves}
@@ -66,14 +66,14 @@ module _ (w : Whole) (locals : Moded) where
         (first.2, rest.3),
       )
 
-module _ (w : Whole) (locals : Moded) (c : Context) (s : Scope) (linked : Linked w locals c s) (line : Line) where
+module _ (w : Whole) (locals : Moded) (c : Context) (s : Scope) (linked : ContextAgrees w locals c s) (line : Line) where
   -- the mode of what takes the value in a place
   abbrev pub taken_by : (ℕ → Aspect) → ℕ → Option Mode
   taken_by by i = aspect_mode w locals (by i)
 
   -- a value, and a target, of the mode of what is in its place
   abbrev pub handed : (ℕ → Aspect) → ℕ → ExpressionTree → List Demand
-  handed by i e = demanded.demand line (demanded.mode_of e) (by i) ∷ demanded.in_expression line e
+  handed by i e = demanded.demand line (demanded.mode_of_expression e) (by i) ∷ demanded.in_expression line e
 
   abbrev pub taken : (ℕ → Aspect) → ℕ → NamedTree → List Demand
   taken by i t = demanded.demand line (demanded.target_mode t) (by i) ∷ demanded.in_named line t

@@ -14,7 +14,7 @@ use Rattle.ss_tree.specs.Tree.{ExpressionTree, PhraseTree, GuardTree, StartTree,
 use Rattle.ss_names_uses.specs.declared.mention.Mention.{Mention}
 use Rattle.ss_names_uses.specs.declared.mention.Role.TheVariants as roles
 use Rattle.ss_names_uses.specs.Mentions as mentioned
-use Rattle.ss_names_uses.specs.Mentions.{NameBytes}
+use Rattle.ss_tree.specs.Names.{NameBytes}
 use Rattle.ss_names_uses.specs.declared.demand.Aspect.TheVariants as aspects
 use Rattle.ss_names_uses.specs.declared.demand.Demand.{Demand}
 use Rattle.ss_names_uses.specs.Demands as demanded
@@ -23,8 +23,8 @@ use Rattle.ss_check_scopes.specs.declared.known.Known.TheVariants as knowns
 use Rattle.ss_check_scopes.specs.Locals.{Moded}
 use Rattle.ss_check_scopes.specs.Meanings.{meaning_in}
 use Rattle.ss_check_scopes.specs.Whole.{Whole}
-use Rattle.ss_check_rules.specs.Unknown.{has_value, is_variable, is_permanent}
-use Rattle.ss_check_rules.specs.Modes.{mode_of, mode_in, known_mode, differ}
+use Rattle.ss_check_rules.specs.Unknown.{has_value, is_known_variable, is_known_permanent}
+use Rattle.ss_check_rules.specs.Modes.{mode_of_known, mode_of_name, known_mode, differ}
 use Rattle.ss_program.specs.declared.expression.Variable.{Variable}
 use Rattle.ss_program.specs.Program.{ToVariable, AtEnd, From, After, Head, Numbers, Members, Each, Phrase, Guard}
 use Rattle.ss_program.specs.WellTyped.{Scope, HasMode, TakesMode, GoodStart, GoodPhrase, GoodCondition}
@@ -35,9 +35,9 @@ use Rattle.ss_names_meaning.specs.Answers.{◌>>=◌, each, if_there}
 use Rattle.ss_names_meaning.specs.Contexts.{Context, permanent_class, if_permanent}
 use Rattle.ss_names_meaning.specs.Expressions.{expression, set_named}
 use Rattle.ss_names_meaning.specs.Conditions.{condition}
-use Rattle.ss_names_meaning.specs.Heads.{phrase_kind_of, guard_kind_of, phrase, guard, if_variable, loop_variable, start, called_variable, head}
+use Rattle.ss_names_meaning.specs.Heads.{phrase_kind_of, guard_kind_of, resolved_phrase, guard, if_variable, loop_variable, resolved_start, called_variable, head}
 use Rattle.ss_names_laws.specs.Rules.{KeptMention, KeptDemand, KeptMentions, KeptDemands}
-use Rattle.ss_check_laws.specs.Links.{Linked, IsVariable, IsClass, Fits}
+use Rattle.ss_check_laws.specs.Links.{ContextAgrees, IsVariable, IsClass, Fits}
 use Rattle.ss_check_laws.specs.BodyLaws.{ForResolves, HeadResolves}
 use Rattle.ss_check_laws.proofs.Steps.{left_of, right_of, step, known_of, is_integer}
 use Rattle.ss_check_laws.proofs.Places.{set_resolves}
@@ -55,13 +55,13 @@ four_steps o p q r next a b e d x h g k l f = rw (h, g, k, l) f
 
 -- ---- what is known
 
-variable_is_value : (known : Known) → is_variable known ≡ true → has_value known ≡ true
+variable_is_value : (known : Known) → is_known_variable known ≡ true → has_value known ≡ true
 variable_is_value (knowns.Local m) h = refl
 variable_is_value (knowns.Variable m) h = refl
 variable_is_value (knowns.Class kind) h = refl
 variable_is_value _ h = absurd cc
 
-pub known_permanent : (known : Known) → is_permanent known ≡ true → known ≡ knowns.Class class_words.Permanent
+pub known_permanent : (known : Known) → is_known_permanent known ≡ true → known ≡ knowns.Class class_words.Permanent
 known_permanent (knowns.Class class_words.Permanent) h = refl
 known_permanent _ h = absurd cc
 
@@ -79,9 +79,9 @@ module _ (w : Whole) (locals : Moded) (s : Scope) where
   variable_loops m _ f = absurd f
 
   abbrev KnownLoops : Known → Meaning → Type 0
-  KnownLoops known referent = (m : Mode) × (mode_of known ≡ Some m) × Loops m referent
+  KnownLoops known referent = (m : Mode) × (mode_of_known known ≡ Some m) × Loops m referent
 
-  known_loops : (known : Known) (referent : Meaning) → Fits w locals s known referent → is_variable known ≡ true → KnownLoops known referent
+  known_loops : (known : Known) (referent : Meaning) → Fits w locals s known referent → is_known_variable known ≡ true → KnownLoops known referent
   known_loops (knowns.Local m) referent f h = (m, refl, variable_loops m referent f)
   known_loops (knowns.Variable m) referent f h = (m, refl, variable_loops m referent f)
   known_loops (knowns.Class kind) referent f h = (modes.Integer, refl, variable_loops modes.Integer referent f)
@@ -101,18 +101,18 @@ module _ (w : Whole) (locals : Moded) (s : Scope) where
   pub dr : (xs ys : List Demand) → KeptDemands w locals (xs ++ ys) → KeptDemands w locals ys
   dr xs ys h = right_of (KeptDemand w locals) xs ys h
 
-module _ (w : Whole) (locals : Moded) (c : Context) (s : Scope) (linked : Linked w locals c s) (line : Line) where
+module _ (w : Whole) (locals : Moded) (c : Context) (s : Scope) (linked : ContextAgrees w locals c s) (line : Line) where
   -- ---- variables of loops
 
   abbrev pub TakesNumbers : Option Variable → Type 0
   TakesNumbers o = (x : Variable) × (o ≡ Some x) × TakesMode s (ToVariable x) modes.Integer
 
-  pub loops : (name : NameBytes) → KeptMention w locals (mentioned.plain line roles.LoopVariable name) → KeptDemand w locals (demanded.a_number line (aspects.Named name)) → TakesNumbers (loop_variable c name)
+  pub loops : (name : NameBytes) → KeptMention w locals (mentioned.plain_mention line roles.LoopVariable name) → KeptDemand w locals (demanded.a_number line (aspects.Named name)) → TakesNumbers (loop_variable c name)
   loops name m d =
-      let known = known_of (meaning_in w.meanings locals name) is_variable m.0 in
+      let known = known_of (meaning_in w.meanings locals name) is_known_variable m.0 in
       let referent = linked.value name known.0 known.1 (variable_is_value known.0 known.2) in
       let r = known_loops w locals s known.0 referent.0 referent.2 known.2 in
-      let moded : mode_in w locals name ≡ Some r.0 = ap known_mode known.1 ∙ r.1 in
+      let moded : mode_of_name w locals name ≡ Some r.0 = ap known_mode known.1 ∙ r.1 in
       let fits : differ (Some r.0) (Some modes.Integer) ≡ false = subst (λ o. differ o (Some modes.Integer) ≡ false) moded d.0 in
       (r.2.0, step (c.meaning (Name name)) if_variable referent.0 r.2.0 referent.1 r.2.1, subst (λ k. TakesMode s (ToVariable r.2.0) k) (is_integer r.0 fits) r.2.2)
 
@@ -124,14 +124,14 @@ module _ (w : Whole) (locals : Moded) (c : Context) (s : Scope) (linked : Linked
       subst (λ m. TakesMode s (ToVariable referent.variable) m) (is_integer there.0 fits) there.2
 
   called_takes : (name : NameBytes) (kind : ClassWord) (referent : ClassMeant) → IsClass w locals s name kind referent → (called : Option NameBytes) →
-      KeptMentions w locals (mentioned.in_option (λ n. mentioned.plain line roles.LoopVariable n ∷ []) called) →
+      KeptMentions w locals (mentioned.in_option (λ n. mentioned.plain_mention line roles.LoopVariable n ∷ []) called) →
       KeptDemands w locals (demanded.in_class_variable line name called) → TakesNumbers (called_variable c referent.variable called)
   called_takes name kind referent k None m d = (referent.variable, refl, class_takes name kind referent k d.0)
   called_takes name kind referent k (Some n) m d = loops n m.0 d.0
 
   -- ---- phrases and guards
 
-  phrase_resolves : (p : PhraseTree) → KeptMentions w locals (mentioned.in_condition line p.condition) → KeptDemands w locals (demanded.in_condition line p.condition) → GoesWell w locals (GoodPhrase s) (phrase c p)
+  phrase_resolves : (p : PhraseTree) → KeptMentions w locals (mentioned.in_condition line p.condition) → KeptDemands w locals (demanded.in_condition line p.condition) → GoesWell w locals (GoodPhrase s) (resolved_phrase c p)
   phrase_resolves p m d =
       let r = condition_resolves w locals c s linked line p.condition m d in
       let made : Phrase = record { kind = phrase_kind_of p.kind; condition = r.0 } in
@@ -143,9 +143,9 @@ module _ (w : Whole) (locals : Moded) (c : Context) (s : Scope) (linked : Linked
       let made : Guard = record { kind = guard_kind_of g.kind; condition = r.0 } in
       (made, step (condition c g.condition) (λ tests. Some (record { kind = guard_kind_of g.kind; condition = tests })) r.0 made r.1 refl, r.2)
 
-  phrases_resolve : (ps : List PhraseTree) → KeptMentions w locals (mentioned.in_phrases line ps) → KeptDemands w locals (demanded.in_phrases line ps) → GoesWell w locals (Every (GoodPhrase s)) (each (phrase c) ps)
+  phrases_resolve : (ps : List PhraseTree) → KeptMentions w locals (mentioned.in_phrases line ps) → KeptDemands w locals (demanded.in_phrases line ps) → GoesWell w locals (Every (GoodPhrase s)) (each (resolved_phrase c) ps)
   phrases_resolve ps m d =
-      each_resolves w locals (phrase c) (λ p. mentioned.in_condition line p.condition) (λ p. demanded.in_condition line p.condition) (GoodPhrase s) phrase_resolves ps m d
+      each_resolves w locals (resolved_phrase c) (λ p. mentioned.in_condition line p.condition) (λ p. demanded.in_condition line p.condition) (GoodPhrase s) phrase_resolves ps m d
 
   -- ---- parts of heads
 
@@ -156,7 +156,7 @@ module _ (w : Whole) (locals : Moded) (c : Context) (s : Scope) (linked : Linked
       let n = number_kept w locals c s linked line e m d in
       (Some n.0, step (expression c e) (λ x. Some (Some x)) n.0 (Some n.0) n.1 refl, n.2)
 
-  start_resolves : (t : StartTree) → KeptMentions w locals (mentioned.in_start line t) → KeptDemands w locals (demanded.in_start line t) → GoesWell w locals (GoodStart s) (start c t)
+  start_resolves : (t : StartTree) → KeptMentions w locals (mentioned.in_start line t) → KeptDemands w locals (demanded.in_start line t) → GoesWell w locals (GoodStart s) (resolved_start c t)
   start_resolves from_end m d = (AtEnd, refl, tt)
   start_resolves (from_member e) m d =
       let n = number_kept w locals c s linked line e m d in
@@ -210,18 +210,18 @@ module _ (w : Whole) (locals : Moded) (c : Context) (s : Scope) (linked : Linked
       let ps = phrases_resolve phrases m3 d3 in
       let made : Head = Members v.0 p.0.0 p.0.1 x.0 reverse in (
         made,
-        three_steps (loop_variable c variable) (set_named c set) (start c from) (λ a b e. Some (Members a b.0 b.1 e reverse)) v.0 p.0 x.0 made v.1 p.1 x.1 refl,
+        three_steps (loop_variable c variable) (set_named c set) (resolved_start c from) (λ a b e. Some (Members a b.0 b.1 e reverse)) v.0 p.0 x.0 made v.1 p.1 x.1 refl,
         (v.2, p.2, x.2),
         ps.0,
         ps.1,
         ps.2,
       )
   for_resolves (over_class name called phrases) m d =
-      let m1 = ml w locals s (mentioned.in_option (λ n. mentioned.plain line roles.LoopVariable n ∷ []) called) (mentioned.in_phrases line phrases) m.1 in
-      let m2 = mr w locals s (mentioned.in_option (λ n. mentioned.plain line roles.LoopVariable n ∷ []) called) (mentioned.in_phrases line phrases) m.1 in
+      let m1 = ml w locals s (mentioned.in_option (λ n. mentioned.plain_mention line roles.LoopVariable n ∷ []) called) (mentioned.in_phrases line phrases) m.1 in
+      let m2 = mr w locals s (mentioned.in_option (λ n. mentioned.plain_mention line roles.LoopVariable n ∷ []) called) (mentioned.in_phrases line phrases) m.1 in
       let d1 = dl w locals s (demanded.in_class_variable line name called) (demanded.in_phrases line phrases) d in
       let d2 = dr w locals s (demanded.in_class_variable line name called) (demanded.in_phrases line phrases) d in
-      let known = known_of (w.meanings name) is_permanent m.0.0 in
+      let known = known_of (w.meanings name) is_known_permanent m.0.0 in
       let class = linked.class name class_words.Permanent (known.1 ∙ ap Some (known_permanent known.0 known.2)) in
       let found : permanent_class c name ≡ Some class.0 = step (c.class name) (λ k. if_permanent k k.kind) class.0 class.0 class.1 (permanent_is class.0 class.0.kind class.2.kind_meant) in
       let v = called_takes name class_words.Permanent class.0 class.2 called m1 d1 in

@@ -10,7 +10,8 @@ use Rattle.ss_tree.specs.declared.expression.Designator.TheVariants.{Name, TimeV
 use Rattle.ss_tree.specs.Tree.{ExpressionTree, number, text, named, call, parenthesised, product, signed, sum, ExpressionRow}
 use Rattle.ss_names_uses.specs.declared.mention.Role.TheVariants as roles
 use Rattle.ss_names_uses.specs.Mentions as mentioned
-use Rattle.ss_names_uses.specs.Mentions.{NameBytes, place, row_length}
+use Rattle.ss_tree.specs.Names.{NameBytes}
+use Rattle.ss_names_uses.specs.Mentions.{place, row_length}
 use Rattle.ss_names_uses.specs.Demands as demanded
 use Rattle.ss_check_scopes.specs.declared.known.Known.{Known}
 use Rattle.ss_check_scopes.specs.Locals.{Moded}
@@ -23,9 +24,9 @@ use Rattle.ss_program.specs.Program.{Expression, AValue}
 use Rattle.ss_program.specs.WellTyped.{Scope, TakesItem}
 use Rattle.ss_names_meaning.specs.Answers.{◌>>=◌, each}
 use Rattle.ss_names_meaning.specs.Contexts.{Context}
-use Rattle.ss_names_meaning.specs.Expressions.{expression, subscript, item, item_of}
+use Rattle.ss_names_meaning.specs.Expressions.{expression, subscript, item, resolved_item}
 use Rattle.ss_names_laws.specs.Rules.{KeptMention, KeptDemand, KeptMentions, KeptDemands}
-use Rattle.ss_check_laws.specs.Links.{Linked}
+use Rattle.ss_check_laws.specs.Links.{ContextAgrees}
 use Rattle.ss_check_laws.specs.BodyLaws.{Resolves, ItemResolves}
 use Rattle.ss_check_laws.proofs.Steps.{left_of, right_of, two_steps, known_of, of_not}
 use Rattle.ss_check_laws.proofs.Named.{SubscriptFits, known_mean, valued_steps}
@@ -34,7 +35,7 @@ use Rattle.ss_check_laws.proofs.Places.{subscripted}
 use Rattle.ss_check_laws.proofs.Conditions.{GoesWell}
 use Rattle.ss_check_laws.proofs.Handed.{Follow, first_follows, rest_follows}
 
-module _ (w : Whole) (locals : Moded) (c : Context) (s : Scope) (linked : Linked w locals c s) (line : Line) where
+module _ (w : Whole) (locals : Moded) (c : Context) (s : Scope) (linked : ContextAgrees w locals c s) (line : Line) where
   -- ---- fields
 
   -- there are at most 9 decimals
@@ -43,9 +44,9 @@ module _ (w : Whole) (locals : Moded) (c : Context) (s : Scope) (linked : Linked
   few_decimals e (suc more) d = leb-true (suc more) 9 (of_not (nat_le (suc more) 9) d.0.2)
 
   -- and none where the item is no MEAN
-  no_decimals : (e : ExpressionTree) (n : ℕ) → is_unfit w locals (demanded.mean_of e) ≡ true → KeptDemands w locals (demanded.with_decimals line e n) → n ≡ 0
+  no_decimals : (e : ExpressionTree) (n : ℕ) → is_unfit w locals (demanded.mean_aspect e) ≡ true → KeptDemands w locals (demanded.with_decimals line e n) → n ≡ 0
   no_decimals e zero u d = refl
-  no_decimals e (suc more) u d = absurd (both_ways (is_unfit w locals (demanded.mean_of e)) d.1.0.2 u)
+  no_decimals e (suc more) u d = absurd (both_ways (is_unfit w locals (demanded.mean_aspect e)) d.1.0.2 u)
 
   -- what is in parentheses is in the same field
   inner_field : (e : ExpressionTree) (n : ℕ) → KeptDemands w locals (demanded.with_decimals line (parenthesised e) n) → KeptDemands w locals (demanded.with_decimals line e n)
@@ -58,7 +59,7 @@ module _ (w : Whole) (locals : Moded) (c : Context) (s : Scope) (linked : Linked
   Shown field e = ItemResolves c s field e
 
   -- a value that no name alone is
-  value_shown : (field : Field) (e : ExpressionTree) → item c e ≡ option_map AValue (expression c e) → is_unfit w locals (demanded.mean_of e) ≡ true → Resolves w locals c s e →
+  value_shown : (field : Field) (e : ExpressionTree) → item c e ≡ option_map AValue (expression c e) → is_unfit w locals (demanded.mean_aspect e) ≡ true → Resolves w locals c s e →
       KeptDemands w locals (demanded.in_field line e field) → Shown field e
   value_shown field e h u r p = (AValue r.0, h ∙ ap (option_map AValue) r.2, ((r.1, r.4), no_decimals e field.decimals u p))
 
@@ -75,7 +76,7 @@ module _ (w : Whole) (locals : Moded) (c : Context) (s : Scope) (linked : Linked
   known_shown field name es e known h k v f p true i =
       let referent = linked.value name known k v in
       let r = known_mean w locals s known referent.0 e referent.2 f i in
-      (r.0, two_steps (subscript c es) (c.meaning (Name name)) (λ y m. item_of m y) e referent.0 r.0 h referent.1 r.1, r.2 field (few_decimals (named (Name name) es) field.decimals p))
+      (r.0, two_steps (subscript c es) (c.meaning (Name name)) (λ y m. resolved_item m y) e referent.0 r.0 h referent.1 r.1, r.2 field (few_decimals (named (Name name) es) field.decimals p))
   known_shown field name es e known h k v f p false i =
       let none : is_unfit w locals (demanded.mean_designated (Name name)) ≡ true = ap not (ap (if_known is_mean) k ∙ i) in
       named_shown field (Name name) es none (name_resolves w locals c s linked line name es e known h k v f i) p

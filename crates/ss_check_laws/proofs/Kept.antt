@@ -2,7 +2,7 @@
 use Rattle.std.proofs.Common.{◌≢◌, List, [], ◌∷◌, ◌++◌}
 use Rattle.std.specs.List.{AllByRecursion as Every}
 use Rattle.ss_tree.specs.Tree.{SectionTree, ProgramTree}
-use Rattle.ss_names_declarations.specs.Sayings.{NameBytes}
+use Rattle.ss_tree.specs.Names.{NameBytes}
 use Rattle.ss_names.specs.Table.{table}
 use Rattle.ss_check_scopes.specs.WholeOf.{whole_of}
 use Rattle.ss_names_laws.specs.Declarations as declarations
@@ -13,18 +13,18 @@ use Rattle.ss_names_laws.specs.Subjects.{SubjectsAreWhole}
 use Rattle.ss_names_laws.specs.Tables.{TablesAreKept}
 use Rattle.ss_check_scopes.specs.Signatures.{given_to, yielded_by}
 use Rattle.ss_check_scopes.specs.Whole.{Whole, locals_of}
-use Rattle.ss_check_laws.specs.Parameters.{AreDistinct, parameters}
-use Rattle.ss_names_laws.specs.ValidTables.{IsKept}
+use Rattle.ss_check_laws.specs.Parameters.{AreDistinctNames, parameters}
+use Rattle.ss_names_laws.specs.ValidTables.{IsValidTable}
 use Rattle.ss_check_laws.specs.Programs.{KeepsAllRules, KeepsRules}
 
 -- ---- the table
 
-pub table_kept : TablesAreKept → SubjectsAreWhole → (p : ProgramTree) → declarations.KeepsDeclarations p → uses.KeepsUses (whole_of p) p → IsKept (table p)
+pub table_kept : TablesAreKept → SubjectsAreWhole → (p : ProgramTree) → declarations.KeepsDeclarations p → uses.KeepsUses (whole_of p) p → IsValidTable (table p)
 table_kept tables subjects p d u = record { said = tables p d; subjects = subjects p d u }
 
 -- ---- sections
 
-distinct : (names : List NameBytes) → Pairwise (λ name other. other ≢ name) names → AreDistinct names
+distinct : (names : List NameBytes) → Pairwise (λ name other. other ≢ name) names → AreDistinctNames names
 distinct [] h = tt
 distinct (n ∷ ns) h = (h.0, distinct ns h.1)
 

@@ -7,22 +7,22 @@ use Rattle.ss_base.specs.declared.layout.Mode.{Mode}
 use Rattle.ss_base.specs.declared.layout.Mode.TheVariants.{Integer}
 use Rattle.ss_tree.specs.declared.preamble.Mode.{Mode as ModeWord}
 use Rattle.ss_tree.specs.declared.preamble.Mode.TheVariants as mode_words
-use Rattle.ss_names_declarations.specs.Sayings.{NameBytes}
+use Rattle.ss_tree.specs.Names.{NameBytes}
 use Rattle.ss_names.specs.declared.entry.Attribute.{Attribute}
-use Rattle.ss_names.specs.declared.meaning.Meaning.{Meaning as Global}
-use Rattle.ss_names.specs.declared.meaning.Meaning.TheVariants as globals
-use Rattle.ss_names.specs.declared.entry.Variable.{Variable as VariableSaid}
+use Rattle.ss_names.specs.declared.meaning.GlobalMeaning.{GlobalMeaning as Global}
+use Rattle.ss_names.specs.declared.meaning.GlobalMeaning.TheVariants as globals
+use Rattle.ss_names.specs.declared.entry.GlobalVariable.{GlobalVariable as VariableSaid}
 use Rattle.ss_names.specs.declared.entry.VariableKind.{VariableKind}
 use Rattle.ss_names.specs.declared.entry.VariableKind.TheVariants as kinds
 use Rattle.ss_names_declarations.specs.Firsts.{place_in, same_name, value_for}
 use Rattle.ss_names.specs.Table.{Table}
 use Rattle.ss_check_scopes.specs.declared.known.Known.TheVariants as knowns
-use Rattle.ss_check_scopes.specs.Locals.{Moded, number_of}
+use Rattle.ss_check_scopes.specs.Locals.{Moded, number_of_local}
 use Rattle.ss_check_scopes.specs.Meanings.{local_or, meaning_in, value_mode}
 use Rattle.ss_check_scopes.specs.Signatures.{Signed}
 use Rattle.ss_check_scopes.specs.Whole.{Whole}
 use Rattle.ss_check_scopes.specs.WholeOf as whole
-use Rattle.ss_check_rules.specs.Modes.{known_mode, mode_in}
+use Rattle.ss_check_rules.specs.Modes.{known_mode, mode_of_name}
 use Rattle.ss_program.specs.declared.expression.Variable.{Variable}
 use Rattle.ss_program.specs.declared.expression.Variable.TheVariants as variables
 use Rattle.ss_program.specs.Program.{ToVariable}
@@ -33,8 +33,8 @@ use Rattle.ss_names_meaning.specs.Meanings.{class_variable, hidden_by, variable_
 use Rattle.ss_names_meaning.specs.Resolved.{local_mode, local_modes}
 use Rattle.ss_names_meaning.specs.Words.{mode_given, mode_said}
 use Rattle.ss_check_laws.specs.Links.{IsImplied}
-use Rattle.ss_names_laws.specs.Tables.{standing_of}
-use Rattle.ss_names_laws.specs.ValidTables.{IsKept}
+use Rattle.ss_names_laws.specs.Tables.{meaning_of_variable}
+use Rattle.ss_names_laws.specs.ValidTables.{IsValidTable}
 use Rattle.ss_names_laws.specs.LaidOut.{HasTables}
 use Rattle.ss_names_declarations.proofs.Entries.{key_at, no_place, place_of_value, value_at}
 use Rattle.ss_names_laws.proofs.Steps.{got, numbers_at}
@@ -49,21 +49,21 @@ value_is (Some mode_words.Integer) m e = cc
 value_is (Some mode_words.Alpha) m e = cc
 value_is (Some mode_words.Real) m e = absurd cc
 
-pub kind_of_class : (n class : ℕ) (kind : VariableKind) → standing_of n kind ≡ globals.Class class n → kind ≡ kinds.OfClass class
+pub kind_of_class : (n class : ℕ) (kind : VariableKind) → meaning_of_variable n kind ≡ globals.Class class n → kind ≡ kinds.OfClass class
 kind_of_class n class kinds.Defined e = absurd cc
 kind_of_class n class (kinds.OfClass c) e =
     let same : c ≡ class = cc in
     ap kinds.OfClass same
 kind_of_class n class (kinds.CountOf c) e = absurd cc
 
-pub kind_of_count : (n class : ℕ) (kind : VariableKind) → standing_of n kind ≡ globals.Count class n → kind ≡ kinds.CountOf class
+pub kind_of_count : (n class : ℕ) (kind : VariableKind) → meaning_of_variable n kind ≡ globals.Count class n → kind ≡ kinds.CountOf class
 kind_of_count n class kinds.Defined e = absurd cc
 kind_of_count n class (kinds.OfClass c) e = absurd cc
 kind_of_count n class (kinds.CountOf c) e =
     let same : c ≡ class = cc in
     ap kinds.CountOf same
 
-pub kind_of_variable : (n : ℕ) (kind : VariableKind) → standing_of n kind ≡ globals.Variable n → kind ≡ kinds.Defined
+pub kind_of_variable : (n : ℕ) (kind : VariableKind) → meaning_of_variable n kind ≡ globals.Variable n → kind ≡ kinds.Defined
 kind_of_variable n kinds.Defined e = refl
 kind_of_variable n (kinds.OfClass c) e = absurd cc
 kind_of_variable n (kinds.CountOf c) e = absurd cc
@@ -79,12 +79,12 @@ attribute_found t None a e = absurd cc
 attribute_found t (Some n) a e = e
 
 -- the mode that the rules know of an attribute is that of its field
-pub mode_agrees : (t : Table) (name : NameBytes) (m : Mode) → field_mode t name ≡ Some m → whole.field_mode t name ≡ m
+pub mode_agrees : (t : Table) (name : NameBytes) (m : Mode) → field_mode t name ≡ Some m → whole.attribute_mode_by_name t name ≡ m
 mode_agrees t name m e =
     let a = got (attribute_named t name) (λ x. mode_given x.mode) m e in
     ap whole.mode_of_attribute (attribute_found t (place_in t.attributes name) a.0 a.1) ∙ value_is a.0.mode m a.2
 
-module _ (t : Table) (signatures : List Signed) (is : IsTable t) (k : IsKept t) (s : Scope) (h : HasTables t s.program)
+module _ (t : Table) (signatures : List Signed) (is : IsTable t) (k : IsValidTable t) (s : Scope) (h : HasTables t s.program)
     (locals : Moded) (modes : local_modes locals ≡ Some s.locals) where
   abbrev pub w : Whole
   w = whole.whole_in t signatures
@@ -95,10 +95,10 @@ module _ (t : Table) (signatures : List Signed) (is : IsTable t) (k : IsKept t) 
   pub hidden : (name : NameBytes) (mode : Option ModeWord) → lookup (same_name name) locals ≡ Some mode → meaning_in w.meanings locals name ≡ Some (knowns.Local (value_mode mode))
   hidden name mode e = ap (λ o. local_or o (w.meanings name)) e
 
-  pub unhidden : (name : NameBytes) (m : Global) → lookup (same_name name) locals ≡ None → value_for t.names name ≡ Some m → meaning_in w.meanings locals name ≡ whole.meaning_by t m
+  pub unhidden : (name : NameBytes) (m : Global) → lookup (same_name name) locals ≡ None → value_for t.names name ≡ Some m → meaning_in w.meanings locals name ≡ whole.known_of_entry t m
   unhidden name m e f = ap (λ o. local_or o (w.meanings name)) e ∙ ap (whole.meaning_of t) f
 
-  pub local_known : (name : NameBytes) (mode : Option ModeWord) → lookup (same_name name) locals ≡ Some mode → (n : ℕ) × (m : Mode) × (number_of locals name ≡ Some n) × (mode_given mode ≡ Some m) × (slice_get s.locals n ≡ Some m)
+  pub local_known : (name : NameBytes) (mode : Option ModeWord) → lookup (same_name name) locals ≡ Some mode → (n : ℕ) × (m : Mode) × (number_of_local locals name ≡ Some n) × (mode_given mode ≡ Some m) × (slice_get s.locals n ≡ Some m)
   local_known name mode e =
       let place = place_of_value locals name mode e in
       let at = numbers_at (local_mode locals) (length locals) s.locals place.0 modes (slice_get_within locals place.0 (name, mode) place.1.1) in
@@ -114,7 +114,7 @@ module _ (t : Table) (signatures : List Signed) (is : IsTable t) (k : IsKept t) 
   pub class_variable_whole : (class n : ℕ) (name : NameBytes) (v : VariableSaid) → value_for t.names name ≡ Some (globals.Class class n) → slice_get t.variables n ≡ Some (name, v) → TakesMode s (ToVariable (variables.Global n)) Integer
   class_variable_whole class n name v e f =
       let value : slice_get (values_of t.variables) n ≡ Some v = value_at t.variables n name v f in
-      let standing : standing_of n v.kind ≡ globals.Class class n = same_Some (standing_of n v.kind) (globals.Class class n) (sym (k.said.variable_names n name v f) ∙ e) in
+      let standing : meaning_of_variable n v.kind ≡ globals.Class class n = same_Some (meaning_of_variable n v.kind) (globals.Class class n) (sym (k.said.variable_names n name v f) ∙ e) in
       let kind = kind_of_class n class v.kind standing in
       let whole_mode : v.mode ≡ mode_words.Integer = subst (λ x. IsClassMode x v.mode) kind (is.class_modes n name v f) in
       let mode = global_known t is k s.program h n v value in
@@ -124,17 +124,17 @@ module _ (t : Table) (signatures : List Signed) (is : IsTable t) (k : IsKept t) 
       (mode.2 ∙ ap Some same, plain t is k s.program h n v value other)
 
   -- the variable of a class's name in the section has the mode that the rules know
-  pub class_variable_typed : (class n : ℕ) (name : NameBytes) → value_for t.names name ≡ Some (globals.Class class n) → (m : Mode) × (mode_in w locals name ≡ Some m) × TakesMode s (ToVariable (variable_of locals name n)) m
+  pub class_variable_typed : (class n : ℕ) (name : NameBytes) → value_for t.names name ≡ Some (globals.Class class n) → (m : Mode) × (mode_of_name w locals name ≡ Some m) × TakesMode s (ToVariable (variable_of locals name n)) m
   class_variable_typed class n name e = by (lookup (same_name name) locals) refl
     where
-      by : (o : Option (Option ModeWord)) → lookup (same_name name) locals ≡ o → (m : Mode) × (mode_in w locals name ≡ Some m) × TakesMode s (ToVariable (variable_of locals name n)) m
+      by : (o : Option (Option ModeWord)) → lookup (same_name name) locals ≡ o → (m : Mode) × (mode_of_name w locals name ≡ Some m) × TakesMode s (ToVariable (variable_of locals name n)) m
       by (Some mode) f =
           let l = local_known name mode f in
           (l.1, ap known_mode (hidden name mode f) ∙ ap Some (value_is mode l.1 l.3), subst (λ o. TakesMode s (ToVariable (hidden_by locals o n)) l.1) (sym l.2) (l.4, tt))
       by None f =
-          let number : number_of locals name ≡ None = no_place locals name f in
+          let number : number_of_local locals name ≡ None = no_place locals name f in
           let numbered = is.names name (globals.Class class n) e in
-          let known : whole.meaning_by t (globals.Class class n) ≡ Some (knowns.Class numbered.0.kind) = ap whole.class_meaning (value_at t.classes class name numbered.0 numbered.2) in
+          let known : whole.known_of_entry t (globals.Class class n) ≡ Some (knowns.Class numbered.0.kind) = ap whole.known_of_class (value_at t.classes class name numbered.0 numbered.2) in
           (Integer, ap known_mode (unhidden name (globals.Class class n) f e ∙ known), subst (λ o. TakesMode s (ToVariable (hidden_by locals o n)) Integer) (sym number) (class_variable_whole class n name numbered.1 e numbered.3))
 
   -- the variable that has an entity of the class where none is written

@@ -11,16 +11,16 @@ use Rattle.ss_tree.specs.declared.expression.Designator.TheVariants.{Name}
 use Rattle.ss_tree.specs.declared.preamble.ClassKind.{ClassKind as ClassWord}
 use Rattle.ss_tree.specs.declared.preamble.ClassKind.TheVariants as class_words
 use Rattle.ss_tree.specs.declared.preamble.Mode.{Mode as ModeWord}
-use Rattle.ss_names_declarations.specs.Sayings.{NameBytes}
+use Rattle.ss_tree.specs.Names.{NameBytes}
 use Rattle.ss_names.specs.declared.entry.Class.{Class}
 use Rattle.ss_names.specs.declared.meaning.Derived.TheVariants as derived
 use Rattle.ss_names.specs.declared.meaning.History.{History}
-use Rattle.ss_names.specs.declared.meaning.Meaning.{Meaning as Global}
-use Rattle.ss_names.specs.declared.meaning.Meaning.TheVariants as globals
+use Rattle.ss_names.specs.declared.meaning.GlobalMeaning.{GlobalMeaning as Global}
+use Rattle.ss_names.specs.declared.meaning.GlobalMeaning.TheVariants as globals
 use Rattle.ss_names.specs.declared.entry.Set.{Set}
-use Rattle.ss_names.specs.declared.meaning.Subject.{Subject as SubjectNumber}
-use Rattle.ss_names.specs.declared.meaning.Subject.TheVariants as subjects
-use Rattle.ss_names.specs.declared.entry.Variable.{Variable as VariableSaid}
+use Rattle.ss_names.specs.declared.meaning.SubjectNumber.{SubjectNumber}
+use Rattle.ss_names.specs.declared.meaning.SubjectNumber.TheVariants as subjects
+use Rattle.ss_names.specs.declared.entry.GlobalVariable.{GlobalVariable as VariableSaid}
 use Rattle.ss_names.specs.declared.entry.VariableKind.TheVariants as kinds
 use Rattle.ss_names_declarations.specs.Firsts.{place_in, same_name, value_for}
 use Rattle.ss_names.specs.Histories as histories
@@ -49,10 +49,10 @@ use Rattle.ss_names_meaning.specs.Layouts.{field_mode}
 use Rattle.ss_names_meaning.specs.Meanings.{asked, class_of, class_variable, context_in, count_of_class, count_kind, global_class, global_routine, global_set, meaning_of, of_owner, routine_of, set_of, set_owned, statistic_of, variable_of}
 use Rattle.ss_names_meaning.specs.Resolved.{local_modes}
 use Rattle.ss_names_meaning.specs.Words.{class_kind, mode_given, mode_said}
-use Rattle.ss_check_laws.specs.Links.{HasCount, IsClass, IsRoutine, IsSetOf, IsSubject, Linked, kind_said}
-use Rattle.ss_names_laws.specs.Tables.{standing_of}
+use Rattle.ss_check_laws.specs.Links.{HasCount, IsClass, IsRoutine, IsSetOf, IsSubject, ContextAgrees, kind_said}
+use Rattle.ss_names_laws.specs.Tables.{meaning_of_variable}
 use Rattle.ss_names_laws.specs.Locals.{KeepsLocals}
-use Rattle.ss_names_laws.specs.ValidTables.{IsKept}
+use Rattle.ss_names_laws.specs.ValidTables.{IsValidTable}
 use Rattle.ss_names_laws.specs.LaidOut.{HasTables}
 use Rattle.ss_check_laws.specs.Signed.{AreSigned}
 use Rattle.ss_check_laws.proofs.Known.{mode_agrees, class_variable_typed, kind_of_class, unhidden, w}
@@ -68,7 +68,7 @@ kinds_same class_words.Permanent = refl
 kinds_same class_words.Temporary = refl
 kinds_same class_words.EventNotice = refl
 
-module _ (t : Table) (signatures : List Signed) (is : IsTable t) (k : IsKept t) (s : Scope) (h : HasTables t s.program)
+module _ (t : Table) (signatures : List Signed) (is : IsTable t) (k : IsValidTable t) (s : Scope) (h : HasTables t s.program)
     (locals : Moded) (modes : local_modes locals ≡ Some s.locals) where
   abbrev here : Whole
   here = w t signatures is k s h locals modes
@@ -126,10 +126,10 @@ module _ (t : Table) (signatures : List Signed) (is : IsTable t) (k : IsKept t) 
       let c = is.names name (globals.Class class n) is_class in
       let value : slice_get (values_of t.classes) class ≡ Some c.0 = value_at t.classes class name c.0 c.2 in
       let variable : slice_get (values_of t.variables) n ≡ Some c.1 = value_at t.variables n name c.1 c.3 in
-      let is_kind : whole.meaning_by t (globals.Class class n) ≡ Some (knowns.Class c.0.kind) = ap whole.class_meaning value in
+      let is_kind : whole.known_of_entry t (globals.Class class n) ≡ Some (knowns.Class c.0.kind) = ap whole.known_of_class value in
       let agrees : Some (knowns.Class c.0.kind) ≡ Some (knowns.Class kind) = sym is_kind ∙ sym (ap (whole.meaning_of t) is_class) ∙ e in
       let same : c.0.kind ≡ kind = cc in
-      let v_kind = kind_of_class n class c.1.kind (same_Some (standing_of n c.1.kind) (globals.Class class n) (sym (k.said.variable_names n name c.1 c.3) ∙ is_class)) in
+      let v_kind = kind_of_class n class c.1.kind (same_Some (meaning_of_variable n c.1.kind) (globals.Class class n) (sym (k.said.variable_names n name c.1 c.3) ∙ is_class)) in
       let known = class_known t is k s.program h class c.0 value in
       let referent = class_made class n name c.0 in (
         referent,
@@ -142,7 +142,7 @@ module _ (t : Table) (signatures : List Signed) (is : IsTable t) (k : IsKept t) 
           fields_there = (
             known.0,
             ap (option_map (λ (x : PlainClass). x.fields)) known.1,
-            ap (whole.attributes_of t) is_class ∙ ap Some (each_map (field_mode t) (whole.field_mode t) (get_or t.fields class []) known.0 known.2 (mode_agrees t)),
+            ap (whole.attributes_of t) is_class ∙ ap Some (each_map (field_mode t) (whole.attribute_mode_by_name t) (get_or t.fields class []) known.0 known.2 (mode_agrees t)),
             sym (each_length (field_mode t) (get_or t.fields class []) known.0 known.2),
           );
           count_there = count_linked class n name c.1 c.0 kind variable v_kind value same;
@@ -187,7 +187,7 @@ module _ (t : Table) (signatures : List Signed) (is : IsTable t) (k : IsKept t) 
   named (subjects.Attribute n) = globals.Attribute n
   named (subjects.MemberCount n) = globals.Derived derived.MemberCount n
 
-  subject_named : (o : Option Global) (number : SubjectNumber) → histories.subject_of o ≡ Some number → o ≡ Some (named number)
+  subject_named : (o : Option Global) (number : SubjectNumber) → histories.subject_of_name o ≡ Some number → o ≡ Some (named number)
   subject_named (Some (globals.Variable n)) number e = ap (λ x. Some (named x)) (same_Some (subjects.Variable n) number e)
   subject_named (Some (globals.Attribute n)) number e = ap (λ x. Some (named x)) (same_Some (subjects.Attribute n) number e)
   subject_named (Some (globals.Derived derived.MemberCount n)) number e = ap (λ x. Some (named x)) (same_Some (subjects.MemberCount n) number e)
@@ -207,7 +207,7 @@ module _ (t : Table) (signatures : List Signed) (is : IsTable t) (k : IsKept t) 
         knowns.Variable (value_mode (Some v.0.mode)),
         referent,
         i,
-        unhidden t signatures is k s h locals modes name (globals.Variable n) f.alone e ∙ ap whole.variable_meaning value,
+        unhidden t signatures is k s h locals modes name (globals.Variable n) f.alone e ∙ ap whole.known_of_variable value,
         meant t signatures is k s h locals modes name (globals.Variable n) referent f.alone e (goes (slice_get (values_of t.variables) n) (λ x. Some (meanings.Variable (variables.Global n) (mode_said x.mode))) v.0 referent value refl),
         f.place,
         variable_alone t signatures is k s h locals modes i n history f.there g,
@@ -264,7 +264,7 @@ module _ (t : Table) (signatures : List Signed) (is : IsTable t) (k : IsKept t) 
             knowns.MemberCount (EachOf c.0),
             referent,
             i,
-            known set (owners.Class class) p q ∙ ap (λ x. Some (knowns.MemberCount (whole.entity_of x))) c.2,
+            known set (owners.Class class) p q ∙ ap (λ x. Some (knowns.MemberCount (whole.holder_of x))) c.2,
             of_its_owner set (owners.Class class) referent p q (goes (class_variable t locals class) (λ implied. Some (meanings.OfSet MemberCount n implied)) c.1 referent c.3 refl),
             f.place,
             (count_of_each t signatures is k s h locals modes i n class history f.there g r, c.4),
@@ -288,7 +288,7 @@ module _ (t : Table) (signatures : List Signed) (is : IsTable t) (k : IsKept t) 
           let number = k.subjects i history there in
           subject_watched name i history number.0 (record { place = f; alone = g; there = there }) (subject_named (value_for t.names name) number.0 number.1) number.1
 
-  pub linked : KeepsLocals here locals → AreSigned t signatures s.program → Linked here locals (context_in t locals) s
+  pub linked : KeepsLocals here locals → AreSigned t signatures s.program → ContextAgrees here locals (context_in t locals) s
   unfolding context_in
   linked kl a = record {
     value = value_linked t signatures is k s h locals modes;

@@ -4,14 +4,14 @@ use Rattle.std.specs.Prelude.{option_map}
 use Rattle.ss_base.specs.declared.layout.Mode.{Mode}
 use Rattle.ss_base.specs.declared.layout.Mode.TheVariants.{Integer}
 use Rattle.ss_picture.specs.declared.field.Field.{Field}
-use Rattle.ss_names_uses.specs.Mentions.{NameBytes}
+use Rattle.ss_tree.specs.Names.{NameBytes}
 use Rattle.ss_check_scopes.specs.declared.known.Holder.TheVariants.{Program as TheProgram, Entity as EachOf}
 use Rattle.ss_check_scopes.specs.declared.known.Known.{Known}
 use Rattle.ss_check_scopes.specs.declared.known.Known.TheVariants as knowns
 use Rattle.ss_check_scopes.specs.Locals.{Moded}
 use Rattle.ss_check_scopes.specs.Whole.{Whole}
-use Rattle.ss_check_rules.specs.Modes.{mode_in, mode_of, class_implied, class_mode, differ, is_mean}
-use Rattle.ss_check_rules.specs.Subscripts.{is_single}
+use Rattle.ss_check_rules.specs.Modes.{mode_of_name, mode_of_known, class_implied, class_mode, differ, is_mean}
+use Rattle.ss_check_rules.specs.Subscripts.{takes_no_subscript}
 use Rattle.ss_program.specs.declared.expression.Variable.{Variable}
 use Rattle.ss_program.specs.declared.expression.Variable.TheVariants.{Global}
 use Rattle.ss_program.specs.Program.{Expression, Fetch, Attribute, OfSystemSet, OfSet, OfMember, Figure, FigureOf, Item, AValue, AMean, AMeanOf}
@@ -19,7 +19,7 @@ use Rattle.ss_program.specs.WellTyped.{Scope, HasMode, TakesItem, mode_at}
 use Rattle.ss_names_meaning.specs.declared.meaning.Meaning.{Meaning}
 use Rattle.ss_names_meaning.specs.declared.meaning.Meaning.TheVariants as meanings
 use Rattle.ss_names_meaning.specs.Answers.{◌>>=◌}
-use Rattle.ss_names_meaning.specs.Expressions.{entity_of, value_of, item_of}
+use Rattle.ss_names_meaning.specs.Expressions.{entity_of, resolved_value, resolved_item}
 use Rattle.ss_check_laws.specs.Links.{IsImplied, IsVariable, IsAttribute, IsCount, IsQuery, IsFigure, IsMean, Fits}
 use Rattle.ss_check_laws.proofs.Steps.{is_integer}
 
@@ -29,20 +29,20 @@ module _ (w : Whole) (locals : Moded) (s : Scope) where
   -- a number, or else the variable that has the entity is one, if any has
   abbrev pub SubscriptFits : Known → Option Expression → Type 0
   SubscriptFits known None = differ (class_mode w locals (class_implied known)) (Some Integer) ≡ false
-  SubscriptFits known (Some e) = (is_single known ≡ false) × HasMode s e Integer
+  SubscriptFits known (Some e) = (takes_no_subscript known ≡ false) × HasMode s e Integer
 
   abbrev pub EntityFits : NameBytes → Option Expression → Type 0
-  EntityFits class None = differ (mode_in w locals class) (Some Integer) ≡ false
+  EntityFits class None = differ (mode_of_name w locals class) (Some Integer) ≡ false
   EntityFits class (Some e) = HasMode s e Integer
 
   abbrev pub Alone : Option Expression → Type 0
   Alone None = Unit {0}
   Alone (Some e) = ⊥
 
-  pub alone : (known : Known) (e : Option Expression) → is_single known ≡ true → SubscriptFits known e → Alone e
+  pub alone : (known : Known) (e : Option Expression) → takes_no_subscript known ≡ true → SubscriptFits known e → Alone e
   alone known None h f = tt
   alone known (Some e) h f =
-      let k : is_single known ≡ false = f.0 in
+      let k : takes_no_subscript known ≡ false = f.0 in
       absurd cc
 
   pub entity_fits : (known : Known) (class : NameBytes) (e : Option Expression) → class_implied known ≡ Some class → SubscriptFits known e → EntityFits class e
@@ -58,7 +58,7 @@ module _ (w : Whole) (locals : Moded) (s : Scope) where
   -- ---- values
 
   abbrev pub HasValue : Mode → Meaning → Option Expression → Type 0
-  HasValue m referent e = (x : Expression) × (value_of referent e ≡ Some x) × HasMode s x m
+  HasValue m referent e = (x : Expression) × (resolved_value referent e ≡ Some x) × HasMode s x m
 
   variable_value : (m : Mode) (referent : Meaning) (e : Option Expression) → IsVariable w locals s m referent → Alone e → HasValue m referent e
   variable_value m (meanings.Variable x mode) None f a = (Fetch x, refl, f.1.0)
@@ -98,7 +98,7 @@ module _ (w : Whole) (locals : Moded) (s : Scope) where
   figure_of_each class _ e f g = absurd f
 
   abbrev pub KnownValue : Known → Meaning → Option Expression → Type 0
-  KnownValue known referent e = (m : Mode) × (mode_of known ≡ Some m) × HasValue m referent e
+  KnownValue known referent e = (m : Mode) × (mode_of_known known ≡ Some m) × HasValue m referent e
 
   -- all but a MEAN has a value
   pub known_value : (known : Known) (referent : Meaning) (e : Option Expression) → Fits w locals s known referent → SubscriptFits known e → is_mean known ≡ false → KnownValue known referent e
@@ -125,7 +125,7 @@ module _ (w : Whole) (locals : Moded) (s : Scope) where
 
   -- a MEAN has an item, which each field of at most 9 decimals takes
   abbrev pub HasMean : Meaning → Option Expression → Type 0
-  HasMean referent e = (x : Item) × (item_of referent e ≡ Some x) × ((field : Field) → field.decimals ≤ 9 → TakesItem s field x)
+  HasMean referent e = (x : Item) × (resolved_item referent e ≡ Some x) × ((field : Field) → field.decimals ≤ 9 → TakesItem s field x)
 
   mean_alone : (referent : Meaning) (e : Option Expression) → IsMean w locals s TheProgram referent → Alone e → HasMean referent e
   mean_alone (meanings.Mean k) None f a = (AMean k, refl, λ field few. (f, few))
@@ -146,12 +146,12 @@ module _ (w : Whole) (locals : Moded) (s : Scope) where
 -- ---- items
 
 -- what has a value is shown as that
-valued_item : (referent : Meaning) (e : Option Expression) (x : Expression) → value_of referent e ≡ Some x → item_of referent e ≡ Some (AValue x)
+valued_item : (referent : Meaning) (e : Option Expression) (x : Expression) → resolved_value referent e ≡ Some x → resolved_item referent e ≡ Some (AValue x)
 valued_item (meanings.Mean k) e x h = absurd cc
 valued_item (meanings.MeanOf k implied) e x h = absurd cc
 valued_item _ e x h = ap (option_map AValue) h
 
-pub valued_steps : (o : Option (Option Expression)) (p : Option Meaning) (x : Expression) → (o >>= λ e. p >>= λ m. value_of m e) ≡ Some x → (o >>= λ e. p >>= λ m. item_of m e) ≡ Some (AValue x)
+pub valued_steps : (o : Option (Option Expression)) (p : Option Meaning) (x : Expression) → (o >>= λ e. p >>= λ m. resolved_value m e) ≡ Some x → (o >>= λ e. p >>= λ m. resolved_item m e) ≡ Some (AValue x)
 valued_steps None p x h = absurd cc
 valued_steps (Some e) None x h = absurd cc
 valued_steps (Some e) (Some m) x h = valued_item m e x h

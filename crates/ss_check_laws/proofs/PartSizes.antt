@@ -14,8 +14,8 @@ use Rattle.ss_names_meaning.specs.Answers.{each, if_there}
 use Rattle.ss_names_meaning.specs.Contexts.{Context, permanent_class}
 use Rattle.ss_names_meaning.specs.Expressions.{expression, subscript, target, set_named}
 use Rattle.ss_names_meaning.specs.Conditions.{one_test, conjunction, condition}
-use Rattle.ss_names_meaning.specs.Heads.{called_variable, guard, head, loop_variable, phrase, phrases_of, start}
-use Rattle.ss_names_meaning.specs.Statements.{entity_called, mode_of, new_place, position, reader, restart, owner_of_statistic, when}
+use Rattle.ss_names_meaning.specs.Heads.{called_variable, guard, head, loop_variable, resolved_phrase, phrases_of, resolved_start}
+use Rattle.ss_names_meaning.specs.Statements.{entity_called, mode_of_target, new_place, position, reader, restart, owner_of_statistic, when}
 use Rattle.ss_check_laws.proofs.Within.{Within, up, change, after, after_lookup, plain_small, there_small, each_small}
 use Rattle.ss_check_laws.proofs.ExpressionSizes.{entity_small, small, subscript_small, target_small, set_small}
 
@@ -91,7 +91,7 @@ module _ (c : Context) where
       change (total alternative_nodes) condition_nodes (tree.condition_nodes (a ∷ rest)) (condition c (a ∷ rest)) (most_alternatives (tree.condition_nodes (a ∷ rest)) (condition_counts (a ∷ rest)))
       (each_small tree.alternative_nodes alternative_nodes (conjunction c) conjunction_small (a ∷ rest))
 
-  pub phrase_small : (p : PhraseTree) → Within phrase_nodes (tree.phrase_nodes p) (phrase c p)
+  pub phrase_small : (p : PhraseTree) → Within phrase_nodes (tree.phrase_nodes p) (resolved_phrase c p)
   phrase_small p = after condition_nodes phrase_nodes (tree.condition_nodes p.condition) (tree.phrase_nodes p) (condition c p.condition) _ (condition_small p.condition) (λ x lt. omega (arith, lt))
 
   pub guard_small : (g : GuardTree) → Within guard_nodes (tree.guard_nodes g) (guard c g)
@@ -99,7 +99,7 @@ module _ (c : Context) where
 
   -- ---- heads
 
-  start_small : (t : StartTree) → Within start_nodes (tree.start_nodes t) (start c t)
+  start_small : (t : StartTree) → Within start_nodes (tree.start_nodes t) (resolved_start c t)
   start_small from_end = omega arith
   start_small (from_member e) = after expression_nodes start_nodes (tree.expression_nodes e) (tree.expression_nodes e) (expression c e) _ (small c e) (λ x lt. lt)
   start_small (after_member e) = after expression_nodes start_nodes (tree.expression_nodes e) (tree.expression_nodes e) (expression c e) _ (small c e) (λ x lt. lt)
@@ -116,7 +116,7 @@ module _ (c : Context) where
       let n = own_nodes (over_members variable set from reverse phrases) in
       after_lookup head_nodes n (loop_variable c variable) _ (λ v.
       after owner_nodes head_nodes (tree.named_nodes set) n (set_named c set) _ (set_small c set) (λ p lt.
-      after start_nodes head_nodes (tree.start_nodes from) n (start c from) _ (start_small from) (λ x lt2. omega (arith, lt, lt2))))
+      after start_nodes head_nodes (tree.start_nodes from) n (resolved_start c from) _ (start_small from) (λ x lt2. omega (arith, lt, lt2))))
   head_small (over_class name called phrases) =
       let n = own_nodes (over_class name called phrases) in
       after_lookup head_nodes n (permanent_class c name) _ (λ class. after_lookup head_nodes n (called_variable c class.variable called) _ (λ v. omega arith))
@@ -127,7 +127,7 @@ module _ (c : Context) where
   reader_small n =
       after place_nodes target_nodes (tree.named_nodes n) (tree.named_nodes n) (target c n) _ (target_small c n) (λ x lt.
       after_lookup target_nodes (tree.named_nodes n) (c.meaning n.designator) _ (λ m.
-      after_lookup target_nodes (tree.named_nodes n) (mode_of m) _ (λ mode. lt)))
+      after_lookup target_nodes (tree.named_nodes n) (mode_of_target m) _ (λ mode. lt)))
 
   pub new_small : (x : Variable) (called : Option NamedTree) → Within place_nodes (1 + tree.option_nodes tree.named_nodes called) (new_place c x called)
   new_small x None = omega arith

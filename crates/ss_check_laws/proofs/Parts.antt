@@ -8,18 +8,19 @@ use Rattle.ss_base.specs.declared.layout.Mode.{Mode}
 use Rattle.ss_tree.specs.declared.preamble.ClassKind.TheVariants as class_words
 use Rattle.ss_tree.specs.declared.preamble.Mode.{Mode as ModeWord}
 use Rattle.ss_tree.specs.Tree as tree
-use Rattle.ss_names_declarations.specs.Sayings.{NameBytes, sayings}
+use Rattle.ss_tree.specs.Names.{NameBytes}
+use Rattle.ss_names_declarations.specs.Sayings.{sayings}
 use Rattle.ss_names.specs.declared.entry.Class.{Class}
-use Rattle.ss_names.specs.declared.meaning.Meaning.TheVariants as globals
-use Rattle.ss_names.specs.declared.entry.Routine.{Routine as RoutineSaid}
+use Rattle.ss_names.specs.declared.meaning.GlobalMeaning.TheVariants as globals
+use Rattle.ss_names.specs.declared.entry.RoutineSection.{RoutineSection as RoutineSaid}
 use Rattle.ss_names_declarations.specs.Firsts.{same_name, value_for}
 use Rattle.ss_names.specs.Table.{Table, table}
 use Rattle.ss_check_scopes.specs.declared.known.Known.TheVariants as knowns
-use Rattle.ss_check_scopes.specs.Locals.{Moded, mode_of}
+use Rattle.ss_check_scopes.specs.Locals.{Moded, mode_of_local}
 use Rattle.ss_check_scopes.specs.Meanings.{value_mode}
 use Rattle.ss_check_scopes.specs.Signatures.{Signed, given_to, signature, yielded_by}
 use Rattle.ss_check_scopes.specs.Whole.{Whole, locals_of}
-use Rattle.ss_check_scopes.specs.WholeOf.{class_meaning, meaning_of, whole_of}
+use Rattle.ss_check_scopes.specs.WholeOf.{known_of_class, meaning_of, whole_of}
 use Rattle.ss_check_rules.specs.Uses.{is_main}
 use Rattle.ss_program.specs.Program.{Block, Done, Event, Program, Routine}
 use Rattle.ss_program.specs.WellTyped.{GoodBlock, Scope}
@@ -29,7 +30,7 @@ use Rattle.ss_names_meaning.specs.Resolved.{Parts, body, local_mode, local_modes
 use Rattle.ss_names_meaning.specs.Words.{mode_given}
 use Rattle.ss_check_laws.specs.BodyLaws.{BodyResolves, KeptSectionsResolve}
 use Rattle.ss_check_laws.specs.Parameters as parameters
-use Rattle.ss_names_laws.specs.ValidTables.{IsKept}
+use Rattle.ss_names_laws.specs.ValidTables.{IsValidTable}
 use Rattle.ss_check_laws.specs.Programs.{KeepsAllRules, KeepsRules}
 use Rattle.ss_names_laws.specs.LaidOut.{HasTables, LaysOut}
 use Rattle.ss_check_laws.specs.Signed.{AreSigned, IsSigned}
@@ -55,7 +56,7 @@ local_step locals i name mode m e f g =
     goes (slice_get (keys_of locals) i) (λ x. lookup (same_name x) locals >>= λ y. mode_given y) name m (key_at locals i name mode e)
     (goes (lookup (same_name name) locals) (λ y. mode_given y) mode m f g)
 
-module _ (p : tree.ProgramTree) (k : IsKept (table p)) (g : KeepsAllRules (whole_of p) p) (laws : Laws) where
+module _ (p : tree.ProgramTree) (k : IsValidTable (table p)) (g : KeepsAllRules (whole_of p) p) (laws : Laws) where
   abbrev pub t : Table
   t = table p
 
@@ -76,7 +77,7 @@ module _ (p : tree.ProgramTree) (k : IsKept (table p)) (g : KeepsAllRules (whole
   -- the modes of the local variables are the declared ones
   pub record HasModes (s : tree.SectionTree) (modes : List Mode) : Type 0 where
     pub resolved : local_modes (locals_of w s) ≡ Some modes
-    pub said : modes ≡ parameters.modes_of (locals_of w s)
+    pub said : modes ≡ parameters.modes_of_locals (locals_of w s)
 
   local_moded : (s : tree.SectionTree) → KeepsRules w s → (i : ℕ) (e : NameBytes × Option ModeWord) → slice_get (locals_of w s) i ≡ Some e → (m : Mode) × (local_mode (locals_of w s) i ≡ Some m) × (value_mode e.1 ≡ m)
   local_moded s r i e h =
@@ -88,7 +89,7 @@ module _ (p : tree.ProgramTree) (k : IsKept (table p)) (g : KeepsAllRules (whole
   modes_there s r =
       let locals = locals_of w s in
       let all = numbers_there (local_mode locals) (length locals) (λ i lt. let e = there locals i lt in let m = local_moded s r i e.0 e.1 in (m.0, m.1)) in
-      let said : map parameters.local_mode locals ≡ all.0 = numbers_map (local_mode locals) parameters.local_mode locals all.0 all.1 (λ i e m f h. let n = local_moded s r i e f in let same : n.0 ≡ m = same_Some n.0 m (sym n.1 ∙ h) in n.2 ∙ same) in
+      let said : map parameters.mode_of_entry locals ≡ all.0 = numbers_map (local_mode locals) parameters.mode_of_entry locals all.0 all.1 (λ i e m f h. let n = local_moded s r i e f in let same : n.0 ≡ m = same_Some n.0 m (sym n.1 ∙ h) in n.2 ∙ same) in
       (all.0, record { resolved = all.1; said = sym said })
 
   -- ---- bodies
@@ -107,7 +108,7 @@ module _ (p : tree.ProgramTree) (k : IsKept (table p)) (g : KeepsAllRules (whole
   section_of n s h = every_at (KeepsRules w) p.sections n s g.sections h
 
   -- the routine of a number is given and yields what its section's signature says
-  pub signed : (q : Program) (n : ℕ) (r : RoutineSaid) (s : tree.SectionTree) (parts : Parts) → slice_get (values_of t.routines) n ≡ Some r → slice_get p.sections r.section ≡ Some s → parts.modes ≡ parameters.modes_of (locals_of w s) → slice_get q.routines n ≡ Some (routine_of r.given r.yielding parts) → IsSigned signatures q n r
+  pub signed : (q : Program) (n : ℕ) (r : RoutineSaid) (s : tree.SectionTree) (parts : Parts) → slice_get (values_of t.routines) n ≡ Some r → slice_get p.sections r.section ≡ Some s → parts.modes ≡ parameters.modes_of_locals (locals_of w s) → slice_get q.routines n ≡ Some (routine_of r.given r.yielding parts) → IsSigned signatures q n r
   signed q n r s parts e f m h =
       let entry = entry_of_value t.routines n r e in
       let known = routine_section p n entry.0 r entry.1 in
@@ -125,8 +126,8 @@ module _ (p : tree.ProgramTree) (k : IsKept (table p)) (g : KeepsAllRules (whole
         there = h;
         given = (λ i. take (given i) (m i)) ∙ first.0;
         yielding = (λ i. take (yielding i) (drop (given i) (m i))) ∙ first.1;
-        given_counted = given ∙ sym (length-map (given_to s.kind) (mode_of t.usual s.definitions));
-        yielding_counted = yielding ∙ sym (length-map (yielded_by s.kind) (mode_of t.usual s.definitions));
+        given_counted = given ∙ sym (length-map (given_to s.kind) (mode_of_local t.usual s.definitions));
+        yielding_counted = yielding ∙ sym (length-map (yielded_by s.kind) (mode_of_local t.usual s.definitions));
       }
 
   -- ---- a program with the same tables and no statements, by which those of all sections resolve
@@ -231,6 +232,6 @@ module _ (p : tree.ProgramTree) (k : IsKept (table p)) (g : KeepsAllRules (whole
       let is_class : value_for t.names name ≡ Some (globals.Class m.0 m.1) = found.1 ∙ ap Some m.2 in
       let c = is.names name (globals.Class m.0 m.1) is_class in
       let known : Some (knowns.Class c.0.kind) ≡ Some (knowns.Class class_words.EventNotice) =
-      sym (ap class_meaning (value_at t.classes m.0 name c.0 c.2)) ∙ sym (ap (meaning_of t) is_class) ∙ e in
+      sym (ap known_of_class (value_at t.classes m.0 name c.0 c.2)) ∙ sym (ap (meaning_of t) is_class) ∙ e in
       let kind : c.0.kind ≡ class_words.EventNotice = cc in
       (m.0, c.0, c.2, kind)

@@ -9,7 +9,8 @@ use Rattle.ss_tree.specs.declared.expression.Designator.TheVariants.{Name, TimeV
 use Rattle.ss_tree.specs.Tree.{ExpressionRow, no_expression, and_expression, NamedTree}
 use Rattle.ss_names_uses.specs.declared.mention.Role.TheVariants as roles
 use Rattle.ss_names_uses.specs.declared.mention.Mentioned.TheVariants as things
-use Rattle.ss_names_uses.specs.Mentions.{NameBytes, place, row_length, in_named}
+use Rattle.ss_tree.specs.Names.{NameBytes}
+use Rattle.ss_names_uses.specs.Mentions.{place, row_length, in_named}
 use Rattle.ss_names_uses.specs.Demands as demanded
 use Rattle.ss_check_scopes.specs.declared.known.Holder.{Holder}
 use Rattle.ss_check_scopes.specs.declared.known.Holder.TheVariants.{Program as TheProgram, Entity as EachOf}
@@ -19,9 +20,9 @@ use Rattle.ss_check_scopes.specs.Locals.{Moded}
 use Rattle.ss_check_scopes.specs.Meanings.{meaning_in}
 use Rattle.ss_check_scopes.specs.Whole.{Whole}
 use Rattle.ss_check_rules.specs.Unknown.{has_value, is_set, if_known}
-use Rattle.ss_check_rules.specs.Subscripts.{is_single, are_wrong}
+use Rattle.ss_check_rules.specs.Subscripts.{takes_no_subscript, are_wrong}
 use Rattle.ss_check_rules.specs.Targets.{takes_values}
-use Rattle.ss_check_rules.specs.Modes.{mode_of as known_mode_of, class_mode, known_class, known_mode, differ}
+use Rattle.ss_check_rules.specs.Modes.{mode_of_known as known_mode_of, class_mode, known_class, known_mode, differ}
 use Rattle.ss_program.specs.Program.{Expression, Place, ToVariable, ToAttribute, ToCount, SetOwner, TheSystem, Entity}
 use Rattle.ss_program.specs.WellTyped.{Scope, TakesMode, OwnerFits}
 use Rattle.ss_names_meaning.specs.declared.meaning.Meaning.{Meaning}
@@ -29,10 +30,10 @@ use Rattle.ss_names_meaning.specs.declared.meaning.Meaning.TheVariants as meanin
 use Rattle.ss_names_meaning.specs.declared.meaning.SetMeant.{SetMeant}
 use Rattle.ss_names_meaning.specs.declared.meaning.SetMeant.TheVariants.{OfSystem, OfEntity}
 use Rattle.ss_names_meaning.specs.Contexts.{Context}
-use Rattle.ss_names_meaning.specs.Expressions.{entity_of, subscript, place_of, owned_by}
-use Rattle.ss_names_meaning.specs.Statements.{mode_of}
+use Rattle.ss_names_meaning.specs.Expressions.{entity_of, subscript, place_of, resolved_set}
+use Rattle.ss_names_meaning.specs.Statements.{mode_of_target}
 use Rattle.ss_names_laws.specs.Rules.{KeptMention, KeptDemand, KeptMentions, KeptDemands}
-use Rattle.ss_check_laws.specs.Links.{Linked, IsVariable, IsAttribute, IsCount, IsSetOf, Fits}
+use Rattle.ss_check_laws.specs.Links.{ContextAgrees, IsVariable, IsAttribute, IsCount, IsSetOf, Fits}
 use Rattle.ss_check_laws.specs.BodyLaws.{TargetResolves, SetResolves}
 use Rattle.ss_check_laws.proofs.Steps.{left_of, right_of, two_steps, known_of, of_not}
 use Rattle.ss_check_laws.proofs.Named.{SubscriptFits, EntityFits, Alone, alone, entity_fits, entity_is_number}
@@ -42,7 +43,7 @@ module _ (w : Whole) (locals : Moded) (s : Scope) where
   -- ---- what is assigned to
 
   abbrev TakesValues : Mode → Meaning → Option Expression → Type 0
-  TakesValues m referent e = (x : Place) × (mode_of referent ≡ Some m) × (place_of referent e ≡ Some x) × TakesMode s x m
+  TakesValues m referent e = (x : Place) × (mode_of_target referent ≡ Some m) × (place_of referent e ≡ Some x) × TakesMode s x m
 
   variable_place : (m : Mode) (referent : Meaning) (e : Option Expression) → IsVariable w locals s m referent → Alone w locals s e → TakesValues m referent e
   variable_place m (meanings.Variable x mode) None f a = (ToVariable x, f.0, refl, f.1)
@@ -74,7 +75,7 @@ module _ (w : Whole) (locals : Moded) (s : Scope) where
   -- ---- sets
 
   abbrev Owned : SetMeant → Option Expression → Type 0
-  Owned referent e = (p : ℕ × SetOwner) × (owned_by referent e ≡ Some p) × OwnerFits s p.0 p.1
+  Owned referent e = (p : ℕ × SetOwner) × (resolved_set referent e ≡ Some p) × OwnerFits s p.0 p.1
 
   system_owned : (referent : SetMeant) (e : Option Expression) → IsSetOf w locals s TheProgram referent → Alone w locals s e → Owned referent e
   system_owned (OfSystem set) None f a = ((set, TheSystem), refl, f)
@@ -94,7 +95,7 @@ module _ (w : Whole) (locals : Moded) (s : Scope) where
   known_set (knowns.Set holder) h = (holder, refl)
   known_set _ h = absurd cc
 
-module _ (w : Whole) (locals : Moded) (c : Context) (s : Scope) (linked : Linked w locals c s) (line : Line) where
+module _ (w : Whole) (locals : Moded) (c : Context) (s : Scope) (linked : ContextAgrees w locals c s) (line : Line) where
   abbrev pub Subscripted : ExpressionRow → Known → Type 0
   Subscripted es known = (e : Option Expression) × (subscript c es ≡ Some e) × SubscriptFits w locals s known e
 
@@ -104,7 +105,7 @@ module _ (w : Whole) (locals : Moded) (c : Context) (s : Scope) (linked : Linked
   subscripted name no_expression known k m d n =
       (None, no_subscript w locals c s linked line, subst (λ o. differ (class_mode w locals (known_class o)) (Some modes.Integer) ≡ false) k d.0.0)
   subscripted name (and_expression e no_expression) known k m d n =
-      (Some n.0.0, one_subscript w locals c s linked line e n.0, (subst (λ o. if_known is_single o ≡ false) k m, n.0.2))
+      (Some n.0.0, one_subscript w locals c s linked line e n.0, (subst (λ o. if_known takes_no_subscript o ≡ false) k m, n.0.2))
   subscripted name (and_expression e (and_expression f es)) known k m d n = absurd cc
 
   -- ---- targets
@@ -147,7 +148,7 @@ module _ (w : Whole) (locals : Moded) (c : Context) (s : Scope) (linked : Linked
       let meant = linked.set name holder.0 (known.1 ∙ ap Some holder.1) in
       let e = subscripted name es (knowns.Set holder.0) meant.1 m.1 d n in
       let r = set_owned w locals s holder.0 meant.0 e.0 meant.3 e.2 in
-      (r.0, two_steps (subscript c es) (c.set (Name name)) (λ y u. owned_by u y) e.0 meant.0 r.0 e.1 meant.2 r.1, r.2)
+      (r.0, two_steps (subscript c es) (c.set (Name name)) (λ y u. resolved_set u y) e.0 meant.0 r.0 e.1 meant.2 r.1, r.2)
   set_by TimeV es m d n = absurd cc
   set_by TimeA es m d n = absurd cc
 

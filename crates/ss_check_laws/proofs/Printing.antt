@@ -15,7 +15,7 @@ use Rattle.ss_names_meaning.specs.Expressions.{item}
 use Rattle.ss_names_meaning.specs.Statements.{statement}
 use Rattle.ss_names_laws.specs.Rules.{KeptMentions, KeptDemands}
 use Rattle.ss_check_laws.specs.Rules.{KeptStarts}
-use Rattle.ss_check_laws.specs.Links.{Linked}
+use Rattle.ss_check_laws.specs.Links.{ContextAgrees}
 use Rattle.ss_check_laws.proofs.Steps.{step, same_number}
 use Rattle.ss_check_laws.proofs.Heads.{dl, dr}
 use Rattle.ss_check_laws.proofs.Items.{items_resolve}
@@ -25,12 +25,12 @@ in_main : (b : Bool) → (b ≡ false → true ≡ false) → b ≡ true
 in_main true h = refl
 in_main false h = sym (h refl)
 
-module _ (w : Whole) (locals : Moded) (c : Context) (s : Scope) (linked : Linked w locals c s) (line : Line) where
+module _ (w : Whole) (locals : Moded) (c : Context) (s : Scope) (linked : ContextAgrees w locals c s) (line : Line) where
   pub print_resolves : (items : List ExpressionTree) (pictures : List (List ℕ)) → KeptMentions w locals (mentioned.in_itself (print_statement line items pictures)) → KeptDemands w locals (demanded.in_itself (print_statement line items pictures)) →
       StatementResolves w locals c s linked line (print_statement line items pictures)
   unfolding statement
   print_resolves items pictures m d =
-      let fields = demanded.fields_of pictures in
+      let fields = demanded.fields_of_pictures pictures in
       let places = demanded.in_places (demanded.in_field_at line fields) 0 items in
       let long : length items ≡ length fields = same_number (length items) (length fields) d.0.2 in
       let r = items_resolve w locals c s linked line items fields long m

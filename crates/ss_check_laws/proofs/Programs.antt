@@ -12,21 +12,22 @@ use Rattle.ss_tree.specs.Tree.{SectionTree, statement_row, ProgramTree}
 use Rattle.ss_names_declarations.specs.declared.saying.Said.{Said}
 use Rattle.ss_names_declarations.specs.declared.saying.Said.TheVariants as said
 use Rattle.ss_names_declarations.specs.declared.saying.Saying.{Saying}
-use Rattle.ss_names_declarations.specs.Sayings.{NameBytes, sayings}
+use Rattle.ss_tree.specs.Names.{NameBytes}
+use Rattle.ss_names_declarations.specs.Sayings.{sayings}
 use Rattle.ss_check_scopes.specs.Whole.{Whole, locals_of}
 use Rattle.ss_names.specs.declared.entry.Class.{Class}
-use Rattle.ss_names.specs.declared.entry.Event.{Event as EventSection}
-use Rattle.ss_names.specs.declared.entry.Routine.{Routine as RoutineSection}
+use Rattle.ss_names.specs.declared.entry.EventSection.{EventSection}
+use Rattle.ss_names.specs.declared.entry.RoutineSection.{RoutineSection}
 use Rattle.ss_names.specs.Entities.{classes}
 use Rattle.ss_names_declarations.specs.Firsts.{entry_if, place_in, same_name, value_for}
 use Rattle.ss_names.specs.Table.{Table, table}
-use Rattle.ss_names.specs.Variables.{declared_by, declared_entries, event_by, is_notice_class, notice, priority_by, priority_entries, ranks, routine_by}
+use Rattle.ss_names.specs.Variables.{declared_by, declared_entries, event_by, is_notice_class, notice_entry, priority_by, priority_entries, ranks, routine_by}
 use Rattle.ss_program.specs.Program.{Program}
 use Rattle.ss_program.specs.Nodes.{total, option_nodes, block_nodes, routine_nodes, event_nodes, nodes}
 use Rattle.ss_names_meaning.specs.Answers.{◌>>=◌, each, upto, where_holds}
 use Rattle.ss_names_meaning.specs.Layouts.{laid_out, tie_keys}
 use Rattle.ss_names_meaning.specs.Meanings.{context_in}
-use Rattle.ss_names_meaning.specs.Resolved.{Parts, body, class_event, is_known, is_main, local_modes, main_parts, parts_at, parts_of, resolved, resolved_event, resolved_routine, saved}
+use Rattle.ss_names_meaning.specs.Resolved.{Parts, body, class_event, is_known, has_main_kind, local_modes, main_parts, parts_at, parts_of, resolved, resolved_event, resolved_routine, saved}
 use Rattle.ss_check_laws.specs.SizeLaws.{ProgramsStaySmall}
 use Rattle.ss_check_laws.proofs.Within.{Within, within_of, after, after_lookup}
 use Rattle.ss_check_laws.proofs.StatementSizes.{row_small}
@@ -42,8 +43,8 @@ module _ (t : Table) (w : Whole) where
       after_lookup parts_nodes (weight s) (local_modes (locals_of w s)) _ (λ modes.
       after block_nodes parts_nodes (tree.statements_nodes (statement_row s.body)) (weight s) (body t (locals_of w s) s) _ (row_small (context_in t (locals_of w s)) (statement_row s.body)) (λ done lt. omega (arith, lt)))
 
-  main_small : (ss : List SectionTree) → Within parts_nodes (option_nodes weight (find is_main ss)) (main_parts t w ss)
-  main_small ss = there_within weight parts_nodes (find is_main ss) _ parts_small
+  main_small : (ss : List SectionTree) → Within parts_nodes (option_nodes weight (find has_main_kind ss)) (main_parts t w ss)
+  main_small ss = there_within weight parts_nodes (find has_main_kind ss) _ parts_small
 
   module _ (sections : List SectionTree) where
     at_small : (n : ℕ) → Within parts_nodes (weight_at sections n) (parts_at t w sections n)
@@ -104,7 +105,7 @@ if_numbered : (cs : List (NameBytes × Class)) (b : Bool) (es : List (NameBytes 
 if_numbered cs true es h = h
 if_numbered cs false es h = tt
 
-notice_numbered : (cs : List (NameBytes × Class)) (name : NameBytes) → Every (IsNumbered cs) (notice cs name)
+notice_numbered : (cs : List (NameBytes × Class)) (name : NameBytes) → Every (IsNumbered cs) (notice_entry cs name)
 notice_numbered cs name = if_numbered cs (is_notice_class (value_for cs name)) (entry_if name (place_in cs name)) (entry_numbered cs name (place_in cs name) refl)
 
 priority_numbered : (cs : List (NameBytes × Class)) (what : Said) (name : Option NameBytes) → Every (IsNumbered cs) (priority_entries cs what name)
@@ -180,7 +181,7 @@ program_small p w =
     sections_in t w ss ss (list_all (is_known t) ss) (tree.nodes p) _ (
     after (total routine_nodes) nodes (total (routine_weight t w ss) (values_of t.routines)) (tree.nodes p) (each (resolved_routine t w ss) (upto (length t.routines))) _ (routines_small t w ss) (λ rs lt.
     after (total event_nodes) nodes (total (class_weight t w ss) (values_of t.ranks)) (tree.nodes p) (each (resolved_event t w ss) (upto (length t.ranks))) _ (events_small t w ss) (λ es lt2.
-    after parts_nodes nodes (option_nodes weight (find is_main ss)) (tree.nodes p) (main_parts t w ss) _ (main_small t w ss) (λ parts lt3.
+    after parts_nodes nodes (option_nodes weight (find has_main_kind ss)) (tree.nodes p) (main_parts t w ss) _ (main_small t w ss) (λ parts lt3.
     let a = sum_apart ss (sayings p) in
     omega (arith, lt, lt2, lt3, a, routines_less ss w p, events_less ss w p, said_less p, weights_less ss))))))
 

@@ -13,15 +13,16 @@ use Rattle.ss_tree.specs.Tree as tree
 use Rattle.ss_names_declarations.specs.declared.saying.Said.{Said}
 use Rattle.ss_names_declarations.specs.declared.saying.Said.TheVariants as said
 use Rattle.ss_names_declarations.specs.declared.saying.Saying.{Saying}
-use Rattle.ss_names_declarations.specs.Sayings.{NameBytes, definition_says, head_says, preambles_say, section_says, sections_say, sayings}
+use Rattle.ss_tree.specs.Names.{NameBytes}
+use Rattle.ss_names_declarations.specs.Sayings.{definition_says, head_says, preambles_say, section_says, sections_say, sayings}
 use Rattle.ss_names.specs.declared.entry.Class.{Class}
-use Rattle.ss_names.specs.declared.entry.Event.{Event}
+use Rattle.ss_names.specs.declared.entry.EventSection.{EventSection}
 use Rattle.ss_names.specs.Entities.{class_by, class_entries, classes}
 use Rattle.ss_names_declarations.specs.Firsts.{entry_beside, entry_if, firsts, place_in, same_name, value_for, with_first}
 use Rattle.ss_names.specs.Table.{table}
-use Rattle.ss_names.specs.Variables.{declared_by, declared_entries, event_by, is_notice_class, is_notice_kind, notice, priority_by, priority_entries, ranks_among}
+use Rattle.ss_names.specs.Variables.{declared_by, declared_entries, event_by, is_notice_class, is_kind_of_notices, notice_entry, priority_by, priority_entries, ranks_among}
 use Rattle.ss_names_laws.specs.Lists.{Somewhere}
-use Rattle.ss_names_laws.specs.Uses.{IsEventOf}
+use Rattle.ss_names_laws.specs.Uses.{IsEventSectionOf}
 use Rattle.ss_names_laws.proofs.Entries.{Entries, first_of_entries, flat, entry_holds}
 use Rattle.ss_names_declarations.proofs.Entries.{firsts_once, key_at, place_of_value, value_by_place, value_from_place}
 use Rattle.ss_names_laws.proofs.Steps.{every_append, every_at, somewhere_left, somewhere_right}
@@ -101,7 +102,7 @@ module _ {V : Type 0} where
 abbrev pub IsNotice : List (NameBytes × Class) → NameBytes → ℕ → Type 0
 IsNotice cs name class = (c : Class) × (slice_get cs class ≡ Some (name, c)) × (c.kind ≡ class_kinds.EventNotice) × (place_in cs name ≡ Some class)
 
-is_notice : (kind : ClassKind) → is_notice_kind kind ≡ true → kind ≡ class_kinds.EventNotice
+is_notice : (kind : ClassKind) → is_kind_of_notices kind ≡ true → kind ≡ class_kinds.EventNotice
 is_notice class_kinds.Permanent e = absurd cc
 is_notice class_kinds.Temporary e = absurd cc
 is_notice class_kinds.EventNotice e = refl
@@ -112,10 +113,10 @@ module _ (cs : List (NameBytes × Class)) where
   notice_placed name true None e f = tt
   notice_placed name true (Some i) e f =
       let c = value_by_place cs name i f in
-      let kind : is_notice_kind c.0.kind ≡ true = sym (ap is_notice_class c.1) ∙ e in
+      let kind : is_kind_of_notices c.0.kind ≡ true = sym (ap is_notice_class c.1) ∙ e in
       ((c.0, c.2, is_notice c.0.kind kind, f), tt)
 
-  notice_of : (name : NameBytes) → Entries (IsNotice cs) (notice cs name)
+  notice_of : (name : NameBytes) → Entries (IsNotice cs) (notice_entry cs name)
   notice_of name = notice_placed name (is_notice_class (value_for cs name)) (place_in cs name) refl refl
 
   priority_of : (what : Said) (name : Option NameBytes) → Entries (IsNotice cs) (priority_entries cs what name)
@@ -141,7 +142,7 @@ module _ (cs : List (NameBytes × Class)) where
 
   -- a class that is one of notices
   module _ (name : NameBytes) (class : ℕ) (is_one : is_notice_class (value_for cs name) ≡ true) (placed : place_in cs name ≡ Some class) where
-    notice_found : value_for (notice cs name) name ≡ Some class
+    notice_found : value_for (notice_entry cs name) name ≡ Some class
     notice_found = rw (is_one, placed) (ap (λ b. cond b (Some class) None) (same name))
 
     none_of_other : (n : NameBytes) (b : Bool) (o : Option ℕ) → same_name name n ≡ false → value_for (if b then entry_if n o else []) name ≡ None
@@ -160,7 +161,7 @@ module _ (cs : List (NameBytes × Class)) where
         by : (b : Bool) → same_name name n ≡ b → Declares line (said.Class kind) (Some n)
         by true is =
             let at : name ≡ n = (bytes_decides name n).0 is in
-            inl (subst (λ m. value_for (notice cs m) name ≡ Some class) at notice_found)
+            inl (subst (λ m. value_for (notice_entry cs m) name ≡ Some class) at notice_found)
         by false is = inr (ap (λ b. cond b (Some (record { kind = kind; line = line })) None) is, none_of_other n (is_notice_class (value_for cs n)) (place_in cs n) is)
     declares line what n = inr (refl, refl)
 
@@ -202,39 +203,39 @@ module _ (p : tree.ProgramTree) where
       let once = firsts_once (flat_map class_by (sayings p)) in
       let found = value_from_place cs class name c once h in
       let place = place_from_place cs class name c once h in
-      let is_one : is_notice_class (value_for cs name) ≡ true = ap is_notice_class found ∙ ap is_notice_kind kind in
+      let is_one : is_notice_class (value_for cs name) ≡ true = ap is_notice_class found ∙ ap is_kind_of_notices kind in
       rank_found cs name class is_one place (sayings p) c (sym (found_in_firsts (flat_map class_by (sayings p)) name) ∙ found)
 
   -- ---- EVENT sections
 
   abbrev HasEvent : NameBytes → Saying → Type 0
-  HasEvent name s = (e : Event) × (value_for (event_by s) name ≡ Some e)
+  HasEvent name s = (e : EventSection) × (value_for (event_by s) name ≡ Some e)
 
-  event_said : (name : NameBytes) (says : List Saying) → Somewhere (HasEvent name) says → (e : Event) × (value_for (flat_map event_by says) name ≡ Some e)
+  event_said : (name : NameBytes) (says : List Saying) → Somewhere (HasEvent name) says → (e : EventSection) × (value_for (flat_map event_by says) name ≡ Some e)
   event_said name [] h = absurd h
   event_said name (s ∷ ss) h = by (value_for (event_by s) name) refl h (event_said name ss)
     where
-      by : (o : Option Event) → value_for (event_by s) name ≡ o → ((e : Event) × (value_for (event_by s) name ≡ Some e)) ⊎ Somewhere (HasEvent name) ss → (Somewhere (HasEvent name) ss → (e : Event) × (value_for (flat_map event_by ss) name ≡ Some e)) → (e : Event) × (value_for (event_by s ++ flat_map event_by ss) name ≡ Some e)
+      by : (o : Option EventSection) → value_for (event_by s) name ≡ o → ((e : EventSection) × (value_for (event_by s) name ≡ Some e)) ⊎ Somewhere (HasEvent name) ss → (Somewhere (HasEvent name) ss → (e : EventSection) × (value_for (flat_map event_by ss) name ≡ Some e)) → (e : EventSection) × (value_for (event_by s ++ flat_map event_by ss) name ≡ Some e)
       by (Some e) f g next = (e, told_append (event_by s) (flat_map event_by ss) name ∙ ap (λ o. option_or o (value_for (flat_map event_by ss) name)) f)
       by None f (inl g) next = absurd cc
       by None f (inr g) next =
           let rest = next g in
           (rest.0, told_append (event_by s) (flat_map event_by ss) name ∙ ap (λ o. option_or o (value_for (flat_map event_by ss) name)) f ∙ rest.1)
 
-  head_said : (name : NameBytes) (number : ℕ) (s : tree.SectionTree) → IsEventOf name s → Somewhere (HasEvent name) (section_says number s)
+  head_said : (name : NameBytes) (number : ℕ) (s : tree.SectionTree) → IsEventSectionOf name s → Somewhere (HasEvent name) (section_says number s)
   head_said name number s h =
-      let event : Event = record { section = number; given = length h.0; saving = h.1 } in
+      let event : EventSection = record { section = number; given = length h.0; saving = h.1 } in
       somewhere_left (HasEvent name) (head_says s.line number s.kind) (flat_map (definition_says number) s.definitions)
       (subst (λ kind. Somewhere (HasEvent name) (head_says s.line number kind)) (sym h.2)
       (inl (event, ap (λ b. cond b (Some event) None) (same name))))
 
-  sections_said : (name : NameBytes) (number : ℕ) (ss : List tree.SectionTree) → Somewhere (IsEventOf name) ss → Somewhere (HasEvent name) (sections_say number ss)
+  sections_said : (name : NameBytes) (number : ℕ) (ss : List tree.SectionTree) → Somewhere (IsEventSectionOf name) ss → Somewhere (HasEvent name) (sections_say number ss)
   sections_said name number [] h = absurd h
   sections_said name number (s ∷ ss) (inl h) = somewhere_left (HasEvent name) (section_says number s) (sections_say (number + 1) ss) (head_said name number s h)
   sections_said name number (s ∷ ss) (inr h) = somewhere_right (HasEvent name) (section_says number s) (sections_say (number + 1) ss) (sections_said name (number + 1) ss h)
 
   -- an EVENT section is found by its name
-  pub event_there : (name : NameBytes) → Somewhere (IsEventOf name) p.sections → (e : Event) × (value_for (table p).events name ≡ Some e)
+  pub event_there : (name : NameBytes) → Somewhere (IsEventSectionOf name) p.sections → (e : EventSection) × (value_for (table p).events name ≡ Some e)
   event_there name h =
       let said = event_said name (sayings p) (somewhere_right (HasEvent name) (preambles_say 0 p.preamble) (sections_say 0 p.sections) (sections_said name 0 p.sections h)) in
       (said.0, found_in_firsts (flat_map event_by (sayings p)) name ∙ said.1)

@@ -7,7 +7,8 @@ use Rattle.ss_tree.specs.declared.expression.Designator.TheVariants.{Name, TimeV
 use Rattle.ss_tree.specs.Tree.{ExpressionRow, NamedTree, reset_statement}
 use Rattle.ss_names_uses.specs.declared.mention.Role.TheVariants as roles
 use Rattle.ss_names_uses.specs.Mentions as mentioned
-use Rattle.ss_names_uses.specs.Mentions.{NameBytes, place, row_length}
+use Rattle.ss_tree.specs.Names.{NameBytes}
+use Rattle.ss_names_uses.specs.Mentions.{place, row_length}
 use Rattle.ss_names_uses.specs.Demands as demanded
 use Rattle.ss_check_scopes.specs.declared.known.Holder.TheVariants.{Program as TheProgram, Entity as EachOf}
 use Rattle.ss_check_scopes.specs.declared.known.Known.{Known}
@@ -25,7 +26,7 @@ use Rattle.ss_names_meaning.specs.Contexts.{Context}
 use Rattle.ss_names_meaning.specs.Expressions.{entity_of, subscript}
 use Rattle.ss_names_meaning.specs.Statements.{owner_of_statistic, restart, statement}
 use Rattle.ss_names_laws.specs.Rules.{KeptMention, KeptDemand, KeptMentions, KeptDemands}
-use Rattle.ss_check_laws.specs.Links.{Linked, IsSubject}
+use Rattle.ss_check_laws.specs.Links.{ContextAgrees, IsSubject}
 use Rattle.ss_check_laws.proofs.Steps.{left_of, right_of, step, two_steps, of_not}
 use Rattle.ss_check_laws.proofs.Named.{SubscriptFits, EntityFits, Alone, alone, entity_fits, entity_is_number}
 use Rattle.ss_check_laws.proofs.Expressions.{Numbers, numbers}
@@ -65,7 +66,7 @@ module _ (w : Whole) (locals : Moded) (s : Scope) where
   subject_restarts (knowns.MemberCount (EachOf class)) referent k e f d = owner_restarts class referent k e f (entity_fits w locals s (knowns.MemberCount (EachOf class)) class e refl d)
   subject_restarts _ referent k e f d = absurd f
 
-module _ (w : Whole) (locals : Moded) (c : Context) (s : Scope) (linked : Linked w locals c s) (line : Line) where
+module _ (w : Whole) (locals : Moded) (c : Context) (s : Scope) (linked : ContextAgrees w locals c s) (line : Line) where
   abbrev RestartResolves : NamedTree → Type 0
   RestartResolves t = GoesWell w locals (λ r. GoodRestart s r.statistic r.of) (restart c t)
 

@@ -13,10 +13,10 @@ use Rattle.ss_base.specs.Plain.{PlainClass, PlainLayout}
 use Rattle.ss_program.specs.declared.sections.Statistic.{Statistic}
 use Rattle.ss_program.specs.declared.statement.Counted.{Counted}
 use Rattle.ss_check_laws.specs.Parameters as parameters
-use Rattle.ss_check_scopes.specs.Locals.{mode_of}
+use Rattle.ss_check_scopes.specs.Locals.{mode_of_local}
 use Rattle.ss_tree.specs.Tree as tree
-use Rattle.ss_names_declarations.specs.Sayings.{NameBytes}
-use Rattle.ss_names.specs.declared.meaning.Meaning.TheVariants as globals
+use Rattle.ss_tree.specs.Names.{NameBytes}
+use Rattle.ss_names.specs.declared.meaning.GlobalMeaning.TheVariants as globals
 use Rattle.ss_names_declarations.specs.Firsts.{value_for}
 use Rattle.ss_names.specs.Table.{table}
 use Rattle.ss_check_scopes.specs.Meanings.{value_mode}
@@ -28,10 +28,10 @@ use Rattle.ss_program.specs.declared.expression.Variable.TheVariants.{Global}
 use Rattle.ss_program.specs.Program.{Event, Program, Routine}
 use Rattle.ss_program.specs.WellTyped as typed
 use Rattle.ss_names_meaning.specs.Answers.{◌>>=◌, each, upto, where_holds}
-use Rattle.ss_names_meaning.specs.Layouts.{Laid, counts, disciplines, field_mode, global_mode, laid_out, layout, statistic_kept}
+use Rattle.ss_names_meaning.specs.Layouts.{ResolvedLayout, counts, disciplines, field_mode, global_mode, laid_out, layout, statistic_kept}
 use Rattle.ss_names_meaning.specs.Resolved.{Parts, is_known, main_parts, resolved, resolved_event, resolved_routine}
 use Rattle.ss_names_meaning.specs.Words.{class_kind}
-use Rattle.ss_names_laws.specs.ValidTables.{IsKept}
+use Rattle.ss_names_laws.specs.ValidTables.{IsValidTable}
 use Rattle.ss_check_laws.specs.Programs.{KeepsAllRules}
 use Rattle.ss_names_laws.specs.LaidOut.{HasTables}
 use Rattle.ss_check_laws.specs.Signed.{AreSigned}
@@ -43,7 +43,7 @@ use Rattle.ss_names_laws.proofs.Steps.{contains_at, each_map, goes, holds, numbe
 use Rattle.ss_names_laws.proofs.Typed.{are_well_typed, class_count, class_known}
 use Rattle.ss_check_laws.proofs.Whole.{EventFacts, RoutineFacts, all_known, attributes_known, event_facts, events, main_facts, main_kind, notice_word, routine_facts, routines, routines_signed}
 
-module _ (p : tree.ProgramTree) (k : IsKept (table p)) (g : KeepsAllRules (whole.whole_of p) p) (laws : Laws)
+module _ (p : tree.ProgramTree) (k : IsValidTable (table p)) (g : KeepsAllRules (whole.whole_of p) p) (laws : Laws)
     (q : Program) (tables : HasTables (table p) q) (same_routines : q.routines ≡ (routines p k g laws).0) (same_events : q.events ≡ (events p k g laws).0) where
   are_signed : AreSigned (table p) (signatures p k g laws) q
   are_signed = routines_signed p k g laws q same_routines
@@ -78,18 +78,18 @@ module _ (p : tree.ProgramTree) (k : IsKept (table p)) (g : KeepsAllRules (whole
       let key = key_at (table p).classes e.class f.name f.class f.there in
       let known = class_known (table p) (is p k g laws) k q tables e.class f.class value in
       let count = length f.given in
-      let attributes = map (whole.field_mode (table p)) (get_or (table p).fields e.class []) in
+      let attributes = map (whole.attribute_mode_by_name (table p)) (get_or (table p).fields e.class []) in
       let fits = laws.events (w p k g laws) f.section f.name f.given f.saving attributes f.kind f.distinct f.keeps.uses (attributes_known p k g laws f.name e.class key) in
-      let same_modes : attributes ≡ known.0 = each_map (field_mode (table p)) (whole.field_mode (table p)) (get_or (table p).fields e.class []) known.0 known.2 (mode_agrees (table p)) in
+      let same_modes : attributes ≡ known.0 = each_map (field_mode (table p)) (whole.attribute_mode_by_name (table p)) (get_or (table p).fields e.class []) known.0 known.2 (mode_agrees (table p)) in
       let first = laws.first (w p k g laws) f.section f.keeps.parameters in
       let given_is : given_to f.section.kind ≡ f.given = ap given_to f.kind in
       let said = map value_mode (signature (table p).usual f.section).given in
-      let takes : e.given ≡ said = f.takes ∙ ap (take count) f.has.modes.said ∙ ap (λ (l : List NameBytes). take (length l) (parameters.modes_of (locals_of (w p k g laws) f.section))) (sym given_is) ∙ first.0 in
+      let takes : e.given ≡ said = f.takes ∙ ap (take count) f.has.modes.said ∙ ap (λ (l : List NameBytes). take (length l) (parameters.modes_of_locals (locals_of (w p k g laws) f.section))) (sym given_is) ∙ first.0 in
       let from : e.given ≡ take count known.0 = takes ∙ fits.1 ∙ ap (take count) same_modes in
       let counted : length e.given ≡ count =
       ap length takes
       ∙ length-map (signature (table p).usual f.section).given value_mode
-      ∙ length-map (given_to f.section.kind) (mode_of (table p).usual f.section.definitions)
+      ∙ length-map (given_to f.section.kind) (mode_of_local (table p).usual f.section.definitions)
       ∙ ap length given_is in
       let block = body_typed p k g laws f.section f.parts f.keeps f.has q tables are_signed in
       let not_main : uses.is_main f.section.kind ≡ false = ap uses.is_main f.kind in
@@ -116,7 +116,7 @@ module _ (p : tree.ProgramTree) (k : IsKept (table p)) (g : KeepsAllRules (whole
   kind_there (Some c) kind e = (c, refl, same_Some c.kind kind e)
 
   -- each class of notices has its event routine
-  served : (class : ℕ) → typed.kind_of q class ≡ Some Notice → Contains (map (λ e. e.class) q.events) class
+  served : (class : ℕ) → typed.kind_of_class q class ≡ Some Notice → Contains (map (λ e. e.class) q.events) class
   served class e =
       let laid_class = kind_there (slice_get q.layout.classes class) Notice e in
       let within = slice_get_within q.layout.classes class laid_class.0 laid_class.1 in
@@ -158,13 +158,13 @@ module _ (p : tree.ProgramTree) (k : IsKept (table p)) (g : KeepsAllRules (whole
         main = main;
       }
 
-module _ (p : tree.ProgramTree) (k : IsKept (table p)) (g : KeepsAllRules (whole.whole_of p) p) (laws : Laws) where
+module _ (p : tree.ProgramTree) (k : IsValidTable (table p)) (g : KeepsAllRules (whole.whole_of p) p) (laws : Laws) where
   laid_known : (l : PlainLayout) (o : List Discipline) (m : List Mode) (c : List Counted) (s : List Statistic) →
       layout (table p) ≡ Some l → disciplines (table p) ≡ Some o → each (global_mode (table p)) (upto (length (table p).variables)) ≡ Some m → counts (table p) ≡ Some c →
       each (statistic_kept (table p)) (upto (length (table p).histories)) ≡ Some s → laid_out (table p) ≡ Some (record { layout = l; disciplines = o; globals = m; counts = c; statistics = s })
   laid_known l o m c s d e f i j = rw (d, e, f, i, j) refl
 
-  abbrev made : Laid → List Routine → List Event → Parts → Program
+  abbrev made : ResolvedLayout → List Routine → List Event → Parts → Program
   made l rs es parts = record {
     layout = l.layout;
     disciplines = l.disciplines;
@@ -177,7 +177,7 @@ module _ (p : tree.ProgramTree) (k : IsKept (table p)) (g : KeepsAllRules (whole
     main = parts.body;
   }
 
-  assembled : (l : Laid) (rs : List Routine) (es : List Event) (parts : Parts) → laid_out (table p) ≡ Some l → list_all (is_known (table p)) p.sections ≡ true →
+  assembled : (l : ResolvedLayout) (rs : List Routine) (es : List Event) (parts : Parts) → laid_out (table p) ≡ Some l → list_all (is_known (table p)) p.sections ≡ true →
       each (resolved_routine (table p) (whole.whole_of p) p.sections) (upto (length (table p).routines)) ≡ Some rs →
       each (resolved_event (table p) (whole.whole_of p) p.sections) (upto (length (table p).ranks)) ≡ Some es →
       main_parts (table p) (whole.whole_of p) p.sections ≡ Some parts →
@@ -199,7 +199,7 @@ module _ (p : tree.ProgramTree) (k : IsKept (table p)) (g : KeepsAllRules (whole
       let l = laid p k g laws in
       let q : Program = program_with p k g laws rs.0 es.0 main.parts.modes main.parts.body in
       let tables = has_tables p k g laws rs.0 es.0 main.parts.modes main.parts.body in
-      let all : Laid = record { layout = l.layout.0; disciplines = l.disciplines.0; globals = l.globals.0; counts = l.counts.0; statistics = l.statistics.0 } in (
+      let all : ResolvedLayout = record { layout = l.layout.0; disciplines = l.disciplines.0; globals = l.globals.0; counts = l.counts.0; statistics = l.statistics.0 } in (
         q,
         assembled all rs.0 es.0 main.parts (laid_known l.layout.0 l.disciplines.0 l.globals.0 l.counts.0 l.statistics.0 l.layout.1 l.disciplines.1 l.globals.1 l.counts.1 l.statistics.1) (all_known p k g laws) rs.1 es.1 main.resolved,
         well_typed p k g laws q tables refl refl (main_good p k g laws q tables refl refl),

@@ -8,13 +8,13 @@ use Rattle.ss_tree.specs.declared.preamble.ClassKind.TheVariants as class_words
 use Rattle.ss_tree.specs.Tree.{ExpressionTree, NamedTree, WhenTree, at_time, in_units, now, schedule_new, schedule_statement}
 use Rattle.ss_names_uses.specs.declared.mention.Role.TheVariants as roles
 use Rattle.ss_names_uses.specs.Mentions as mentioned
-use Rattle.ss_names_uses.specs.Mentions.{NameBytes}
+use Rattle.ss_tree.specs.Names.{NameBytes}
 use Rattle.ss_names_uses.specs.declared.demand.Aspect.{Aspect}
 use Rattle.ss_names_uses.specs.declared.demand.Aspect.TheVariants as aspects
 use Rattle.ss_names_uses.specs.Demands as demanded
 use Rattle.ss_check_scopes.specs.Locals.{Moded}
 use Rattle.ss_check_scopes.specs.Whole.{Whole}
-use Rattle.ss_check_rules.specs.Unknown.{is_notice}
+use Rattle.ss_check_rules.specs.Unknown.{is_known_notice}
 use Rattle.ss_check_rules.specs.Arguments.{is_more}
 use Rattle.ss_program.specs.Program.{Expression, At, In, Now, Statement, ScheduleNew, Schedule}
 use Rattle.ss_program.specs.WellTyped.{Scope, HaveModes, GoodWhen, GoodGiven}
@@ -24,7 +24,7 @@ use Rattle.ss_names_meaning.specs.Contexts.{Context, notice_class}
 use Rattle.ss_names_meaning.specs.Expressions.{expression}
 use Rattle.ss_names_meaning.specs.Statements.{new_place, entity_called, when, new_notice, old_notice, statement}
 use Rattle.ss_names_laws.specs.Rules.{KeptMentions, KeptDemands}
-use Rattle.ss_check_laws.specs.Links.{Linked, IsClass}
+use Rattle.ss_check_laws.specs.Links.{ContextAgrees, IsClass}
 use Rattle.ss_check_laws.proofs.Steps.{step, known_of}
 use Rattle.ss_check_laws.proofs.Conditions.{GoesWell, number_kept}
 use Rattle.ss_check_laws.proofs.Heads.{ml, mr, dl, dr, three_steps}
@@ -38,7 +38,7 @@ at_most count o modes e h =
     let k : nat_lt (length modes) count ≡ false = subst (λ p. is_more count (option_map length p) ≡ false) e h in
     ltb-false (length modes) count k
 
-module _ (w : Whole) (locals : Moded) (c : Context) (s : Scope) (linked : Linked w locals c s) (line : Line) where
+module _ (w : Whole) (locals : Moded) (c : Context) (s : Scope) (linked : ContextAgrees w locals c s) (line : Line) where
   -- the values that a notice is given
   abbrev GivenResolve : ClassMeant → List ExpressionTree → Type 0
   GivenResolve referent given = (xs : List Expression) × (each (expression c) given ≡ Some xs) × (nat_le (length xs) referent.attributes ≡ true) × GoodGiven s referent.class xs
@@ -77,7 +77,7 @@ module _ (w : Whole) (locals : Moded) (c : Context) (s : Scope) (linked : Linked
       let d12 = dl w locals s (demanded.in_new line name called ++ demanded.in_given line name given) (demanded.in_when line time) d in
       let d1 = dl w locals s (demanded.in_new line name called) (demanded.in_given line name given) d12 in
       let d2 = dr w locals s (demanded.in_new line name called) (demanded.in_given line name given) d12 in
-      let known = known_of (w.meanings name) is_notice m.0.0 in
+      let known = known_of (w.meanings name) is_known_notice m.0.0 in
       let class = notice_there w locals c s linked line name known.0 known.1 known.2 in
       let referent = class.0 in
       let x = new_resolves w locals c s linked line name class_words.EventNotice referent class.2 called m1 d1 in
@@ -105,7 +105,7 @@ module _ (w : Whole) (locals : Moded) (c : Context) (s : Scope) (linked : Linked
       let d12 = dl w locals s (demanded.in_old line name called ++ demanded.in_given line name given) (demanded.in_when line time) d in
       let d1 = dl w locals s (demanded.in_old line name called) (demanded.in_given line name given) d12 in
       let d2 = dr w locals s (demanded.in_old line name called) (demanded.in_given line name given) d12 in
-      let known = known_of (w.meanings name) is_notice m.0.0 in
+      let known = known_of (w.meanings name) is_known_notice m.0.0 in
       let class = notice_there w locals c s linked line name known.0 known.1 known.2 in
       let referent = class.0 in
       let x = old_resolves w locals c s linked line name class_words.EventNotice referent class.2 called m1 d1 in

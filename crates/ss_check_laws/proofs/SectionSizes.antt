@@ -12,12 +12,13 @@ use Rattle.std.proofs.lemmas.List.Sums.{sum_by-cons}
 use Rattle.ss_names_declarations.specs.declared.saying.Said.{Said}
 use Rattle.ss_names_declarations.specs.declared.saying.Said.TheVariants as said
 use Rattle.ss_names_declarations.specs.declared.saying.Saying.{Saying}
-use Rattle.ss_names_declarations.specs.Sayings.{NameBytes, clause_says, definition_says, head_says, order_says, preamble_says, preambles_say, rank_says, rule_of, said_of, said_of_all, section_says, sections_say, sayings, statistic_says, tie_says}
-use Rattle.ss_names.specs.declared.entry.Event.{Event}
-use Rattle.ss_names.specs.declared.entry.Routine.{Routine}
+use Rattle.ss_tree.specs.Names.{NameBytes}
+use Rattle.ss_names_declarations.specs.Sayings.{clause_says, definition_says, head_says, order_says, preamble_says, preambles_say, rank_says, rule_of, saying_of_name, said_of_all, section_says, sections_say, sayings, statistic_says, tie_says}
+use Rattle.ss_names.specs.declared.entry.EventSection.{EventSection}
+use Rattle.ss_names.specs.declared.entry.RoutineSection.{RoutineSection}
 use Rattle.ss_names.specs.Variables.{event_by, routine_by}
 use Rattle.ss_program.specs.Nodes.{total, option_nodes}
-use Rattle.ss_names_meaning.specs.Resolved.{is_main}
+use Rattle.ss_names_meaning.specs.Resolved.{has_main_kind}
 use Rattle.ss_check_laws.proofs.Sums.{total_append}
 
 -- a section and its statements
@@ -40,17 +41,17 @@ module _ (all : List SectionTree) where
   abbrev pub weight_at : ℕ → ℕ
   weight_at n = option_nodes weight (slice_get all n)
 
-  abbrev pub of_routine : NameBytes × Routine → ℕ
+  abbrev pub of_routine : NameBytes × RoutineSection → ℕ
   of_routine e = weight_at e.1.section
 
-  abbrev pub of_event : NameBytes × Event → ℕ
+  abbrev pub of_event : NameBytes × EventSection → ℕ
   of_event e = weight_at e.1.section
 
   -- the section of a declaration
   abbrev pub of_saying : Saying → ℕ
   of_saying s = total of_routine (routine_by s) + total of_event (event_by s)
 
-  quiet : (line : Line) (what : Said) → ((name : NameBytes) → of_saying (said_of line what name) ≡ 0) → (names : List NameBytes) → total of_saying (said_of_all line what names) ≡ 0
+  quiet : (line : Line) (what : Said) → ((name : NameBytes) → of_saying (saying_of_name line what name) ≡ 0) → (names : List NameBytes) → total of_saying (said_of_all line what names) ≡ 0
   quiet line what h [] = refl
   quiet line what h (name ∷ names) = let a = h name in let e = quiet line what h names in omega (arith, a, e)
 
@@ -102,7 +103,7 @@ module _ (all : List SectionTree) where
   preamble_quiet number (priority_order line classes) = let e = quiet line said.Priority (λ name. refl) classes in omega (arith, e)
   preamble_quiet number (break_ties line class keys) = let e = ties_quiet line class keys in omega (arith, e)
   preamble_quiet number (statistics line w found subject) =
-      let a = total_append of_saying (map (statistic_says line w subject) found) (said_of line (said.Subject w) subject ∷ []) in
+      let a = total_append of_saying (map (statistic_says line w subject) found) (saying_of_name line (said.Subject w) subject ∷ []) in
       let e = statistics_quiet line w subject found in
       omega (arith, a, e)
 
@@ -130,7 +131,7 @@ module _ (all : List SectionTree) where
   of_main false n = 0
 
   abbrev is_main_kind : SectionKindTree → Bool
-  is_main_kind k = is_main (record { line = record { 0 = 0 }; kind = k; definitions = []; body = [] })
+  is_main_kind k = has_main_kind (record { line = record { 0 = 0 }; kind = k; definitions = []; body = [] })
 
   head_less : (line : Line) (number : ℕ) (k : SectionKindTree) → total of_saying (head_says line number k) + of_main (is_main_kind k) (weight_at number) ≤ weight_at number
   head_less line number main = omega arith
@@ -143,7 +144,7 @@ module _ (all : List SectionTree) where
       let b = quiet line (said.Given number) (λ name. refl) given in
       omega (arith, b)
 
-  section_less : (number : ℕ) (s : SectionTree) → total of_saying (section_says number s) + of_main (is_main s) (weight_at number) ≤ weight_at number
+  section_less : (number : ℕ) (s : SectionTree) → total of_saying (section_says number s) + of_main (has_main_kind s) (weight_at number) ≤ weight_at number
   section_less number s =
       let a = total_append of_saying (head_says s.line number s.kind) (flat_map (definition_says number) s.definitions) in
       let b = definitions_quiet number s.definitions in
@@ -155,17 +156,17 @@ module _ (all : List SectionTree) where
 
   -- sections, the first of which has this number
   sections_less : (number : ℕ) (ss : List SectionTree) → ((i : ℕ) → slice_get all (number + i) ≡ slice_get ss i) →
-      total of_saying (sections_say number ss) + option_nodes weight (find is_main ss) ≤ total weight ss
+      total of_saying (sections_say number ss) + option_nodes weight (find has_main_kind ss) ≤ total weight ss
   sections_less number [] h = omega arith
   sections_less number (s ∷ ss) h =
       let a = total_append of_saying (section_says number s) (sections_say (number + 1) ss) in
       let here : weight_at number ≡ weight s = ap (option_nodes weight) (ap (slice_get all) (omega arith) ∙ h 0) in
       let rest = sections_less (number + 1) ss (λ i. ap (slice_get all) (omega arith) ∙ h (suc i)) in
-      let found = found_less (weight_at number) (is_main s) s (find is_main ss) (omega (arith, here)) in
+      let found = found_less (weight_at number) (has_main_kind s) s (find has_main_kind ss) (omega (arith, here)) in
       omega (arith, a, here, rest, section_less number s, found)
 
 -- the declarations of the sections of a program
-pub said_less : (p : ProgramTree) → total (of_saying p.sections) (sayings p) + option_nodes weight (find is_main p.sections) ≤ total weight p.sections
+pub said_less : (p : ProgramTree) → total (of_saying p.sections) (sayings p) + option_nodes weight (find has_main_kind p.sections) ≤ total weight p.sections
 said_less p =
     let a = total_append (of_saying p.sections) (preambles_say 0 p.preamble) (sections_say 0 p.sections) in
     let b = preambles_quiet p.sections 0 p.preamble in

@@ -12,7 +12,7 @@ use Rattle.ss_names_meaning.specs.Contexts.{Context}
 use Rattle.ss_names_laws.specs.Rules.{KeptMention, KeptDemand}
 use Rattle.ss_names_laws.specs.Uses.{KeptSection}
 use Rattle.ss_check_laws.specs.Rules.{KeptStarts}
-use Rattle.ss_check_laws.specs.Links.{Linked}
+use Rattle.ss_check_laws.specs.Links.{ContextAgrees}
 use Rattle.ss_check_laws.specs.BodyLaws.{BodyResolves}
 use Rattle.ss_check_laws.proofs.Steps.{right_of}
 use Rattle.ss_check_laws.proofs.Bodies.{body_resolves}
@@ -20,7 +20,7 @@ use Rattle.ss_check_laws.proofs.Bodies.{body_resolves}
 abbrev StartsNothing : Mention → Type 0
 StartsNothing m = is_start m.role ≡ false
 
-pub section_resolves : (w : Whole) (section : SectionTree) (c : Context) (s : Scope) → Linked w (locals_of w section) c s → s.is_main ≡ is_main section.kind →
+pub section_resolves : (w : Whole) (section : SectionTree) (c : Context) (s : Scope) → ContextAgrees w (locals_of w section) c s → s.is_main ≡ is_main section.kind →
     KeptSection w section → BodyResolves c s section.body
 section_resolves w section c s linked e k =
     let locals = locals_of w section in

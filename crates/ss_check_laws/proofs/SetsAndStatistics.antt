@@ -6,16 +6,16 @@ use Rattle.std.proofs.lemmas.Option.{same_Some, slice_get_within}
 use Rattle.ss_base.specs.declared.layout.Owner.{Owner}
 use Rattle.ss_base.specs.declared.layout.Owner.TheVariants as owners
 use Rattle.ss_base.specs.declared.layout.SetLayout.{SetLayout}
-use Rattle.ss_names_declarations.specs.Sayings.{NameBytes}
+use Rattle.ss_tree.specs.Names.{NameBytes}
 use Rattle.ss_names.specs.declared.entry.Attribute.{Attribute}
 use Rattle.ss_names.specs.declared.meaning.History.{History}
 use Rattle.ss_names.specs.declared.entry.Set.{Set}
-use Rattle.ss_names.specs.declared.meaning.Subject.{Subject as SubjectNumber}
-use Rattle.ss_names.specs.declared.meaning.Subject.TheVariants as subjects
+use Rattle.ss_names.specs.declared.meaning.SubjectNumber.{SubjectNumber}
+use Rattle.ss_names.specs.declared.meaning.SubjectNumber.TheVariants as subjects
 use Rattle.ss_names.specs.Table.{Table}
 use Rattle.ss_check_scopes.specs.Locals.{Moded}
 use Rattle.ss_check_scopes.specs.Signatures.{Signed}
-use Rattle.ss_check_scopes.specs.WholeOf.{attribute_holder, entity_of, member_holder, owner_holder, set_holder, subject_holder}
+use Rattle.ss_check_scopes.specs.WholeOf.{attribute_holder, holder_of, member_holder, owner_holder, set_holder, subject_holder}
 use Rattle.ss_check_scopes.specs.declared.known.Holder.{Holder}
 use Rattle.ss_check_scopes.specs.declared.known.Holder.TheVariants.{Program as TheProgram, Entity as EachOf}
 use Rattle.ss_program.specs.declared.expression.Fold.{Fold}
@@ -35,7 +35,7 @@ use Rattle.ss_names_meaning.specs.Meanings.{class_variable, figure, figure_alone
 use Rattle.ss_names_meaning.specs.Resolved.{local_modes}
 use Rattle.ss_check_laws.specs.Links.{IsFigure, IsImplied, IsMean, IsSetOf, IsQuery}
 use Rattle.ss_names_laws.specs.Subjects.{IsWhole}
-use Rattle.ss_names_laws.specs.ValidTables.{IsKept}
+use Rattle.ss_names_laws.specs.ValidTables.{IsValidTable}
 use Rattle.ss_names_laws.specs.LaidOut.{HasTables}
 use Rattle.ss_check_laws.proofs.Known.{implied_known, w}
 use Rattle.ss_names_declarations.proofs.Entries.{entry_of_value, key_at, there}
@@ -43,7 +43,7 @@ use Rattle.ss_names_laws.proofs.Steps.{goes, numbers_at}
 use Rattle.ss_names_laws.proofs.Structure.{IsTable}
 use Rattle.ss_names_laws.proofs.Typed.{laid, set_known, statistic_known}
 
-module _ (t : Table) (signatures : List Signed) (is : IsTable t) (k : IsKept t) (s : Scope) (h : HasTables t s.program)
+module _ (t : Table) (signatures : List Signed) (is : IsTable t) (k : IsValidTable t) (s : Scope) (h : HasTables t s.program)
     (locals : Moded) (modes : local_modes locals ≡ Some s.locals) where
   abbrev Implied : NameBytes → Variable → Type 0
   Implied = IsImplied (w t signatures is k s h locals modes) locals s
@@ -85,7 +85,7 @@ module _ (t : Table) (signatures : List Signed) (is : IsTable t) (k : IsKept t) 
             referent,
             goes set.owner (λ o. of_owner t locals query n o) (owners.Class class) referent f (goes (class_variable t locals class) (λ implied. Some (meanings.OfSet query n implied)) c.1 referent c.3 refl),
             subst (λ o. IsQuery (w t signatures is k s h locals modes) locals s (owner_holder t o) referent) (sym f)
-                (subst (λ o. IsQuery (w t signatures is k s h locals modes) locals s (entity_of o) referent) (sym c.2) ((class, g), c.4)),
+                (subst (λ o. IsQuery (w t signatures is k s h locals modes) locals s (holder_of o) referent) (sym c.2) ((class, g), c.4)),
           )
 
   -- P., S. or M. of a set
@@ -97,7 +97,7 @@ module _ (t : Table) (signatures : List Signed) (is : IsTable t) (k : IsKept t) 
         referent,
         member_step set.member y.0.member c.1 y.3 c.3,
         subst (λ o. IsQuery (w t signatures is k s h locals modes) locals s (member_holder t o) referent) (sym y.3)
-            (subst (λ o. IsQuery (w t signatures is k s h locals modes) locals s (entity_of o) referent) (sym c.2) ((y.0, y.1), c.4)),
+            (subst (λ o. IsQuery (w t signatures is k s h locals modes) locals s (holder_of o) referent) (sym c.2) ((y.0, y.1), c.4)),
       )
     where
       member_step : (o : Option ℕ) (class : ℕ) (x : Variable) → o ≡ Some class → class_variable t locals class ≡ Some x → (o >>= λ c. class_variable t locals c >>= λ implied. Some (meanings.OfMember query n implied)) ≡ Some (meanings.OfMember query n x)
@@ -118,7 +118,7 @@ module _ (t : Table) (signatures : List Signed) (is : IsTable t) (k : IsKept t) 
             referent,
             goes set.owner (λ o. set_owned t locals n o) (owners.Class class) referent f (goes (class_variable t locals class) (λ implied. Some (OfEntity n implied)) c.1 referent c.3 refl),
             subst (λ o. IsSetOf (w t signatures is k s h locals modes) locals s (owner_holder t o) referent) (sym f)
-                (subst (λ o. IsSetOf (w t signatures is k s h locals modes) locals s (entity_of o) referent) (sym c.2) ((class, g), c.4)),
+                (subst (λ o. IsSetOf (w t signatures is k s h locals modes) locals s (holder_of o) referent) (sym c.2) ((class, g), c.4)),
           )
 
   -- ---- statistics
@@ -185,7 +185,7 @@ module _ (t : Table) (signatures : List Signed) (is : IsTable t) (k : IsKept t) 
         goes (slice_get (values_of t.attributes) n) (λ x. class_variable t locals x.class >>= λ implied. Some (figure_of_each fold i implied)) whole.0 referent whole.1
             (goes (class_variable t locals whole.0.class) (λ implied. Some (figure_of_each fold i implied)) c.1 referent c.3 refl),
         subst (λ o. IsAsked fold (attribute_holder t o) referent) (sym whole.1)
-            (subst (λ o. IsAsked fold (entity_of o) referent) (sym c.2) (asked_of_each fold i c.0 c.1 (attribute_of_each i n history e f) c.4)),
+            (subst (λ o. IsAsked fold (holder_of o) referent) (sym c.2) (asked_of_each fold i c.0 c.1 (attribute_of_each i n history e f) c.4)),
       )
   figure_known fold i history (subjects.MemberCount n) e f =
       let whole = (subject_kept i history (subjects.MemberCount n) e f).3 in
@@ -208,5 +208,5 @@ module _ (t : Table) (signatures : List Signed) (is : IsTable t) (k : IsKept t) 
                 (goes (class_variable t locals class) (λ implied. Some (figure_of_each fold i implied)) c.1 referent c.3 refl)),
             subst (λ o. IsAsked fold (set_holder t o) referent) (sym g)
                 (subst (λ o. IsAsked fold (owner_holder t o) referent) (sym q)
-                (subst (λ o. IsAsked fold (entity_of o) referent) (sym c.2) (asked_of_each fold i c.0 c.1 (count_of_each i n class history e f r) c.4))),
+                (subst (λ o. IsAsked fold (holder_of o) referent) (sym c.2) (asked_of_each fold i c.0 c.1 (count_of_each i n class history e f r) c.4))),
           )

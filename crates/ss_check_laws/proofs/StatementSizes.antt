@@ -12,8 +12,8 @@ use Rattle.ss_names_meaning.specs.Answers.{each}
 use Rattle.ss_names_meaning.specs.Contexts.{Context, single_class, notice_class, counted}
 use Rattle.ss_names_meaning.specs.Conditions.{condition}
 use Rattle.ss_names_meaning.specs.Expressions.{expression, item, target, set_named}
-use Rattle.ss_names_meaning.specs.Heads.{guard, head, phrase, phrases_of}
-use Rattle.ss_names_meaning.specs.Statements.{entity_called, find, find_by, for_over, loop, new_place, position, reader, restart, statement, statements, when}
+use Rattle.ss_names_meaning.specs.Heads.{guard, head, resolved_phrase, phrases_of}
+use Rattle.ss_names_meaning.specs.Statements.{entity_called, find, find_by, for_over, resolved_loop, new_place, position, reader, restart, statement, statements, when}
 use Rattle.ss_check_laws.specs.SizeLaws.{BodiesStaySmall}
 use Rattle.ss_check_laws.proofs.Within.{Within, within_of, up, after, after_lookup, where_small, each_small, each_as_many}
 use Rattle.ss_check_laws.proofs.ExpressionSizes.{small, item_small, target_small, set_small}
@@ -26,10 +26,10 @@ module _ (c : Context) where
   for_small line over body =
       let n = 1 + tree.head_nodes over + block_nodes body in
       after head_nodes statement_nodes (own_nodes over) n (head c over) _ (head_small c over) (λ h lt.
-      after (total phrase_nodes) statement_nodes (sum_by tree.phrase_nodes (phrases_of over)) n (each (phrase c) (phrases_of over)) _ (each_small tree.phrase_nodes phrase_nodes (phrase c) (phrase_small c) (phrases_of over)) (λ ps lt2.
+      after (total phrase_nodes) statement_nodes (sum_by tree.phrase_nodes (phrases_of over)) n (each (resolved_phrase c) (phrases_of over)) _ (each_small tree.phrase_nodes phrase_nodes (resolved_phrase c) (phrase_small c) (phrases_of over)) (λ ps lt2.
       omega (arith, lt, lt2, own_and_phrases over)))
 
-  loop_small : (line : Line) (over : LoopHeadTree) (body : Block) → Within statement_nodes (1 + tree.loop_head_nodes over + block_nodes body) (loop line c over body)
+  loop_small : (line : Line) (over : LoopHeadTree) (body : Block) → Within statement_nodes (1 + tree.loop_head_nodes over + block_nodes body) (resolved_loop line c over body)
   loop_small line (for_head over) body = for_small line over body
   loop_small line (guarded guards) body =
       after (total guard_nodes) statement_nodes (sum_by tree.guard_nodes guards) (1 + sum_by tree.guard_nodes guards + block_nodes body) (each (guard c) guards) _ (each_small tree.guard_nodes guard_nodes (guard c) (guard_small c) guards) (λ gs lt. omega (arith, lt))
@@ -38,7 +38,7 @@ module _ (c : Context) where
   find_small line over found none =
       let n = 1 + tree.head_nodes over + block_nodes found + block_nodes none in
       after head_nodes statement_nodes (own_nodes over) n (head c over) _ (head_small c over) (λ h lt.
-      after (total phrase_nodes) statement_nodes (sum_by tree.phrase_nodes (phrases_of over)) n (each (phrase c) (phrases_of over)) _ (each_small tree.phrase_nodes phrase_nodes (phrase c) (phrase_small c) (phrases_of over)) (λ ps lt2.
+      after (total phrase_nodes) statement_nodes (sum_by tree.phrase_nodes (phrases_of over)) n (each (resolved_phrase c) (phrases_of over)) _ (each_small tree.phrase_nodes phrase_nodes (resolved_phrase c) (phrase_small c) (phrases_of over)) (λ ps lt2.
       omega (arith, lt, lt2, own_and_phrases over)))
 
   find_by_small : (o : FindOutcome) (line : Line) (over : HeadTree) (first second : Block) → Within statement_nodes (1 + tree.head_nodes over + block_nodes first + block_nodes second) (find_by o line c over first second)
@@ -83,7 +83,7 @@ module _ (c : Context) where
     statement_small (loop_statement line over row) =
         let m = 1 + tree.loop_head_nodes over + tree.statements_nodes row in
         after block_nodes statement_nodes (tree.statements_nodes row) m (statements c row) _ (row_small row) (λ b lt.
-        up statement_nodes (1 + tree.loop_head_nodes over + block_nodes b) m (loop line c over b) (loop_small line over b) (omega (arith, lt)))
+        up statement_nodes (1 + tree.loop_head_nodes over + block_nodes b) m (resolved_loop line c over b) (loop_small line over b) (omega (arith, lt)))
     statement_small (find_statement line over) =
         up statement_nodes (1 + tree.head_nodes over + block_nodes Done + block_nodes Done) (1 + tree.head_nodes over) (find line c over Done Done) (find_small line over Done Done) (omega arith)
     statement_small (find_if_statement line over outcome first second) =

@@ -16,16 +16,16 @@ use Rattle.ss_program.specs.WellTyped.{Scope, HasMode, TakesMode, GoodPosition, 
 use Rattle.ss_names_meaning.specs.Answers.{◌>>=◌, each}
 use Rattle.ss_names_meaning.specs.Contexts.{Context}
 use Rattle.ss_names_meaning.specs.Expressions.{expression, target, set_named}
-use Rattle.ss_names_meaning.specs.Statements.{end_of, mode_of, position, reader, statement}
+use Rattle.ss_names_meaning.specs.Statements.{resolved_end, mode_of_target, position, reader, statement}
 use Rattle.ss_names_laws.specs.Rules.{KeptMentions, KeptDemands}
-use Rattle.ss_check_laws.specs.Links.{Linked}
+use Rattle.ss_check_laws.specs.Links.{ContextAgrees}
 use Rattle.ss_check_laws.proofs.Steps.{step, two_steps, is_integer}
 use Rattle.ss_check_laws.proofs.Expressions.{resolves}
 use Rattle.ss_check_laws.proofs.Places.{target_resolves, set_resolves}
 use Rattle.ss_check_laws.proofs.Conditions.{GoesWell, each_resolves, same_mode, number_kept}
 use Rattle.ss_check_laws.proofs.Heads.{ml, mr, dl, dr, three_steps}
 
-module _ (w : Whole) (locals : Moded) (c : Context) (s : Scope) (linked : Linked w locals c s) (line : Line) where
+module _ (w : Whole) (locals : Moded) (c : Context) (s : Scope) (linked : ContextAgrees w locals c s) (line : Line) where
   -- a statement has a resolved form, which is well typed
   abbrev pub StatementResolves : StatementTree → Type 0
   StatementResolves t = GoesWell w locals (Good s) (statement c t)
@@ -47,8 +47,8 @@ module _ (w : Whole) (locals : Moded) (c : Context) (s : Scope) (linked : Linked
       let y = resolves w locals c s linked line e
       (mr w locals s (mentioned.in_named line roles.Target t) (mentioned.in_expression line e) m)
       (dr w locals s (demanded.in_named line t) (demanded.in_expression line e) d.1) in
-      let one : differ (Some x.1) (aspect_mode w locals (demanded.mode_of e)) ≡ false =
-      subst (λ o. differ o (aspect_mode w locals (demanded.mode_of e)) ≡ false) x.3 d.0.0 in
+      let one : differ (Some x.1) (aspect_mode w locals (demanded.mode_of_expression e)) ≡ false =
+      subst (λ o. differ o (aspect_mode w locals (demanded.mode_of_expression e)) ≡ false) x.3 d.0.0 in
       let both : differ (Some x.1) (Some y.1) ≡ false = subst (λ o. differ (Some x.1) o ≡ false) y.3 one in
       let made : Statement = Let line x.0 y.0 in (
         made,
@@ -101,8 +101,8 @@ module _ (w : Whole) (locals : Moded) (c : Context) (s : Scope) (linked : Linked
       let p = set_resolves w locals c s linked line u
       (mr w locals s (mentioned.in_named line roles.Target t) (mentioned.in_named line roles.Set u) m)
       (dr w locals s (demanded.in_number_target line t) (demanded.in_named line u) d) in
-      let made : Statement = RemoveEnd line (end_of end) p.0.0 x.0 p.0.1 in
-      (made, two_steps (target c t) (set_named c u) (λ a b. Some (RemoveEnd line (end_of end) b.0 a b.1)) x.0 p.0 made x.1 p.1 refl, (x.2, p.2))
+      let made : Statement = RemoveEnd line (resolved_end end) p.0.0 x.0 p.0.1 in
+      (made, two_steps (target c t) (set_named c u) (λ a b. Some (RemoveEnd line (resolved_end end) b.0 a b.1)) x.0 p.0 made x.1 p.1 refl, (x.2, p.2))
 
   pub skip_resolves : (e : ExpressionTree) → KeptMentions w locals (mentioned.in_itself (skip_statement line e)) → KeptDemands w locals (demanded.in_itself (skip_statement line e)) → StatementResolves (skip_statement line e)
   unfolding statement
@@ -145,8 +145,8 @@ module _ (w : Whole) (locals : Moded) (c : Context) (s : Scope) (linked : Linked
       let r = target_resolves w locals c s linked line t m d in
       let made : Target = record { place = r.0; mode = r.1 } in (
         made,
-        two_steps (target c t) (c.meaning t.designator) (λ u v. mode_of v >>= λ z. Some (record { place = u; mode = z })) r.0 r.5 made r.2 r.6
-            (step (mode_of r.5) (λ z. Some (record { place = r.0; mode = z })) r.1 made r.7 refl),
+        two_steps (target c t) (c.meaning t.designator) (λ u v. mode_of_target v >>= λ z. Some (record { place = u; mode = z })) r.0 r.5 made r.2 r.6
+            (step (mode_of_target r.5) (λ z. Some (record { place = r.0; mode = z })) r.1 made r.7 refl),
         r.4,
       )
 

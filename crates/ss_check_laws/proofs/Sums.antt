@@ -5,7 +5,7 @@ use Rattle.std.specs.List.{AllByRecursion as Every, flat_map, fold}
 use Rattle.std.specs.Map.{values_of}
 use Rattle.std.specs.Cmp.Lexicographic.{bytes_decides}
 use Rattle.std.proofs.lemmas.List.Sums.{sum_by-append, sum_by-cons}
-use Rattle.ss_names_declarations.specs.Sayings.{NameBytes}
+use Rattle.ss_tree.specs.Names.{NameBytes}
 use Rattle.ss_names_declarations.specs.Firsts.{entry_beside, firsts, same_name, value_for, with_first}
 use Rattle.ss_program.specs.Nodes.{total, option_nodes}
 use Rattle.ss_names_meaning.specs.Answers.{◌>>=◌, each, upto}

@@ -8,10 +8,11 @@ use Rattle.ss_tree.specs.declared.preamble.ClassKind.TheVariants as class_kinds
 use Rattle.ss_tree.specs.Tree as tree
 use Rattle.ss_names_declarations.specs.declared.saying.Said.TheVariants as said
 use Rattle.ss_names_declarations.specs.declared.saying.Saying.{Saying}
-use Rattle.ss_names_declarations.specs.Sayings.{NameBytes, clause_says, definition_says, head_says, order_says, preamble_says, preambles_say, rank_says, rule_of, said_of, said_of_all, section_says, sections_say, sayings, statistic_says, tie_says}
+use Rattle.ss_tree.specs.Names.{NameBytes}
+use Rattle.ss_names_declarations.specs.Sayings.{clause_says, definition_says, head_says, order_says, preamble_says, preambles_say, rank_says, rule_of, saying_of_name, said_of_all, section_says, sections_say, sayings, statistic_says, tie_says}
 use Rattle.ss_names.specs.declared.entry.Class.{Class}
-use Rattle.ss_names.specs.declared.entry.Event.{Event}
-use Rattle.ss_names.specs.declared.entry.Routine.{Routine}
+use Rattle.ss_names.specs.declared.entry.EventSection.{EventSection}
+use Rattle.ss_names.specs.declared.entry.RoutineSection.{RoutineSection}
 use Rattle.ss_names.specs.Entities.{class_by, classes}
 use Rattle.ss_names_declarations.specs.Firsts.{value_for}
 use Rattle.ss_names.specs.Table.{table}
@@ -22,12 +23,12 @@ use Rattle.ss_names_laws.proofs.Entries.{Entries, first_of_every, entry_holds}
 use Rattle.ss_names_laws.proofs.Steps.{every_append, every_at, every_map, somewhere_left, somewhere_right}
 
 -- the section of a routine, and of an event routine
-abbrev pub IsRoutineSection : List tree.SectionTree → NameBytes → Routine → Type 0
+abbrev pub IsRoutineSection : List tree.SectionTree → NameBytes → RoutineSection → Type 0
 IsRoutineSection sections name r =
     (s : tree.SectionTree) × (given : List NameBytes) × (yielding : List NameBytes) × (slice_get sections r.section ≡ Some s) ×
     (s.kind ≡ tree.routine name given yielding) × (r.given ≡ length given) × (r.yielding ≡ length yielding)
 
-abbrev pub IsEventSection : List tree.SectionTree → NameBytes → Event → Type 0
+abbrev pub IsEventSection : List tree.SectionTree → NameBytes → EventSection → Type 0
 IsEventSection sections name e =
     (s : tree.SectionTree) × (given : List NameBytes) × (slice_get sections e.section ≡ Some s) × (s.kind ≡ tree.event name given e.saving) × (e.given ≡ length given)
 
@@ -50,9 +51,9 @@ module _ (sections : List tree.SectionTree) (notices : List NameBytes) where
   -- ---- the preamble
 
   clause : (line : Line) (class : NameBytes) (c : tree.ClauseTree) → Every Good (clause_says line class c)
-  clause line class (tree.has names) = mapped (said_of line (said.Attribute class)) names (λ n. (tt, tt, tt))
-  clause line class (tree.owns names) = mapped (said_of line (said.OwnedSet class)) names (λ n. (tt, tt, tt))
-  clause line class (tree.belongs_to names) = mapped (said_of line (said.MemberSet class)) names (λ n. (tt, tt, tt))
+  clause line class (tree.has names) = mapped (saying_of_name line (said.Attribute class)) names (λ n. (tt, tt, tt))
+  clause line class (tree.owns names) = mapped (saying_of_name line (said.OwnedSet class)) names (λ n. (tt, tt, tt))
+  clause line class (tree.belongs_to names) = mapped (saying_of_name line (said.MemberSet class)) names (λ n. (tt, tt, tt))
 
   order : (line : Line) (number : ℕ) (o : tree.OrderTree) → Every Good (order_says line number o)
   order line number tree.fifo = tt
@@ -67,7 +68,7 @@ module _ (sections : List tree.SectionTree) (notices : List NameBytes) where
   all_notices line [] h = tt
   all_notices line (n ∷ ns) h = ((tt, tt, ((λ e. h n (inl refl)), tt)), all_notices line ns (λ name g. h name (inr g)))
 
-  class_good : (line : Line) (kind : ClassKind) (class : NameBytes) → Among (notice_named kind class) → Good (said_of line (said.Class kind) class)
+  class_good : (line : Line) (kind : ClassKind) (class : NameBytes) → Among (notice_named kind class) → Good (saying_of_name line (said.Class kind) class)
   class_good line class_kinds.Permanent class h = (tt, tt, ((λ e. absurd cc), tt))
   class_good line class_kinds.Temporary class h = (tt, tt, ((λ e. absurd cc), tt))
   class_good line class_kinds.EventNotice class h = (tt, tt, ((λ e. h class (inl refl)), tt))
@@ -78,14 +79,14 @@ module _ (sections : List tree.SectionTree) (notices : List NameBytes) where
   preamble number (tree.event_notices line names) h = all_notices line names h
   preamble number (tree.every line kind class clauses) h = (class_good line kind class h, flat (clause_says line class) clauses (clause line class))
   preamble number (tree.normally line mode) h = ((tt, tt, tt), tt)
-  preamble number (tree.system_owns line sets) h = mapped (said_of line said.SystemSet) sets (λ n. (tt, tt, tt))
-  preamble number (tree.define_variables line names mode) h = mapped (said_of line (said.Variable mode)) names (λ n. (tt, tt, tt))
+  preamble number (tree.system_owns line sets) h = mapped (saying_of_name line said.SystemSet) sets (λ n. (tt, tt, tt))
+  preamble number (tree.define_variables line names mode) h = mapped (saying_of_name line (said.Variable mode)) names (λ n. (tt, tt, tt))
   preamble number (tree.define_sets line names o) h =
-      every_append Good (said_of_all line (said.Discipline number (rule_of o)) names) (order_says line number o) (mapped (said_of line (said.Discipline number (rule_of o))) names (λ n. (tt, tt, tt))) (order line number o)
-  preamble number (tree.priority_order line classes) h = ((tt, tt, tt), mapped (said_of line said.Priority) classes (λ n. (tt, tt, tt)))
+      every_append Good (said_of_all line (said.Discipline number (rule_of o)) names) (order_says line number o) (mapped (saying_of_name line (said.Discipline number (rule_of o))) names (λ n. (tt, tt, tt))) (order line number o)
+  preamble number (tree.priority_order line classes) h = ((tt, tt, tt), mapped (saying_of_name line said.Priority) classes (λ n. (tt, tt, tt)))
   preamble number (tree.break_ties line class keys) h = ((tt, tt, tt), mapped (tie_says line class) keys (λ k. (tt, tt, tt)))
   preamble number (tree.statistics line weighting found subject) h =
-      every_append Good (map (statistic_says line weighting subject) found) (said_of line (said.Subject weighting) subject ∷ []) (mapped (statistic_says line weighting subject) found (λ k. (tt, tt, tt))) ((tt, tt, tt), tt)
+      every_append Good (map (statistic_says line weighting subject) found) (saying_of_name line (said.Subject weighting) subject ∷ []) (mapped (statistic_says line weighting subject) found (λ k. (tt, tt, tt))) ((tt, tt, tt), tt)
 
   preambles : (number : ℕ) (ss : List tree.PreambleTree) → Among (flat_map notices_in ss) → Every Good (preambles_say number ss)
   preambles number [] h = tt
@@ -101,15 +102,15 @@ module _ (sections : List tree.SectionTree) (notices : List NameBytes) where
   head number s (tree.routine name given yielding) e f = (
     (((s, given, yielding, e, f, refl, refl), tt), tt, tt),
     every_append Good (said_of_all s.line (said.Given number) given) (said_of_all s.line (said.Yielding number) yielding)
-        (mapped (said_of s.line (said.Given number)) given (λ n. (tt, tt, tt))) (mapped (said_of s.line (said.Yielding number)) yielding (λ n. (tt, tt, tt))),
+        (mapped (saying_of_name s.line (said.Given number)) given (λ n. (tt, tt, tt))) (mapped (saying_of_name s.line (said.Yielding number)) yielding (λ n. (tt, tt, tt))),
   )
   head number s (tree.event name given saving) e f =
-      ((tt, ((s, given, e, f, refl), tt), tt), mapped (said_of s.line (said.Given number)) given (λ n. (tt, tt, tt)))
+      ((tt, ((s, given, e, f, refl), tt), tt), mapped (saying_of_name s.line (said.Given number)) given (λ n. (tt, tt, tt)))
 
   section : (number : ℕ) (s : tree.SectionTree) → slice_get sections number ≡ Some s → Every Good (section_says number s)
   section number s e =
       every_append Good (head_says s.line number s.kind) (flat_map (definition_says number) s.definitions) (head number s s.kind e refl)
-      (flat (definition_says number) s.definitions (λ d. mapped (said_of d.line (said.Local number d.mode)) d.names (λ n. (tt, tt, tt))))
+      (flat (definition_says number) s.definitions (λ d. mapped (saying_of_name d.line (said.Local number d.mode)) d.names (λ n. (tt, tt, tt))))
 
   all_sections : (number : ℕ) (rest : List tree.SectionTree) → ((i : ℕ) → slice_get sections (number + i) ≡ slice_get rest i) → Every Good (sections_say number rest)
   all_sections number [] h = tt
@@ -125,12 +126,12 @@ module _ (p : tree.ProgramTree) where
       (preambles p.sections (flat_map notices_in p.preamble) 0 p.preamble (λ name h. h))
       (all_sections p.sections (flat_map notices_in p.preamble) 0 p.sections (λ i. let same : 0 + i ≡ i = omega arith in ap (slice_get p.sections) same))
 
-  pub routine_section : (n : ℕ) (name : NameBytes) (r : Routine) → slice_get (table p).routines n ≡ Some (name, r) → IsRoutineSection p.sections name r
+  pub routine_section : (n : ℕ) (name : NameBytes) (r : RoutineSection) → slice_get (table p).routines n ≡ Some (name, r) → IsRoutineSection p.sections name r
   routine_section n name r h =
-      every_at (λ (e : NameBytes × Routine). IsRoutineSection p.sections e.0 e.1) (table p).routines n (name, r)
+      every_at (λ (e : NameBytes × RoutineSection). IsRoutineSection p.sections e.0 e.1) (table p).routines n (name, r)
       (first_of_every (IsRoutineSection p.sections) routine_by (sayings p) (every_map (Good p.sections (flat_map notices_in p.preamble)) (λ s. Entries (IsRoutineSection p.sections) (routine_by s)) (sayings p) (λ s g. g.0) all_good)) h
 
-  pub event_section : (name : NameBytes) (e : Event) → value_for (table p).events name ≡ Some e → IsEventSection p.sections name e
+  pub event_section : (name : NameBytes) (e : EventSection) → value_for (table p).events name ≡ Some e → IsEventSection p.sections name e
   event_section name e h =
       entry_holds (IsEventSection p.sections) (table p).events name e
       (first_of_every (IsEventSection p.sections) event_by (sayings p) (every_map (Good p.sections (flat_map notices_in p.preamble)) (λ s. Entries (IsEventSection p.sections) (event_by s)) (sayings p) (λ s g. g.1) all_good)) h

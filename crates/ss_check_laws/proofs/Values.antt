@@ -9,11 +9,11 @@ use Rattle.ss_tree.specs.declared.preamble.ClassKind.{ClassKind as ClassWord}
 use Rattle.ss_tree.specs.declared.preamble.Mode.{Mode as ModeWord}
 use Rattle.ss_tree.specs.declared.preamble.StatisticKind.{StatisticKind}
 use Rattle.ss_tree.specs.declared.preamble.StatisticKind.TheVariants as statistics
-use Rattle.ss_names_declarations.specs.Sayings.{NameBytes}
+use Rattle.ss_tree.specs.Names.{NameBytes}
 use Rattle.ss_names.specs.declared.meaning.Derived.{Derived}
 use Rattle.ss_names.specs.declared.meaning.Derived.TheVariants as derived
-use Rattle.ss_names.specs.declared.meaning.Meaning.{Meaning as Global}
-use Rattle.ss_names.specs.declared.meaning.Meaning.TheVariants as globals
+use Rattle.ss_names.specs.declared.meaning.GlobalMeaning.{GlobalMeaning as Global}
+use Rattle.ss_names.specs.declared.meaning.GlobalMeaning.TheVariants as globals
 use Rattle.ss_names.specs.declared.entry.Set.{Set}
 use Rattle.ss_names.specs.declared.entry.VariableKind.TheVariants as kinds
 use Rattle.ss_names_declarations.specs.Firsts.{same_name, value_for}
@@ -41,8 +41,8 @@ use Rattle.ss_names_meaning.specs.Meanings.{asked, class_variable, figure, globa
 use Rattle.ss_names_meaning.specs.Resolved.{local_modes}
 use Rattle.ss_names_meaning.specs.Words.{fold_of, mode_given, mode_said}
 use Rattle.ss_check_laws.specs.Links.{Fits, IsQuery}
-use Rattle.ss_names_laws.specs.Tables.{standing_of}
-use Rattle.ss_names_laws.specs.ValidTables.{IsKept}
+use Rattle.ss_names_laws.specs.Tables.{meaning_of_variable}
+use Rattle.ss_names_laws.specs.ValidTables.{IsValidTable}
 use Rattle.ss_names_laws.specs.LaidOut.{HasTables}
 use Rattle.ss_names_laws.proofs.Statistics.{of_statistic}
 use Rattle.ss_check_laws.proofs.Known.{class_variable_whole, kind_of_count, defined_is_no_count, hidden, local_known, value_is, kind_of_variable, w}
@@ -52,7 +52,7 @@ use Rattle.ss_names_laws.proofs.Structure.{IsClassMode, IsTable}
 use Rattle.ss_check_laws.proofs.SetsAndStatistics.{IsAsked, attribute_there, figure_known, of_member_known, of_set_known}
 use Rattle.ss_names_laws.proofs.Typed.{count_there, field_known, global_known, plain}
 
-module _ (t : Table) (signatures : List Signed) (is : IsTable t) (k : IsKept t) (s : Scope) (h : HasTables t s.program)
+module _ (t : Table) (signatures : List Signed) (is : IsTable t) (k : IsValidTable t) (s : Scope) (h : HasTables t s.program)
     (locals : Moded) (modes : local_modes locals ≡ Some s.locals) where
   abbrev here : Whole
   here = w t signatures is k s h locals modes
@@ -65,19 +65,19 @@ module _ (t : Table) (signatures : List Signed) (is : IsTable t) (k : IsKept t) 
 
   -- a meaning of the table, with what is known of it
   abbrev KnownAs : Global → Type 0
-  KnownAs m = (known : Known) × (whole.meaning_by t m ≡ Some known) × Agrees m known
+  KnownAs m = (known : Known) × (whole.known_of_entry t m ≡ Some known) × Agrees m known
 
   variable_known : (n : ℕ) (name : NameBytes) → value_for t.names name ≡ Some (globals.Variable n) → KnownAs (globals.Variable n)
   variable_known n name e =
       let v = is.names name (globals.Variable n) e in
       let value : slice_get (values_of t.variables) n ≡ Some v.0 = value_at t.variables n name v.0 v.1 in
-      let kind = kind_of_variable n v.0.kind (same_Some (standing_of n v.0.kind) (globals.Variable n) (sym (k.said.variable_names n name v.0 v.1) ∙ e)) in
+      let kind = kind_of_variable n v.0.kind (same_Some (meaning_of_variable n v.0.kind) (globals.Variable n) (sym (k.said.variable_names n name v.0 v.1) ∙ e)) in
       let mode = global_known t is k s.program h n v.0 value in
       let other : (c : ℕ) → v.0.kind ≢ kinds.CountOf c = λ c g. defined_is_no_count c (sym kind ∙ g) in
       let m = value_mode (Some v.0.mode) in
       let same : m ≡ mode.0 = value_is (Some v.0.mode) mode.0 mode.1 in (
         knowns.Variable m,
-        ap whole.variable_meaning value,
+        ap whole.known_of_variable value,
         (
           meanings.Variable (variables.Global n) (mode_said v.0.mode),
           goes (slice_get (values_of t.variables) n) (λ x. Some (meanings.Variable (variables.Global n) (mode_said x.mode))) v.0 (meanings.Variable (variables.Global n) (mode_said v.0.mode)) value refl,
@@ -89,7 +89,7 @@ module _ (t : Table) (signatures : List Signed) (is : IsTable t) (k : IsKept t) 
   class_named class n name e =
       let c = is.names name (globals.Class class n) e in (
         knowns.Class c.0.kind,
-        ap whole.class_meaning (value_at t.classes class name c.0 c.2),
+        ap whole.known_of_class (value_at t.classes class name c.0 c.2),
         (
           meanings.Variable (variables.Global n) (Some Integer),
           refl,
@@ -101,7 +101,7 @@ module _ (t : Table) (signatures : List Signed) (is : IsTable t) (k : IsKept t) 
   count_known class n name e =
       let v = is.names name (globals.Count class n) e in
       let value : slice_get (values_of t.variables) n ≡ Some v.0 = value_at t.variables n name v.0 v.1 in
-      let kind = kind_of_count n class v.0.kind (same_Some (standing_of n v.0.kind) (globals.Count class n) (sym (k.said.variable_names n name v.0 v.1) ∙ e)) in
+      let kind = kind_of_count n class v.0.kind (same_Some (meaning_of_variable n v.0.kind) (globals.Count class n) (sym (k.said.variable_names n name v.0 v.1) ∙ e)) in
       let integer : mode_said v.0.mode ≡ Some Integer = ap mode_said (subst (λ x. IsClassMode x v.0.mode) kind (is.class_modes n name v.0 v.1)) in
       let mode = global_known t is k s.program h n v.0 value in
       let same : mode.0 ≡ Integer = cc in
@@ -213,12 +213,12 @@ module _ (t : Table) (signatures : List Signed) (is : IsTable t) (k : IsKept t) 
 
   -- ---- values
 
-  value_by : (m : Global) (known : Known) → KnownAs m → whole.meaning_by t m ≡ Some known → Agrees m known
+  value_by : (m : Global) (known : Known) → KnownAs m → whole.known_of_entry t m ≡ Some known → Agrees m known
   value_by m known f e =
       let same : f.0 ≡ known = same_Some f.0 known (sym f.1 ∙ e) in
       subst (Agrees m) same f.2
 
-  global_fits : (m : Global) (name : NameBytes) (known : Known) → value_for t.names name ≡ Some m → whole.meaning_by t m ≡ Some known → has_value known ≡ true → Agrees m known
+  global_fits : (m : Global) (name : NameBytes) (known : Known) → value_for t.names name ≡ Some m → whole.known_of_entry t m ≡ Some known → has_value known ≡ true → Agrees m known
   global_fits (globals.Variable n) name known e f v = value_by (globals.Variable n) known (variable_known n name e) f
   global_fits (globals.Class class n) name known e f v = value_by (globals.Class class n) known (class_named class n name e) f
   global_fits (globals.Count class n) name known e f v = value_by (globals.Count class n) known (count_known class n name e) f
@@ -232,7 +232,7 @@ module _ (t : Table) (signatures : List Signed) (is : IsTable t) (k : IsKept t) 
       let none : has_value known ≡ false = ap has_value (sym (same_Some knowns.Routine known f)) in
       absurd cc
 
-  pub meaning_found : (o : Option Global) (known : Known) → whole.meaning_of t o ≡ Some known → (m : Global) × (o ≡ Some m) × (whole.meaning_by t m ≡ Some known)
+  pub meaning_found : (o : Option Global) (known : Known) → whole.meaning_of t o ≡ Some known → (m : Global) × (o ≡ Some m) × (whole.known_of_entry t m ≡ Some known)
   meaning_found None known e = absurd cc
   meaning_found (Some m) known e = (m, refl, e)
 
@@ -269,7 +269,7 @@ module _ (t : Table) (signatures : List Signed) (is : IsTable t) (k : IsKept t) 
 
   -- ---- sets, classes and routines
 
-  pub set_numbered : (m : Global) (name : NameBytes) (holder : Holder) → value_for t.names name ≡ Some m → whole.meaning_by t m ≡ Some (knowns.Set holder) → (n : ℕ) × (m ≡ globals.Set n)
+  pub set_numbered : (m : Global) (name : NameBytes) (holder : Holder) → value_for t.names name ≡ Some m → whole.known_of_entry t m ≡ Some (knowns.Set holder) → (n : ℕ) × (m ≡ globals.Set n)
   set_numbered (globals.Variable n) name holder e f = absurd (value_by (globals.Variable n) (knowns.Set holder) (variable_known n name e) f).2
   set_numbered (globals.Class class n) name holder e f = absurd (value_by (globals.Class class n) (knowns.Set holder) (class_named class n name e) f).2
   set_numbered (globals.Count class n) name holder e f = absurd (value_by (globals.Count class n) (knowns.Set holder) (count_known class n name e) f).2
@@ -279,10 +279,10 @@ module _ (t : Table) (signatures : List Signed) (is : IsTable t) (k : IsKept t) 
   set_numbered (globals.Statistic n) name holder e f = absurd (value_by (globals.Statistic n) (knowns.Set holder) (statistic_known n name e) f).2
   set_numbered (globals.Routine n) name holder e f = absurd cc
 
-  pub class_numbered : (m : Global) (name : NameBytes) (kind : ClassWord) → value_for t.names name ≡ Some m → whole.meaning_by t m ≡ Some (knowns.Class kind) → (class n : ℕ) × (m ≡ globals.Class class n)
+  pub class_numbered : (m : Global) (name : NameBytes) (kind : ClassWord) → value_for t.names name ≡ Some m → whole.known_of_entry t m ≡ Some (knowns.Class kind) → (class n : ℕ) × (m ≡ globals.Class class n)
   class_numbered (globals.Variable n) name kind e f =
       let v = is.names name (globals.Variable n) e in
-      let known : whole.variable_meaning (slice_get (values_of t.variables) n) ≡ Some (knowns.Variable (value_mode (Some v.0.mode))) = ap whole.variable_meaning (value_at t.variables n name v.0 v.1) in
+      let known : whole.known_of_variable (slice_get (values_of t.variables) n) ≡ Some (knowns.Variable (value_mode (Some v.0.mode))) = ap whole.known_of_variable (value_at t.variables n name v.0 v.1) in
       absurd cc
   class_numbered (globals.Class class n) name kind e f = (class, n, refl)
   class_numbered (globals.Count class n) name kind e f = absurd cc
@@ -303,7 +303,7 @@ module _ (t : Table) (signatures : List Signed) (is : IsTable t) (k : IsKept t) 
       absurd (of_statistic (λ known. Some known ≡ Some (knowns.Class kind) → ⊥) (λ holder g. absurd cc) (λ holder g. absurd cc) t (slice_get (values_of t.statistics) n) f)
   class_numbered (globals.Routine n) name kind e f = absurd cc
 
-  pub routine_numbered : (m : Global) (name : NameBytes) → value_for t.names name ≡ Some m → whole.meaning_by t m ≡ Some knowns.Routine → (n : ℕ) × (m ≡ globals.Routine n)
+  pub routine_numbered : (m : Global) (name : NameBytes) → value_for t.names name ≡ Some m → whole.known_of_entry t m ≡ Some knowns.Routine → (n : ℕ) × (m ≡ globals.Routine n)
   routine_numbered (globals.Variable n) name e f = absurd (value_by (globals.Variable n) knowns.Routine (variable_known n name e) f).2
   routine_numbered (globals.Class class n) name e f = absurd (value_by (globals.Class class n) knowns.Routine (class_named class n name e) f).2
   routine_numbered (globals.Count class n) name e f = absurd (value_by (globals.Count class n) knowns.Routine (count_known class n name e) f).2

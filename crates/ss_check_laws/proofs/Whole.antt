@@ -11,25 +11,25 @@ use Rattle.ss_base.specs.declared.layout.RankKey.{RankKey}
 use Rattle.ss_tree.specs.declared.preamble.ClassKind.{ClassKind as ClassWord}
 use Rattle.ss_tree.specs.declared.preamble.ClassKind.TheVariants as class_words
 use Rattle.ss_tree.specs.Tree as tree
-use Rattle.ss_names_declarations.specs.Sayings.{NameBytes}
+use Rattle.ss_tree.specs.Names.{NameBytes}
 use Rattle.ss_names.specs.declared.entry.Class.{Class}
-use Rattle.ss_names.specs.declared.entry.Event.{Event as EventSaid}
-use Rattle.ss_names.specs.declared.meaning.Meaning.TheVariants as globals
-use Rattle.ss_names.specs.declared.entry.Routine.{Routine as RoutineSaid}
+use Rattle.ss_names.specs.declared.entry.EventSection.{EventSection as EventSaid}
+use Rattle.ss_names.specs.declared.meaning.GlobalMeaning.TheVariants as globals
+use Rattle.ss_names.specs.declared.entry.RoutineSection.{RoutineSection as RoutineSaid}
 use Rattle.ss_names_declarations.specs.Firsts.{value_for}
 use Rattle.ss_names.specs.Table.{table}
 use Rattle.ss_check_scopes.specs.Signatures.{given_to, yielded_by}
 use Rattle.ss_check_scopes.specs.WholeOf as whole
 use Rattle.ss_check_rules.specs.Uses as uses
 use Rattle.ss_names_laws.specs.Lists.{Somewhere}
-use Rattle.ss_names_laws.specs.Uses.{EventFits, IsEventOf, notices_in}
+use Rattle.ss_names_laws.specs.Uses.{EventFits, IsEventSectionOf, notices_in}
 use Rattle.ss_program.specs.Program.{Event, Program, Routine}
 use Rattle.ss_names_meaning.specs.Answers.{◌>>=◌, each, upto, where_holds}
 use Rattle.ss_names_meaning.specs.Layouts.{tie_keys}
-use Rattle.ss_names_meaning.specs.Resolved.{Parts, class_event, class_variable, event_of, is_known, is_known_kind, is_main, is_main_kind, main_parts, parts_at, parts_of, resolved_event, resolved_routine, routine_of, saved}
+use Rattle.ss_names_meaning.specs.Resolved.{Parts, class_event, class_variable, event_of_class, is_known, is_known_kind, has_main_kind, is_main_kind, main_parts, parts_at, parts_of, resolved_event, resolved_routine, routine_of, saved}
 use Rattle.ss_names_meaning.specs.Words.{class_kind}
 use Rattle.ss_check_laws.specs.Parameters as parameters
-use Rattle.ss_names_laws.specs.ValidTables.{IsKept}
+use Rattle.ss_names_laws.specs.ValidTables.{IsValidTable}
 use Rattle.ss_check_laws.specs.Programs.{KeepsAllRules, KeepsRules}
 use Rattle.ss_check_laws.specs.Signed.{AreSigned}
 use Rattle.ss_names_laws.proofs.Laid.{ties_there}
@@ -59,20 +59,20 @@ main_kind (tree.routine name given yielding) e = absurd cc
 main_kind (tree.event name given saving) e = absurd cc
 
 -- the first section that is MAIN
-main_found : (ss : List tree.SectionTree) → Somewhere (λ (s : tree.SectionTree). s.kind ≡ tree.main) ss → (i : ℕ) × (s : tree.SectionTree) × (slice_get ss i ≡ Some s) × (find is_main ss ≡ Some s) × (is_main s ≡ true)
+main_found : (ss : List tree.SectionTree) → Somewhere (λ (s : tree.SectionTree). s.kind ≡ tree.main) ss → (i : ℕ) × (s : tree.SectionTree) × (slice_get ss i ≡ Some s) × (find has_main_kind ss ≡ Some s) × (has_main_kind s ≡ true)
 main_found [] h = absurd h
-main_found (s ∷ ss) h = by (is_main s) refl (main_found ss) h
+main_found (s ∷ ss) h = by (has_main_kind s) refl (main_found ss) h
   where
-    by : (b : Bool) → is_main s ≡ b → (Somewhere (λ (x : tree.SectionTree). x.kind ≡ tree.main) ss → (i : ℕ) × (x : tree.SectionTree) × (slice_get ss i ≡ Some x) × (find is_main ss ≡ Some x) × (is_main x ≡ true)) → (s.kind ≡ tree.main) ⊎ Somewhere (λ (x : tree.SectionTree). x.kind ≡ tree.main) ss → (i : ℕ) × (x : tree.SectionTree) × (slice_get (s ∷ ss) i ≡ Some x) × (find is_main (s ∷ ss) ≡ Some x) × (is_main x ≡ true)
-    by true e next f = (0, s, refl, ap (λ b. cond b (Some s) (find is_main ss)) e, e)
+    by : (b : Bool) → has_main_kind s ≡ b → (Somewhere (λ (x : tree.SectionTree). x.kind ≡ tree.main) ss → (i : ℕ) × (x : tree.SectionTree) × (slice_get ss i ≡ Some x) × (find has_main_kind ss ≡ Some x) × (has_main_kind x ≡ true)) → (s.kind ≡ tree.main) ⊎ Somewhere (λ (x : tree.SectionTree). x.kind ≡ tree.main) ss → (i : ℕ) × (x : tree.SectionTree) × (slice_get (s ∷ ss) i ≡ Some x) × (find has_main_kind (s ∷ ss) ≡ Some x) × (has_main_kind x ≡ true)
+    by true e next f = (0, s, refl, ap (λ b. cond b (Some s) (find has_main_kind ss)) e, e)
     by false e next (inl f) =
         let one : is_main_kind s.kind ≡ true = ap is_main_kind f in
         absurd cc
     by false e next (inr f) =
         let found = next f in
-        (suc found.0, found.1, found.2, ap (λ b. cond b (Some s) (find is_main ss)) e ∙ found.3, found.4)
+        (suc found.0, found.1, found.2, ap (λ b. cond b (Some s) (find has_main_kind ss)) e ∙ found.3, found.4)
 
-module _ (p : tree.ProgramTree) (k : IsKept (table p)) (g : KeepsAllRules (whole.whole_of p) p) (laws : Laws) where
+module _ (p : tree.ProgramTree) (k : IsValidTable (table p)) (g : KeepsAllRules (whole.whole_of p) p) (laws : Laws) where
   -- ---- routines
 
   pub record RoutineFacts (n : ℕ) (made : Routine) : Type 0 where
@@ -147,7 +147,7 @@ module _ (p : tree.ProgramTree) (k : IsKept (table p)) (g : KeepsAllRules (whole
     pub notice : class.kind ≡ class_words.EventNotice
     pub keeps : KeepsRules (whole.whole_of p) section
     pub kind : section.kind ≡ tree.event name given saving
-    pub distinct : parameters.AreDistinct given
+    pub distinct : parameters.AreDistinctNames given
     pub has : HasParts p k g laws section parts
     pub ties : tie_keys (table p) made.class name ≡ Some made.ties
     pub takes : made.given ≡ take (length given) parts.modes
@@ -164,20 +164,20 @@ module _ (p : tree.ProgramTree) (k : IsKept (table p)) (g : KeepsAllRules (whole
   class_event_is : (class : ℕ) (name : NameBytes) (known : EventSaid) (keys : List RankKey) (variable : Option ℕ) (parts : Parts) →
       nat_le known.given (length (get_or (table p).fields class [])) ≡ true → tie_keys (table p) class name ≡ Some keys → saved (table p) name known.saving ≡ Some variable →
       parts_at (table p) (w p k g laws) p.sections known.section ≡ Some parts →
-      class_event (table p) (w p k g laws) p.sections class name known ≡ Some (event_of class keys known.given variable parts)
+      class_event (table p) (w p k g laws) p.sections class name known ≡ Some (event_of_class class keys known.given variable parts)
   class_event_is class name known keys variable parts a b c d =
-      let made : Event = event_of class keys known.given variable parts in
-      goes (where_holds (nat_le known.given (length (get_or (table p).fields class []))) known.given) (λ given. tie_keys (table p) class name >>= λ ks. saved (table p) name known.saving >>= λ v. parts_at (table p) (w p k g laws) p.sections known.section >>= λ x. Some (event_of class ks given v x)) known.given made (holds (nat_le known.given (length (get_or (table p).fields class []))) known.given a)
-      (goes (tie_keys (table p) class name) (λ ks. saved (table p) name known.saving >>= λ v. parts_at (table p) (w p k g laws) p.sections known.section >>= λ x. Some (event_of class ks known.given v x)) keys made b
-      (goes (saved (table p) name known.saving) (λ v. parts_at (table p) (w p k g laws) p.sections known.section >>= λ x. Some (event_of class keys known.given v x)) variable made c
-      (goes (parts_at (table p) (w p k g laws) p.sections known.section) (λ x. Some (event_of class keys known.given variable x)) parts made d refl)))
+      let made : Event = event_of_class class keys known.given variable parts in
+      goes (where_holds (nat_le known.given (length (get_or (table p).fields class []))) known.given) (λ given. tie_keys (table p) class name >>= λ ks. saved (table p) name known.saving >>= λ v. parts_at (table p) (w p k g laws) p.sections known.section >>= λ x. Some (event_of_class class ks given v x)) known.given made (holds (nat_le known.given (length (get_or (table p).fields class []))) known.given a)
+      (goes (tie_keys (table p) class name) (λ ks. saved (table p) name known.saving >>= λ v. parts_at (table p) (w p k g laws) p.sections known.section >>= λ x. Some (event_of_class class ks known.given v x)) keys made b
+      (goes (saved (table p) name known.saving) (λ v. parts_at (table p) (w p k g laws) p.sections known.section >>= λ x. Some (event_of_class class keys known.given v x)) variable made c
+      (goes (parts_at (table p) (w p k g laws) p.sections known.section) (λ x. Some (event_of_class class keys known.given variable x)) parts made d refl)))
 
-  pub attributes_known : (name : NameBytes) (class : ℕ) → slice_get (keys_of (table p).classes) class ≡ Some name → (whole.whole_of p).attributes name ≡ Some (map (whole.field_mode (table p)) (get_or (table p).fields class []))
+  pub attributes_known : (name : NameBytes) (class : ℕ) → slice_get (keys_of (table p).classes) class ≡ Some name → (whole.whole_of p).attributes name ≡ Some (map (whole.attribute_mode_by_name (table p)) (get_or (table p).fields class []))
   attributes_known name class e = ap (whole.attributes_of (table p)) (k.said.class_names class name e).1
 
-  distinct_given : (s : tree.SectionTree) (name : NameBytes) (given : List NameBytes) (saving : Bool) → s.kind ≡ tree.event name given saving → parameters.AreDistinct (parameters.parameters s) → parameters.AreDistinct given
+  distinct_given : (s : tree.SectionTree) (name : NameBytes) (given : List NameBytes) (saving : Bool) → s.kind ≡ tree.event name given saving → parameters.AreDistinctNames (parameters.parameters s) → parameters.AreDistinctNames given
   distinct_given s name given saving e h =
-      subst parameters.AreDistinct (append-nil given) (subst (λ kind. parameters.AreDistinct (given_to kind ++ yielded_by kind)) e h)
+      subst parameters.AreDistinctNames (append-nil given) (subst (λ kind. parameters.AreDistinctNames (given_to kind ++ yielded_by kind)) e h)
 
   event_made : (i : ℕ) → i < length (table p).ranks → (e : Event) × (resolved_event (table p) (w p k g laws) p.sections i ≡ Some e) × EventFacts i e
   event_made i lt =
@@ -187,7 +187,7 @@ module _ (p : tree.ProgramTree) (k : IsKept (table p)) (g : KeepsAllRules (whole
       let ranked = value_at (table p).ranks i name class r.1 in
       let notice = rank_known p i name class r.1 in
       let key = key_at (table p).classes class name notice.0 notice.1 in
-      let somewhere = somewhere_named (λ n. Somewhere (IsEventOf n) p.sections) (flat_map notices_in p.preamble) name g.events (notice_said p class name notice.0 notice.1 notice.2) in
+      let somewhere = somewhere_named (λ n. Somewhere (IsEventSectionOf n) p.sections) (flat_map notices_in p.preamble) name g.events (notice_said p class name notice.0 notice.1 notice.2) in
       let known = event_there p name somewhere in
       let section = event_section p name known.0 known.1 in
       let keeps = section_of p k g laws known.0.section section.0 section.2 in
@@ -195,10 +195,10 @@ module _ (p : tree.ProgramTree) (k : IsKept (table p)) (g : KeepsAllRules (whole
       let ties = ties_there (table p) (is p k g laws) k class name key in
       let variable = saved_there name class known.0.saving key in
       let distinct = distinct_given section.0 name section.1 known.0.saving section.3 keeps.parameters in
-      let fits = laws.events (w p k g laws) section.0 name section.1 known.0.saving (map (whole.field_mode (table p)) (get_or (table p).fields class [])) section.3 distinct keeps.uses (attributes_known name class key) in
-      let limit : known.0.given ≤ length (get_or (table p).fields class []) = omega (arith, fits.0, section.4, length-map (get_or (table p).fields class []) (whole.field_mode (table p))) in
+      let fits = laws.events (w p k g laws) section.0 name section.1 known.0.saving (map (whole.attribute_mode_by_name (table p)) (get_or (table p).fields class [])) section.3 distinct keeps.uses (attributes_known name class key) in
+      let limit : known.0.given ≤ length (get_or (table p).fields class []) = omega (arith, fits.0, section.4, length-map (get_or (table p).fields class []) (whole.attribute_mode_by_name (table p))) in
       let at : parts_at (table p) (w p k g laws) p.sections known.0.section ≡ Some parts.0 = goes (slice_get p.sections known.0.section) (λ s. parts_of (table p) (w p k g laws) s) section.0 parts.0 section.2 parts.1.resolved in
-      let made : Event = event_of class ties.0 known.0.given variable.0 parts.0 in (
+      let made : Event = event_of_class class ties.0 known.0.given variable.0 parts.0 in (
         made,
         goes (slice_get (values_of (table p).ranks) i) (λ c. slice_get (keys_of (table p).classes) c >>= λ n. value_for (table p).events n >>= λ x. class_event (table p) (w p k g laws) p.sections c n x) class made ranked
             (goes (slice_get (keys_of (table p).classes) class) (λ n. value_for (table p).events n >>= λ x. class_event (table p) (w p k g laws) p.sections class n x) name made key
@@ -243,7 +243,7 @@ module _ (p : tree.ProgramTree) (k : IsKept (table p)) (g : KeepsAllRules (whole
     pub at : slice_get p.sections number ≡ Some section
     pub resolved : main_parts (table p) (w p k g laws) p.sections ≡ Some parts
     pub has : HasParts p k g laws section parts
-    pub is_main : is_main section ≡ true
+    pub is_main : has_main_kind section ≡ true
 
   pub main_facts : MainFacts
   main_facts =
@@ -254,7 +254,7 @@ module _ (p : tree.ProgramTree) (k : IsKept (table p)) (g : KeepsAllRules (whole
         section = found.1;
         parts = parts.0;
         at = found.2;
-        resolved = goes (find is_main p.sections) (λ s. parts_of (table p) (w p k g laws) s) found.1 parts.0 found.3 parts.1.resolved;
+        resolved = goes (find has_main_kind p.sections) (λ s. parts_of (table p) (w p k g laws) s) found.1 parts.0 found.3 parts.1.resolved;
         has = parts.1;
         is_main = found.4;
       }

@@ -5,7 +5,7 @@ use Rattle.std.proofs.lemmas.List.Sums.{sum_by-cons}
 use Rattle.ss_program.specs.Program.{Expression}
 use Rattle.ss_program.specs.Nodes.{total, option_nodes}
 use Rattle.ss_names_meaning.specs.Answers.{◌>>=◌, each, if_there, where_holds}
-use Rattle.ss_names_meaning.specs.Expressions.{plain}
+use Rattle.ss_names_meaning.specs.Expressions.{without_subscript}
 use Rattle.ss_tree.specs.Nodes as tree
 
 abbrev pub Within : {A : Type 0} → (A → ℕ) → ℕ → Option A → Type 0
@@ -34,7 +34,7 @@ pub after_lookup : {A B : Type 0} (k : B → ℕ) (n : ℕ) (r : Option A) (f : 
 after_lookup k n None f g = tt
 after_lookup k n (Some x) f g = g x
 
-pub plain_small : {A : Type 0} (k : A → ℕ) (n : ℕ) (e : Option Expression) (x : A) → k x ≤ n → Within k n (plain e x)
+pub plain_small : {A : Type 0} (k : A → ℕ) (n : ℕ) (e : Option Expression) (x : A) → k x ≤ n → Within k n (without_subscript e x)
 plain_small k n None x h = h
 plain_small k n (Some e) x h = tt
 

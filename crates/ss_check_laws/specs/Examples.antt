@@ -8,7 +8,7 @@ use Rattle.ss_tree.specs.declared.preamble.Mode.TheVariants.{Integer}
 use Rattle.ss_tree.specs.declared.preamble.StatisticKind.TheVariants.{Sum, Mean}
 use Rattle.ss_tree.specs.declared.preamble.Weighting.TheVariants.{Tally}
 use Rattle.ss_tree.specs.Tree as tree
-use Rattle.ss_names_declarations.specs.Sayings.{NameBytes}
+use Rattle.ss_tree.specs.Names.{NameBytes}
 use Rattle.ss_check_scopes.specs.WholeOf.{whole_of}
 use Rattle.ss_names_laws.specs.Declarations.{KeepsDeclarations}
 use Rattle.ss_names_laws.specs.Uses.{KeepsUses}

@@ -8,7 +8,7 @@ use Rattle.ss_base.specs.declared.layout.Owner.TheVariants.{System}
 use Rattle.ss_tree.specs.declared.expression.Designator.TheVariants.{Name, TimeV, TimeA}
 use Rattle.ss_tree.specs.declared.preamble.ClassKind.{ClassKind as ClassWord}
 use Rattle.ss_tree.specs.declared.preamble.ClassKind.TheVariants as class_words
-use Rattle.ss_names_uses.specs.Mentions.{NameBytes}
+use Rattle.ss_tree.specs.Names.{NameBytes}
 use Rattle.ss_check_scopes.specs.declared.known.Holder.{Holder}
 use Rattle.ss_check_scopes.specs.declared.known.Holder.TheVariants.{Program as TheProgram, Entity as EachOf}
 use Rattle.ss_check_scopes.specs.declared.known.Known.{Known}
@@ -17,12 +17,12 @@ use Rattle.ss_check_scopes.specs.Locals.{Moded}
 use Rattle.ss_check_scopes.specs.Meanings.{meaning_in}
 use Rattle.ss_check_scopes.specs.Whole.{Whole}
 use Rattle.ss_check_rules.specs.Unknown.{has_value, is_watched_here}
-use Rattle.ss_check_rules.specs.Modes.{mode_in}
+use Rattle.ss_check_rules.specs.Modes.{mode_of_name}
 use Rattle.ss_program.specs.declared.expression.Variable.{Variable}
 use Rattle.ss_program.specs.declared.expression.Variable.TheVariants.{Global}
 use Rattle.ss_program.specs.declared.statement.Counted.{Counted}
 use Rattle.ss_program.specs.Program.{ToVariable, Routine}
-use Rattle.ss_program.specs.WellTyped.{Scope, mode_at, kind_of, fields_of, field_mode, owner_of, IsOwned, IsSet, IsAlone, IsOfEntities, HasSubject, TakesMode}
+use Rattle.ss_program.specs.WellTyped.{Scope, mode_at, kind_of_class, fields_of, field_mode, owner_of, IsOwned, IsSet, IsAlone, IsOfEntities, HasSubject, TakesMode}
 use Rattle.ss_names_meaning.specs.declared.meaning.Meaning.{Meaning}
 use Rattle.ss_names_meaning.specs.declared.meaning.Meaning.TheVariants as meanings
 use Rattle.ss_names_meaning.specs.declared.meaning.SetMeant.{SetMeant}
@@ -36,7 +36,7 @@ module _ (w : Whole) (locals : Moded) (s : Scope) where
 
   -- the variable is the one that has an entity of the class where none is written
   abbrev pub IsImplied : NameBytes → Variable → Type 0
-  IsImplied class x = (m : Mode) × (mode_in w locals class ≡ Some m) × (mode_at s x ≡ Some m)
+  IsImplied class x = (m : Mode) × (mode_of_name w locals class ≡ Some m) × (mode_at s x ≡ Some m)
 
   -- a variable of the mode
   abbrev pub IsVariable : Mode → Meaning → Type 0
@@ -109,20 +109,20 @@ kind_said class_words.Temporary = class_kinds.Temporary
 kind_said class_words.EventNotice = class_kinds.Notice
 
 -- N. of a class, by its variable
-abbrev pub count_of : ClassMeant → (variable : ℕ) → Counted
-count_of referent variable = record { class = referent.class; variable = variable }
+abbrev pub counted_class : ClassMeant → (variable : ℕ) → Counted
+counted_class referent variable = record { class = referent.class; variable = variable }
 
 -- a permanent class has its N.
 abbrev pub HasCount : Scope → ClassWord → ClassMeant → Type 0
-HasCount s class_words.Permanent referent = (variable : ℕ) × (referent.count ≡ Some variable) × Contains s.program.counts (count_of referent variable)
+HasCount s class_words.Permanent referent = (variable : ℕ) × (referent.count ≡ Some variable) × Contains s.program.counts (counted_class referent variable)
 HasCount s class_words.Temporary referent = Unit {0}
 HasCount s class_words.EventNotice referent = Unit {0}
 
 -- the class of a name and a kind: what its name means as a variable in the section, and its attributes
 pub record IsClass (w : Whole) (locals : Moded) (s : Scope) (name : NameBytes) (kind : ClassWord) (referent : ClassMeant) : Type 0 where
   pub kind_meant : referent.kind ≡ kind_said kind
-  pub kind_there : kind_of s.program referent.class ≡ Some (kind_said kind)
-  pub variable_there : (m : Mode) × (mode_in w locals name ≡ Some m) × TakesMode s (ToVariable referent.variable) m
+  pub kind_there : kind_of_class s.program referent.class ≡ Some (kind_said kind)
+  pub variable_there : (m : Mode) × (mode_of_name w locals name ≡ Some m) × TakesMode s (ToVariable referent.variable) m
   pub fields_there : (modes : List Mode) × (fields_of s.program referent.class ≡ Some modes) × (w.attributes name ≡ Some modes) × (referent.attributes ≡ length modes)
   pub count_there : HasCount s kind referent
 
@@ -136,7 +136,7 @@ pub record IsRoutine (w : Whole) (s : Scope) (name : NameBytes) (referent : Rout
   pub yielding_counted : referent.yielding ≡ length resolved.yielding
 
 -- a context gives each name the meaning that the rules on uses know
-pub record Linked (w : Whole) (locals : Moded) (c : Context) (s : Scope) : Type 0 where
+pub record ContextAgrees (w : Whole) (locals : Moded) (c : Context) (s : Scope) : Type 0 where
   pub value : (name : NameBytes) (known : Known) → meaning_in w.meanings locals name ≡ Some known → has_value known ≡ true → (referent : Meaning) × (c.meaning (Name name) ≡ Some referent) × Fits w locals s known referent
   pub clock : c.meaning TimeV ≡ Some meanings.Clock
   pub notice_time : c.meaning TimeA ≡ Some meanings.NoticeTime

@@ -11,9 +11,9 @@ use Rattle.ss_program.specs.Program.{Program}
 use Rattle.ss_program.specs.WellTyped.{Scope, WellTyped}
 use Rattle.ss_names_meaning.specs.Meanings.{context_in}
 use Rattle.ss_names_meaning.specs.Resolved.{local_modes, resolved}
-use Rattle.ss_check_laws.specs.Links.{Linked}
+use Rattle.ss_check_laws.specs.Links.{ContextAgrees}
 use Rattle.ss_names_laws.specs.Locals.{KeepsLocals}
-use Rattle.ss_names_laws.specs.ValidTables.{IsKept}
+use Rattle.ss_names_laws.specs.ValidTables.{IsValidTable}
 use Rattle.ss_check_laws.specs.Programs.{KeepsAllRules}
 use Rattle.ss_names_laws.specs.LaidOut.{HasTables}
 use Rattle.ss_check_laws.specs.Signed.{AreSigned}
@@ -22,14 +22,14 @@ use Rattle.ss_check_laws.specs.Signed.{AreSigned}
 abbrev pub ContextsAreLinked : Type 0
 ContextsAreLinked =
     (tree : ProgramTree) (signatures : List Signed) (locals : Moded) (s : Scope) →
-    IsKept (table tree) → KeepsLocals (whole_in (table tree) signatures) locals → HasTables (table tree) s.program →
+    IsValidTable (table tree) → KeepsLocals (whole_in (table tree) signatures) locals → HasTables (table tree) s.program →
     AreSigned (table tree) signatures s.program → local_modes locals ≡ Some s.locals →
-    Linked (whole_in (table tree) signatures) locals (context_in (table tree) locals) s
+    ContextAgrees (whole_in (table tree) signatures) locals (context_in (table tree) locals) s
 
 -- a program that keeps the rules has a resolved form, which is well typed
 abbrev pub ProgramsResolve : Type 0
 ProgramsResolve =
-    (tree : ProgramTree) → IsKept (table tree) → KeepsAllRules (whole_of tree) tree →
+    (tree : ProgramTree) → IsValidTable (table tree) → KeepsAllRules (whole_of tree) tree →
     (p : Program) × (resolved (table tree) (whole_of tree) tree.sections ≡ Some p) × WellTyped p
 
 -- a program that breaks no rule has a resolved form, which is well typed

@@ -1,7 +1,7 @@
 -- Signatures of sections, and the routines of a resolved program.
 use Rattle.std.specs.Prelude.{◌≡◌, ℕ, List, length, map, slice_get, Some}
 use Rattle.std.specs.Map.{values_of}
-use Rattle.ss_names.specs.declared.entry.Routine.{Routine as RoutineSaid}
+use Rattle.ss_names.specs.declared.entry.RoutineSection.{RoutineSection as RoutineSaid}
 use Rattle.ss_names.specs.Table.{Table}
 use Rattle.ss_check_scopes.specs.Meanings.{value_mode}
 use Rattle.ss_check_scopes.specs.Signatures.{Signed}

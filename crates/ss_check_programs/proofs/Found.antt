@@ -12,8 +12,8 @@ use Rattle.ss_names.specs.Table.{Table}
 use Rattle.ss_check_scopes.specs.Whole.{Whole, locals_of}
 use Rattle.ss_program.specs.Program.{Program}
 use Rattle.ss_names_meaning.specs.Answers.{◌>>=◌, where_holds}
-use Rattle.ss_names_meaning.specs.Layouts.{Laid, laid_out}
-use Rattle.ss_names_meaning.specs.Resolved.{Parts, is_known, is_main, main_from, main_parts, parts_at, parts_of, parts_with, parts_with_locals, put_together, resolved, resolved_with_locals}
+use Rattle.ss_names_meaning.specs.Layouts.{ResolvedLayout, laid_out}
+use Rattle.ss_names_meaning.specs.Resolved.{Parts, is_known, has_main_kind, main_from, main_parts, parts_at, parts_of, parts_with, parts_with_locals, put_together, resolved, resolved_with_locals}
 
 -- ---- a place in a list that is seen as another one
 
@@ -43,7 +43,7 @@ module _ (t : Table) (w : Whole) where
 
   -- ---- MAIN
 
-  found_main : (sections : List SectionTree) (n : ℕ) (b : Bool) → nat_lt n (length sections) ≡ b → find is_main sections ≡ slice_get sections n →
+  found_main : (sections : List SectionTree) (n : ℕ) (b : Bool) → nat_lt n (length sections) ≡ b → find has_main_kind sections ≡ slice_get sections n →
       (cond b (Some n) None >>= parts_at t w sections) ≡ main_parts t w sections
   found_main sections n true lt h = ap (λ o. o >>= λ s. parts_of t w s) (sym h)
   found_main sections n false lt h =
@@ -52,14 +52,14 @@ module _ (t : Table) (w : Whole) where
 
   only_main : (sections : List SectionTree) → main_from (parts_at t w sections) sections ≡ main_parts t w sections
   only_main sections =
-      found_main sections (position_or_len is_main sections) (nat_lt (position_or_len is_main sections) (length sections)) refl (find_at is_main sections)
+      found_main sections (position_or_len has_main_kind sections) (nat_lt (position_or_len has_main_kind sections) (length sections)) refl (find_at has_main_kind sections)
 
   main_alone : (sections : List SectionTree) → main_from (parts_with_locals t (map (locals_of w) sections) sections) sections ≡ main_parts t w sections
   main_alone sections = ap (λ (section : ℕ → Option Parts). main_from section sections) (every_section sections) ∙ only_main sections
 
   -- ---- the program
 
-  where_known : (laid : Laid) (sections : List SectionTree) (b : Bool) →
+  where_known : (laid : ResolvedLayout) (sections : List SectionTree) (b : Bool) →
       (where_holds b sections >>= λ known. put_together t laid (parts_with_locals t (map (locals_of w) sections) known) (main_from (parts_with_locals t (map (locals_of w) sections) known) known)) ≡
       (where_holds b sections >>= λ known. put_together t laid (parts_at t w known) (main_parts t w known))
   where_known laid sections true =
@@ -69,4 +69,4 @@ module _ (t : Table) (w : Whole) where
 
   pub by_their_locals : (sections : List SectionTree) → resolved_with_locals t (map (locals_of w) sections) sections ≡ resolved t w sections
   unfolding resolved resolved_with_locals
-  by_their_locals sections = ap (λ (rest : Laid → Option Program). laid_out t >>= rest) (fun_ext (λ laid. where_known laid sections (list_all (is_known t) sections)))
+  by_their_locals sections = ap (λ (rest : ResolvedLayout → Option Program). laid_out t >>= rest) (fun_ext (λ laid. where_known laid sections (list_all (is_known t) sections)))

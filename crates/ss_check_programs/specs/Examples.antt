@@ -11,7 +11,7 @@ use Rattle.ss_tree.specs.declared.preamble.Mode.TheVariants.{Integer}
 use Rattle.ss_tree.specs.declared.preamble.StatisticKind.TheVariants as folds_said
 use Rattle.ss_tree.specs.declared.preamble.Weighting.TheVariants.{Tally, Accumulate}
 use Rattle.ss_tree.specs.Tree.{ExpressionTree, number, named, call, sum, product, no_expression, and_expression, no_term, and_term, NamedTree, over_class, for_head, by_discipline, at_time, loop_statement, create_statement, create_every, file_statement, schedule_new, reset_statement, no_statement, has, owns, belongs_to, permanent_entities, temporary_entities, event_notices, every, normally, system_owns, statistics, ProgramTree}
-use Rattle.ss_names_declarations.specs.Sayings.{NameBytes}
+use Rattle.ss_tree.specs.Names.{NameBytes}
 use Rattle.ss_names.specs.Table.{table}
 use Rattle.ss_program.specs.declared.expression.Fold.TheVariants as folds
 use Rattle.ss_program.specs.declared.expression.MemberQuery.TheVariants.{Successor}

@@ -4,13 +4,13 @@ ghost use Rattle.std.specs.Prelude.{◌≡◌, length, map, IfOk};
 ghost use Rattle.ss_tree.specs.View.{view_section};
 ghost use Rattle.ss_program.specs.View.{view_event};
 ghost use Rattle.ss_names_meaning.specs.Answers.{Gives, each, upto};
-ghost use Rattle.ss_names_meaning.specs.Resolved.{class_event_from, class_variable, event_from, event_of, parts_with_locals, saved};
+ghost use Rattle.ss_names_meaning.specs.Resolved.{class_event_from, class_variable, event_from, event_of_class, parts_with_locals, saved};
 ghost use Rattle.ss_check_programs.specs.View.{view_parts};
 
 use crate::sections::{Parts, parts_at, split};
 use ss_base::{Name, RankKey, RankKeys};
-use ss_check_scopes::Locals;
-use ss_names::{Event as EventSection, Meaning, Names};
+use ss_check_scopes::LocalModes;
+use ss_names::{EventSection, GlobalMeaning, Names};
 use ss_names_meaning::{ResolveError, resolve_ties};
 use ss_program::sections::Event;
 use ss_tree::program::Section;
@@ -24,13 +24,13 @@ fn saved(names: &Names, class: Name, saving: bool) -> Result<Option<usize>, Reso
         return Ok(None);
     }
     match names.meaning(&class) {
-        Some(Meaning::Class { variable, .. }) => { Ok(Some(variable)) }
+        Some(GlobalMeaning::Class { variable, .. }) => { Ok(Some(variable)) }
         _ => Err(ResolveError::Unresolved),
     }
 }
 
 // The event routine of a class that is given so many values.
-fn event_of(
+fn event_of_class(
     alloc: Global,
     class: usize,
     ties: Vec<RankKey>,
@@ -38,7 +38,7 @@ fn event_of(
     saved: Option<usize>,
     parts: Parts,
 ) -> Result<Event, AllocError>
-    ensures { IfOk result (λ e. view_event e ≡ event_of class ties.items given saved (view_parts parts)) }
+    ensures { IfOk result (λ e. view_event e ≡ event_of_class class ties.items given saved (view_parts parts)) }
 {
     let (given, others) = split(&parts.modes, given);
     let given = Vec::from_slice(alloc, given)?;
@@ -58,7 +58,7 @@ fn event_of(
 fn class_event(
     alloc: Global,
     names: &Names,
-    locals: &[Locals],
+    locals: &[LocalModes],
     sections: &[Section],
     class: usize,
     name: Name,
@@ -72,7 +72,7 @@ fn class_event(
     let ties = resolve_ties(alloc, names, class, name)?;
     let saved = saved(names, name, known.saving)?;
     let parts = parts_at(alloc, names, locals, sections, known.section)?;
-    let event = event_of(alloc, class, ties, known.given, saved, parts)?;
+    let event = event_of_class(alloc, class, ties, known.given, saved, parts)?;
     Ok(event)
 }
 
@@ -80,7 +80,7 @@ fn class_event(
 fn resolve_event(
     alloc: Global,
     names: &Names,
-    locals: &[Locals],
+    locals: &[LocalModes],
     sections: &[Section],
     rank: usize,
 ) -> Result<Event, ResolveError>
@@ -102,7 +102,7 @@ fn resolve_event(
 pub(crate) fn resolve_events(
     alloc: Global,
     names: &Names,
-    locals: &[Locals],
+    locals: &[LocalModes],
     sections: &[Section],
 ) -> Result<Vec<Event>, ResolveError>
     ensures { Gives (λ v. map view_event v.items) result (each (event_from names.now (parts_with_locals names.now locals.now (map view_section sections.now))) (upto (length names.now.ranks))) }

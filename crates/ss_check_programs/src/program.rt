@@ -5,13 +5,13 @@ ghost use Rattle.std.specs.List.{list_all, position};
 ghost use Rattle.ss_tree.specs.View.{view_section};
 ghost use Rattle.ss_program.specs.View.{view_option, view_program};
 ghost use Rattle.ss_names_meaning.specs.Answers.{Gives};
-ghost use Rattle.ss_names_meaning.specs.Resolved.{is_known, is_main, main_from, parts_with_locals, resolved_with_locals};
+ghost use Rattle.ss_names_meaning.specs.Resolved.{is_known, has_main_kind, main_from, parts_with_locals, resolved_with_locals};
 ghost use Rattle.ss_check_programs.specs.View.{view_parts};
 
 use crate::events::resolve_events;
 use crate::routines::resolve_routines;
 use crate::sections::{Parts, parts_at};
-use ss_check_scopes::Locals;
+use ss_check_scopes::LocalModes;
 use ss_names::Names;
 use ss_names_meaning::{ResolveError, lay_out};
 use ss_program::sections::Program as Resolved;
@@ -42,7 +42,7 @@ fn all_known(names: &Names, sections: &[Section]) -> bool
 
 // Whether a section is MAIN.
 fn is_main(section: &Section) -> bool
-    ensures { result ≡ is_main (view_section section.now) }
+    ensures { result ≡ has_main_kind (view_section section.now) }
 {
     match &section.kind {
         SectionKind::Main => true,
@@ -53,7 +53,7 @@ fn is_main(section: &Section) -> bool
 
 // The number of MAIN, the first where there are several.
 fn main_number(sections: &[Section]) -> Option<usize>
-    ensures { result ≡ position (λ s. is_main (view_section s)) sections.now }
+    ensures { result ≡ position (λ s. has_main_kind (view_section s)) sections.now }
 {
     sections.iter().position(|section| is_main(section))
 }
@@ -63,7 +63,7 @@ fn main_number(sections: &[Section]) -> Option<usize>
 fn main_parts(
     alloc: Global,
     names: &Names,
-    locals: &[Locals],
+    locals: &[LocalModes],
     sections: &[Section],
 ) -> Result<Parts, ResolveError>
     ensures { Gives view_parts result (main_from (parts_with_locals names.now locals.now (map view_section sections.now)) (map view_section sections.now)) }
@@ -79,7 +79,7 @@ fn main_parts(
 fn resolved(
     alloc: Global,
     names: &Names,
-    locals: &[Locals],
+    locals: &[LocalModes],
     sections: &[Section],
 ) -> Result<Resolved, ResolveError>
     ensures { Gives view_program result (resolved_with_locals names.now locals.now (map view_section sections.now)) }
@@ -114,7 +114,7 @@ pub fn resolve(
     alloc: Global,
     program: &Program,
     names: &Names,
-    locals: &[Locals],
+    locals: &[LocalModes],
 ) -> Result<Option<Resolved>, AllocError>
     ensures { IfOk result (λ p. view_option view_program p ≡ resolved_with_locals names.now locals.now (map view_section program.now.sections.items)) }
 {

@@ -8,7 +8,7 @@ ghost use Rattle.ss_names_meaning.specs.Resolved.{parts_with_locals, routine_fro
 ghost use Rattle.ss_check_programs.specs.View.{view_parts};
 
 use crate::sections::{Parts, parts_at, split};
-use ss_check_scopes::Locals;
+use ss_check_scopes::LocalModes;
 use ss_names::Names;
 use ss_names_meaning::ResolveError;
 use ss_program::sections::Routine;
@@ -41,7 +41,7 @@ fn routine_of(
 fn resolve_routine(
     alloc: Global,
     names: &Names,
-    locals: &[Locals],
+    locals: &[LocalModes],
     sections: &[Section],
     number: usize,
 ) -> Result<Routine, ResolveError>
@@ -59,7 +59,7 @@ fn resolve_routine(
 pub(crate) fn resolve_routines(
     alloc: Global,
     names: &Names,
-    locals: &[Locals],
+    locals: &[LocalModes],
     sections: &[Section],
 ) -> Result<Vec<Routine>, ResolveError>
     ensures { Gives (λ v. map view_routine v.items) result (each (routine_from names.now (parts_with_locals names.now locals.now (map view_section sections.now))) (upto (length names.now.routines))) }

@@ -9,7 +9,7 @@ ghost use Rattle.ss_check_programs.specs.View.{view_parts};
 
 use ss_base::{Line, Mode};
 use ss_check_bodies::resolve_body;
-use ss_check_scopes::Locals;
+use ss_check_scopes::LocalModes;
 use ss_names::Names;
 use ss_names_meaning::{ResolveError, SectionScope, mode_given};
 use ss_program::statement::Statement;
@@ -25,7 +25,7 @@ pub(crate) struct Parts {
 }
 
 // The mode of the local variable of a number.
-fn local_mode(locals: &Locals, number: usize) -> Result<Mode, ResolveError>
+fn local_mode(locals: &LocalModes, number: usize) -> Result<Mode, ResolveError>
     ensures { Gives (λ x. x) result (local_mode locals.now number) }
 {
     let Some(name) = locals.name(number) else {
@@ -41,7 +41,7 @@ fn local_mode(locals: &Locals, number: usize) -> Result<Mode, ResolveError>
 }
 
 // The modes of the local variables, in the order of their numbers.
-fn local_modes(alloc: Global, locals: &Locals) -> Result<Vec<Mode>, ResolveError>
+fn local_modes(alloc: Global, locals: &LocalModes) -> Result<Vec<Mode>, ResolveError>
     ensures { Gives (λ v. v.items) result (local_modes locals.now) }
 {
     let mut resolved = Vec::new(alloc);
@@ -56,7 +56,7 @@ fn local_modes(alloc: Global, locals: &Locals) -> Result<Vec<Mode>, ResolveError
 fn resolve_statements(
     alloc: Global,
     names: &Names,
-    locals: &Locals,
+    locals: &LocalModes,
     section: &Section,
 ) -> Result<Vec<Statement>, ResolveError>
     ensures { Gives (λ v. view_body v.items) result (body names.now locals.now (view_section section.now)) }
@@ -69,7 +69,7 @@ fn resolve_statements(
 fn parts_with(
     alloc: Global,
     names: &Names,
-    locals: &Locals,
+    locals: &LocalModes,
     section: &Section,
 ) -> Result<Parts, ResolveError>
     ensures { Gives view_parts result (parts_with names.now locals.now (view_section section.now)) }
@@ -87,7 +87,7 @@ fn parts_with(
 pub(crate) fn parts_at(
     alloc: Global,
     names: &Names,
-    locals: &[Locals],
+    locals: &[LocalModes],
     sections: &[Section],
     number: usize,
 ) -> Result<Parts, ResolveError>

@@ -4,10 +4,10 @@ use Rattle.std.specs.Prelude.{if◌then◌else◌, not}
 use Rattle.std.specs.List.{list_any}
 use Rattle.std.specs.Cmp.Lexicographic.{bytes_decides}
 use Rattle.std.proofs.lemmas.List.Folds.{list_any-append}
-use Rattle.ss_names_uses.specs.Mentions.{NameBytes}
+use Rattle.ss_tree.specs.Names.{NameBytes}
 use Rattle.ss_names_declarations.specs.Firsts.{same_name}
 use Rattle.ss_check_rules.specs.Events.{lacks_event}
-use Rattle.ss_check_rules.specs.Once.{with_name, with_names}
+use Rattle.ss_check_rules.specs.Once.{with_new_name, with_names}
 
 or_none : (a : Bool) → a ≡ (a || false)
 or_none true = refl
@@ -38,7 +38,7 @@ one_more before x name false h = last_among before x name
 among_all : (before xs : List NameBytes) (name : NameBytes) → is_among (with_names before xs) name ≡ (is_among before name || is_among xs name)
 among_all before [] name = or_none (is_among before name)
 among_all before (x ∷ xs) name =
-    among_all (with_name before x) xs name ∙ ap (λ b. b || is_among xs name) (one_more before x name (is_among before x) refl) ∙
+    among_all (with_new_name before x) xs name ∙ ap (λ b. b || is_among xs name) (one_more before x name (is_among before x) refl) ∙
     or_assoc (is_among before name) (same_name name x) (is_among xs name)
 
 -- each name once lacks what all of them lack

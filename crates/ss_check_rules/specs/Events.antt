@@ -8,9 +8,9 @@ use Rattle.ss_tree.specs.Tree.{PreambleTree, event_notices, every, SectionKindTr
 use Rattle.ss_names_uses.specs.declared.mention.Role.{Role}
 use Rattle.ss_names_uses.specs.declared.mention.Role.TheVariants.{Start}
 use Rattle.ss_names_uses.specs.declared.mention.Mention.{Mention}
-use Rattle.ss_names_uses.specs.Mentions.{NameBytes}
+use Rattle.ss_tree.specs.Names.{NameBytes}
 use Rattle.ss_names_declarations.specs.Firsts.{same_name}
-use Rattle.ss_check_rules.specs.Lines.{line_if}
+use Rattle.ss_base.specs.Lines.{line_if}
 use Rattle.ss_check_rules.specs.Uses.{is_main, Uses}
 
 -- ---- MAIN

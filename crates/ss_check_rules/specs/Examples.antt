@@ -13,7 +13,7 @@ use Rattle.ss_tree.specs.declared.preamble.StatisticKind.TheVariants.{Sum}
 use Rattle.ss_tree.specs.declared.preamble.Weighting.TheVariants.{Tally}
 use Rattle.ss_tree.specs.Tree.{ExpressionTree, number, text, named, call, parenthesised, sum, no_expression, and_expression, no_term, and_term, NamedTree, by_discipline, now, StatementTree, let_statement, call_statement, start_simulation, create_statement, file_statement, schedule_new, reset_statement, print_statement, event_notices, every, statistics, SectionKindTree, main, routine, event, SectionTree}
 use Rattle.ss_picture.specs.Pictures.{picture_fields}
-use Rattle.ss_names_uses.specs.Mentions.{NameBytes}
+use Rattle.ss_tree.specs.Names.{NameBytes}
 use Rattle.ss_check_scopes.specs.declared.known.Holder.TheVariants.{Program, Entity}
 use Rattle.ss_check_scopes.specs.declared.known.Known.{Known}
 use Rattle.ss_check_scopes.specs.declared.known.Known.TheVariants as meanings
@@ -22,7 +22,7 @@ use Rattle.ss_check_scopes.specs.Whole.{Whole}
 use Rattle.ss_check_rules.specs.declared.rule.Rule.{Rule}
 use Rattle.ss_check_rules.specs.declared.rule.Rule.TheVariants as rules
 use Rattle.ss_check_rules.specs.declared.rule.Broken.{Broken}
-use Rattle.ss_check_rules.specs.Refusal.{refusal}
+use Rattle.ss_check_rules.specs.Refusal.{refusal_of_uses}
 
 -- A program with the permanent class MACHINE, which owns QUEUE; the temporary class JOB, which has RANK, an INTEGER, and
 -- may belong to QUEUE and to POOL of THE SYSTEM; notices BELL, which have TONE; an ALPHA variable W, a variable X, of
@@ -62,7 +62,7 @@ a_section n kind body = record { line = line n; kind = kind; definitions = []; b
 
 -- MAIN (in line 15) with these statements
 abbrev in_main : List StatementTree → Option Broken
-in_main body = refusal whole (record { preamble = []; sections = a_section 15 main body ∷ [] })
+in_main body = refusal_of_uses whole (record { preamble = []; sections = a_section 15 main body ∷ [] })
 
 abbrev name : NameBytes → ExpressionTree
 name n = named (designators.Name n) no_expression
@@ -82,25 +82,25 @@ one = number (pos 1)
 
 -- ---- 71, 72 and 78
 
-pub no_main : refusal whole (record { preamble = []; sections = [] }) ≡ broken rules.NoMain 0
+pub no_main : refusal_of_uses whole (record { preamble = []; sections = [] }) ≡ broken rules.NoMain 0
 no_main = refl
 
 -- EVERY BELL .. (in line 9) and no EVENT BELL; with one it is right
-pub no_event : refusal whole (record { preamble = every (line 9) EventNotice (codes "BELL") [] ∷ []; sections = a_section 15 main [] ∷ [] }) ≡ broken rules.NoEventRoutine 9
+pub no_event : refusal_of_uses whole (record { preamble = every (line 9) EventNotice (codes "BELL") [] ∷ []; sections = a_section 15 main [] ∷ [] }) ≡ broken rules.NoEventRoutine 9
 no_event = refl
 
-pub an_event : refusal whole (record { preamble = every (line 9) EventNotice (codes "BELL") [] ∷ []; sections = a_section 13 (event (codes "BELL") [] false) [] ∷ a_section 15 main [] ∷ [] }) ≡ None
+pub an_event : refusal_of_uses whole (record { preamble = every (line 9) EventNotice (codes "BELL") [] ∷ []; sections = a_section 13 (event (codes "BELL") [] false) [] ∷ a_section 15 main [] ∷ [] }) ≡ None
 an_event = refl
 
 -- EVENT NOTICES INCLUDE BELL, ALARM: each has one or breaks the rule
-pub included : refusal whole (record { preamble = event_notices (line 4) (codes "BELL" ∷ codes "ALARM" ∷ []) ∷ []; sections = a_section 13 (event (codes "BELL") [] false) [] ∷ a_section 15 main [] ∷ [] }) ≡ broken rules.NoEventRoutine 4
+pub included : refusal_of_uses whole (record { preamble = event_notices (line 4) (codes "BELL" ∷ codes "ALARM" ∷ []) ∷ []; sections = a_section 13 (event (codes "BELL") [] false) [] ∷ a_section 15 main [] ∷ [] }) ≡ broken rules.NoEventRoutine 4
 included = refl
 
 -- START SIMULATION in MAIN, and in ROUTINE R
 pub started : in_main (start_simulation (line 16) ∷ []) ≡ None
 started = refl
 
-pub started_elsewhere : refusal whole (record { preamble = []; sections = a_section 15 main [] ∷ a_section 17 (routine (codes "R") [] []) (start_simulation (line 18) ∷ []) ∷ [] }) ≡ broken rules.StartPlace 18
+pub started_elsewhere : refusal_of_uses whole (record { preamble = []; sections = a_section 15 main [] ∷ a_section 17 (routine (codes "R") [] []) (start_simulation (line 18) ∷ []) ∷ [] }) ≡ broken rules.StartPlace 18
 started_elsewhere = refl
 
 -- ---- 79
@@ -119,7 +119,7 @@ pub a_local : in_main (let_statement (line 16) (at (codes "FOO")) (number (pos 2
 a_local = refl
 
 -- TALLY S2 AS THE SUM OF JOB; RESET TOTALS OF W, which has no statistic
-pub tally_of_a_class : refusal whole (record { preamble = statistics (line 3) Tally (record { name = codes "S2"; kind = Sum } ∷ []) (codes "JOB") ∷ []; sections = a_section 15 main [] ∷ [] }) ≡ broken rules.Unknown 3
+pub tally_of_a_class : refusal_of_uses whole (record { preamble = statistics (line 3) Tally (record { name = codes "S2"; kind = Sum } ∷ []) (codes "JOB") ∷ []; sections = a_section 15 main [] ∷ [] }) ≡ broken rules.Unknown 3
 tally_of_a_class = refl
 
 pub reset_of_none : in_main (reset_statement (line 16) (at (codes "X") ∷ []) ∷ reset_statement (line 17) (at (codes "W") ∷ []) ∷ []) ≡ broken rules.Unknown 17
@@ -219,7 +219,7 @@ pub reset_of_a_mean : in_main (reset_statement (line 16) (at (codes "M1") ∷ []
 reset_of_a_mean = refl
 
 -- ROUTINE R GIVEN JOB DEFINE JOB AS AN ALPHA VARIABLE LET RANK = 1: JOB is implied, and a text
-pub a_hidden_class : refusal whole (record { preamble = []; sections = a_section 15 main [] ∷ record { line = line 17; kind = routine (codes "R") (codes "JOB" ∷ []) []; definitions = record { line = line 18; names = codes "JOB" ∷ []; mode = said.Alpha } ∷ []; body = let_statement (line 19) (at (codes "RANK")) one ∷ [] } ∷ [] }) ≡ broken rules.Mode 19
+pub a_hidden_class : refusal_of_uses whole (record { preamble = []; sections = a_section 15 main [] ∷ record { line = line 17; kind = routine (codes "R") (codes "JOB" ∷ []) []; definitions = record { line = line 18; names = codes "JOB" ∷ []; mode = said.Alpha } ∷ []; body = let_statement (line 19) (at (codes "RANK")) one ∷ [] } ∷ [] }) ≡ broken rules.Mode 19
 a_hidden_class = refl
 
 -- ---- 77, and several rules at once

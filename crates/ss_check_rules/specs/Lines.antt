@@ -1,19 +1,15 @@
 -- Lines in which a rule is broken, in the order of the text.
 use Rattle.std.specs.Prelude.{Bool, true, false, List, [], ◌∷◌, Option, Some, None}
 use Rattle.std.specs.List.{flat_map}
+use Rattle.ss_base.specs.Lines.{line_if}
 use Rattle.ss_base.specs.declared.line.Line.{Line}
 use Rattle.ss_names_uses.specs.declared.mention.Mention.{Mention}
 use Rattle.ss_names_uses.specs.declared.demand.Demand.{Demand}
 
--- the line, if the rule is broken in it
-abbrev pub line_if : Bool → Line → List Line
-line_if true line = line ∷ []
-line_if false line = []
-
 -- the first of some lines
-abbrev pub first_of : List Line → Option Line
-first_of [] = None
-first_of (line ∷ lines) = Some line
+abbrev pub first_of_lines : List Line → Option Line
+first_of_lines [] = None
+first_of_lines (line ∷ lines) = Some line
 
 -- the line of a mention that breaks a rule
 abbrev pub mention_line : (Mention → Bool) → Mention → List Line

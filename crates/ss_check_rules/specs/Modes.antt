@@ -4,7 +4,7 @@ use Rattle.ss_base.specs.declared.line.Line.{Line}
 use Rattle.ss_base.specs.declared.layout.Mode.{Mode}
 use Rattle.ss_base.specs.declared.layout.Mode.TheVariants as modes
 use Rattle.ss_tree.specs.Tree.{PreambleTree, statistics}
-use Rattle.ss_names_uses.specs.Mentions.{NameBytes}
+use Rattle.ss_tree.specs.Names.{NameBytes}
 use Rattle.ss_names_uses.specs.declared.demand.Aspect.{Aspect}
 use Rattle.ss_names_uses.specs.declared.demand.Aspect.TheVariants.{Integer, Alpha, Named, Implied, Given, Yielded, Attribute, Value}
 use Rattle.ss_names_uses.specs.declared.demand.Demand.{Demand}
@@ -13,45 +13,45 @@ use Rattle.ss_check_scopes.specs.declared.known.Holder.TheVariants.{Program, Ent
 use Rattle.ss_check_scopes.specs.declared.known.Known.{Known}
 use Rattle.ss_check_scopes.specs.declared.known.Known.TheVariants as meanings
 use Rattle.ss_check_scopes.specs.Locals.{Moded}
-use Rattle.ss_check_scopes.specs.Whole.{Whole, mode_at}
+use Rattle.ss_check_scopes.specs.Whole.{Whole, mode_in_place}
 use Rattle.ss_check_scopes.specs.Meanings.{meaning_in}
-use Rattle.ss_check_rules.specs.Lines.{line_if}
+use Rattle.ss_base.specs.Lines.{line_if}
 use Rattle.ss_check_rules.specs.Unknown.{if_known}
 
 -- the mode of what a name means; a set and a routine have none
-abbrev pub mode_of : Known → Option Mode
-mode_of (meanings.Local mode) = Some mode
-mode_of (meanings.Variable mode) = Some mode
-mode_of (meanings.Class kind) = Some modes.Integer
-mode_of (meanings.Attribute class mode) = Some mode
-mode_of (meanings.Set holder) = None
-mode_of (meanings.MemberCount holder) = Some modes.Integer
-mode_of (meanings.Membership holder) = Some modes.Integer
-mode_of meanings.EntityCount = Some modes.Integer
-mode_of (meanings.Statistic holder) = Some modes.Integer
-mode_of (meanings.Mean holder) = Some modes.Integer
-mode_of meanings.Routine = None
+abbrev pub mode_of_known : Known → Option Mode
+mode_of_known (meanings.Local mode) = Some mode
+mode_of_known (meanings.Variable mode) = Some mode
+mode_of_known (meanings.Class kind) = Some modes.Integer
+mode_of_known (meanings.Attribute class mode) = Some mode
+mode_of_known (meanings.Set holder) = None
+mode_of_known (meanings.MemberCount holder) = Some modes.Integer
+mode_of_known (meanings.Membership holder) = Some modes.Integer
+mode_of_known meanings.EntityCount = Some modes.Integer
+mode_of_known (meanings.Statistic holder) = Some modes.Integer
+mode_of_known (meanings.Mean holder) = Some modes.Integer
+mode_of_known meanings.Routine = None
 
 abbrev pub known_mode : Option Known → Option Mode
 known_mode None = None
-known_mode (Some meaning) = mode_of meaning
+known_mode (Some meaning) = mode_of_known meaning
 
 -- the mode of what a name means in a section
-abbrev pub mode_in : Whole → Moded → NameBytes → Option Mode
-mode_in w locals name = known_mode (meaning_in w.meanings locals name)
+abbrev pub mode_of_name : Whole → Moded → NameBytes → Option Mode
+mode_of_name w locals name = known_mode (meaning_in w.meanings locals name)
 
-abbrev pub held_by : Holder → Option NameBytes
-held_by Program = None
-held_by (Entity class) = Some class
+abbrev pub class_of_holder : Holder → Option NameBytes
+class_of_holder Program = None
+class_of_holder (Entity class) = Some class
 
 -- the class whose variable has the entity where no subscript is written
 abbrev pub class_implied : Known → Option NameBytes
 class_implied (meanings.Attribute class mode) = Some class
-class_implied (meanings.Set holder) = held_by holder
-class_implied (meanings.MemberCount holder) = held_by holder
-class_implied (meanings.Membership holder) = held_by holder
-class_implied (meanings.Statistic holder) = held_by holder
-class_implied (meanings.Mean holder) = held_by holder
+class_implied (meanings.Set holder) = class_of_holder holder
+class_implied (meanings.MemberCount holder) = class_of_holder holder
+class_implied (meanings.Membership holder) = class_of_holder holder
+class_implied (meanings.Statistic holder) = class_of_holder holder
+class_implied (meanings.Mean holder) = class_of_holder holder
 class_implied _ = None
 
 abbrev pub known_class : Option Known → Option NameBytes
@@ -61,17 +61,17 @@ known_class (Some meaning) = class_implied meaning
 -- the mode of the variable named like a class, if there is one
 abbrev pub class_mode : Whole → Moded → Option NameBytes → Option Mode
 class_mode w locals None = None
-class_mode w locals (Some class) = mode_in w locals class
+class_mode w locals (Some class) = mode_of_name w locals class
 
 -- the mode that an aspect is; counts are none
 abbrev pub aspect_mode : Whole → Moded → Aspect → Option Mode
 aspect_mode w locals Integer = Some modes.Integer
 aspect_mode w locals Alpha = Some modes.Alpha
-aspect_mode w locals (Named name) = mode_in w locals name
+aspect_mode w locals (Named name) = mode_of_name w locals name
 aspect_mode w locals (Implied name) = class_mode w locals (known_class (meaning_in w.meanings locals name))
-aspect_mode w locals (Given routine place) = mode_at (w.given routine) place
-aspect_mode w locals (Yielded routine place) = mode_at (w.yielding routine) place
-aspect_mode w locals (Attribute class number) = mode_at (w.attributes class) number
+aspect_mode w locals (Given routine place) = mode_in_place (w.given routine) place
+aspect_mode w locals (Yielded routine place) = mode_in_place (w.yielding routine) place
+aspect_mode w locals (Attribute class number) = mode_in_place (w.attributes class) number
 aspect_mode w locals _ = None
 
 abbrev pub are_two : Mode → Mode → Bool

@@ -4,13 +4,13 @@ use Rattle.std.specs.List.{flat_map}
 use Rattle.ss_base.specs.declared.line.Line.{Line}
 use Rattle.ss_tree.specs.Tree.{PreambleTree, SectionTree, ProgramTree}
 use Rattle.ss_names_uses.specs.declared.mention.Mention.{Mention}
-use Rattle.ss_names_uses.specs.Mentions.{NameBytes}
+use Rattle.ss_tree.specs.Names.{NameBytes}
 use Rattle.ss_names_uses.specs.declared.demand.Demand.{Demand}
 use Rattle.ss_check_scopes.specs.Whole.{Whole}
 use Rattle.ss_check_rules.specs.declared.rule.Rule.{Rule}
 use Rattle.ss_check_rules.specs.declared.rule.Rule.TheVariants.{NoMain, NoEventRoutine, StartPlace, Unknown, Subscript, NotAssignable, Arguments, Mode, Fields}
 use Rattle.ss_check_rules.specs.declared.rule.Broken.{Broken}
-use Rattle.ss_check_rules.specs.Lines.{first_of, mention_lines, demand_lines}
+use Rattle.ss_check_rules.specs.Lines.{first_of_lines, mention_lines, demand_lines}
 use Rattle.ss_check_rules.specs.Uses.{Uses, uses_of}
 use Rattle.ss_check_rules.specs.Events.{has_main, event_names, lacks_event, declares_eventless, is_misplaced}
 use Rattle.ss_check_rules.specs.Unknown.{is_unknown, unknown_subjects}
@@ -62,8 +62,8 @@ lines_in w p lacks uses rule =
     in_program rule p.sections ++ flat_map (in_preamble rule w lacks) p.preamble ++ flat_map (in_section rule w) uses
 
 -- the lines in which a program breaks a rule, in the order of the text
-abbrev pub lines : Whole → ProgramTree → Rule → List Line
-lines w p rule = lines_in w p (lacks_event (event_names p.sections)) (map (uses_of w) p.sections) rule
+abbrev pub breaking_lines : Whole → ProgramTree → Rule → List Line
+breaking_lines w p rule = lines_in w p (lacks_event (event_names p.sections)) (map (uses_of w) p.sections) rule
 
 -- the rules in the order in which they are looked at
 abbrev pub rules_in_order : List Rule
@@ -75,9 +75,9 @@ or_next rule None rest = rest
 
 -- the first of some rules that has a line, with its first line
 abbrev pub first_broken : (Rule → List Line) → List Rule → Option Broken
-first_broken lines [] = None
-first_broken lines (rule ∷ rules) = or_next rule (first_of (lines rule)) (first_broken lines rules)
+first_broken breaking_lines [] = None
+first_broken breaking_lines (rule ∷ rules) = or_next rule (first_of_lines (breaking_lines rule)) (first_broken breaking_lines rules)
 
 -- the first rule that a program breaks, with the line of its first place
-abbrev pub refusal : Whole → ProgramTree → Option Broken
-refusal w p = first_broken (lines w p) rules_in_order
+abbrev pub refusal_of_uses : Whole → ProgramTree → Option Broken
+refusal_of_uses w p = first_broken (breaking_lines w p) rules_in_order

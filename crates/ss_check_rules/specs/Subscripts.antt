@@ -17,23 +17,23 @@ is_of_program Program = true
 is_of_program (Entity class) = false
 
 -- what there is one of, so that it takes no subscript: a variable or its statistic, N. of a class, a thing of THE SYSTEM
-abbrev pub is_single : Known → Bool
-is_single (Local mode) = true
-is_single (Variable mode) = true
-is_single (Class kind) = true
-is_single (Attribute class mode) = false
-is_single (Set holder) = is_of_program holder
-is_single (MemberCount holder) = is_of_program holder
-is_single (Membership holder) = is_of_program holder
-is_single EntityCount = true
-is_single (Statistic holder) = is_of_program holder
-is_single (Mean holder) = is_of_program holder
-is_single Routine = false
+abbrev pub takes_no_subscript : Known → Bool
+takes_no_subscript (Local mode) = true
+takes_no_subscript (Variable mode) = true
+takes_no_subscript (Class kind) = true
+takes_no_subscript (Attribute class mode) = false
+takes_no_subscript (Set holder) = is_of_program holder
+takes_no_subscript (MemberCount holder) = is_of_program holder
+takes_no_subscript (Membership holder) = is_of_program holder
+takes_no_subscript EntityCount = true
+takes_no_subscript (Statistic holder) = is_of_program holder
+takes_no_subscript (Mean holder) = is_of_program holder
+takes_no_subscript Routine = false
 
 -- whether so many subscripts are wrong: TIME.A takes one always, TIME.V none
 abbrev pub are_wrong : Whole → Moded → Mentioned → ℕ → Bool
 are_wrong w locals (Name name) zero = false
-are_wrong w locals (Name name) (suc zero) = if_known is_single (meaning_in w.meanings locals name)
+are_wrong w locals (Name name) (suc zero) = if_known takes_no_subscript (meaning_in w.meanings locals name)
 are_wrong w locals (Name name) (suc (suc n)) = true
 are_wrong w locals TimeV zero = false
 are_wrong w locals TimeV (suc n) = true

@@ -9,14 +9,14 @@ use Rattle.ss_names_uses.specs.declared.mention.Role.TheVariants as roles
 use Rattle.ss_names_uses.specs.declared.mention.Mentioned.{Mentioned}
 use Rattle.ss_names_uses.specs.declared.mention.Mentioned.TheVariants.{Name, TimeV, TimeA, Simulation}
 use Rattle.ss_names_uses.specs.declared.mention.Mention.{Mention}
-use Rattle.ss_names_uses.specs.Mentions.{NameBytes}
+use Rattle.ss_tree.specs.Names.{NameBytes}
 use Rattle.ss_check_scopes.specs.declared.known.Known.{Known}
 use Rattle.ss_check_scopes.specs.declared.known.Known.TheVariants.{Local, Variable, Class, Attribute, Set, MemberCount, Routine}
 use Rattle.ss_names_declarations.specs.Firsts.{same_name}
 use Rattle.ss_check_scopes.specs.Locals.{Moded}
 use Rattle.ss_check_scopes.specs.Whole.{Whole}
 use Rattle.ss_check_scopes.specs.Meanings.{meaning_in}
-use Rattle.ss_check_rules.specs.Lines.{line_if}
+use Rattle.ss_base.specs.Lines.{line_if}
 
 -- what may be a value or a target: all but sets and routines
 abbrev pub has_value : Known → Bool
@@ -24,11 +24,11 @@ has_value (Set holder) = false
 has_value Routine = false
 has_value _ = true
 
-abbrev pub is_variable : Known → Bool
-is_variable (Local mode) = true
-is_variable (Variable mode) = true
-is_variable (Class kind) = true
-is_variable _ = false
+abbrev pub is_known_variable : Known → Bool
+is_known_variable (Local mode) = true
+is_known_variable (Variable mode) = true
+is_known_variable (Class kind) = true
+is_known_variable _ = false
 
 abbrev pub is_set : Known → Bool
 is_set (Set holder) = true
@@ -38,13 +38,13 @@ abbrev pub is_routine : Known → Bool
 is_routine Routine = true
 is_routine _ = false
 
-abbrev pub is_permanent : Known → Bool
-is_permanent (Class Permanent) = true
-is_permanent _ = false
+abbrev pub is_known_permanent : Known → Bool
+is_known_permanent (Class Permanent) = true
+is_known_permanent _ = false
 
-abbrev pub is_notice : Known → Bool
-is_notice (Class EventNotice) = true
-is_notice _ = false
+abbrev pub is_known_notice : Known → Bool
+is_known_notice (Class EventNotice) = true
+is_known_notice _ = false
 
 -- a class whose entities are created one by one: a temporary one, or one of notices
 abbrev pub is_transient : Known → Bool
@@ -63,7 +63,7 @@ is_watched_here w locals name = w.is_watched name && not (is_some (lookup (same_
 
 -- whether what a name means in a section is of the kind that a value, a target or a loop's name needs
 abbrev pub suits_here : Role → Known → Bool
-suits_here roles.LoopVariable meaning = is_variable meaning
+suits_here roles.LoopVariable meaning = is_known_variable meaning
 suits_here _ meaning = has_value meaning
 
 -- whether what a name means in the whole program is of the kind that the place of a set, a class or a routine needs
@@ -71,12 +71,12 @@ abbrev pub suits_there : Role → Known → Bool
 suits_there roles.Set meaning = is_set meaning
 suits_there roles.Create meaning = is_transient meaning
 suits_there roles.Destroy meaning = is_transient meaning
-suits_there roles.CreateEvery meaning = is_permanent meaning
-suits_there roles.ForEach meaning = is_permanent meaning
+suits_there roles.CreateEvery meaning = is_known_permanent meaning
+suits_there roles.ForEach meaning = is_known_permanent meaning
 suits_there roles.Call meaning = is_routine meaning
-suits_there roles.Schedule meaning = is_notice meaning
-suits_there roles.Cancel meaning = is_notice meaning
-suits_there roles.Event meaning = is_notice meaning
+suits_there roles.Schedule meaning = is_known_notice meaning
+suits_there roles.Cancel meaning = is_known_notice meaning
+suits_there roles.Event meaning = is_known_notice meaning
 suits_there _ meaning = false
 
 -- whether a name is of the kind that its place needs; nothing hides a class, a set or a routine

@@ -3,8 +3,8 @@
 ghost use Rattle.std.specs.Prelude.{◌≡◌, map, IfOk};
 ghost use Rattle.ss_tree.specs.View.{view_program, view_section};
 ghost use Rattle.ss_check_rules.specs.Events.{lacks_event};
-ghost use Rattle.ss_check_rules.specs.Lines.{first_of};
-ghost use Rattle.ss_check_rules.specs.Refusal.{first_broken, in_program, lines_in, refusal};
+ghost use Rattle.ss_check_rules.specs.Lines.{first_of_lines};
+ghost use Rattle.ss_check_rules.specs.Refusal.{first_broken, in_program, lines_in, refusal_of_uses};
 ghost use Rattle.ss_check_rules.specs.Seen.{uses_seen};
 ghost use Rattle.ss_check_rules.specs.Uses.{uses_of};
 ghost use Rattle.ss_check_scopes.specs.Whole.{locals_of};
@@ -15,7 +15,7 @@ use crate::rule::{Broken, Rule};
 use crate::section::first_in_sections;
 use crate::uses::{SectionUses, all_uses, into_locals};
 use ss_base::{Line, Name};
-use ss_check_scopes::{Globals, Locals};
+use ss_check_scopes::{Globals, LocalModes};
 use ss_names_declarations::Keys;
 use ss_tree::program::{Program, Section};
 use std::alloc::{AllocError, Global};
@@ -35,7 +35,7 @@ const RULES: [Rule; 9] = [
 
 // Line 0, if the whole program lacks what a rule asks of it.
 fn first_in_program(rule: Rule, sections: &[Section]) -> Option<Line>
-    ensures { result ≡ first_of (in_program rule (map view_section sections.now)) }
+    ensures { result ≡ first_of_lines (in_program rule (map view_section sections.now)) }
 {
     match rule {
         Rule::NoMain => {
@@ -58,7 +58,7 @@ fn first_line<G: Globals>(
     all: &[SectionUses],
     rule: Rule,
 ) -> Option<Line>
-    ensures { result ≡ first_of (lines_in (G.whole globals.now) (view_program program.now) (lacks_event events.now) (map uses_seen all.now) rule) }
+    ensures { result ≡ first_of_lines (lines_in (G.whole globals.now) (view_program program.now) (lacks_event events.now) (map uses_seen all.now) rule) }
 {
     let here = first_in_program(rule, &program.sections);
     let declared = first_in_preamble(globals, events, rule, &program.preamble);
@@ -94,8 +94,8 @@ pub fn judge<G: Globals>(
     alloc: Global,
     program: &Program,
     globals: &G,
-) -> Result<(Option<Broken>, Vec<Locals>), AllocError>
-    ensures refusal { IfOk result (λ found. found.0 ≡ refusal (G.whole globals.now) (view_program program.now)) }
+) -> Result<(Option<Broken>, Vec<LocalModes>), AllocError>
+    ensures refusal { IfOk result (λ found. found.0 ≡ refusal_of_uses (G.whole globals.now) (view_program program.now)) }
     ensures locals { IfOk result (λ found. found.1.items ≡ map (locals_of (G.whole globals.now)) (map view_section program.now.sections.items)) }
 {
     let events = event_names(alloc, &program.sections)?;

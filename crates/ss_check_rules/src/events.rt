@@ -4,7 +4,7 @@ ghost use Rattle.std.specs.Prelude.{◌≡◌, [], map, IfOk};
 ghost use Rattle.std.specs.List.{flat_map};
 ghost use Rattle.ss_tree.specs.View.{view_section};
 ghost use Rattle.ss_check_rules.specs.Events.{event_in, event_names, eventless, eventless_of, has_main, is_misplaced, is_start, lacks_event};
-ghost use Rattle.ss_check_rules.specs.Lines.{first_of};
+ghost use Rattle.ss_check_rules.specs.Lines.{first_of_lines};
 ghost use Rattle.ss_check_rules.specs.Once.{with_names};
 ghost use Rattle.ss_check_rules.specs.Seen.{uses_seen};
 
@@ -66,14 +66,14 @@ pub fn event_names(alloc: Global, sections: &[Section]) -> Result<Keys<Name>, Al
 
 // The line of a class of notices that has no EVENT section.
 fn eventless(events: &Keys<Name>, line: Line, class: Name) -> Option<Line>
-    ensures { result ≡ first_of (eventless line (lacks_event events.now) class) }
+    ensures { result ≡ first_of_lines (eventless line (lacks_event events.now) class) }
 {
     line_if(!events.contains(&class), line)
 }
 
 // The line, if one of some classes of notices has no EVENT section.
 pub(crate) fn first_eventless(events: &Keys<Name>, line: Line, classes: &[Name]) -> Option<Line>
-    ensures { result ≡ first_of (flat_map (eventless line (lacks_event events.now)) classes.now) }
+    ensures { result ≡ first_of_lines (flat_map (eventless line (lacks_event events.now)) classes.now) }
 {
     let mut found = None;
     for class in classes {
@@ -89,7 +89,7 @@ pub(crate) fn eventless_of(
     kind: ClassKind,
     class: Name,
 ) -> Option<Line>
-    ensures { result ≡ first_of (eventless_of kind line (lacks_event events.now) class) }
+    ensures { result ≡ first_of_lines (eventless_of kind line (lacks_event events.now) class) }
 {
     match kind {
         ClassKind::EventNotice => eventless(events, line, class),

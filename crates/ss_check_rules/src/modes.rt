@@ -2,16 +2,16 @@
 
 ghost use Rattle.std.specs.Prelude.{◌≡◌};
 ghost use Rattle.ss_check_scopes.specs.Meanings.{meaning_in};
-ghost use Rattle.ss_check_rules.specs.Modes.{are_two, aspect_mode, breaks_modes, class_implied, class_mode, differ, held_by, is_mean, known_class, known_mode, misplaces, mixes, mode_in, mode_of, names_mean};
+ghost use Rattle.ss_check_rules.specs.Modes.{are_two, aspect_mode, breaks_modes, class_implied, class_mode, differ, class_of_holder, is_mean, known_class, known_mode, misplaces, mixes, mode_of_name, mode_of_known, names_mean};
 ghost use Rattle.ss_check_rules.specs.Numbers.{is_no_number, means_no_number};
 
 use ss_base::{Mode, Name};
-use ss_check_scopes::{Globals, Holder, Known, Locals, meaning_in};
+use ss_check_scopes::{Globals, Holder, Known, LocalModes, meaning_in};
 use ss_names_uses::{Aspect, Demand};
 
 // The mode of what a name means. None for a set and a routine.
-fn mode_of(meaning: &Known) -> Option<Mode>
-    ensures { result ≡ mode_of meaning.now }
+fn mode_of_known(meaning: &Known) -> Option<Mode>
+    ensures { result ≡ mode_of_known meaning.now }
 {
     match meaning {
         Known::Local(mode) | Known::Variable(mode) | Known::Attribute { mode, .. } => {
@@ -32,24 +32,24 @@ pub(crate) fn global_mode<G: Globals>(globals: &G, name: Name) -> Option<Mode>
     ensures { result ≡ known_mode ((G.whole globals.now).meanings name) }
 {
     match globals.meaning_of(name) {
-        Some(meaning) => mode_of(&meaning),
+        Some(meaning) => mode_of_known(&meaning),
         None => None,
     }
 }
 
 // The mode of what a name means in a section.
-fn mode_in<G: Globals>(globals: &G, locals: &Locals, name: Name) -> Option<Mode>
-    ensures { result ≡ mode_in (G.whole globals.now) locals.now name }
+fn mode_of_name<G: Globals>(globals: &G, locals: &LocalModes, name: Name) -> Option<Mode>
+    ensures { result ≡ mode_of_name (G.whole globals.now) locals.now name }
 {
     match meaning_in(globals, locals, name) {
-        Some(meaning) => mode_of(&meaning),
+        Some(meaning) => mode_of_known(&meaning),
         None => None,
     }
 }
 
 // The class whose entities have it.
-fn held_by(holder: &Holder) -> Option<Name>
-    ensures { result ≡ held_by holder.now }
+fn class_of_holder(holder: &Holder) -> Option<Name>
+    ensures { result ≡ class_of_holder holder.now }
 {
     match holder {
         Holder::Program => None,
@@ -67,7 +67,7 @@ fn class_implied(meaning: &Known) -> Option<Name>
         | Known::MemberCount(holder)
         | Known::Membership(holder)
         | Known::Statistic(holder)
-        | Known::Mean(holder) => held_by(holder),
+        | Known::Mean(holder) => class_of_holder(holder),
         Known::Local(_)
         | Known::Variable(_)
         | Known::Class(_)
@@ -77,7 +77,7 @@ fn class_implied(meaning: &Known) -> Option<Name>
 }
 
 // The class that a name implies in a section.
-fn class_in<G: Globals>(globals: &G, locals: &Locals, name: Name) -> Option<Name>
+fn class_in<G: Globals>(globals: &G, locals: &LocalModes, name: Name) -> Option<Name>
     ensures { result ≡ known_class (meaning_in (G.whole globals.now).meanings locals.now name) }
 {
     match meaning_in(globals, locals, name) {
@@ -87,30 +87,30 @@ fn class_in<G: Globals>(globals: &G, locals: &Locals, name: Name) -> Option<Name
 }
 
 // The mode of the variable named like a class, if there is one.
-fn class_mode<G: Globals>(globals: &G, locals: &Locals, class: Option<Name>) -> Option<Mode>
+fn class_mode<G: Globals>(globals: &G, locals: &LocalModes, class: Option<Name>) -> Option<Mode>
     ensures { result ≡ class_mode (G.whole globals.now) locals.now class }
 {
     match class {
-        Some(class) => mode_in(globals, locals, class),
+        Some(class) => mode_of_name(globals, locals, class),
         None => None,
     }
 }
 
 // The mode of the variable of the class that a name implies in a section.
-fn implied_mode<G: Globals>(globals: &G, locals: &Locals, name: Name) -> Option<Mode>
+fn implied_mode<G: Globals>(globals: &G, locals: &LocalModes, name: Name) -> Option<Mode>
     ensures { result ≡ class_mode (G.whole globals.now) locals.now (known_class (meaning_in (G.whole globals.now).meanings locals.now name)) }
 {
     class_mode(globals, locals, class_in(globals, locals, name))
 }
 
 // The mode that an aspect is. None for a count.
-fn aspect_mode<G: Globals>(globals: &G, locals: &Locals, aspect: &Aspect) -> Option<Mode>
+fn aspect_mode<G: Globals>(globals: &G, locals: &LocalModes, aspect: &Aspect) -> Option<Mode>
     ensures { result ≡ aspect_mode (G.whole globals.now) locals.now aspect.now }
 {
     match aspect {
         Aspect::Integer => Some(Mode::Integer),
         Aspect::Alpha => Some(Mode::Alpha),
-        Aspect::Named(name) => mode_in(globals, locals, *name),
+        Aspect::Named(name) => mode_of_name(globals, locals, *name),
         Aspect::Implied(name) => implied_mode(globals, locals, *name),
         Aspect::Given { routine, place } => globals.given_mode(*routine, *place),
         Aspect::Yielded { routine, place } => globals.yielded_mode(*routine, *place),
@@ -147,7 +147,7 @@ pub(crate) fn differ(a: Option<Mode>, b: Option<Mode>) -> bool
 }
 
 // Whether a demand joins two modes.
-fn mixes<G: Globals>(globals: &G, locals: &Locals, demand: &Demand) -> bool
+fn mixes<G: Globals>(globals: &G, locals: &LocalModes, demand: &Demand) -> bool
     ensures { result ≡ mixes (G.whole globals.now) locals.now demand.now }
 {
     differ(
@@ -164,7 +164,7 @@ fn is_mean(meaning: &Known) -> bool
 }
 
 // Whether what a name means in a section is a MEAN.
-pub(crate) fn names_mean<G: Globals>(globals: &G, locals: &Locals, name: Name) -> bool
+pub(crate) fn names_mean<G: Globals>(globals: &G, locals: &LocalModes, name: Name) -> bool
     ensures { result ≡ names_mean (G.whole globals.now) locals.now name }
 {
     match meaning_in(globals, locals, name) {
@@ -174,7 +174,7 @@ pub(crate) fn names_mean<G: Globals>(globals: &G, locals: &Locals, name: Name) -
 }
 
 // Whether a demand of a value is of a MEAN.
-fn misplaces<G: Globals>(globals: &G, locals: &Locals, demand: &Demand) -> bool
+fn misplaces<G: Globals>(globals: &G, locals: &LocalModes, demand: &Demand) -> bool
     ensures { result ≡ misplaces (G.whole globals.now) locals.now demand.now }
 {
     match &demand.found {
@@ -184,10 +184,10 @@ fn misplaces<G: Globals>(globals: &G, locals: &Locals, demand: &Demand) -> bool
 }
 
 // Whether what a name without subscript means is no number, or a MEAN, or of an entity in a variable of texts.
-fn means_no_number<G: Globals>(globals: &G, locals: &Locals, meaning: &Known) -> bool
+fn means_no_number<G: Globals>(globals: &G, locals: &LocalModes, meaning: &Known) -> bool
     ensures { result ≡ means_no_number (G.whole globals.now) locals.now meaning.now }
 {
-    differ(mode_of(meaning), Some(Mode::Integer))
+    differ(mode_of_known(meaning), Some(Mode::Integer))
         || is_mean(meaning)
         || differ(
             class_mode(globals, locals, class_implied(meaning)),
@@ -196,7 +196,7 @@ fn means_no_number<G: Globals>(globals: &G, locals: &Locals, meaning: &Known) ->
 }
 
 // Whether a name without subscript means no number, or a MEAN, or what is of an entity in a variable of texts.
-pub(crate) fn is_no_number<G: Globals>(globals: &G, locals: &Locals, name: Name) -> bool
+pub(crate) fn is_no_number<G: Globals>(globals: &G, locals: &LocalModes, name: Name) -> bool
     ensures { result ≡ is_no_number (G.whole globals.now) locals.now name }
 {
     match meaning_in(globals, locals, name) {
@@ -206,7 +206,7 @@ pub(crate) fn is_no_number<G: Globals>(globals: &G, locals: &Locals, name: Name)
 }
 
 // Whether a demand joins two modes, or is of a value where a MEAN is.
-pub(crate) fn breaks_modes<G: Globals>(globals: &G, locals: &Locals, demand: &Demand) -> bool
+pub(crate) fn breaks_modes<G: Globals>(globals: &G, locals: &LocalModes, demand: &Demand) -> bool
     ensures { result ≡ breaks_modes (G.whole globals.now) locals.now demand.now }
 {
     mixes(globals, locals, demand) || misplaces(globals, locals, demand)

@@ -4,7 +4,7 @@ ghost use Rattle.std.specs.Prelude.{◌≡◌, map};
 ghost use Rattle.std.specs.List.{flat_map};
 ghost use Rattle.ss_tree.specs.View.{view_preamble};
 ghost use Rattle.ss_check_rules.specs.Events.{declares_eventless, lacks_event};
-ghost use Rattle.ss_check_rules.specs.Lines.{first_of};
+ghost use Rattle.ss_check_rules.specs.Lines.{first_of_lines};
 ghost use Rattle.ss_check_rules.specs.Modes.{text_subjects};
 ghost use Rattle.ss_check_rules.specs.Refusal.{in_preamble};
 ghost use Rattle.ss_check_rules.specs.Unknown.{unknown_subjects};
@@ -21,7 +21,7 @@ use ss_tree::preamble::PreambleStatement;
 
 // The line of a statement that declares a class of notices without an EVENT section.
 fn declares_eventless(events: &Keys<Name>, statement: &PreambleStatement) -> Option<Line>
-    ensures { result ≡ first_of (declares_eventless (lacks_event events.now) (view_preamble statement.now)) }
+    ensures { result ≡ first_of_lines (declares_eventless (lacks_event events.now) (view_preamble statement.now)) }
 {
     match statement {
         PreambleStatement::EventNotices { line, included } => {
@@ -39,7 +39,7 @@ fn declares_eventless(events: &Keys<Name>, statement: &PreambleStatement) -> Opt
 
 // The line of a TALLY or an ACCUMULATE of what can have none.
 fn unknown_subjects<G: Globals>(globals: &G, statement: &PreambleStatement) -> Option<Line>
-    ensures { result ≡ first_of (unknown_subjects (G.whole globals.now) (view_preamble statement.now)) }
+    ensures { result ≡ first_of_lines (unknown_subjects (G.whole globals.now) (view_preamble statement.now)) }
 {
     match statement {
         PreambleStatement::Statistics { line, subject, .. } => {
@@ -51,7 +51,7 @@ fn unknown_subjects<G: Globals>(globals: &G, statement: &PreambleStatement) -> O
 
 // The line of a TALLY or an ACCUMULATE of texts.
 fn text_subjects<G: Globals>(globals: &G, statement: &PreambleStatement) -> Option<Line>
-    ensures { result ≡ first_of (text_subjects (G.whole globals.now) (view_preamble statement.now)) }
+    ensures { result ≡ first_of_lines (text_subjects (G.whole globals.now) (view_preamble statement.now)) }
 {
     match statement {
         PreambleStatement::Statistics { line, subject, .. } => line_if(
@@ -69,7 +69,7 @@ fn first_in_statement<G: Globals>(
     rule: Rule,
     statement: &PreambleStatement,
 ) -> Option<Line>
-    ensures { result ≡ first_of (in_preamble rule (G.whole globals.now) (lacks_event events.now) (view_preamble statement.now)) }
+    ensures { result ≡ first_of_lines (in_preamble rule (G.whole globals.now) (lacks_event events.now) (view_preamble statement.now)) }
 {
     match rule {
         Rule::NoEventRoutine => declares_eventless(events, statement),
@@ -86,7 +86,7 @@ pub fn first_in_preamble<G: Globals>(
     rule: Rule,
     preamble: &[PreambleStatement],
 ) -> Option<Line>
-    ensures { result ≡ first_of (flat_map (in_preamble rule (G.whole globals.now) (lacks_event events.now)) (map view_preamble preamble.now)) }
+    ensures { result ≡ first_of_lines (flat_map (in_preamble rule (G.whole globals.now) (lacks_event events.now)) (map view_preamble preamble.now)) }
 {
     let mut found = None;
     for statement in preamble {

@@ -2,7 +2,7 @@
 
 ghost use Rattle.std.specs.Prelude.{◌≡◌, false, map};
 ghost use Rattle.std.specs.List.{flat_map};
-ghost use Rattle.ss_check_rules.specs.Lines.{demand_lines, first_of, mention_lines};
+ghost use Rattle.ss_check_rules.specs.Lines.{demand_lines, first_of_lines, mention_lines};
 ghost use Rattle.ss_check_rules.specs.Refusal.{demand_breaks, in_section, mention_breaks};
 ghost use Rattle.ss_check_rules.specs.Seen.{uses_seen};
 ghost use Rattle.ss_check_rules.specs.Uses.{Uses as UsesSeen};
@@ -46,7 +46,7 @@ fn mention_breaks<G: Globals>(
 
 // The line of the first mention in a section that breaks a rule.
 fn first_mention<G: Globals>(globals: &G, rule: Rule, uses: &SectionUses) -> Option<Line>
-    ensures { result ≡ first_of (mention_lines (mention_breaks rule (G.whole globals.now) (uses_seen uses.now)) uses.now.mentions.items) }
+    ensures { result ≡ first_of_lines (mention_lines (mention_breaks rule (G.whole globals.now) (uses_seen uses.now)) uses.now.mentions.items) }
 {
     let mut found = None;
     for mention in &uses.mentions {
@@ -68,7 +68,7 @@ fn looks_at_mentions(rule: Rule) -> bool
 
 // The line of the first mention that breaks a rule; none is looked at where the rule is about others.
 fn first_mentioned<G: Globals>(globals: &G, rule: Rule, uses: &SectionUses) -> Option<Line>
-    ensures { result ≡ first_of (mention_lines (mention_breaks rule (G.whole globals.now) (uses_seen uses.now)) uses.now.mentions.items) }
+    ensures { result ≡ first_of_lines (mention_lines (mention_breaks rule (G.whole globals.now) (uses_seen uses.now)) uses.now.mentions.items) }
 {
     if !looks_at_mentions(rule) {
         return None;
@@ -96,7 +96,7 @@ fn number_line<G: Globals>(
     line: Line,
     name: Name,
 ) -> Option<Line>
-    ensures { result ≡ first_of (demand_lines (demand_breaks rule (G.whole globals.now) (uses_seen uses.now)) (noted_demands (Number line name))) }
+    ensures { result ≡ first_of_lines (demand_lines (demand_breaks rule (G.whole globals.now) (uses_seen uses.now)) (noted_demands (Number line name))) }
 {
     match rule {
         Rule::Mode => line_if(is_no_number(globals, &uses.locals, name), line),
@@ -111,7 +111,7 @@ fn noted_line<G: Globals>(
     uses: &SectionUses,
     noted: &Noted,
 ) -> Option<Line>
-    ensures { result ≡ first_of (demand_lines (demand_breaks rule (G.whole globals.now) (uses_seen uses.now)) (noted_demands noted.now)) }
+    ensures { result ≡ first_of_lines (demand_lines (demand_breaks rule (G.whole globals.now) (uses_seen uses.now)) (noted_demands noted.now)) }
 {
     match noted {
         Noted::One {
@@ -132,7 +132,7 @@ fn noted_line<G: Globals>(
 
 // The line of the first demand of a section that breaks a rule.
 fn first_demand<G: Globals>(globals: &G, rule: Rule, uses: &SectionUses) -> Option<Line>
-    ensures { result ≡ first_of (demand_lines (demand_breaks rule (G.whole globals.now) (uses_seen uses.now)) uses.now.demands) }
+    ensures { result ≡ first_of_lines (demand_lines (demand_breaks rule (G.whole globals.now) (uses_seen uses.now)) uses.now.demands) }
 {
     let mut found = None;
     for noted in uses.demands.noted() {
@@ -153,7 +153,7 @@ fn looks_at_demands(rule: Rule) -> bool
 
 // The line of the first demand that breaks a rule; none is looked at where the rule is about others.
 fn first_demanded<G: Globals>(globals: &G, rule: Rule, uses: &SectionUses) -> Option<Line>
-    ensures { result ≡ first_of (demand_lines (demand_breaks rule (G.whole globals.now) (uses_seen uses.now)) uses.now.demands) }
+    ensures { result ≡ first_of_lines (demand_lines (demand_breaks rule (G.whole globals.now) (uses_seen uses.now)) uses.now.demands) }
 {
     if !looks_at_demands(rule) {
         return None;
@@ -163,7 +163,7 @@ fn first_demanded<G: Globals>(globals: &G, rule: Rule, uses: &SectionUses) -> Op
 
 /// The first line in which a section with these uses breaks a rule; None where there is none.
 pub fn first_in_section<G: Globals>(globals: &G, rule: Rule, uses: &SectionUses) -> Option<Line>
-    ensures { result ≡ first_of (in_section rule (G.whole globals.now) (uses_seen uses.now)) }
+    ensures { result ≡ first_of_lines (in_section rule (G.whole globals.now) (uses_seen uses.now)) }
 {
     let mentioned = first_mentioned(globals, rule, uses);
     let demanded = first_demanded(globals, rule, uses);
@@ -172,7 +172,7 @@ pub fn first_in_section<G: Globals>(globals: &G, rule: Rule, uses: &SectionUses)
 
 /// The first line in which sections with these uses break a rule; None where there is none.
 pub fn first_in_sections<G: Globals>(globals: &G, rule: Rule, all: &[SectionUses]) -> Option<Line>
-    ensures { result ≡ first_of (flat_map (in_section rule (G.whole globals.now)) (map uses_seen all.now)) }
+    ensures { result ≡ first_of_lines (flat_map (in_section rule (G.whole globals.now)) (map uses_seen all.now)) }
 {
     let mut found = None;
     for uses in all {

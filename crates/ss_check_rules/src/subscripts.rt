@@ -1,12 +1,12 @@
 //! Subscripts where none may be, or more than one, or none where one is needed.
 
 ghost use Rattle.std.specs.Prelude.{◌≡◌};
-ghost use Rattle.ss_check_rules.specs.Subscripts.{has_wrong_subscripts, is_of_program, is_single};
+ghost use Rattle.ss_check_rules.specs.Subscripts.{has_wrong_subscripts, is_of_program, takes_no_subscript};
 ghost use Rattle.ss_check_scopes.specs.Meanings.{meaning_in};
 ghost use Rattle.ss_check_rules.specs.Unknown.{if_known};
 
 use ss_base::Name;
-use ss_check_scopes::{Globals, Holder, Known, Locals, meaning_in};
+use ss_check_scopes::{Globals, Holder, Known, LocalModes, meaning_in};
 use ss_names_uses::{Mention, Mentioned};
 
 // Whether there is one in the program.
@@ -17,8 +17,8 @@ fn is_of_program(holder: &Holder) -> bool
 }
 
 // Whether there is one of it, so that it takes no subscript.
-fn is_single(meaning: &Known) -> bool
-    ensures { result ≡ is_single meaning.now }
+fn takes_no_subscript(meaning: &Known) -> bool
+    ensures { result ≡ takes_no_subscript meaning.now }
 {
     match meaning {
         Known::Local(_) | Known::Variable(_) | Known::Class(_) | Known::EntityCount => true,
@@ -32,11 +32,11 @@ fn is_single(meaning: &Known) -> bool
 }
 
 // Whether there is one of what a name means.
-fn names_single<G: Globals>(globals: &G, locals: &Locals, name: Name) -> bool
-    ensures { result ≡ if_known is_single (meaning_in (G.whole globals.now).meanings locals.now name) }
+fn names_single<G: Globals>(globals: &G, locals: &LocalModes, name: Name) -> bool
+    ensures { result ≡ if_known takes_no_subscript (meaning_in (G.whole globals.now).meanings locals.now name) }
 {
     match meaning_in(globals, locals, name) {
-        Some(meaning) => is_single(&meaning),
+        Some(meaning) => takes_no_subscript(&meaning),
         None => false,
     }
 }
@@ -44,7 +44,7 @@ fn names_single<G: Globals>(globals: &G, locals: &Locals, name: Name) -> bool
 // Whether a mention has subscripts where none may be, or more than one, or none where one is needed.
 pub(crate) fn has_wrong_subscripts<G: Globals>(
     globals: &G,
-    locals: &Locals,
+    locals: &LocalModes,
     mention: &Mention,
 ) -> bool
     ensures { result ≡ has_wrong_subscripts (G.whole globals.now) locals.now mention.now }

@@ -3,7 +3,7 @@
 ghost use Rattle.std.specs.Prelude.{◌≡◌};
 ghost use Rattle.ss_check_rules.specs.Targets.{is_not_assignable, is_target, may_be_assigned, takes_values};
 
-use ss_check_scopes::{Globals, Known, Locals, meaning_in};
+use ss_check_scopes::{Globals, Known, LocalModes, meaning_in};
 use ss_names_uses::{Mention, Mentioned, Role};
 
 // Whether it takes values.
@@ -26,7 +26,7 @@ fn takes_values(meaning: &Known) -> bool
 }
 
 // Whether what is mentioned takes values.
-fn may_be_assigned<G: Globals>(globals: &G, locals: &Locals, what: &Mentioned) -> bool
+fn may_be_assigned<G: Globals>(globals: &G, locals: &LocalModes, what: &Mentioned) -> bool
     ensures { result ≡ may_be_assigned (G.whole globals.now) locals.now what.now }
 {
     match what {
@@ -46,7 +46,11 @@ fn is_target(role: Role) -> bool
 }
 
 // Whether a mention is a target to which nothing can be assigned.
-pub(crate) fn is_not_assignable<G: Globals>(globals: &G, locals: &Locals, mention: &Mention) -> bool
+pub(crate) fn is_not_assignable<G: Globals>(
+    globals: &G,
+    locals: &LocalModes,
+    mention: &Mention,
+) -> bool
     ensures { result ≡ is_not_assignable (G.whole globals.now) locals.now mention.now }
 {
     is_target(mention.role) && !may_be_assigned(globals, locals, &mention.what)

@@ -1,10 +1,10 @@
 //! Names that are not of the kind that their place needs.
 
 ghost use Rattle.std.specs.Prelude.{◌≡◌};
-ghost use Rattle.ss_check_rules.specs.Unknown.{has_value, if_known, is_notice, is_permanent, is_routine, is_set, is_watched_here, is_transient, is_unknown, is_variable, may_be_watched, suits, suits_here, suits_there, suits_times};
+ghost use Rattle.ss_check_rules.specs.Unknown.{has_value, if_known, is_known_notice, is_known_permanent, is_routine, is_set, is_watched_here, is_transient, is_unknown, is_known_variable, may_be_watched, suits, suits_here, suits_there, suits_times};
 
 use ss_base::Name;
-use ss_check_scopes::{Globals, Known, Locals, meaning_in};
+use ss_check_scopes::{Globals, Known, LocalModes, meaning_in};
 use ss_names_uses::{Mention, Mentioned, Role};
 use ss_tree::preamble::ClassKind;
 
@@ -16,8 +16,8 @@ fn has_value(meaning: &Known) -> bool
 }
 
 // Whether it is a variable.
-fn is_variable(meaning: &Known) -> bool
-    ensures { result ≡ is_variable meaning.now }
+fn is_known_variable(meaning: &Known) -> bool
+    ensures { result ≡ is_known_variable meaning.now }
 {
     matches!(
         meaning,
@@ -40,15 +40,15 @@ fn is_routine(meaning: &Known) -> bool
 }
 
 // Whether it is a permanent class.
-fn is_permanent(meaning: &Known) -> bool
-    ensures { result ≡ is_permanent meaning.now }
+fn is_known_permanent(meaning: &Known) -> bool
+    ensures { result ≡ is_known_permanent meaning.now }
 {
     matches!(meaning, Known::Class(ClassKind::Permanent))
 }
 
 // Whether it is a class of notices.
-fn is_notice(meaning: &Known) -> bool
-    ensures { result ≡ is_notice meaning.now }
+fn is_known_notice(meaning: &Known) -> bool
+    ensures { result ≡ is_known_notice meaning.now }
 {
     matches!(meaning, Known::Class(ClassKind::EventNotice))
 }
@@ -84,7 +84,7 @@ pub(crate) fn is_known_subject<G: Globals>(globals: &G, subject: Name) -> bool
 }
 
 // Whether a TALLY or an ACCUMULATE is of what the name means here.
-fn is_watched_here<G: Globals>(globals: &G, locals: &Locals, name: Name) -> bool
+fn is_watched_here<G: Globals>(globals: &G, locals: &LocalModes, name: Name) -> bool
     ensures { result ≡ is_watched_here (G.whole globals.now) locals.now name }
 {
     globals.is_watched(name) && locals.mode(name).is_none()
@@ -95,7 +95,7 @@ fn suits_here(role: Role, meaning: &Known) -> bool
     ensures { result ≡ suits_here role meaning.now }
 {
     match role {
-        Role::LoopVariable => is_variable(meaning),
+        Role::LoopVariable => is_known_variable(meaning),
         _ => has_value(meaning),
     }
 }
@@ -107,15 +107,15 @@ fn suits_there(role: Role, meaning: &Known) -> bool
     match role {
         Role::Set => is_set(meaning),
         Role::Create | Role::Destroy => is_transient(meaning),
-        Role::CreateEvery | Role::ForEach => is_permanent(meaning),
+        Role::CreateEvery | Role::ForEach => is_known_permanent(meaning),
         Role::Call => is_routine(meaning),
-        Role::Schedule | Role::Cancel | Role::Event => is_notice(meaning),
+        Role::Schedule | Role::Cancel | Role::Event => is_known_notice(meaning),
         _ => false,
     }
 }
 
 // Whether a name is of the kind that its place needs.
-fn suits<G: Globals>(globals: &G, locals: &Locals, role: Role, name: Name) -> bool
+fn suits<G: Globals>(globals: &G, locals: &LocalModes, role: Role, name: Name) -> bool
     ensures { result ≡ suits (G.whole globals.now) locals.now role name }
 {
     match role {
@@ -140,7 +140,7 @@ fn suits_times(role: Role) -> bool
 }
 
 // Whether a mention is of something that isn't of the kind that its place needs.
-pub(crate) fn is_unknown<G: Globals>(globals: &G, locals: &Locals, mention: &Mention) -> bool
+pub(crate) fn is_unknown<G: Globals>(globals: &G, locals: &LocalModes, mention: &Mention) -> bool
     ensures { result ≡ is_unknown (G.whole globals.now) locals.now mention.now }
 {
     match mention.what {

@@ -6,7 +6,7 @@ ghost use Rattle.ss_check_rules.specs.Seen.{uses_seen};
 ghost use Rattle.ss_check_rules.specs.Uses.{is_main, uses_of};
 ghost use Rattle.ss_check_rules.specs.declared.uses.SectionUses.{SectionUses as UsesValue};
 
-use ss_check_scopes::{Globals, Locals};
+use ss_check_scopes::{Globals, LocalModes};
 use ss_names_uses::{Demands, Mention, demands_of, mentions_of};
 use ss_tree::program::{Section, SectionKind};
 use std::alloc::{AllocError, Global};
@@ -15,7 +15,7 @@ use std::alloc::{AllocError, Global};
 #[derive(Drop)]
 pub struct SectionUses {
     pub in_main: bool,
-    pub locals: Locals,
+    pub locals: LocalModes,
     pub mentions: Vec<Mention>,
     pub demands: Demands,
 }
@@ -36,7 +36,7 @@ fn section_uses<G: Globals>(
     ensures { IfOk result (λ u. uses_seen u ≡ uses_of (G.whole globals.now) (view_section section.now)) }
 {
     let mentions = mentions_of(alloc, section)?;
-    let locals = Locals::of(alloc, globals, section, &mentions)?;
+    let locals = LocalModes::of(alloc, globals, section, &mentions)?;
     let demands = demands_of(alloc, section)?;
     Ok(SectionUses {
         in_main: is_main(&section.kind),
@@ -50,7 +50,7 @@ fn section_uses<G: Globals>(
 ///
 /// # Errors
 /// `AllocError` where memory is refused.
-pub fn into_locals(alloc: Global, all: Vec<SectionUses>) -> Result<Vec<Locals>, AllocError>
+pub fn into_locals(alloc: Global, all: Vec<SectionUses>) -> Result<Vec<LocalModes>, AllocError>
     ensures { IfOk result (λ found. found.items ≡ map (λ (u : UsesValue). u.locals) all.items) }
 {
     all.into_iter().map(|uses| uses.locals).collect(alloc)

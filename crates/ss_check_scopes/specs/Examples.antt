@@ -6,12 +6,12 @@ use Rattle.ss_tree.specs.declared.expression.Designator.TheVariants as designato
 use Rattle.ss_tree.specs.declared.preamble.ClassKind.TheVariants.{Temporary}
 use Rattle.ss_tree.specs.declared.preamble.Mode.TheVariants.{Integer, Alpha}
 use Rattle.ss_tree.specs.Tree.{ExpressionTree, number, named, no_expression, and_expression, NamedTree, from_end, over_members, over_class, for_head, let_statement, create_statement, loop_statement, reset_statement, no_statement, StatementTree, main, routine, event, SectionKindTree, DefinitionTree, SectionTree}
-use Rattle.ss_names_uses.specs.Mentions.{NameBytes}
+use Rattle.ss_tree.specs.Names.{NameBytes}
 use Rattle.ss_check_scopes.specs.declared.heading.Heading.TheVariants.{Routine, Event}
 use Rattle.ss_check_scopes.specs.declared.known.Known.{Known}
 use Rattle.ss_check_scopes.specs.declared.known.Known.TheVariants as meanings
 use Rattle.ss_names_declarations.specs.Firsts.{same_name}
-use Rattle.ss_check_scopes.specs.Locals.{locals, number_of}
+use Rattle.ss_check_scopes.specs.Locals.{locals, number_of_local}
 use Rattle.ss_check_scopes.specs.Signatures.{signature}
 use Rattle.ss_check_scopes.specs.Meanings.{meaning_in}
 
@@ -75,7 +75,7 @@ pub a_reset : locals is_global None (a_section main [] (reset_statement line (at
 a_reset = refl
 
 -- numbers are places
-pub a_number : number_of ((codes "A", Some Alpha) ∷ (codes "JOB", None) ∷ []) (codes "JOB") ≡ Some 1
+pub a_number : number_of_local ((codes "A", Some Alpha) ∷ (codes "JOB", None) ∷ []) (codes "JOB") ≡ Some 1
 a_number = refl
 
 -- JOB is a class, and in a section with a local variable JOB that variable

@@ -9,7 +9,8 @@ use Rattle.ss_names_uses.specs.declared.mention.Role.TheVariants.{Value, Target,
 use Rattle.ss_names_uses.specs.declared.mention.Mentioned.{Mentioned}
 use Rattle.ss_names_uses.specs.declared.mention.Mentioned.TheVariants.{Name}
 use Rattle.ss_names_uses.specs.declared.mention.Mention.{Mention}
-use Rattle.ss_names_uses.specs.Mentions.{NameBytes, mentions}
+use Rattle.ss_tree.specs.Names.{NameBytes}
+use Rattle.ss_names_uses.specs.Mentions.{mentions}
 use Rattle.ss_names_declarations.specs.Firsts.{firsts, same_name}
 
 -- names with their modes; None is a mode that nothing gives
@@ -34,11 +35,11 @@ or_usual usual (Some mode) = mode
 or_usual usual None = usual
 
 -- the mode of a local variable: that of its first DEFINE in the section, or else the usual one, which NORMALLY gives
-abbrev pub mode_of : Option Mode → List DefinitionTree → NameBytes → Option Mode
-mode_of usual definitions name = or_usual usual (lookup (same_name name) (all_defined definitions))
+abbrev pub mode_of_local : Option Mode → List DefinitionTree → NameBytes → Option Mode
+mode_of_local usual definitions name = or_usual usual (lookup (same_name name) (all_defined definitions))
 
 abbrev pub moded : Option Mode → List DefinitionTree → NameBytes → NameBytes × Option Mode
-moded usual definitions name = (name, mode_of usual definitions name)
+moded usual definitions name = (name, mode_of_local usual definitions name)
 
 -- a name with its mode by the names that are given one
 abbrev pub moded_in : Option Mode → Moded → NameBytes → NameBytes × Option Mode
@@ -47,11 +48,11 @@ moded_in usual modes name = (name, or_usual usual (lookup (same_name name) modes
 -- ---- local variables
 
 -- the roles in which the head of a section or a DEFINE names a local variable
-abbrev pub declares : Role → Bool
-declares Given = true
-declares Yielding = true
-declares (Define mode) = true
-declares _ = false
+abbrev pub declares_local : Role → Bool
+declares_local Given = true
+declares_local Yielding = true
+declares_local (Define mode) = true
+declares_local _ = false
 
 -- the roles in which a name without subscript is a variable: as value, target or loop's name, or in a RESET
 abbrev pub is_variable : Role → Bool
@@ -64,7 +65,7 @@ is_variable _ = false
 -- whether a name in this role is a local variable: it is declared in the section, or it is used without subscript as
 -- a variable and isn't global
 abbrev pub is_local_at : (NameBytes → Bool) → Mention → NameBytes → Bool
-is_local_at is_global m name = declares m.role || (is_variable m.role && (m.subscripts == 0) && not (is_global name))
+is_local_at is_global m name = declares_local m.role || (is_variable m.role && (m.subscripts == 0) && not (is_global name))
 
 -- the local variable that is mentioned, where one is
 abbrev pub local_named : (NameBytes → Bool) → Mention → Mentioned → List NameBytes
@@ -80,5 +81,5 @@ abbrev pub locals : (NameBytes → Bool) → Option Mode → SectionTree → Mod
 locals is_global usual s = firsts (map (moded usual s.definitions) (flat_map (local_mentioned is_global) (mentions s)))
 
 -- the number of a local variable: its place
-abbrev pub number_of : Moded → NameBytes → Option ℕ
-number_of entries name = position (same_name name) (keys_of entries)
+abbrev pub number_of_local : Moded → NameBytes → Option ℕ
+number_of_local entries name = position (same_name name) (keys_of entries)

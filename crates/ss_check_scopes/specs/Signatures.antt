@@ -2,10 +2,10 @@
 use Rattle.std.specs.Prelude.{List, [], map, Option}
 use Rattle.ss_tree.specs.declared.preamble.Mode.{Mode}
 use Rattle.ss_tree.specs.Tree.{SectionKindTree, main, routine, event, SectionTree}
-use Rattle.ss_names_uses.specs.Mentions.{NameBytes}
+use Rattle.ss_tree.specs.Names.{NameBytes}
 use Rattle.ss_check_scopes.specs.declared.heading.Heading.{Heading}
 use Rattle.ss_check_scopes.specs.declared.heading.Heading.TheVariants.{Main, Routine, Event}
-use Rattle.ss_check_scopes.specs.Locals.{mode_of}
+use Rattle.ss_check_scopes.specs.Locals.{mode_of_local}
 
 -- what a section is, and the modes of what it is given and yields, in their order; None is a mode that nothing gives
 pub record Signed : Type 0 where
@@ -35,6 +35,6 @@ abbrev pub signature : Option Mode → SectionTree → Signed
 signature usual s =
     record {
       heading = heading_of s.kind;
-      given = map (mode_of usual s.definitions) (given_to s.kind);
-      yielding = map (mode_of usual s.definitions) (yielded_by s.kind);
+      given = map (mode_of_local usual s.definitions) (given_to s.kind);
+      yielding = map (mode_of_local usual s.definitions) (yielded_by s.kind);
     }

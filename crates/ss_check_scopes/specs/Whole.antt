@@ -3,7 +3,7 @@ use Rattle.std.specs.Prelude.{ℕ, Bool, is_some, List, slice_get, Option, Some,
 use Rattle.ss_base.specs.declared.layout.Mode.{Mode as ValueMode}
 use Rattle.ss_tree.specs.declared.preamble.Mode.{Mode}
 use Rattle.ss_tree.specs.Tree.{SectionTree}
-use Rattle.ss_names_uses.specs.Mentions.{NameBytes}
+use Rattle.ss_tree.specs.Names.{NameBytes}
 use Rattle.ss_check_scopes.specs.declared.known.Known.{Known}
 use Rattle.ss_check_scopes.specs.Locals.{Moded, locals}
 
@@ -21,9 +21,9 @@ pub record Whole : Type 0 where
   pub yielding : NameBytes → Option (List ValueMode)
 
 -- the mode in a place, where there is one
-abbrev pub mode_at : Option (List ValueMode) → ℕ → Option ValueMode
-mode_at None place = None
-mode_at (Some modes) place = slice_get modes place
+abbrev pub mode_in_place : Option (List ValueMode) → ℕ → Option ValueMode
+mode_in_place None place = None
+mode_in_place (Some modes) place = slice_get modes place
 
 -- the names that mean something in the whole program
 abbrev pub is_global : (NameBytes → Option Known) → NameBytes → Bool

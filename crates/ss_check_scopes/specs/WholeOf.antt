@@ -9,20 +9,20 @@ use Rattle.ss_tree.specs.declared.preamble.Mode.{Mode}
 use Rattle.ss_tree.specs.declared.preamble.StatisticKind.{StatisticKind}
 use Rattle.ss_tree.specs.declared.preamble.StatisticKind.TheVariants as kinds
 use Rattle.ss_tree.specs.Tree.{ProgramTree}
-use Rattle.ss_names_uses.specs.Mentions.{NameBytes}
+use Rattle.ss_tree.specs.Names.{NameBytes}
 use Rattle.ss_names.specs.declared.entry.Attribute.{Attribute}
 use Rattle.ss_names.specs.declared.entry.Class.{Class as ClassSaid}
 use Rattle.ss_names.specs.declared.meaning.Derived.{Derived}
 use Rattle.ss_names.specs.declared.meaning.Derived.TheVariants as deriveds
 use Rattle.ss_names.specs.declared.meaning.History.{History}
-use Rattle.ss_names.specs.declared.meaning.Meaning.{Meaning as Numbered}
-use Rattle.ss_names.specs.declared.meaning.Meaning.TheVariants as numbered
-use Rattle.ss_names.specs.declared.entry.Routine.{Routine as RoutineSaid}
+use Rattle.ss_names.specs.declared.meaning.GlobalMeaning.{GlobalMeaning as Numbered}
+use Rattle.ss_names.specs.declared.meaning.GlobalMeaning.TheVariants as numbered
+use Rattle.ss_names.specs.declared.entry.RoutineSection.{RoutineSection as RoutineSaid}
 use Rattle.ss_names.specs.declared.entry.Set.{Set as SetSaid}
-use Rattle.ss_names.specs.declared.entry.Statistic.{Statistic as StatisticSaid}
-use Rattle.ss_names.specs.declared.meaning.Subject.{Subject}
-use Rattle.ss_names.specs.declared.meaning.Subject.TheVariants as subjects
-use Rattle.ss_names.specs.declared.entry.Variable.{Variable as VariableSaid}
+use Rattle.ss_names.specs.declared.entry.StatisticEntry.{StatisticEntry as StatisticSaid}
+use Rattle.ss_names.specs.declared.meaning.SubjectNumber.{SubjectNumber}
+use Rattle.ss_names.specs.declared.meaning.SubjectNumber.TheVariants as subjects
+use Rattle.ss_names.specs.declared.entry.GlobalVariable.{GlobalVariable as VariableSaid}
 use Rattle.ss_names_declarations.specs.Firsts.{place_in, value_for}
 use Rattle.ss_names.specs.Table.{Table, table}
 use Rattle.ss_check_scopes.specs.declared.known.Holder.{Holder}
@@ -36,22 +36,22 @@ use Rattle.ss_check_scopes.specs.Whole.{Whole}
 -- ---- who has it
 
 -- each entity of a class, by its name
-abbrev pub entity_of : Option NameBytes → Holder
-entity_of None = Program
-entity_of (Some class) = Entity class
+abbrev pub holder_of : Option NameBytes → Holder
+holder_of None = Program
+holder_of (Some class) = Entity class
 
 -- each entity of the class of this number
-abbrev pub entity_at : Table → ℕ → Holder
-entity_at t class = entity_of (slice_get (keys_of t.classes) class)
+abbrev pub holder_at : Table → ℕ → Holder
+holder_at t class = holder_of (slice_get (keys_of t.classes) class)
 
 -- an owner; a set without one is refused
 abbrev pub owner_holder : Table → Option Owner → Holder
-owner_holder t (Some (owners.Class class)) = entity_at t class
+owner_holder t (Some (owners.Class class)) = holder_at t class
 owner_holder t _ = Program
 
 -- the member's class; a set without one is refused
 abbrev pub member_holder : Table → Option ℕ → Holder
-member_holder t (Some class) = entity_at t class
+member_holder t (Some class) = holder_at t class
 member_holder t None = Program
 
 -- the owner of a set, which has F., L. and N. of it, and the class of its members, which has P., S. and M. of it
@@ -64,10 +64,10 @@ membership_holder t (Some set) = member_holder t set.member
 membership_holder t None = Program
 
 abbrev pub attribute_holder : Table → Option Attribute → Holder
-attribute_holder t (Some a) = entity_at t a.class
+attribute_holder t (Some a) = holder_at t a.class
 attribute_holder t None = Program
 
-abbrev pub subject_holder : Table → Option Subject → Holder
+abbrev pub subject_holder : Table → Option SubjectNumber → Holder
 subject_holder t (Some (subjects.Attribute attribute)) = attribute_holder t (slice_get (values_of t.attributes) attribute)
 subject_holder t (Some (subjects.MemberCount set)) = set_holder t (slice_get t.sets set)
 subject_holder t _ = Program
@@ -81,13 +81,13 @@ statistic_holder t s = history_holder t (slice_get t.histories s.history)
 
 -- ---- what names mean
 
-abbrev pub variable_meaning : Option VariableSaid → Option Known
-variable_meaning (Some v) = Some (Variable (value_mode (Some v.mode)))
-variable_meaning None = None
+abbrev pub known_of_variable : Option VariableSaid → Option Known
+known_of_variable (Some v) = Some (Variable (value_mode (Some v.mode)))
+known_of_variable None = None
 
-abbrev pub class_meaning : Option ClassSaid → Option Known
-class_meaning (Some c) = Some (Class c.kind)
-class_meaning None = None
+abbrev pub known_of_class : Option ClassSaid → Option Known
+known_of_class (Some c) = Some (Class c.kind)
+known_of_class None = None
 
 abbrev pub attribute_of_class : Option Mode → Option NameBytes → Option Known
 attribute_of_class mode (Some class) = Some (AttributeMeaning class (value_mode mode))
@@ -116,19 +116,19 @@ statistic_meaning t (Some s) = statistic_known (statistic_holder t s) s.kind
 statistic_meaning t None = Statistic Program
 
 -- what a name means by its entry in the table
-abbrev pub meaning_by : Table → Numbered → Option Known
-meaning_by t (numbered.Variable variable) = variable_meaning (slice_get (values_of t.variables) variable)
-meaning_by t (numbered.Class class variable) = class_meaning (slice_get (values_of t.classes) class)
-meaning_by t (numbered.Count class variable) = Some EntityCount
-meaning_by t (numbered.Attribute attribute) = attribute_meaning t (slice_get (values_of t.attributes) attribute)
-meaning_by t (numbered.Set set) = Some (Set (set_holder t (slice_get t.sets set)))
-meaning_by t (numbered.Derived derived set) = Some (derived_meaning t derived set)
-meaning_by t (numbered.Statistic statistic) = Some (statistic_meaning t (slice_get (values_of t.statistics) statistic))
-meaning_by t (numbered.Routine routine) = Some Routine
+abbrev pub known_of_entry : Table → Numbered → Option Known
+known_of_entry t (numbered.Variable variable) = known_of_variable (slice_get (values_of t.variables) variable)
+known_of_entry t (numbered.Class class variable) = known_of_class (slice_get (values_of t.classes) class)
+known_of_entry t (numbered.Count class variable) = Some EntityCount
+known_of_entry t (numbered.Attribute attribute) = attribute_meaning t (slice_get (values_of t.attributes) attribute)
+known_of_entry t (numbered.Set set) = Some (Set (set_holder t (slice_get t.sets set)))
+known_of_entry t (numbered.Derived derived set) = Some (derived_meaning t derived set)
+known_of_entry t (numbered.Statistic statistic) = Some (statistic_meaning t (slice_get (values_of t.statistics) statistic))
+known_of_entry t (numbered.Routine routine) = Some Routine
 
 abbrev pub meaning_of : Table → Option Numbered → Option Known
 meaning_of t None = None
-meaning_of t (Some global) = meaning_by t global
+meaning_of t (Some global) = known_of_entry t global
 
 -- ---- attributes of classes, and parameters of routines
 
@@ -142,11 +142,11 @@ attribute_at t (Some attribute) = slice_get (values_of t.attributes) attribute
 attribute_at t None = None
 
 -- the mode of an attribute by its name
-abbrev pub field_mode : Table → NameBytes → ValueMode
-field_mode t name = mode_of_attribute (attribute_at t (place_in t.attributes name))
+abbrev pub attribute_mode_by_name : Table → NameBytes → ValueMode
+attribute_mode_by_name t name = mode_of_attribute (attribute_at t (place_in t.attributes name))
 
 abbrev pub attributes_of : Table → Option Numbered → Option (List ValueMode)
-attributes_of t (Some (numbered.Class class variable)) = Some (map (field_mode t) (get_or t.fields class []))
+attributes_of t (Some (numbered.Class class variable)) = Some (map (attribute_mode_by_name t) (get_or t.fields class []))
 attributes_of t _ = None
 
 -- the signature of the section of a routine

@@ -1,7 +1,7 @@
 //! What names mean in the whole program.
 
 ghost use Rattle.std.specs.Prelude.{◌≡◌, length, option_map};
-ghost use Rattle.ss_check_scopes.specs.Whole.{Whole, mode_at};
+ghost use Rattle.ss_check_scopes.specs.Whole.{Whole, mode_in_place};
 
 use crate::known::Known;
 use ss_base::{Mode as ValueMode, Name};
@@ -31,7 +31,7 @@ pub trait Globals {
 
     /// The mode of the attribute of a class of this number. None where there is none.
     fn attribute_mode(&self, class: Name, number: usize) -> Option<ValueMode>
-        ensures { result ≡ mode_at ((whole self.now).attributes class) number };
+        ensures { result ≡ mode_in_place ((whole self.now).attributes class) number };
 
     /// How many values a routine is given. None where it is no routine.
     fn given_count(&self, routine: Name) -> Option<usize>
@@ -39,7 +39,7 @@ pub trait Globals {
 
     /// The mode of what a routine is given in this place. None where there is none.
     fn given_mode(&self, routine: Name, place: usize) -> Option<ValueMode>
-        ensures { result ≡ mode_at ((whole self.now).given routine) place };
+        ensures { result ≡ mode_in_place ((whole self.now).given routine) place };
 
     /// How many values a routine yields. None where it is no routine.
     fn yielded_count(&self, routine: Name) -> Option<usize>
@@ -47,5 +47,5 @@ pub trait Globals {
 
     /// The mode of what a routine yields in this place. None where there is none.
     fn yielded_mode(&self, routine: Name, place: usize) -> Option<ValueMode>
-        ensures { result ≡ mode_at ((whole self.now).yielding routine) place };
+        ensures { result ≡ mode_in_place ((whole self.now).yielding routine) place };
 }

@@ -2,15 +2,15 @@
 
 ghost use Rattle.std.specs.Prelude.{◌≡◌, slice_get};
 ghost use Rattle.std.specs.Map.{values_of};
-ghost use Rattle.ss_check_scopes.specs.WholeOf.{attribute_holder, entity_at, history_holder, member_holder, membership_holder, owner_holder, set_holder, statistic_holder, subject_holder};
+ghost use Rattle.ss_check_scopes.specs.WholeOf.{attribute_holder, holder_at, history_holder, member_holder, membership_holder, owner_holder, set_holder, statistic_holder, subject_holder};
 
 use crate::known::Holder;
 use ss_base::Owner;
-use ss_names::{Names, Statistic, Subject};
+use ss_names::{Names, StatisticEntry, SubjectNumber};
 
 // Each entity of the class of this number.
-fn entity_at(names: &Names, class: usize) -> Holder
-    ensures { result ≡ entity_at names.now class }
+fn holder_at(names: &Names, class: usize) -> Holder
+    ensures { result ≡ holder_at names.now class }
 {
     match names.class_name(class) {
         Some(name) => Holder::Entity(name),
@@ -23,7 +23,7 @@ fn owner_holder(names: &Names, owner: Option<Owner>) -> Holder
     ensures { result ≡ owner_holder names.now owner }
 {
     match owner {
-        Some(Owner::Class(class)) => entity_at(names, class),
+        Some(Owner::Class(class)) => holder_at(names, class),
         Some(Owner::System) | None => Holder::Program,
     }
 }
@@ -33,7 +33,7 @@ fn member_holder(names: &Names, member: Option<usize>) -> Holder
     ensures { result ≡ member_holder names.now member }
 {
     match member {
-        Some(class) => entity_at(names, class),
+        Some(class) => holder_at(names, class),
         None => Holder::Program,
     }
 }
@@ -63,19 +63,19 @@ fn attribute_holder(names: &Names, attribute: usize) -> Holder
     ensures { result ≡ attribute_holder names.now (slice_get (values_of names.now.attributes) attribute) }
 {
     match names.attribute(attribute) {
-        Some(attribute) => entity_at(names, attribute.class),
+        Some(attribute) => holder_at(names, attribute.class),
         None => Holder::Program,
     }
 }
 
 // Who has the subject of a history.
-fn subject_holder(names: &Names, subject: Option<Subject>) -> Holder
+fn subject_holder(names: &Names, subject: Option<SubjectNumber>) -> Holder
     ensures { result ≡ subject_holder names.now subject }
 {
     match subject {
-        Some(Subject::Attribute(attribute)) => attribute_holder(names, attribute),
-        Some(Subject::MemberCount(set)) => set_holder(names, set),
-        Some(Subject::Variable(_)) | None => Holder::Program,
+        Some(SubjectNumber::Attribute(attribute)) => attribute_holder(names, attribute),
+        Some(SubjectNumber::MemberCount(set)) => set_holder(names, set),
+        Some(SubjectNumber::Variable(_)) | None => Holder::Program,
     }
 }
 
@@ -90,7 +90,7 @@ fn history_holder(names: &Names, history: usize) -> Holder
 }
 
 // Who has a statistic.
-pub(crate) fn statistic_holder(names: &Names, statistic: Statistic) -> Holder
+pub(crate) fn statistic_holder(names: &Names, statistic: StatisticEntry) -> Holder
     ensures { result ≡ statistic_holder names.now statistic }
 {
     history_holder(names, statistic.history)

@@ -17,7 +17,7 @@ pub use globals::Globals;
 pub use heading::Heading;
 pub use known::{Holder, Known};
 pub use laws::numbers_are_places;
-pub use locals::Locals;
+pub use locals::LocalModes;
 pub use program::ProgramGlobals;
 pub use scope::{meaning_in, value_mode};
 pub use signature::Signature;

@@ -6,7 +6,7 @@ ghost use Rattle.std.specs.Map.{lookup, keys_of};
 ghost use Rattle.ss_tree.specs.View.{view_definition, view_section};
 ghost use Rattle.ss_names_uses.specs.Mentions.{mentions};
 ghost use Rattle.ss_names_declarations.specs.Firsts.{firsts, same_name, with_first};
-ghost use Rattle.ss_check_scopes.specs.Locals.{declares, is_local_at, is_variable, local_mentioned, moded_in, number_of};
+ghost use Rattle.ss_check_scopes.specs.Locals.{declares_local, is_local_at, is_variable, local_mentioned, moded_in, number_of_local};
 ghost use Rattle.ss_check_scopes.specs.Whole.{is_global, locals_of};
 
 use crate::globals::Globals;
@@ -24,11 +24,11 @@ use std::marker::Model;
 ///
 /// A contract sees the list of their names with their modes.
 #[derive(Drop)]
-pub struct Locals {
+pub struct LocalModes {
     entries: Table<Name, Option<Mode>>,
 }
 
-impl Model for Locals {
+impl Model for LocalModes {
     ghost use Rattle.std.specs.Prelude.{List, ℕ, Option};
     ghost use Rattle.ss_tree.specs.declared.preamble.Mode.{Mode};
 
@@ -38,8 +38,8 @@ impl Model for Locals {
 }
 
 // Whether the head of a section or a DEFINE names a local variable in this role.
-fn declares(role: Role) -> bool
-    ensures { result ≡ declares role }
+fn declares_local(role: Role) -> bool
+    ensures { result ≡ declares_local role }
 {
     match role {
         Role::Given | Role::Yielding | Role::Define(_) => true,
@@ -61,7 +61,7 @@ fn is_variable(role: Role) -> bool
 fn is_local_at<G: Globals>(globals: &G, mention: &Mention, name: Name) -> bool
     ensures { result ≡ is_local_at (is_global (G.whole globals.now).meanings) mention.now name }
 {
-    declares(mention.role)
+    declares_local(mention.role)
         || (is_variable(mention.role)
             && mention.subscripts == 0
             && globals.meaning_of(name).is_none())
@@ -103,7 +103,7 @@ fn add_mentioned<G: Globals>(
     }
 }
 
-impl Locals {
+impl LocalModes {
     /// The local variables of a section: its parameters, given ones before yielded ones, those that its
     /// DEFINEs name, and those that its statements only use. Their modes are those of its DEFINEs, else
     /// that of NORMALLY. `all` is what the section mentions.
@@ -115,13 +115,13 @@ impl Locals {
         globals: &G,
         section: &Section,
         all: &[Mention],
-    ) -> Result<Locals, AllocError>
+    ) -> Result<LocalModes, AllocError>
         requires { all.now ≡ mentions (view_section section.now) }
         ensures { IfOk result (λ l. l ≡ locals_of (G.whole globals.now) (view_section section.now)) }
     {
         let modes = modes_of(alloc, &section.definitions)?;
         let entries = collect(alloc, globals, &modes, globals.usual(), all)?;
-        Ok(Locals { entries })
+        Ok(LocalModes { entries })
     }
 
     /// How many there are.
@@ -140,7 +140,7 @@ impl Locals {
 
     /// The number of a local variable. None where the name isn't one.
     pub fn number(&self, name: Name) -> Option<usize>
-        ensures { result ≡ number_of self.now name }
+        ensures { result ≡ number_of_local self.now name }
     {
         self.entries.place(&name)
     }

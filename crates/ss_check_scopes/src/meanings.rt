@@ -2,18 +2,18 @@
 
 ghost use Rattle.std.specs.Prelude.{◌≡◌, slice_get};
 ghost use Rattle.std.specs.Map.{keys_of, values_of};
-ghost use Rattle.ss_check_scopes.specs.WholeOf.{attribute_meaning, attribute_of_class, class_meaning, derived_meaning, field_mode, meaning_by, mode_of_attribute, statistic_known, statistic_meaning, variable_meaning};
+ghost use Rattle.ss_check_scopes.specs.WholeOf.{attribute_meaning, attribute_of_class, known_of_class, derived_meaning, attribute_mode_by_name, known_of_entry, mode_of_attribute, statistic_known, statistic_meaning, known_of_variable};
 
 use crate::holders::{membership_holder, set_holder, statistic_holder};
 use crate::known::{Holder, Known};
 use crate::scope::value_mode;
 use ss_base::{Mode as ValueMode, Name};
-use ss_names::{Attribute, Derived, Meaning as Numbered, Names};
+use ss_names::{Attribute, Derived, GlobalMeaning as Numbered, Names};
 use ss_tree::preamble::{Mode, StatisticKind};
 
 // The global variable of this number.
-fn variable_meaning(names: &Names, variable: usize) -> Option<Known>
-    ensures { result ≡ variable_meaning (slice_get (values_of names.now.variables) variable) }
+fn known_of_variable(names: &Names, variable: usize) -> Option<Known>
+    ensures { result ≡ known_of_variable (slice_get (values_of names.now.variables) variable) }
 {
     match names.variable(variable) {
         Some(variable) => Some(Known::Variable(value_mode(Some(variable.mode)))),
@@ -22,8 +22,8 @@ fn variable_meaning(names: &Names, variable: usize) -> Option<Known>
 }
 
 // The class of this number.
-fn class_meaning(names: &Names, class: usize) -> Option<Known>
-    ensures { result ≡ class_meaning (slice_get (values_of names.now.classes) class) }
+fn known_of_class(names: &Names, class: usize) -> Option<Known>
+    ensures { result ≡ known_of_class (slice_get (values_of names.now.classes) class) }
 {
     match names.class(class) {
         Some(class) => Some(Known::Class(class.kind)),
@@ -94,12 +94,12 @@ fn statistic_meaning(names: &Names, statistic: usize) -> Known
 }
 
 // What a name means by its entry in the table.
-pub(crate) fn meaning_by(names: &Names, global: Numbered) -> Option<Known>
-    ensures { result ≡ meaning_by names.now global }
+pub(crate) fn known_of_entry(names: &Names, global: Numbered) -> Option<Known>
+    ensures { result ≡ known_of_entry names.now global }
 {
     match global {
-        Numbered::Variable(variable) => variable_meaning(names, variable),
-        Numbered::Class { class, .. } => class_meaning(names, class),
+        Numbered::Variable(variable) => known_of_variable(names, variable),
+        Numbered::Class { class, .. } => known_of_class(names, class),
         Numbered::Count { .. } => Some(Known::EntityCount),
         Numbered::Attribute(attribute) => attribute_meaning(names, attribute),
         Numbered::Set(set) => Some(Known::Set(set_holder(names, set))),
@@ -120,8 +120,8 @@ fn mode_of_attribute(attribute: Option<Attribute>) -> ValueMode
 }
 
 // The mode of an attribute by its name.
-pub(crate) fn field_mode(names: &Names, name: &Name) -> ValueMode
-    ensures { result ≡ field_mode names.now name.now }
+pub(crate) fn attribute_mode_by_name(names: &Names, name: &Name) -> ValueMode
+    ensures { result ≡ attribute_mode_by_name names.now name.now }
 {
     match names.attribute_number(name) {
         Some(attribute) => mode_of_attribute(names.attribute(attribute)),

@@ -6,16 +6,16 @@ ghost use Rattle.ss_tree.specs.View.{view_program, view_section};
 ghost use Rattle.ss_names_declarations.specs.Firsts.{value_for};
 ghost use Rattle.ss_names.specs.Table.{table};
 ghost use Rattle.ss_check_scopes.specs.Signatures.{signature};
-ghost use Rattle.ss_check_scopes.specs.Whole.{mode_at};
-ghost use Rattle.ss_check_scopes.specs.WholeOf.{attributes_of, field_mode, routine_signed, whole_in, whole_of};
+ghost use Rattle.ss_check_scopes.specs.Whole.{mode_in_place};
+ghost use Rattle.ss_check_scopes.specs.WholeOf.{attributes_of, attribute_mode_by_name, routine_signed, whole_in, whole_of};
 
 use crate::globals::Globals;
 use crate::known::Known;
-use crate::meanings::{field_mode, meaning_by};
+use crate::meanings::{attribute_mode_by_name, known_of_entry};
 use crate::scope::value_mode;
 use crate::signature::Signature;
 use ss_base::{Mode as ValueMode, Name};
-use ss_names::{Meaning as Numbered, Names};
+use ss_names::{GlobalMeaning as Numbered, Names};
 use ss_tree::preamble::Mode;
 use ss_tree::program::{Program, Section};
 use std::alloc::{AllocError, Global};
@@ -45,7 +45,7 @@ fn signatures_of(
 
 // The fields of the class of a name. None where it is no class.
 fn fields_of(names: &Names, class: Name) -> Option<&[Name]>
-    ensures { option_map (λ fields. map (field_mode names.now) fields.now) result ≡ attributes_of names.now (value_for names.now.names class) }
+    ensures { option_map (λ fields. map (attribute_mode_by_name names.now) fields.now) result ≡ attributes_of names.now (value_for names.now.names class) }
 {
     match names.meaning(&class) {
         Some(Numbered::Class { class, .. }) => Some(names.fields(class)),
@@ -101,7 +101,7 @@ impl Globals for ProgramGlobals {
 
     fn meaning_of(&self, name: Name) -> Option<Known> {
         match self.names.meaning(&name) {
-            Some(global) => meaning_by(&self.names, global),
+            Some(global) => known_of_entry(&self.names, global),
             None => None,
         }
     }
@@ -120,7 +120,7 @@ impl Globals for ProgramGlobals {
     fn attribute_mode(&self, class: Name, number: usize) -> Option<ValueMode> {
         match fields_of(&self.names, class) {
             Some(fields) => match fields.get(number) {
-                Some(name) => Some(field_mode(&self.names, name)),
+                Some(name) => Some(attribute_mode_by_name(&self.names, name)),
                 None => None,
             },
             None => None,

@@ -5,7 +5,7 @@ ghost use Rattle.ss_check_scopes.specs.Meanings.{meaning_in, value_mode};
 
 use crate::globals::Globals;
 use crate::known::Known;
-use crate::locals::Locals;
+use crate::locals::LocalModes;
 use ss_base::{Mode as ValueMode, Name};
 use ss_tree::preamble::Mode;
 
@@ -20,7 +20,7 @@ pub fn value_mode(mode: Option<Mode>) -> ValueMode
 }
 
 /// What a name means in a section with these local variables. None where it means nothing.
-pub fn meaning_in<G: Globals>(globals: &G, locals: &Locals, name: Name) -> Option<Known>
+pub fn meaning_in<G: Globals>(globals: &G, locals: &LocalModes, name: Name) -> Option<Known>
     ensures { result ≡ meaning_in (G.whole globals.now).meanings locals.now name }
 {
     match locals.mode(name) {

@@ -2,7 +2,7 @@
 
 ghost use Rattle.std.specs.Prelude.{◌≡◌, map, IfOk};
 ghost use Rattle.ss_program.specs.View.{view_item};
-ghost use Rattle.ss_code_instructions.specs.Translation.{item_kind, lines_of};
+ghost use Rattle.ss_code_instructions.specs.Translation.{item_kind, print_lines};
 
 use crate::items::kind_of;
 use ss_code_instructions::item::ItemKind;
@@ -54,7 +54,7 @@ fn kinds_of(alloc: Global, items: &[Item]) -> Result<Vec<ItemKind>, AllocError>
 impl Lines {
     /// The lines of these pictures, with these items. The error comes where memory was refused.
     pub(crate) fn of(alloc: Global, items: &[Item], lines: &[Vec<u8>]) -> Result<Lines, AllocError>
-        ensures { IfOk result (λ made. made ≡ lines_of (map view_item items.now) (map (λ line. line.items) lines.now)) }
+        ensures { IfOk result (λ made. made ≡ print_lines (map view_item items.now) (map (λ line. line.items) lines.now)) }
     {
         let pictures = pictures_of(alloc, lines)?;
         let kinds = kinds_of(alloc, items)?;

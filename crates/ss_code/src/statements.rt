@@ -4,7 +4,7 @@ ghost use Rattle.std.specs.Prelude.{◌≡◌, ◌+◌, ◌∷◌, ◌++◌, [],
 ghost use Rattle.ss_program.specs.Program.{Simulate};
 ghost use Rattle.ss_program.specs.View.{view_expression, view_condition, view_place, view_item, view_statement, view_body};
 ghost use Rattle.ss_code_instructions.specs.declared.instruction.Instruction.TheVariants.{Jump, Call, Destroy, Cancel, Skip, Print};
-ghost use Rattle.ss_code_instructions.specs.Translation.{expression_code, values_code, condition_code, gives_code, if_code, shown_code, values_taken, lines_of, statement_code, statement_prints, block_code, block_prints, section_code};
+ghost use Rattle.ss_code_instructions.specs.Translation.{expression_code, values_code, condition_code, gives_code, if_code, shown_code, values_taken, print_lines, statement_code, statement_prints, block_code, block_prints, section_code};
 
 use crate::conditions::{emit_condition, emit_phrases};
 use crate::emit::{emit_expression, emit_values, put};
@@ -154,7 +154,7 @@ fn emit_print(
     lines: &[Vec<u8>],
 ) -> Result<(), AllocError>
     ensures code { OnOk result (code.new.items ≡ code.old.items ++ (shown_code line (map view_item items.now) ++ Print (length prints.old.items) (values_taken (map view_item items.now)) ∷ [])) }
-    ensures prints { OnOk result (prints.new.items ≡ prints.old.items ++ lines_of (map view_item items.now) (map (λ line. line.items) lines.now) ∷ []) }
+    ensures prints { OnOk result (prints.new.items ≡ prints.old.items ++ print_lines (map view_item items.now) (map (λ line. line.items) lines.now) ∷ []) }
 {
     let number = prints.len();
     let made = Lines::of(alloc, items, lines)?;

@@ -15,7 +15,7 @@ use Rattle.ss_meaning.specs.Values.{Trouble, Fails, Misfit, if_ok, turned as mad
 use Rattle.ss_meaning.specs.Places.{InVariable, written}
 use Rattle.ss_meaning.specs.Expressions.{value, value_if_any, holds, all_pass}
 use Rattle.ss_meaning.specs.Parts.{World, WentOn, Part, and_then, choose, looked, look, Again, Over, loop}
-use Rattle.ss_meaning.specs.Loops.{Turn, GoesOn, EndsLoop, IsFound, phrase, phrases, visit, greatest, Range, items_from, items, after_turn, over_items, range_of, range, indices, guarded_turn, guarded}
+use Rattle.ss_meaning.specs.Loops.{Turn, GoesOn, EndsLoop, IsFound, phrase, phrases, visit, greatest, Range, items_from, range_items, after_turn, over_items, range_of, range, indices, guarded_turn, guarded}
 use Rattle.ss_code_instructions.specs.States.{Frame, To, core_of, past}
 use Rattle.ss_code_instructions.specs.Machine.{Code, act, is_due, when_due, with_rest, backwards, later, unless_below}
 use Rattle.ss_code_instructions.specs.Running.{Result, Underway}
@@ -212,10 +212,10 @@ module _ (code : Code) (n : ℕ) where
 
   -- from the range on the stack
   module _ (l : Line) (x : Variable) (turn : List Instruction) (m : Part Turn) (found : ℕ) (r : Lands code n same turn (leads found) done m) where
-    pub ranged_run : (b : Range) → Rises b → (place end : ℕ) (stack : List Value) (frames : List Frame) (w : World) → HasAt code.instructions place (items_code l x turn) → place + 1 + length turn ≡ end → slice_get code.instructions (end + found) ≡ Some (i.Forget 3) → w.ticks ≤ n → Reaches code (at (past (length turn + 2) (int_le b.first (limit_of b)) place) (hold_range b stack) frames w) (arrive (λ b w'. at (past_loop found b end) stack frames w') frames (over_items (visit l x m) (items (suc n) b) w))
+    pub ranged_run : (b : Range) → Rises b → (place end : ℕ) (stack : List Value) (frames : List Frame) (w : World) → HasAt code.instructions place (items_code l x turn) → place + 1 + length turn ≡ end → slice_get code.instructions (end + found) ≡ Some (i.Forget 3) → w.ticks ≤ n → Reaches code (at (past (length turn + 2) (int_le b.first (limit_of b)) place) (hold_range b stack) frames w) (arrive (λ b w'. at (past_loop found b end) stack frames w') frames (over_items (visit l x m) (range_items (suc n) b) w))
     ranged_run b up place end stack frames w has len hf le = sides (int_le b.first (limit_of b)) refl
       where
-        sides : (t : Bool) → int_le b.first (limit_of b) ≡ t → Reaches code (at (past (length turn + 2) t place) (hold_range b stack) frames w) (arrive (λ b w'. at (past_loop found b end) stack frames w') frames (over_items (visit l x m) (items (suc n) b) w))
+        sides : (t : Bool) → int_le b.first (limit_of b) ≡ t → Reaches code (at (past (length turn + 2) t place) (hold_range b stack) frames w) (arrive (λ b w'. at (past_loop found b end) stack frames w') frames (over_items (visit l x m) (range_items (suc n) b) w))
         sides true q = items_run l x turn m found r b.step (limit_of b) up place end stack frames has len hf (suc n) b.first w q (omega (arith, le)) le
         sides false q =
             let e : end + 1 ≡ place + (length turn + 2) = omega (arith, len) in

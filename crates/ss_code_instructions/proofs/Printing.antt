@@ -13,12 +13,12 @@ use Rattle.ss_code_instructions.specs.declared.item.ItemKind.TheVariants as show
 use Rattle.ss_meaning.specs.Values.{Trouble, Fails, Misfit, if_ok, turned, sure, printed}
 use Rattle.ss_meaning.specs.Store.{Store}
 use Rattle.ss_meaning.specs.Statistics.{mean}
-use Rattle.ss_meaning.specs.Expressions.{value, mean_shown, items}
+use Rattle.ss_meaning.specs.Expressions.{value, mean_shown, shown_items}
 use Rattle.ss_meaning.specs.Parts.{World, and_then, looked, look, send}
 use Rattle.ss_meaning.specs.Statements.{print}
 use Rattle.ss_code_instructions.specs.States.{Moved, Sends, did, fit, core_of, with_taken, take_off}
 use Rattle.ss_code_instructions.specs.Machine.{Code, mean_item, item_before, shown}
-use Rattle.ss_code_instructions.specs.Translation.{expression_code, shown_code, values_taken, item_kind, lines_of}
+use Rattle.ss_code_instructions.specs.Translation.{expression_code, shown_code, values_taken, item_kind, print_lines}
 use Rattle.ss_code_instructions.proofs.Parts.{Runs, at_end, IfWentOn, same, done, put_on, onto, take_them, seq_such, seq_look, above, none, alike, look_lands, fit_did}
 use Rattle.ss_code_instructions.proofs.Expressions.{AsMany, one_more, many_looked, mapped, turned_lands, value_runs}
 use Rattle.ss_code_instructions.proofs.Effects.{output_runs}
@@ -94,11 +94,11 @@ module _ (s : Store) (ks : List ItemKind) (others : OkOr (List Shown) Trouble) w
           ∙ (before_sure (Mean m.0 m.1) (shown ks vs s) ∙ ap (turned (λ xs. Mean m.0 m.1 ∷ xs)) h)
 
 -- of the values that items take, what their kinds show is what the items mean
-items_shown : (xs : List Item) (s : Store) → if_ok (values_looked xs s) (λ vs. sure (shown (map item_kind xs) vs s)) ≡ items xs s
+items_shown : (xs : List Item) (s : Store) → if_ok (values_looked xs s) (λ vs. sure (shown (map item_kind xs) vs s)) ≡ shown_items xs s
 items_shown [] s = refl
-items_shown (AValue e ∷ xs) s = value_shown s (map item_kind xs) (items xs s) (value e s) (values_looked xs s) (items_shown xs s)
-items_shown (AMean j ∷ xs) s = mean_alone_shown s (map item_kind xs) (items xs s) (mean j None s) (values_looked xs s) (items_shown xs s)
-items_shown (AMeanOf j e ∷ xs) s = mean_of_shown s (map item_kind xs) (items xs s) j (value e s) (values_looked xs s) (items_shown xs s)
+items_shown (AValue e ∷ xs) s = value_shown s (map item_kind xs) (shown_items xs s) (value e s) (values_looked xs s) (items_shown xs s)
+items_shown (AMean j ∷ xs) s = mean_alone_shown s (map item_kind xs) (shown_items xs s) (mean j None s) (values_looked xs s) (items_shown xs s)
+items_shown (AMeanOf j e ∷ xs) s = mean_of_shown s (map item_kind xs) (shown_items xs s) j (value e s) (values_looked xs s) (items_shown xs s)
 
 -- ## PRINT
 
@@ -110,7 +110,7 @@ if_twice (Err t) f g = refl
 abbrev lines_shown : List ItemKind → List (List ℕ) → List Value → Store → OkOr (List ℕ) Trouble
 lines_shown ks pictures vs s = if_ok (sure (shown ks vs s)) (λ xs. sure (printed pictures xs))
 
-lines_meant : (xs : List Item) (pictures : List (List ℕ)) (s : Store) → if_ok (values_looked xs s) (λ vs. lines_shown (map item_kind xs) pictures vs s) ≡ if_ok (items xs s) (λ ys. sure (printed pictures ys))
+lines_meant : (xs : List Item) (pictures : List (List ℕ)) (s : Store) → if_ok (values_looked xs s) (λ vs. lines_shown (map item_kind xs) pictures vs s) ≡ if_ok (shown_items xs s) (λ ys. sure (printed pictures ys))
 lines_meant xs pictures s =
     sym (if_twice (values_looked xs s) (λ vs. sure (shown (map item_kind xs) vs s)) (λ ys. sure (printed pictures ys)))
     ∙ ap (λ o. if_ok o (λ ys. sure (printed pictures ys))) (items_shown xs s)
@@ -145,7 +145,7 @@ module _ (code : Code) (n : ℕ) where
   fit_lines l None pictures go = refl
   fit_lines l (Some xs) pictures go = fit_did code l (printed pictures xs) go
 
-  pub print_runs : (l : Line) (first : ℕ) (xs : List Item) (pictures : List (List ℕ)) → slice_get code.prints first ≡ Some (lines_of xs pictures) → Runs code n same (shown_code l xs ++ i.Print first (values_taken xs) ∷ []) done (print l xs pictures)
+  pub print_runs : (l : Line) (first : ℕ) (xs : List Item) (pictures : List (List ℕ)) → slice_get code.prints first ≡ Some (print_lines xs pictures) → Runs code n same (shown_code l xs ++ i.Print first (values_taken xs) ∷ []) done (print l xs pictures)
   print_runs l first xs pictures has =
       let ks = map item_kind xs in
       alike code n (λ w. then_sent l (values_looked xs w.store) (lines_shown ks pictures) w ∙ ap (λ o. and_then (looked l o w) send) (lines_meant xs pictures w.store))

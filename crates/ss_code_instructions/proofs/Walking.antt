@@ -16,7 +16,7 @@ use Rattle.ss_meaning.specs.Places.{InVariable, written}
 use Rattle.ss_meaning.specs.Sets.{known_owner, is_none, begun, begun_at, coming, goes_on}
 use Rattle.ss_meaning.specs.Expressions.{value, value_if_any, member_value, owner_value, owner_looked_at}
 use Rattle.ss_meaning.specs.Parts.{World, WentOn, Part, and_then, then_nothing, choose, looked, look, Again, Over, loop}
-use Rattle.ss_meaning.specs.Loops.{Turn, GoesOn, EndsLoop, IsFound, phrases, visit, Range, items, over_items, step_number, range_of, range, indices, Outset, from_member, outset, next_member, member_turn, over_members, over}
+use Rattle.ss_meaning.specs.Loops.{Turn, GoesOn, EndsLoop, IsFound, phrases, visit, Range, range_items, over_items, step_number, range_of, range, indices, Outset, from_member, outset, next_member, member_turn, over_members, over}
 use Rattle.ss_code_instructions.specs.States.{Frame, To, did, core_of, past, onward}
 use Rattle.ss_code_instructions.specs.Machine.{Code, backwards}
 use Rattle.ss_code_instructions.specs.Running.{Underway}
@@ -199,7 +199,7 @@ module _ (code : Code) (n : ℕ) where
         let rest = items_code l x turn in
         let p = place + length front in
         let size : p + 1 + length turn ≡ end = omega (arith, len, length-append front rest, length-append turn (i.Next (length turn + 1) ∷ (i.Forget 3 ∷ []))) in
-        join_such (Rises code n) (at place stack frames w) (λ (b : Range) w'. at (past (length turn + 2) (int_le b.first (limit_of code n b)) p) (hold_range code n b stack) frames w') (λ b w'. at (past_loop found b end) stack frames w') frames (look l (range a b c) w) (λ r. over_items (visit l x m) (items (suc n) r))
+        join_such (Rises code n) (at place stack frames w) (λ (b : Range) w'. at (past (length turn + 2) (int_le b.first (limit_of code n b)) p) (hold_range code n b stack) frames w') (λ b w'. at (past_loop found b end) stack frames w') frames (look l (range a b c) w) (λ r. over_items (visit l x m) (range_items (suc n) r))
         (found_went (Rises code n) l (range a b c w.store) w (range_found a b c w.store))
         ((range_lands code n l (length turn + 2) a b c).by place stack frames w (has_front code.instructions place front rest has) le)
         (λ b up w' fewer. ranged_run code n l x turn m found r b up p end stack frames w' (has_back code.instructions place front rest has) size hf (omega (arith, fewer, le)))
@@ -208,7 +208,7 @@ module _ (code : Code) (n : ℕ) where
         let rest = items_code l x turn in
         let p = place + length front in
         let size : p + 1 + length turn ≡ end = omega (arith, len, length-append front rest, length-append turn (i.Next (length turn + 1) ∷ (i.Forget 3 ∷ []))) in
-        join_such (Rises code n) (at place stack frames w) (λ (b : Range) w'. at (past (length turn + 2) (int_le b.first (limit_of code n b)) p) (hold_range code n b stack) frames w') (λ b w'. at (past_loop found b end) stack frames w') frames (look l (indices class) w) (λ r. over_items (visit l x m) (items (suc n) r))
+        join_such (Rises code n) (at place stack frames w) (λ (b : Range) w'. at (past (length turn + 2) (int_le b.first (limit_of code n b)) p) (hold_range code n b stack) frames w') (λ b w'. at (past_loop found b end) stack frames w') frames (look l (indices class) w) (λ r. over_items (visit l x m) (range_items (suc n) r))
         (found_went (Rises code n) l (indices class w.store) w (indices_found class w.store))
         ((class_lands code n l (length turn + 2) class).by place stack frames w (has_front code.instructions place front rest has) le)
         (λ b up w' fewer. ranged_run code n l x turn m found r b up p end stack frames w' (has_back code.instructions place front rest has) size hf (omega (arith, fewer, le)))

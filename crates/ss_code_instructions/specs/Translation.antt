@@ -274,8 +274,8 @@ item_kind (AMean j) = shows.Mean j
 item_kind (AMeanOf j e) = shows.MeanOf j
 
 -- the lines of a PRINT of these items
-abbrev pub lines_of : List Item → (pictures : List (List ℕ)) → Lines
-lines_of items pictures = record { pictures = pictures; items = map item_kind items }
+abbrev pub print_lines : List Item → (pictures : List (List ℕ)) → Lines
+print_lines items pictures = record { pictures = pictures; items = map item_kind items }
 
 -- ## Statements
 
@@ -307,7 +307,7 @@ abbrev mutual
   statement_prints (Schedule l class e given when) = []
   statement_prints (Cancel l class e) = []
   statement_prints (Reset l restarts) = []
-  statement_prints (Print l items pictures) = lines_of items pictures ∷ []
+  statement_prints (Print l items pictures) = print_lines items pictures ∷ []
   statement_prints (Skip l e) = []
 
   pub block_prints : Block → List Lines

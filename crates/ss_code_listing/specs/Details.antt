@@ -28,13 +28,13 @@ instruction_text name (x ∷ xs) = padded 13 name ++ (operand_text x ++ further_
 abbrev pub landing : (place skip : ℕ) → ℕ
 landing place skip = place + 1 + skip
 
-abbrev pub first_of : Option Entry → Option ℕ
-first_of None = None
-first_of (Some e) = Some e.place
+abbrev pub place_of_entry : Option Entry → Option ℕ
+place_of_entry None = None
+place_of_entry (Some e) = Some e.place
 
 -- the place of the first instruction of a routine, if there is one of that number
 abbrev pub first_of_routine : List Entry → (routine : ℕ) → Option ℕ
-first_of_routine routines routine = first_of (slice_get routines routine)
+first_of_routine routines routine = place_of_entry (slice_get routines routine)
 
 -- the instruction at a place, among these routines and these beginnings of events
 abbrev pub detail : List Entry → (events : List Operand) → (place : ℕ) → Instruction → List ℕ

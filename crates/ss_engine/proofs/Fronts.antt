@@ -10,13 +10,13 @@ use Rattle.ss_parse.specs.declared.error.ParseError.TheVariants as parsing
 use Rattle.ss_parse.specs.Promise.{Is_refused, Has_line}
 use Rattle.ss_tree.specs.Tree.{ProgramTree}
 use Rattle.ss_tree.specs.Nodes as tree
-use Rattle.ss_tables_rules.specs.Broken.{refusal as declaration_refusal}
+use Rattle.ss_tables_rules.specs.Broken.{refusal_of_declarations as declaration_refusal}
 use Rattle.ss_tables.specs.declared.error.TableError.{TableError}
 use Rattle.ss_tables.specs.declared.error.TableError.TheVariants as declaring
-use Rattle.ss_tables.specs.Tables.{Reports as ReportsOnTables}
+use Rattle.ss_tables.specs.Tables.{ReportsTableError as ReportsOnTables}
 use Rattle.ss_check.specs.declared.error.CheckError.{CheckError}
 use Rattle.ss_check.specs.declared.error.CheckError.TheVariants as checking
-use Rattle.ss_check.specs.Checking.{Reports as ReportsOnUses, refusal_of as use_refusal}
+use Rattle.ss_check.specs.Checking.{ReportsCheckError as ReportsOnUses, refusal_of as use_refusal}
 use Rattle.ss_program.specs.Program.{Program}
 use Rattle.ss_program.specs.Nodes as resolved
 use Rattle.ss_code.specs.declared.error.CodeError.{CodeError}
@@ -24,9 +24,9 @@ use Rattle.ss_code.specs.declared.error.CodeError.TheVariants as generating
 use Rattle.ss_code.specs.Limits.{instruction_limit, small_program}
 use Rattle.ss_code_instructions.specs.Translation.{code_of}
 use Rattle.ss_engine.specs.Refusals.{refusal_of_lexer, refusal_of_parser, refusal_of_tables, refusal_of_checker, refusal_of_generator}
-use Rattle.ss_engine.specs.Accepting.{IsTreeOf, IsProgramOf, RefusedFor}
+use Rattle.ss_engine.specs.Accepting.{IsTreeOf, IsProgramOf, IsRefusedWith}
 
-pub lexer_refused : (text : List ℕ) (e : LexError) → (e ≢ lexical.Memory → IsRefused text e) → RefusedFor text (refusal_of_lexer e)
+pub lexer_refused : (text : List ℕ) (e : LexError) → (e ≢ lexical.Memory → IsRefused text e) → IsRefusedWith text (refusal_of_lexer e)
 lexer_refused text (lexical.TooLong line) h = h (λ q. cc)
 lexer_refused text (lexical.NotAscii line) h = h (λ q. cc)
 lexer_refused text (lexical.BadNumber line) h = h (λ q. cc)
@@ -36,12 +36,12 @@ lexer_refused text (lexical.PictureCut line) h = h (λ q. cc)
 lexer_refused text (lexical.NameTooLong line) h = h (λ q. cc)
 lexer_refused text lexical.Memory h = tt
 
-pub parser_refused : (text : List ℕ) (ts : List Token) → AreTokens text ts → (e : ParseError) → Is_refused ts e → Has_line ts e → RefusedFor text (refusal_of_parser e)
+pub parser_refused : (text : List ℕ) (ts : List Token) → AreTokens text ts → (e : ParseError) → Is_refused ts e → Has_line ts e → IsRefusedWith text (refusal_of_parser e)
 parser_refused text ts are (parsing.Syntax line) h l = record { tokens = ts; are = are; refused = h; line = l }
 parser_refused text ts are (parsing.TooDeep line) h l = record { tokens = ts; are = are; refused = h; line = l }
 parser_refused text ts are parsing.Memory h l = tt
 
-pub tables_refused : (text : List ℕ) (tree : ProgramTree) → IsTreeOf text tree → (e : TableError) → ReportsOnTables e (declaration_refusal tree) → RefusedFor text (refusal_of_tables e)
+pub tables_refused : (text : List ℕ) (tree : ProgramTree) → IsTreeOf text tree → (e : TableError) → ReportsOnTables e (declaration_refusal tree) → IsRefusedWith text (refusal_of_tables e)
 tables_refused text tree r (declaring.Twice line) h = record { tree = tree; read = r; broken = h }
 tables_refused text tree r (declaring.RealMode line) h = record { tree = tree; read = r; broken = h }
 tables_refused text tree r (declaring.UnknownClass line) h = record { tree = tree; read = r; broken = h }
@@ -54,7 +54,7 @@ tables_refused text tree r (declaring.TooMany line) h = record { tree = tree; re
 tables_refused text tree r (declaring.TieKey line) h = record { tree = tree; read = r; broken = h }
 tables_refused text tree r declaring.Memory h = tt
 
-pub checker_refused : (text : List ℕ) (tree : ProgramTree) → IsTreeOf text tree → declaration_refusal tree ≡ None → (e : CheckError) → ReportsOnUses e (use_refusal tree) → RefusedFor text (refusal_of_checker e)
+pub checker_refused : (text : List ℕ) (tree : ProgramTree) → IsTreeOf text tree → declaration_refusal tree ≡ None → (e : CheckError) → ReportsOnUses e (use_refusal tree) → IsRefusedWith text (refusal_of_checker e)
 checker_refused text tree r d (checking.NoMain line) h = record { tree = tree; read = r; declared = d; broken = h }
 checker_refused text tree r d (checking.NoEventRoutine line) h = record { tree = tree; read = r; declared = d; broken = h }
 checker_refused text tree r d (checking.Mode line) h = record { tree = tree; read = r; declared = d; broken = h }
@@ -69,6 +69,6 @@ checker_refused text tree r d checking.Memory h = tt
 larger : (n m : ℕ) → n ≤ m → (n ≤ small_program → ⊥) → small_program < m
 larger n m k h = omega (arith, k, h)
 
-pub generator_refused : (text : List ℕ) (p : Program) (m : IsProgramOf text p) → resolved.nodes p ≤ tree.nodes m.tree → (e : CodeError) → (resolved.nodes p ≤ small_program → e ≡ generating.CodeTooLong → ⊥) → (e ≡ generating.CodeTooLong → instruction_limit < length (code_of p).instructions) → RefusedFor text (refusal_of_generator e)
+pub generator_refused : (text : List ℕ) (p : Program) (m : IsProgramOf text p) → resolved.nodes p ≤ tree.nodes m.tree → (e : CodeError) → (resolved.nodes p ≤ small_program → e ≡ generating.CodeTooLong → ⊥) → (e ≡ generating.CodeTooLong → instruction_limit < length (code_of p).instructions) → IsRefusedWith text (refusal_of_generator e)
 generator_refused text p m k generating.CodeTooLong h l = record { program = p; meant = m; large = larger (resolved.nodes p) (tree.nodes m.tree) k (λ small. h small refl); long = l refl }
 generator_refused text p m k generating.Memory h l = tt

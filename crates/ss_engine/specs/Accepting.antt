@@ -11,9 +11,9 @@ use Rattle.ss_parse.specs.declared.error.ParseError.{ParseError}
 use Rattle.ss_parse.specs.declared.error.ParseError.TheVariants as parsing
 use Rattle.ss_parse.specs.Promise.{Is_refused, Has_line}
 use Rattle.ss_parse.specs.SpelledPrograms.{Spell}
-use Rattle.ss_tables_rules.specs.declared.rule.Rule.{Rule as DeclarationRule}
-use Rattle.ss_tables_rules.specs.declared.rule.Rule.TheVariants as declaring
-use Rattle.ss_tables_rules.specs.Broken.{refusal as declaration_refusal}
+use Rattle.ss_tables_rules.specs.declared.rule.DeclarationRule.{DeclarationRule}
+use Rattle.ss_tables_rules.specs.declared.rule.DeclarationRule.TheVariants as declaring
+use Rattle.ss_tables_rules.specs.Broken.{refusal_of_declarations as declaration_refusal}
 use Rattle.ss_check_rules.specs.declared.rule.Rule.{Rule as UseRule}
 use Rattle.ss_check_rules.specs.declared.rule.Rule.TheVariants as using
 use Rattle.ss_check.specs.Checking.{program_of, refusal_of as use_refusal}
@@ -89,34 +89,34 @@ pub record IsLarge (text : List ℕ) : Type 0 where
   pub long : instruction_limit < length (code_of program).instructions
 
 -- when a text is refused so; a refusal for memory says nothing of the text
-abbrev pub RefusedFor : List ℕ → Refusal → Type 0
-RefusedFor text (TooLong line) = IsRefused text (lexical.TooLong line)
-RefusedFor text (NotAscii line) = IsRefused text (lexical.NotAscii line)
-RefusedFor text (BadNumber line) = IsRefused text (lexical.BadNumber line)
-RefusedFor text (OpenText line) = IsRefused text (lexical.OpenText line)
-RefusedFor text (AlphaTooLong line) = IsRefused text (lexical.AlphaTooLong line)
-RefusedFor text (PictureCut line) = IsRefused text (lexical.PictureCut line)
-RefusedFor text (NameTooLong line) = IsRefused text (lexical.NameTooLong line)
-RefusedFor text (Syntax line) = IsNoProgram text (parsing.Syntax line)
-RefusedFor text (TooDeep line) = IsNoProgram text (parsing.TooDeep line)
-RefusedFor text (Twice line) = IsMisdeclared text declaring.Twice line
-RefusedFor text (RealMode line) = IsMisdeclared text declaring.RealMode line
-RefusedFor text (UnknownClass line) = IsMisdeclared text declaring.UnknownClass line
-RefusedFor text (UnknownSet line) = IsMisdeclared text declaring.UnknownSet line
-RefusedFor text (NoOwner line) = IsMisdeclared text declaring.NoOwner line
-RefusedFor text (NoMember line) = IsMisdeclared text declaring.NoMember line
-RefusedFor text (RankKey line) = IsMisdeclared text declaring.RankKey line
-RefusedFor text (TallyTwice line) = IsMisdeclared text declaring.TallyTwice line
-RefusedFor text (TooMany line) = IsMisdeclared text declaring.TooMany line
-RefusedFor text (TieKey line) = IsMisdeclared text declaring.TieKey line
-RefusedFor text (NoMain line) = IsIllFormed text using.NoMain line
-RefusedFor text (NoEventRoutine line) = IsIllFormed text using.NoEventRoutine line
-RefusedFor text (Mode line) = IsIllFormed text using.Mode line
-RefusedFor text (Arguments line) = IsIllFormed text using.Arguments line
-RefusedFor text (Subscript line) = IsIllFormed text using.Subscript line
-RefusedFor text (NotAssignable line) = IsIllFormed text using.NotAssignable line
-RefusedFor text (Fields line) = IsIllFormed text using.Fields line
-RefusedFor text (StartPlace line) = IsIllFormed text using.StartPlace line
-RefusedFor text (Unknown line) = IsIllFormed text using.Unknown line
-RefusedFor text CodeTooLong = IsLarge text
-RefusedFor text Memory = Unit {0}
+abbrev pub IsRefusedWith : List ℕ → Refusal → Type 0
+IsRefusedWith text (TooLong line) = IsRefused text (lexical.TooLong line)
+IsRefusedWith text (NotAscii line) = IsRefused text (lexical.NotAscii line)
+IsRefusedWith text (BadNumber line) = IsRefused text (lexical.BadNumber line)
+IsRefusedWith text (OpenText line) = IsRefused text (lexical.OpenText line)
+IsRefusedWith text (AlphaTooLong line) = IsRefused text (lexical.AlphaTooLong line)
+IsRefusedWith text (PictureCut line) = IsRefused text (lexical.PictureCut line)
+IsRefusedWith text (NameTooLong line) = IsRefused text (lexical.NameTooLong line)
+IsRefusedWith text (Syntax line) = IsNoProgram text (parsing.Syntax line)
+IsRefusedWith text (TooDeep line) = IsNoProgram text (parsing.TooDeep line)
+IsRefusedWith text (Twice line) = IsMisdeclared text declaring.Twice line
+IsRefusedWith text (RealMode line) = IsMisdeclared text declaring.RealMode line
+IsRefusedWith text (UnknownClass line) = IsMisdeclared text declaring.UnknownClass line
+IsRefusedWith text (UnknownSet line) = IsMisdeclared text declaring.UnknownSet line
+IsRefusedWith text (NoOwner line) = IsMisdeclared text declaring.NoOwner line
+IsRefusedWith text (NoMember line) = IsMisdeclared text declaring.NoMember line
+IsRefusedWith text (RankKey line) = IsMisdeclared text declaring.RankKey line
+IsRefusedWith text (TallyTwice line) = IsMisdeclared text declaring.TallyTwice line
+IsRefusedWith text (TooMany line) = IsMisdeclared text declaring.TooMany line
+IsRefusedWith text (TieKey line) = IsMisdeclared text declaring.TieKey line
+IsRefusedWith text (NoMain line) = IsIllFormed text using.NoMain line
+IsRefusedWith text (NoEventRoutine line) = IsIllFormed text using.NoEventRoutine line
+IsRefusedWith text (Mode line) = IsIllFormed text using.Mode line
+IsRefusedWith text (Arguments line) = IsIllFormed text using.Arguments line
+IsRefusedWith text (Subscript line) = IsIllFormed text using.Subscript line
+IsRefusedWith text (NotAssignable line) = IsIllFormed text using.NotAssignable line
+IsRefusedWith text (Fields line) = IsIllFormed text using.Fields line
+IsRefusedWith text (StartPlace line) = IsIllFormed text using.StartPlace line
+IsRefusedWith text (Unknown line) = IsIllFormed text using.Unknown line
+IsRefusedWith text CodeTooLong = IsLarge text
+IsRefusedWith text Memory = Unit {0}

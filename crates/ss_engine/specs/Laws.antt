@@ -26,5 +26,5 @@ abbrev pub ReportsGrow : Type 0
 ReportsGrow = (text : List ℕ) (p : Program) → IsProgramOf text p → (input : List ℕ) (n more : ℕ) → Grows (meaning p input n).report (meaning p input (n + more)).report
 
 -- an ending other than a pause stays, with its report, for more ticks, which are left
-abbrev pub EndingsStay : Type 0
-EndingsStay = (text : List ℕ) (p : Program) → IsProgramOf text p → (input : List ℕ) (n more : ℕ) → ((meaning p input n).ending ≡ Paused → ⊥) → meaning p input (n + more) ≡ record (meaning p input n) { ticks = (meaning p input n).ticks + more }
+abbrev pub TextEndingsStay : Type 0
+TextEndingsStay = (text : List ℕ) (p : Program) → IsProgramOf text p → (input : List ℕ) (n more : ℕ) → ((meaning p input n).ending ≡ Paused → ⊥) → meaning p input (n + more) ≡ record (meaning p input n) { ticks = (meaning p input n).ticks + more }

@@ -5,7 +5,7 @@ use Rattle.ss_program.specs.Program.{Program}
 use Rattle.ss_machine.specs.Stop.{Stop}
 use Rattle.ss_engine.specs.declared.outcome.Outcome.{Outcome}
 use Rattle.ss_engine.specs.declared.outcome.Outcome.TheVariants.{Refused, Stopped}
-use Rattle.ss_engine.specs.Accepting.{IsProgramOf, RefusedFor, Compiles}
+use Rattle.ss_engine.specs.Accepting.{IsProgramOf, IsRefusedWith, Compiles}
 use Rattle.ss_code_instructions.specs.Machine.{Code}
 use Rattle.ss_engine.specs.Headline.{Simulated}
 use Rattle.ss_engine.specs.Cuts.{WasCut}
@@ -19,7 +19,7 @@ pub record IsSimulated {R W : Type 0} (remaining : R → Option (List ℕ)) (con
 -- a refused text has the refusal's cause; of another the writer took the report of its meaning, and the run ended as its
 -- meaning does
 abbrev pub ComesTo : {R W : Type 0} → (R → Option (List ℕ)) → (W → Option (List ℕ)) → List ℕ → Outcome → R → R → W → W → Type 0
-ComesTo remaining contents text (Refused refusal) reader new_reader writer new_writer = RefusedFor text refusal
+ComesTo remaining contents text (Refused refusal) reader new_reader writer new_writer = IsRefusedWith text refusal
 ComesTo remaining contents text (Stopped stop used) reader new_reader writer new_writer =
     IsSimulated remaining contents text stop used reader new_reader writer new_writer
 

@@ -1,7 +1,7 @@
 //! From a text to a model.
 
 ghost use Rattle.std.specs.Prelude.{◌≡◌, IfOk, IfErr};
-ghost use Rattle.ss_engine.specs.Accepting.{Compiles, RefusedFor};
+ghost use Rattle.ss_engine.specs.Accepting.{Compiles, IsRefusedWith};
 ghost use Rattle.ss_engine.specs.Refusals.{refusal_of_lexer, refusal_of_parser, refusal_of_tables, refusal_of_checker, refusal_of_generator};
 
 use crate::refusal::Refusal;
@@ -100,7 +100,7 @@ fn generated(error: CodeError) -> Refusal
 /// 1,048,576 instructions. `Memory` may come before any of them, and says nothing of the text.
 pub fn compile(alloc: Global, text: &[u8]) -> Result<Model, Refusal>
     ensures accepted { IfOk result (λ model. Compiles text.now model) }
-    ensures refused { IfErr result (λ refusal. RefusedFor text.now refusal) }
+    ensures refused { IfErr result (λ refusal. IsRefusedWith text.now refusal) }
 {
     let tokens = match tokens(alloc, text) {
         Ok(tokens) => tokens,

@@ -19,7 +19,7 @@ pub use session::Session;
 pub use simulating::simulate;
 pub use ss_base::{
     Alpha, Counted, FaultKind, Faulty, FaultyRead, FaultyWrite, Line, MemoryRead, MemoryWrite,
-    Plan, Trouble,
+    Plan, WriteFailure,
 };
 pub use ss_code::model::Model;
 pub use ss_machine::Stop;

@@ -1,6 +1,6 @@
 //! Laws of what a text means.
 
-ghost use Rattle.ss_engine.specs.Laws.{EachHasOne, EndingsStay, NeverGoesWrong, OneMeaning, ProgramsAreTyped, ReportsGrow};
+ghost use Rattle.ss_engine.specs.Laws.{EachHasOne, TextEndingsStay, NeverGoesWrong, OneMeaning, ProgramsAreTyped, ReportsGrow};
 
 use ss_check::kept_programs_resolve;
 use ss_code_instructions::laws::laws as laws_of_runs;
@@ -25,7 +25,7 @@ pub fn laws()
 /// ending and its report stay for every greater number of them.
 pub fn longer_bounds_extend_the_report()
     ensures reports_grow { ReportsGrow }
-    ensures endings_stay { EndingsStay }
+    ensures endings_stay { TextEndingsStay }
 {
     laws();
     laws_of_runs();

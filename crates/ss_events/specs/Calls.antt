@@ -17,14 +17,14 @@ FitsCall classes Least = Unit {0}
 FitsCall classes Take = Unit {0}
 
 -- done, or the fault
-abbrev pub outcome_of : Result PendingList FaultKind → Answer
-outcome_of (Ok p) = Done
-outcome_of (Err kind) = Faulted kind
+abbrev pub done_or_fault : Result PendingList FaultKind → Answer
+done_or_fault (Ok p) = Done
+done_or_fault (Err kind) = Faulted kind
 
 -- what a call of a list answers
 abbrev pub answer_of : Call → PendingList → Answer
-answer_of (Schedule time rank ties notice) p = outcome_of (scheduled (record { time = time; rank = rank; ties = ties.now }) notice p)
-answer_of (Cancel notice) p = outcome_of (cancelled notice p)
+answer_of (Schedule time rank ties notice) p = done_or_fault (scheduled (record { time = time; rank = rank; ties = ties.now }) notice p)
+answer_of (Cancel notice) p = done_or_fault (cancelled notice p)
 answer_of Least p = Next (next p)
 answer_of Take p = Next (next p)
 

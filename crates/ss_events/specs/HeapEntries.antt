@@ -18,8 +18,8 @@ pub record HeapEntries : Type 0 where
   pub moves : ℕ
 
 -- the heads and the others, without what was counted
-abbrev pub lines_of : HeapEntries → Lines
-lines_of h = record { heads = h.entries; followers = h.followers }
+abbrev pub heap_lines : HeapEntries → Lines
+heap_lines h = record { heads = h.entries; followers = h.followers }
 
 -- all entries
 abbrev pub all_of : HeapEntries → List Entry

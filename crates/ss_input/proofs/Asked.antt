@@ -1,6 +1,6 @@
 -- When the reader is asked.
 use Rattle.std.proofs.Common.{◌≡◌, ◌≢◌, inl, inr, ℕ, Bool, true, false, not, List, [], ◌∷◌, drop, Some, refl, sym, ap, ◌∙◌}
-use Rattle.ss_input.specs.Blocks.{BlockSeen, first_of}
+use Rattle.ss_input.specs.Blocks.{BlockSeen, first_input_byte}
 use Rattle.ss_input.specs.Sources.{after, Suffices, Unasked, NextIs, HasWord}
 use Rattle.ss_input.specs.Words.{is_separator, is_word_byte}
 use Rattle.ss_input.proofs.Passages.{some_first}
@@ -28,7 +28,7 @@ module _ {R : Type 0} (passes : ℕ → Bool) where
       }
 
   -- a look at a byte that is passed then
-  pub unasked_one : (a b c : BlockSeen R) (x : ℕ) → (a.left ≢ [] → b ≡ a) → (a.ended ≡ true → b ≡ a) → Some x ≡ first_of b.left → passes x ≡ true
+  pub unasked_one : (a b c : BlockSeen R) (x : ℕ) → (a.left ≢ [] → b ≡ a) → (a.ended ≡ true → b ≡ a) → Some x ≡ first_input_byte b.left → passes x ≡ true
       → c.left ≡ drop 1 b.left → c.reader ≡ b.reader → c.ended ≡ b.ended → Suffices passes a → Unasked passes a c
   unasked_one a b c x buffered after_end first good left reader ended enough =
       let same : b ≡ a = stays a b buffered after_end enough in

@@ -8,7 +8,7 @@ use Rattle.std.proofs.lemmas.List.{append-nil, take-append-drop, drop-drop, leng
 use Rattle.ss_base.specs.declared.layout.Mode.TheVariants.{Integer}
 use Rattle.ss_base.specs.declared.value.Value.TheVariants.{Whole}
 use Rattle.ss_base.specs.Arithmetic.{fits_64_bits}
-use Rattle.ss_input.specs.Blocks.{first_of}
+use Rattle.ss_input.specs.Blocks.{first_input_byte}
 use Rattle.ss_input.specs.declared.source.Source.{Source}
 use Rattle.ss_input.specs.Sources.{Passes, NextIs}
 use Rattle.ss_input.specs.Inputs.{source_block, source_gap, IsBuffered, IsBeforeWord, Reaches, Reads}
@@ -61,7 +61,7 @@ first_byte (x ∷ l) (suc count) b bs some all e =
     let same : x ≡ b = cc in
     subst (λ y. is_word_byte y ≡ true) same (word_byte x (and-left (is_digit x) (list_all is_digit (take count l)) all))
 
-nothing_first : (l : List ℕ) → 0 < length l → first_of l ≡ None → ⊥
+nothing_first : (l : List ℕ) → 0 < length l → first_input_byte l ≡ None → ⊥
 nothing_first [] some e = omega (arith, some)
 nothing_first (x ∷ l) some e = absurd cc
 

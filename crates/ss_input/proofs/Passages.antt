@@ -4,11 +4,11 @@ use Rattle.std.proofs.lemmas.List.{append_assoc, append-nil, length-append, take
 use Rattle.std.proofs.lemmas.List.Folds.{list_all-append}
 use Rattle.std.specs.Io.KnownBytes.{Consumes, Keeps}
 use Rattle.std.specs.List.{list_all}
-use Rattle.ss_input.specs.Blocks.{BlockSeen, Looks, Unread, first_of}
+use Rattle.ss_input.specs.Blocks.{BlockSeen, Looks, Unread, first_input_byte}
 use Rattle.ss_input.specs.Sources.{Gives, Passes, Passed, GapPassed, WordPassed, NextIs, Wants}
 use Rattle.ss_input.specs.Words.{is_separator, is_word_byte}
 
-pub some_first : (x : ℕ) (l : List ℕ) → Some x ≡ first_of l → l ≡ x ∷ drop 1 l
+pub some_first : (x : ℕ) (l : List ℕ) → Some x ≡ first_input_byte l → l ≡ x ∷ drop 1 l
 some_first x [] e = absurd cc
 some_first x (y ∷ l) e = cc
 
@@ -27,14 +27,14 @@ passes_look remaining a b byte l = record { got = l.got; consumed = l.consumed; 
 
 pub next_is : {R : Type 0} (remaining : R → Option (List ℕ)) (is_wanted : ℕ → Bool) (a b : BlockSeen R) (x : ℕ) → Looks remaining a b (Some x) → is_wanted x ≡ true → NextIs is_wanted b
 next_is remaining is_wanted a b x l e = record {
-  at_end = λ none. let no : Some x ≡ None = l.byte_is ∙ ap first_of none in absurd cc;
-  before = λ y bs here. let some : Some x ≡ Some y = l.byte_is ∙ ap first_of here in let same : x ≡ y = cc in subst (λ z. is_wanted z ≡ true) same e;
+  at_end = λ none. let no : Some x ≡ None = l.byte_is ∙ ap first_input_byte none in absurd cc;
+  before = λ y bs here. let some : Some x ≡ Some y = l.byte_is ∙ ap first_input_byte here in let same : x ≡ y = cc in subst (λ z. is_wanted z ≡ true) same e;
 }
 
 pub next_is_end : {R : Type 0} (remaining : R → Option (List ℕ)) (is_wanted : ℕ → Bool) (a b : BlockSeen R) → Looks remaining a b None → NextIs is_wanted b
 next_is_end remaining is_wanted a b l = record {
   at_end = λ none. l.at_end refl;
-  before = λ y bs here. let no : None ≡ Some y = l.byte_is ∙ ap first_of here in absurd cc;
+  before = λ y bs here. let no : None ≡ Some y = l.byte_is ∙ ap first_input_byte here in absurd cc;
 }
 
 pub consumes_more : (p q r : Option (List ℕ)) (xs ys : List ℕ) → Consumes p q xs → Consumes q r ys → Consumes p r (xs ++ ys)

@@ -6,7 +6,7 @@ use Rattle.std.proofs.lemmas.List.{append_assoc, length-append}
 use Rattle.std.proofs.lemmas.List.Folds.{list_all-append}
 use Rattle.ss_base.specs.declared.fault.FaultKind.TheVariants.{BadData}
 use Rattle.ss_input.specs.declared.source.Source.{Source}
-use Rattle.ss_input.specs.Blocks.{BlockSeen, first_of}
+use Rattle.ss_input.specs.Blocks.{BlockSeen, first_input_byte}
 use Rattle.ss_input.specs.Sources.{Gives, Passes, Passed, GapPassed, WordPassed, NextIs}
 use Rattle.ss_input.specs.Inputs.{source_block, source_gap, Reaches, IsAhead, Reads, Finds}
 use Rattle.ss_input.specs.Words.{is_separator, is_word_byte, from_word, word_at, next_word, is_ended, no_word}
@@ -78,16 +78,16 @@ module _ {R : Type 0} (remaining : R → Option (List ℕ)) where
         subst (λ i. from_word i ≡ Ok ((source_block mid).left ++ more)) (sym r.3) (word_next r.0 ((source_block mid).left ++ more) r.1 (stops-separators (source_block mid) more h.next e) (omega (arith, r.2, small))),
       )
 
-  first_none : (l : List ℕ) → first_of l ≡ None → l ≡ []
+  first_none : (l : List ℕ) → first_input_byte l ≡ None → l ≡ []
   first_none [] e = refl
   first_none (x ∷ l) e = absurd cc
 
-  some_left : (l m : List ℕ) → (first_of l ≡ None → ⊥) → l ++ m ≡ [] → ⊥
+  some_left : (l m : List ℕ) → (first_input_byte l ≡ None → ⊥) → l ++ m ≡ [] → ⊥
   some_left [] m h e = h refl
   some_left (x ∷ l) m h e = absurd cc
 
   -- no word is left
-  pub none_found : (old mid : Source R) → Reaches remaining old mid → source_gap mid ≤ 1048576 → first_of (source_block mid).left ≡ None → Finds remaining old mid (λ input. from_word input ≡ Ok [])
+  pub none_found : (old mid : Source R) → Reaches remaining old mid → source_gap mid ≤ 1048576 → first_input_byte (source_block mid).left ≡ None → Finds remaining old mid (λ input. from_word input ≡ Ok [])
   none_found old mid h small none = record {
     got = h.passed.passes.got;
     consumed = h.passed.passes.consumed;
@@ -99,7 +99,7 @@ module _ {R : Type 0} (remaining : R → Option (List ℕ)) where
         r.1 ∙ ap (λ l. Ok (l ++ more)) left ∙ ap Ok nothing;
   }
 
-  module _ (old mid new : Source R) (h : Reaches remaining old mid) (small : source_gap mid ≤ 1048576) (some : first_of (source_block mid).left ≡ None → ⊥) where
+  module _ (old mid new : Source R) (h : Reaches remaining old mid) (small : source_gap mid ≤ 1048576) (some : first_input_byte (source_block mid).left ≡ None → ⊥) where
     -- the input before a word, where the reader gave some bytes while it was passed
     before_word : (w : List ℕ) (g : Passes remaining (source_block mid) (source_block new) w) (more input : List ℕ) → ((source_block new).ended ≡ true → more ≡ []) → IsAhead old ((h.passed.passes.got ++ g.got) ++ more) input → (from_word input ≡ Ok (w ++ ((source_block new).left ++ more))) × (w ++ ((source_block new).left ++ more) ≡ [] → ⊥)
     before_word w g more input e st =

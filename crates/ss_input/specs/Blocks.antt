@@ -19,9 +19,9 @@ block_code {R} reader_code =
     code_by (R × (List ℕ × Bool)) (coded× reader_code (coded× (coded_list coded_ℕ) coded_bool)) (λ s. (s.reader, (s.left, s.ended))) (λ p. record { reader = p.0; left = p.1.0; ended = p.1.1 }) (λ _. refl)
 
 -- the first byte, if there is one
-abbrev pub first_of : List ℕ → Option ℕ
-first_of [] = None
-first_of (b ∷ bs) = Some b
+abbrev pub first_input_byte : List ℕ → Option ℕ
+first_input_byte [] = None
+first_input_byte (b ∷ bs) = Some b
 
 -- a block that was asked for where no byte was left: the reader gave these bytes, or its end
 pub record Fills {R : Type 0} (remaining : R → Option (List ℕ)) (old new : BlockSeen R) : Type 0 where
@@ -42,7 +42,7 @@ pub record Looks {R : Type 0} (remaining : R → Option (List ℕ)) (old new : B
   pub consumed : Consumes (remaining old.reader) (remaining new.reader) got
   pub left : new.left ≡ old.left ++ got
   pub after_end : old.ended ≡ true → (got ≡ []) × (new.ended ≡ true)
-  pub byte_is : byte ≡ first_of new.left
+  pub byte_is : byte ≡ first_input_byte new.left
   pub at_end : byte ≡ None → new.ended ≡ true
   pub few : length got ≤ block_limit
 

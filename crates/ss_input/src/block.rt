@@ -3,7 +3,7 @@
 ghost use Rattle.std.specs.Prelude.{◌≡◌, ◌≢◌, ◌<◌, ◌≤◌, [], true, false, length, drop, IfOk, OnOk, OnErr};
 ghost use Rattle.std.specs.Io.KnownBytes.{Keeps};
 ghost use Rattle.ss_base.specs.Failures.{errors_after};
-ghost use Rattle.ss_input.specs.Blocks.{KnowsEnd, Looks, Fills, Unread, first_of};
+ghost use Rattle.ss_input.specs.Blocks.{KnowsEnd, Looks, Fills, Unread, first_input_byte};
 
 use ss_base::FaultyRead;
 use std::marker::Model;
@@ -65,7 +65,7 @@ impl<R> Block<R> {
 
     /// The first of the buffered bytes.
     pub fn first(&self) -> Option<u8>
-        ensures { result ≡ first_of self.now.left }
+        ensures { result ≡ first_input_byte self.now.left }
     {
         match &self.room[self.next..self.end] {
             [] => None,

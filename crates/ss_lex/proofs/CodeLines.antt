@@ -5,14 +5,14 @@ use Rattle.std.specs.Option.{option_or}
 use Rattle.std.proofs.lemmas.List.{append-nil}
 use Rattle.std.proofs.lemmas.Bool.Decides.{nat_tests}
 use Rattle.ss_lex.specs.declared.token.Token.{Token}
-use Rattle.ss_lex.specs.declared.meaning.Meaning.{Meaning}
-use Rattle.ss_lex.specs.declared.meaning.Meaning.TheVariants as meanings
+use Rattle.ss_lex.specs.declared.meaning.PieceMeaning.{PieceMeaning}
+use Rattle.ss_lex.specs.declared.meaning.PieceMeaning.TheVariants as meanings
 use Rattle.ss_lex.specs.declared.meaning.Fault.{Fault}
 use Rattle.ss_lex.specs.declared.error.LexError.TheVariants as errors
-use Rattle.ss_lex.specs.Pieces.{Piece, spelled, meaning, fault_in, first_fault}
+use Rattle.ss_lex.specs.Pieces.{LinePiece, spelled, piece_meaning, fault_in, first_fault}
 use Rattle.ss_lex.specs.Tokens.{token_in, tokens_of, is_trigger, has_kind, called_by}
 use Rattle.ss_lex.specs.Refusals.{refusal_for, means_trigger, has_trigger, to_trigger, cut_of, line_refusal}
-use Rattle.ss_lex.specs.Reading.{piece_at, pieces, step_of, trigger_step_of, due_from, refusal_from, fault_refusal, IsRead, IsReadTo}
+use Rattle.ss_lex.specs.Reading.{piece_at, pieces, step_of, trigger_step_of, due_from, refusal_from, fault_refusal, IsCodeLineRead, IsReadTo}
 use Rattle.ss_lex.proofs.Cutting.{which, cut_complete, pieces_sound, piece_place}
 
 -- ---- the piece at the front
@@ -24,22 +24,22 @@ pieces_more b bs =
     ap (λ ps. (piece_at b bs).0 ∷ ps) (cut_complete (pieces (piece_at b bs).1) (length bs) (piece_at b bs).1 (omega (arith, place.0, place.1)) (pieces_sound (piece_at b bs).1))
 
 -- a step of the code: what the first piece means, and what follows it
-pub record Stepped (rest : List ℕ) (m : Meaning) (after : List ℕ) : Type 0 where
-  pub piece : Piece
-  pub means : meaning piece ≡ m
+pub record Stepped (rest : List ℕ) (m : PieceMeaning) (after : List ℕ) : Type 0 where
+  pub piece : LinePiece
+  pub means : piece_meaning piece ≡ m
   pub all : pieces rest ≡ piece ∷ pieces after
   pub place : length (spelled piece) + length after ≡ length rest
   pub less : length after < length rest
 
-pub stepped : (rest : List ℕ) (m : Meaning) (after : List ℕ) → 0 < length rest → (m, after) ≡ step_of rest → Stepped rest m after
+pub stepped : (rest : List ℕ) (m : PieceMeaning) (after : List ℕ) → 0 < length rest → (m, after) ≡ step_of rest → Stepped rest m after
 unfolding step_of
 stepped [] m after some e = absurd (omega arith)
 stepped (b ∷ bs) m after some e =
     let place = piece_place b bs in
-    let after_is : after ≡ (piece_at b bs).1 = ap (λ (p : Meaning × List ℕ). p.1) e in
+    let after_is : after ≡ (piece_at b bs).1 = ap (λ (p : PieceMeaning × List ℕ). p.1) e in
     record {
       piece = (piece_at b bs).0;
-      means = sym (ap (λ (p : Meaning × List ℕ). p.0) e);
+      means = sym (ap (λ (p : PieceMeaning × List ℕ). p.0) e);
       all = pieces_more b bs ∙ ap (λ l. (piece_at b bs).0 ∷ pieces l) (sym after_is);
       place = ap (λ l. length (spelled (piece_at b bs).0) + length l) after_is ∙ place.1;
       less = omega (arith, ap length after_is, place.0, place.1);
@@ -58,10 +58,10 @@ trigger_step rest after t some e =
     let after_is : after ≡ (step_of rest).1 = ap (λ (p : Bool × List ℕ). p.1) e in
     (stepped rest (step_of rest).0 after some (ap (λ l. ((step_of rest).0, l)) after_is), ap (λ (p : Bool × List ℕ). p.0) e)
 
-pub trigger_here : (rest : List ℕ) (m : Meaning) (after : List ℕ) → Stepped rest m after → means_trigger m ≡ true → has_trigger (pieces rest) ≡ true
+pub trigger_here : (rest : List ℕ) (m : PieceMeaning) (after : List ℕ) → Stepped rest m after → means_trigger m ≡ true → has_trigger (pieces rest) ≡ true
 trigger_here rest m after s t = ap has_trigger s.all ∙ ap (λ b. b || has_trigger (pieces after)) (ap means_trigger s.means ∙ t)
 
-pub trigger_after : (rest : List ℕ) (m : Meaning) (after : List ℕ) → Stepped rest m after → means_trigger m ≡ false → has_trigger (pieces rest) ≡ has_trigger (pieces after)
+pub trigger_after : (rest : List ℕ) (m : PieceMeaning) (after : List ℕ) → Stepped rest m after → means_trigger m ≡ false → has_trigger (pieces rest) ≡ has_trigger (pieces after)
 trigger_after rest m after s t = ap has_trigger s.all ∙ ap (λ b. b || has_trigger (pieces after)) (ap means_trigger s.means ∙ t)
 
 any_append : (ts us : List Token) → has_kind is_trigger (ts ++ us) ≡ (has_kind is_trigger ts || has_kind is_trigger us)
@@ -72,7 +72,7 @@ any_append (t ∷ ts) us = ap (λ b. is_trigger t.kind || b) (any_append ts us) 
     go true b c = refl
     go false b c = refl
 
-trigger_in : (m : Meaning) (start line : ℕ) → has_kind is_trigger (token_in m start line) ≡ means_trigger m
+trigger_in : (m : PieceMeaning) (start line : ℕ) → has_kind is_trigger (token_in m start line) ≡ means_trigger m
 trigger_in meanings.Nothing start line = refl
 trigger_in (meanings.Token kind spelling) start line = go (is_trigger kind)
   where
@@ -81,11 +81,11 @@ trigger_in (meanings.Token kind spelling) start line = go (is_trigger kind)
     go false = refl
 trigger_in (meanings.Fault fault) start line = refl
 
-triggers_of : (ps : List Piece) (start line : ℕ) → has_kind is_trigger (tokens_of ps start line) ≡ has_trigger ps
+triggers_of : (ps : List LinePiece) (start line : ℕ) → has_kind is_trigger (tokens_of ps start line) ≡ has_trigger ps
 triggers_of [] start line = refl
 triggers_of (p ∷ ps) start line =
-    any_append (token_in (meaning p) start line) (tokens_of ps (start + length (spelled p)) line)
-    ∙ (λ i. trigger_in (meaning p) start line i || triggers_of ps (start + length (spelled p)) line i)
+    any_append (token_in (piece_meaning p) start line) (tokens_of ps (start + length (spelled p)) line)
+    ∙ (λ i. trigger_in (piece_meaning p) start line i || triggers_of ps (start + length (spelled p)) line i)
 
 -- ---- how many pictures are called for
 
@@ -118,14 +118,14 @@ due_more due before t ts =
       ]
     ]
 
-due_step : (due : ℕ) (before : List Token) (m : Meaning) (start line : ℕ) (ts : List Token) → due_from due before (token_in m start line ++ ts) ≡ due_from (due_from due before (token_in m start line)) (before ++ token_in m start line) ts
+due_step : (due : ℕ) (before : List Token) (m : PieceMeaning) (start line : ℕ) (ts : List Token) → due_from due before (token_in m start line ++ ts) ≡ due_from (due_from due before (token_in m start line)) (before ++ token_in m start line) ts
 due_step due before meanings.Nothing start line ts = ap (λ l. due_from due l ts) (sym (append-nil before))
 due_step due before (meanings.Token kind spelling) start line ts = due_more due before (record { kind = kind; span = record { start = start; length = spelling }; line = record { 0 = line } }) ts
 due_step due before (meanings.Fault fault) start line ts = ap (λ l. due_from due l ts) (sym (append-nil before))
 
 -- ---- what is wrong first
 
-no_trigger : (ps : List Piece) → has_trigger ps ≡ false → to_trigger ps ≡ []
+no_trigger : (ps : List LinePiece) → has_trigger ps ≡ false → to_trigger ps ≡ []
 no_trigger [] e = refl
 no_trigger (p ∷ ps) e = rw e refl
 
@@ -133,22 +133,22 @@ or_true : (a : Bool) → (a || true) ≡ true
 or_true true = refl
 or_true false = refl
 
-fault_to_trigger : (p : Piece) (ps : List Piece) → fault_in (meaning p) ≡ None → first_fault (to_trigger (p ∷ ps)) ≡ first_fault (to_trigger ps)
+fault_to_trigger : (p : LinePiece) (ps : List LinePiece) → fault_in (piece_meaning p) ≡ None → first_fault (to_trigger (p ∷ ps)) ≡ first_fault (to_trigger ps)
 fault_to_trigger p ps e =
     elim (which (has_trigger ps)) [
-      | inl q ↦ let t : (means_trigger (meaning p) || has_trigger ps) ≡ true = ap (λ b. means_trigger (meaning p) || b) q ∙ or_true (means_trigger (meaning p)) in
+      | inl q ↦ let t : (means_trigger (piece_meaning p) || has_trigger ps) ≡ true = ap (λ b. means_trigger (piece_meaning p) || b) q ∙ or_true (means_trigger (piece_meaning p)) in
           ap (λ (b : Bool). first_fault (if b then p ∷ to_trigger ps else [])) t ∙ ap (λ o. option_or o (first_fault (to_trigger ps))) e
-      | inr q ↦ elim (which (means_trigger (meaning p))) [
+      | inr q ↦ elim (which (means_trigger (piece_meaning p))) [
         | inl r ↦ ap (λ (b : Bool). first_fault (if (b || has_trigger ps) then p ∷ to_trigger ps else [])) r ∙ ap (λ o. option_or o (first_fault (to_trigger ps))) e
         | inr r ↦ (λ i. first_fault (if (r i || q i) then p ∷ to_trigger ps else [])) ∙ ap first_fault (sym (no_trigger ps q))
       ]
     ]
 
-refusal_step : (due : ℕ) (before : List Token) (p : Piece) (ps : List Piece) (at line left : ℕ) → fault_in (meaning p) ≡ None → refusal_from due before (p ∷ ps) at line left ≡ refusal_from (due_from due before (token_in (meaning p) at line)) (before ++ token_in (meaning p) at line) ps (at + length (spelled p)) line left
+refusal_step : (due : ℕ) (before : List Token) (p : LinePiece) (ps : List LinePiece) (at line left : ℕ) → fault_in (piece_meaning p) ≡ None → refusal_from due before (p ∷ ps) at line left ≡ refusal_from (due_from due before (token_in (piece_meaning p) at line)) (before ++ token_in (piece_meaning p) at line) ps (at + length (spelled p)) line left
 unfolding refusal_from
 refusal_step due before p ps at line left e =
     λ i. option_or (refusal_for (fault_to_trigger p ps e i) line)
-    (option_or (cut_of left (due_step due before (meaning p) at line (tokens_of ps (at + length (spelled p)) line) i) line)
+    (option_or (cut_of left (due_step due before (piece_meaning p) at line (tokens_of ps (at + length (spelled p)) line) i) line)
     (refusal_for (option_or (e i) (first_fault ps)) line))
 
 -- ---- a line of code
@@ -162,33 +162,33 @@ read_none bytes start line left old = record {
   first = ap (λ n. option_or (refusal_for (first_fault (to_trigger (pieces bytes))) line) (option_or (cut_of left n line) (refusal_for (first_fault (pieces bytes)) line))) (from_none old (tokens_of (pieces bytes) start line));
 }
 
-pub read_more : (bytes : List ℕ) (start line left : ℕ) (old tokens new : List Token) (rest after : List ℕ) (at due due' : ℕ) (m : Meaning) → IsReadTo bytes start line left old tokens rest at due → Stepped rest m after → fault_in m ≡ None → new ≡ tokens ++ token_in m at line → due' ≡ due_from due tokens (token_in m at line) → IsReadTo bytes start line left old new after (at + (length rest - length after)) due'
+pub read_more : (bytes : List ℕ) (start line left : ℕ) (old tokens new : List Token) (rest after : List ℕ) (at due due' : ℕ) (m : PieceMeaning) → IsReadTo bytes start line left old tokens rest at due → Stepped rest m after → fault_in m ≡ None → new ≡ tokens ++ token_in m at line → due' ≡ due_from due tokens (token_in m at line) → IsReadTo bytes start line left old new after (at + (length rest - length after)) due'
 read_more bytes start line left old tokens new rest after at due due' m r s f n d =
     let p = s.piece in
-    let here : token_in m at line ≡ token_in (meaning p) at line = ap (λ x. token_in x at line) (sym s.means) in
-    let new_is : new ≡ tokens ++ token_in (meaning p) at line = n ∙ ap (λ l. tokens ++ l) here in
-    let due_is : due' ≡ due_from due tokens (token_in (meaning p) at line) = d ∙ ap (due_from due tokens) here in
+    let here : token_in m at line ≡ token_in (piece_meaning p) at line = ap (λ x. token_in x at line) (sym s.means) in
+    let new_is : new ≡ tokens ++ token_in (piece_meaning p) at line = n ∙ ap (λ l. tokens ++ l) here in
+    let due_is : due' ≡ due_from due tokens (token_in (piece_meaning p) at line) = d ∙ ap (due_from due tokens) here in
     let at_is : at + (length rest - length after) ≡ at + length (spelled p) = omega (arith, s.place) in
     let ts = tokens_of (pieces after) (at + length (spelled p)) line in
-    let split : tokens_of (pieces rest) at line ≡ token_in (meaning p) at line ++ ts = ap (λ ps. tokens_of ps at line) s.all in
+    let split : tokens_of (pieces rest) at line ≡ token_in (piece_meaning p) at line ++ ts = ap (λ ps. tokens_of ps at line) s.all in
     record {
       place = omega (arith, s.place, s.less, r.place);
-      listed = (λ i. new_is i ++ tokens_of (pieces after) (at_is i) line) ∙ (append_assoc tokens (token_in (meaning p) at line) ts ∙ (ap (λ l. tokens ++ l) (sym split) ∙ r.listed));
-      called = (λ i. due_from (due_is i) (new_is i) (tokens_of (pieces after) (at_is i) line)) ∙ (sym (due_step due tokens (meaning p) at line ts) ∙ (ap (due_from due tokens) (sym split) ∙ r.called));
+      listed = (λ i. new_is i ++ tokens_of (pieces after) (at_is i) line) ∙ (append_assoc tokens (token_in (piece_meaning p) at line) ts ∙ (ap (λ l. tokens ++ l) (sym split) ∙ r.listed));
+      called = (λ i. due_from (due_is i) (new_is i) (tokens_of (pieces after) (at_is i) line)) ∙ (sym (due_step due tokens (piece_meaning p) at line ts) ∙ (ap (due_from due tokens) (sym split) ∙ r.called));
       first = (λ i. refusal_from (due_is i) (new_is i) (pieces after) (at_is i) line left) ∙ (sym (refusal_step due tokens p (pieces after) at line left (ap fault_in s.means ∙ f)) ∙ (ap (λ ps. refusal_from due tokens ps at line left) (sym s.all) ∙ r.first));
     }
 
-fault_at : (m : Meaning) (f : Fault) → fault_in m ≡ Some f → m ≡ meanings.Fault f
+fault_at : (m : PieceMeaning) (f : Fault) → fault_in m ≡ Some f → m ≡ meanings.Fault f
 fault_at meanings.Nothing f e = absurd cc
 fault_at (meanings.Token kind spelling) f e = absurd cc
 fault_at (meanings.Fault g) f e = cc
 
-pub read_fault : (bytes : List ℕ) (start line left : ℕ) (old tokens : List Token) (rest after : List ℕ) (at due : ℕ) (m : Meaning) (fault : Fault) → IsReadTo bytes start line left old tokens rest at due → Stepped rest m after → fault_in m ≡ Some fault → line_refusal (pieces bytes) old start line left ≡ Some (fault_refusal fault after due left line)
+pub read_fault : (bytes : List ℕ) (start line left : ℕ) (old tokens : List Token) (rest after : List ℕ) (at due : ℕ) (m : PieceMeaning) (fault : Fault) → IsReadTo bytes start line left old tokens rest at due → Stepped rest m after → fault_in m ≡ Some fault → line_refusal (pieces bytes) old start line left ≡ Some (fault_refusal fault after due left line)
 unfolding refusal_from
 read_fault bytes start line left old tokens rest after at due m fault r s f =
     let p = s.piece in
     let ps = pieces after in
-    let is : meaning p ≡ meanings.Fault fault = s.means ∙ fault_at m fault f in
+    let is : piece_meaning p ≡ meanings.Fault fault = s.means ∙ fault_at m fault f in
     sym r.first ∙ (ap (λ l. refusal_from due tokens l at line left) s.all ∙ elim (which (has_trigger ps)) [
       | inl q ↦ rw (is, q, is) refl
       | inr q ↦
@@ -205,7 +205,7 @@ read_cut bytes start line left old tokens rest at due r e lt =
     let c : nat_lt left due ≡ true = grind (arith, nat_tests) in
     sym r.first ∙ (ap (λ l. refusal_from due tokens l at line left) (none_left rest e) ∙ rw c refl)
 
-pub read_all : (bytes : List ℕ) (start line left : ℕ) (old tokens : List Token) (rest : List ℕ) (at due : ℕ) → IsReadTo bytes start line left old tokens rest at due → length rest ≡ 0 → due ≤ left → IsRead bytes start line left old tokens due
+pub read_all : (bytes : List ℕ) (start line left : ℕ) (old tokens : List Token) (rest : List ℕ) (at due : ℕ) → IsReadTo bytes start line left old tokens rest at due → length rest ≡ 0 → due ≤ left → IsCodeLineRead bytes start line left old tokens due
 unfolding refusal_from
 read_all bytes start line left old tokens rest at due r e le =
     let c : nat_lt left due ≡ false = grind (arith, nat_tests) in

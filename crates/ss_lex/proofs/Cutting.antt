@@ -4,8 +4,8 @@ use Rattle.std.specs.List.{prefix_len, list_all}
 use Rattle.std.proofs.lemmas.Bool.{eqb-true}
 use Rattle.std.proofs.lemmas.List.{append-nil, drop-drop}
 use Rattle.ss_base.specs.Values.{is_text_byte}
-use Rattle.ss_lex.specs.Pieces.{Piece, separator, word, comment, open_comment, quoted, open_quoted, single, spelled, is_separator, is_word_byte, is_quotable, is_apostrophe, begins, opens_comment, is_apart, is_closed, Fits, IsCut, meaning}
-use Rattle.ss_lex.specs.declared.meaning.Meaning.TheVariants as meanings
+use Rattle.ss_lex.specs.Pieces.{LinePiece, separator, word, comment, open_comment, quoted, open_quoted, single, spelled, is_blank_byte, is_word_part, is_quotable, is_apostrophe, passes_first, opens_comment, is_apart, is_closed, FitsBefore, IsCutInto, piece_meaning}
+use Rattle.ss_lex.specs.declared.meaning.PieceMeaning.TheVariants as meanings
 use Rattle.ss_lex.specs.Reading.{longer, comment_at, quotable_length, quoted_at, run_length, piece_at, cut, pieces}
 
 pub which : (b : Bool) → (b ≡ true) ⊎ (b ≡ false)
@@ -18,7 +18,7 @@ both_true false b e = absurd cc
 
 -- ---- the longest run of bytes that pass a test
 
-run_splits : (test : ℕ → Bool) (bs : List ℕ) → (bs ≡ take (prefix_len test bs) bs ++ drop (prefix_len test bs) bs) × (list_all test (take (prefix_len test bs) bs) ≡ true) × (begins test (drop (prefix_len test bs) bs) ≡ false)
+run_splits : (test : ℕ → Bool) (bs : List ℕ) → (bs ≡ take (prefix_len test bs) bs ++ drop (prefix_len test bs) bs) × (list_all test (take (prefix_len test bs) bs) ≡ true) × (passes_first test (drop (prefix_len test bs) bs) ≡ false)
 run_splits test [] = (refl, refl, refl)
 run_splits test (b ∷ bs) =
     let h = run_splits test bs in
@@ -29,7 +29,7 @@ run_splits test (b ∷ bs) =
       | inr p ↦ rw p (refl, refl, p)
     ]
 
-run_again : (test : ℕ → Bool) (w rest : List ℕ) → list_all test w ≡ true → begins test rest ≡ false → (take (prefix_len test (w ++ rest)) (w ++ rest) ≡ w) × (drop (prefix_len test (w ++ rest)) (w ++ rest) ≡ rest)
+run_again : (test : ℕ → Bool) (w rest : List ℕ) → list_all test w ≡ true → passes_first test rest ≡ false → (take (prefix_len test (w ++ rest)) (w ++ rest) ≡ w) × (drop (prefix_len test (w ++ rest)) (w ++ rest) ≡ rest)
 run_again test [] [] all stop = (refl, refl)
 run_again test [] (r ∷ rest) all stop = rw stop (refl, refl)
 run_again test (b ∷ w) rest all stop =
@@ -45,17 +45,17 @@ run_again test (b ∷ w) rest all stop =
 -- ---- comments
 
 -- a comment of these bytes
-abbrev IsComment : List ℕ → Piece × List ℕ → Type 0
+abbrev IsComment : List ℕ → LinePiece × List ℕ → Type 0
 IsComment bs (comment body, rest) = (bs ≡ body ++ 39 ∷ 39 ∷ rest) × (is_apart (body ++ 39 ∷ []) ≡ true)
 IsComment bs (open_comment body, rest) = (bs ≡ body) × (is_apart body ≡ true) × (rest ≡ [])
 IsComment bs (_, rest) = ⊥
 
 -- the first byte is that of the body with an apostrophe after it
-quote_same : (body bs rest : List ℕ) → bs ≡ body ++ 39 ∷ 39 ∷ rest → begins is_apostrophe (body ++ 39 ∷ []) ≡ begins is_apostrophe bs
+quote_same : (body bs rest : List ℕ) → bs ≡ body ++ 39 ∷ 39 ∷ rest → passes_first is_apostrophe (body ++ 39 ∷ []) ≡ passes_first is_apostrophe bs
 quote_same [] bs rest e = rw e refl
 quote_same (c ∷ body) bs rest e = rw e refl
 
-longer_comment : (b : ℕ) (bs : List ℕ) (c : Piece × List ℕ) → opens_comment b bs ≡ false → IsComment bs c → IsComment (b ∷ bs) (longer b c)
+longer_comment : (b : ℕ) (bs : List ℕ) (c : LinePiece × List ℕ) → opens_comment b bs ≡ false → IsComment bs c → IsComment (b ∷ bs) (longer b c)
 longer_comment b bs (comment body, rest) e (h, k) =
     let test : opens_comment b (body ++ 39 ∷ []) ≡ false = ap (λ q. is_apostrophe b && q) (quote_same body bs rest h) ∙ e in
     (ap (λ l. b ∷ l) h, rw test k)
@@ -68,7 +68,7 @@ longer_comment b bs (quoted w, rest) e h = absurd h
 longer_comment b bs (open_quoted w, rest) e h = absurd h
 longer_comment b bs (single c, rest) e h = absurd h
 
-apostrophe_there : (bs : List ℕ) → begins is_apostrophe bs ≡ true → bs ≡ 39 ∷ drop 1 bs
+apostrophe_there : (bs : List ℕ) → passes_first is_apostrophe bs ≡ true → bs ≡ 39 ∷ drop 1 bs
 apostrophe_there [] e = absurd cc
 apostrophe_there (c ∷ bs) e = ap (λ x. x ∷ bs) (eqb-true c 39 e)
 
@@ -79,11 +79,11 @@ comment_is (b ∷ bs) = go (opens_comment b bs) refl (comment_is bs)
   where
     go : (t : Bool) → opens_comment b bs ≡ t → IsComment bs (comment_at bs) → IsComment (b ∷ bs) (comment_at (b ∷ bs))
     go true e ih =
-        let two = both_true (is_apostrophe b) (begins is_apostrophe bs) e in
+        let two = both_true (is_apostrophe b) (passes_first is_apostrophe bs) e in
         rw e (λ i. eqb-true b 39 two.0 i ∷ apostrophe_there bs two.1 i, refl)
     go false e ih = rw e (longer_comment b bs (comment_at bs) e ih)
 
-comment_fits : (bs : List ℕ) (c : Piece × List ℕ) → IsComment bs c → (39 ∷ 39 ∷ bs ≡ spelled c.0 ++ c.1) × Fits c.0 c.1
+comment_fits : (bs : List ℕ) (c : LinePiece × List ℕ) → IsComment bs c → (39 ∷ 39 ∷ bs ≡ spelled c.0 ++ c.1) × FitsBefore c.0 c.1
 comment_fits bs (comment body, rest) (h, k) = (ap (λ l. 39 ∷ 39 ∷ l) (h ∙ sym (append_assoc body (39 ∷ 39 ∷ []) rest)), k)
 comment_fits bs (open_comment body, rest) (h, k, r) = (ap (λ l. 39 ∷ 39 ∷ l) (h ∙ sym (append-nil body) ∙ ap (λ r. body ++ r) (sym r)), (k, r))
 comment_fits bs (separator c, rest) h = absurd h
@@ -120,7 +120,7 @@ quote_not_quotable : (b : ℕ) → (b == 34) ≡ true → is_quotable b ≡ fals
 quote_not_quotable b e = let same = eqb-true b 34 e in ap is_quotable same
 
 -- a text is closed where a quote follows its quotable bytes
-pub closed_is : (bs : List ℕ) → is_closed bs ≡ begins (λ b. b == 34) (drop (quotable_length bs) bs)
+pub closed_is : (bs : List ℕ) → is_closed bs ≡ passes_first (λ b. b == 34) (drop (quotable_length bs) bs)
 closed_is [] = refl
 closed_is (b ∷ bs) =
     let ih = closed_is bs in
@@ -133,11 +133,11 @@ closed_is (b ∷ bs) =
       ]
     ]
 
-quote_there : (bs : List ℕ) → begins (λ b. b == 34) bs ≡ true → bs ≡ 34 ∷ drop 1 bs
+quote_there : (bs : List ℕ) → passes_first (λ b. b == 34) bs ≡ true → bs ≡ 34 ∷ drop 1 bs
 quote_there [] e = absurd cc
 quote_there (c ∷ bs) e = ap (λ x. x ∷ bs) (eqb-true c 34 e)
 
-quoted_fits : (bs : List ℕ) → (34 ∷ bs ≡ spelled (quoted_at bs).0 ++ (quoted_at bs).1) × Fits (quoted_at bs).0 (quoted_at bs).1
+quoted_fits : (bs : List ℕ) → (34 ∷ bs ≡ spelled (quoted_at bs).0 ++ (quoted_at bs).1) × FitsBefore (quoted_at bs).0 (quoted_at bs).1
 unfolding quoted_at
 quoted_fits bs =
     elim (which (is_closed bs)) [
@@ -153,7 +153,7 @@ quoted_fits bs =
 closed_body : (body rest : List ℕ) → list_all is_quotable body ≡ true → is_closed (body ++ 34 ∷ rest) ≡ true
 closed_body body rest all =
     let h = run_again is_quotable body (34 ∷ rest) all refl in
-    closed_is (body ++ 34 ∷ rest) ∙ ap (begins (λ b. b == 34)) h.1
+    closed_is (body ++ 34 ∷ rest) ∙ ap (passes_first (λ b. b == 34)) h.1
 
 quoted_again : (body rest : List ℕ) → list_all is_quotable body ≡ true → quoted_at (body ++ 34 ∷ rest) ≡ (quoted body, rest)
 unfolding quoted_at
@@ -176,18 +176,18 @@ open_again body rest f b bs e =
 
 -- ---- a line
 
-piece_fits : (b : ℕ) (bs : List ℕ) → ((b ∷ bs) ≡ spelled (piece_at b bs).0 ++ (piece_at b bs).1) × Fits (piece_at b bs).0 (piece_at b bs).1
+piece_fits : (b : ℕ) (bs : List ℕ) → ((b ∷ bs) ≡ spelled (piece_at b bs).0 ++ (piece_at b bs).1) × FitsBefore (piece_at b bs).0 (piece_at b bs).1
 unfolding piece_at
 piece_fits b bs =
-    elim (which (is_separator b)) [
+    elim (which (is_blank_byte b)) [
       | inl p ↦ rw p (refl, p)
       | inr p ↦
-          elim (which (is_word_byte b)) [
-            | inl q ↦ let h = run_splits is_word_byte bs in let all : list_all is_word_byte (take (run_length bs) bs) ≡ true = h.1 in rw (p, q) (ap (λ l. b ∷ l) h.0, (omega arith, rw (q, all) refl, h.2))
+          elim (which (is_word_part b)) [
+            | inl q ↦ let h = run_splits is_word_part bs in let all : list_all is_word_part (take (run_length bs) bs) ≡ true = h.1 in rw (p, q) (ap (λ l. b ∷ l) h.0, (omega arith, rw (q, all) refl, h.2))
             | inr q ↦
                 elim (which (opens_comment b bs)) [
                   | inl r ↦
-                      let two = both_true (is_apostrophe b) (begins is_apostrophe bs) r in
+                      let two = both_true (is_apostrophe b) (passes_first is_apostrophe bs) r in
                       let h = comment_fits (drop 1 bs) (comment_at (drop 1 bs)) (comment_is (drop 1 bs)) in
                       rw (p, q, r) ((λ i. eqb-true b 39 two.0 i ∷ apostrophe_there bs two.1 i) ∙ h.0, h.1)
                   | inr r ↦
@@ -200,7 +200,7 @@ piece_fits b bs =
     ]
 
 -- a piece takes a byte at least
-spelled_some : (p : Piece) (rest : List ℕ) → Fits p rest → 0 < length (spelled p)
+spelled_some : (p : LinePiece) (rest : List ℕ) → FitsBefore p rest → 0 < length (spelled p)
 spelled_some (separator b) rest f = omega arith
 spelled_some (word w) rest f = f.0
 spelled_some (comment body) rest f = omega arith
@@ -209,7 +209,7 @@ spelled_some (quoted body) rest f = omega arith
 spelled_some (open_quoted body) rest f = omega arith
 spelled_some (single b) rest f = omega arith
 
-cut_sound : (n : ℕ) (bytes : List ℕ) → length bytes ≤ n → IsCut (cut n bytes) bytes
+cut_sound : (n : ℕ) (bytes : List ℕ) → length bytes ≤ n → IsCutInto (cut n bytes) bytes
 cut_sound zero [] le = refl
 cut_sound zero (b ∷ bs) le = absurd (omega arith)
 cut_sound (suc n) [] le = refl
@@ -223,10 +223,10 @@ or_true : (a b : Bool) → (a || b) ≡ true → (a ≡ true) ⊎ (b ≡ true)
 or_true true b e = inl refl
 or_true false b e = inr e
 
-word_no_separator : (b : ℕ) → is_word_byte b ≡ true → is_separator b ≡ false
-word_no_separator b w = go (is_separator b) refl
+word_no_separator : (b : ℕ) → is_word_part b ≡ true → is_blank_byte b ≡ false
+word_no_separator b w = go (is_blank_byte b) refl
   where
-    go : (t : Bool) → is_separator b ≡ t → is_separator b ≡ false
+    go : (t : Bool) → is_blank_byte b ≡ t → is_blank_byte b ≡ false
     go false e = e
     go true e =
         elim (or_true (b == 32) _ e) [
@@ -238,26 +238,26 @@ word_no_separator b w = go (is_separator b) refl
               ]
         ]
 
-piece_again : (p : Piece) (rest : List ℕ) → Fits p rest → (b : ℕ) (bs : List ℕ) → b ∷ bs ≡ spelled p ++ rest → piece_at b bs ≡ (p, rest)
+piece_again : (p : LinePiece) (rest : List ℕ) → FitsBefore p rest → (b : ℕ) (bs : List ℕ) → b ∷ bs ≡ spelled p ++ rest → piece_at b bs ≡ (p, rest)
 unfolding piece_at
 piece_again (separator c) rest f b bs e =
     let h = split b c bs rest e in
-    let t : is_separator b ≡ true = ap is_separator h.0 ∙ f in
+    let t : is_blank_byte b ≡ true = ap is_blank_byte h.0 ∙ f in
     rw t (λ i. (separator (h.0 i), h.1 i))
 piece_again (single c) rest f b bs e =
     let h = split b c bs rest e in
-    let t : is_separator b ≡ false = ap is_separator h.0 ∙ f.0 in
-    let u : is_word_byte b ≡ false = ap is_word_byte h.0 ∙ f.1 in
+    let t : is_blank_byte b ≡ false = ap is_blank_byte h.0 ∙ f.0 in
+    let u : is_word_part b ≡ false = ap is_word_part h.0 ∙ f.1 in
     let v : opens_comment b bs ≡ false = (λ i. opens_comment (h.0 i) (h.1 i)) ∙ f.3 in
     let w : (b == 34) ≡ false = ap (λ x. x == 34) h.0 ∙ f.2 in
     rw (t, u, v, w) (λ i. (single (h.0 i), h.1 i))
 piece_again (word []) rest f b bs e = absurd (omega (arith, f.0))
 piece_again (word (c ∷ w)) rest f b bs e =
     let h = split b c bs (w ++ rest) e in
-    let all = both_true (is_word_byte c) (list_all is_word_byte w) f.1 in
-    let u : is_word_byte b ≡ true = ap is_word_byte h.0 ∙ all.0 in
-    let t : is_separator b ≡ false = word_no_separator b u in
-    let g = run_again is_word_byte w rest all.1 f.2 in
+    let all = both_true (is_word_part c) (list_all is_word_part w) f.1 in
+    let u : is_word_part b ≡ true = ap is_word_part h.0 ∙ all.0 in
+    let t : is_blank_byte b ≡ false = word_no_separator b u in
+    let g = run_again is_word_part w rest all.1 f.2 in
     rw (t, u) ((λ i. (word (h.0 i ∷ take (run_length (h.1 i)) (h.1 i)), drop (run_length (h.1 i)) (h.1 i))) ∙ (λ i. (word (c ∷ g.0 i), g.1 i)))
 piece_again (comment body) rest f b bs e =
     let h = split b 39 bs (39 ∷ ((body ++ 39 ∷ 39 ∷ []) ++ rest)) e in
@@ -270,7 +270,7 @@ piece_again (quoted body) rest f b bs e =
     (λ i. piece_at (h.0 i) (h.1 i)) ∙ (ap quoted_at (append_assoc body (34 ∷ []) rest) ∙ quoted_again body rest f)
 piece_again (open_quoted body) rest f b bs e = open_again body rest f b bs e
 
-pub cut_complete : (ps : List Piece) (n : ℕ) (bytes : List ℕ) → length bytes ≤ n → IsCut ps bytes → cut n bytes ≡ ps
+pub cut_complete : (ps : List LinePiece) (n : ℕ) (bytes : List ℕ) → length bytes ≤ n → IsCutInto ps bytes → cut n bytes ≡ ps
 cut_complete [] zero bytes le c = refl
 cut_complete [] (suc n) [] le c = refl
 cut_complete [] (suc n) (b ∷ bs) le c = absurd cc
@@ -281,11 +281,11 @@ cut_complete (p ∷ ps) (suc n) (b ∷ bs) le (rest, e, f, c) =
     let more = cut_complete ps n rest (omega (arith, spelled_some p rest f, ap length e, length-append (spelled p) rest)) c in
     rw one (ap (λ qs. p ∷ qs) more)
 
-pub pieces_sound : (line : List ℕ) → IsCut (pieces line) line
+pub pieces_sound : (line : List ℕ) → IsCutInto (pieces line) line
 unfolding pieces
 pieces_sound line = cut_sound (length line) line (omega arith)
 
-pub pieces_complete : (ps : List Piece) (line : List ℕ) → IsCut ps line → pieces line ≡ ps
+pub pieces_complete : (ps : List LinePiece) (line : List ℕ) → IsCutInto ps line → pieces line ≡ ps
 unfolding pieces
 pieces_complete ps line c = cut_complete ps (length line) line (omega arith) c
 
@@ -295,7 +295,7 @@ pub comment_ends : (r : List ℕ) (b : ℕ) (bs : List ℕ) → r ≡ b ∷ bs �
 unfolding comment_at
 comment_ends r b bs e t = rw (e, t) refl
 
-longer_rest : (b : ℕ) (c : Piece × List ℕ) → (longer b c).1 ≡ c.1
+longer_rest : (b : ℕ) (c : LinePiece × List ℕ) → (longer b c).1 ≡ c.1
 longer_rest b (comment body, rest) = refl
 longer_rest b (open_comment body, rest) = refl
 longer_rest b (separator c, rest) = refl
@@ -312,7 +312,7 @@ pub comment_stops : (r : List ℕ) → r ≡ [] → r ≡ (comment_at r).1
 unfolding comment_at
 comment_stops r e = rw e refl
 
-means_nothing : (bs : List ℕ) (c : Piece × List ℕ) → IsComment bs c → meaning c.0 ≡ meanings.Nothing
+means_nothing : (bs : List ℕ) (c : LinePiece × List ℕ) → IsComment bs c → piece_meaning c.0 ≡ meanings.Nothing
 means_nothing bs (comment body, rest) h = refl
 means_nothing bs (open_comment body, rest) h = refl
 means_nothing bs (separator c, rest) h = refl
@@ -321,7 +321,7 @@ means_nothing bs (quoted w, rest) h = absurd h
 means_nothing bs (open_quoted w, rest) h = absurd h
 means_nothing bs (single c, rest) h = absurd h
 
-pub comment_meaning : (bs : List ℕ) → meaning (comment_at bs).0 ≡ meanings.Nothing
+pub comment_meaning : (bs : List ℕ) → piece_meaning (comment_at bs).0 ≡ meanings.Nothing
 comment_meaning bs = means_nothing bs (comment_at bs) (comment_is bs)
 
 -- ---- the place of a piece

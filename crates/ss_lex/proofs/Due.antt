@@ -3,7 +3,7 @@ use Rattle.std.proofs.Common.{◌≡◌, ℕ, Bool, true, false, ◌||◌, List,
 use Rattle.std.specs.Prelude.{if◌then◌else◌}
 use Rattle.std.specs.List.{list_any}
 use Rattle.ss_lex.specs.declared.token.Token.{Token}
-use Rattle.ss_lex.specs.Tokens.{is_trigger, is_print, number_in, first_number, is_print_or_trigger, has_kind, number_due}
+use Rattle.ss_lex.specs.Tokens.{is_trigger, is_print, number_in_token, first_number, is_print_or_trigger, has_kind, number_due}
 use Rattle.ss_lex.specs.Collecting.{ends_in_print, number_after, IsSummary}
 use Rattle.ss_lex.proofs.Cutting.{which}
 
@@ -58,18 +58,18 @@ number_due-push (u ∷ ts) t =
     or_true false = refl
 
     zero_at : (vs : List Token) → is_print_or_trigger t.kind ≡ true → number_after vs t.kind ≡ 0
-    zero_at vs p = ap (λ (b : Bool). if b then 0 else (if ends_in_print vs then number_in t.kind else number_due vs)) p
+    zero_at vs p = ap (λ (b : Bool). if b then 0 else (if ends_in_print vs then number_in_token t.kind else number_due vs)) p
 
     later : (vs : List Token) → is_print_or_trigger t.kind ≡ false → has_kind is_print_or_trigger vs ≡ true → number_after vs t.kind ≡ number_after (u ∷ vs) t.kind
     later [] p q = absurd cc
-    later (v ∷ vs) p q = ap (λ (n : ℕ). if is_print_or_trigger t.kind then 0 else (if ends_in_print (v ∷ vs) then number_in t.kind else n)) (ap (λ (b : Bool). if b then number_due (v ∷ vs) else (if is_print u.kind then first_number (v ∷ vs) else 0)) (sym q))
+    later (v ∷ vs) p q = ap (λ (n : ℕ). if is_print_or_trigger t.kind then 0 else (if ends_in_print (v ∷ vs) then number_in_token t.kind else n)) (ap (λ (b : Bool). if b then number_due (v ∷ vs) else (if is_print u.kind then first_number (v ∷ vs) else 0)) (sym q))
 
     here : (vs : List Token) → is_print_or_trigger t.kind ≡ false → has_kind is_print_or_trigger vs ≡ false → (if is_print u.kind then first_number (vs ++ t ∷ []) else 0) ≡ number_after (u ∷ vs) t.kind
     here [] p q = elim (which (is_print u.kind)) [ inl r ↦ rw (r, p) refl | inr r ↦ rw (r, p) refl ]
     here (v ∷ vs) p q =
-        ap (λ (b : Bool). if b then number_due (v ∷ vs) else (if is_print u.kind then number_in v.kind else 0)) (sym q)
-        ∙ (ap (λ (b : Bool). if b then number_in t.kind else number_due (u ∷ v ∷ vs)) (sym (no_print_last (v ∷ vs) q))
-        ∙ ap (λ (b : Bool). if b then 0 else (if ends_in_print (v ∷ vs) then number_in t.kind else number_due (u ∷ v ∷ vs))) (sym p))
+        ap (λ (b : Bool). if b then number_due (v ∷ vs) else (if is_print u.kind then number_in_token v.kind else 0)) (sym q)
+        ∙ (ap (λ (b : Bool). if b then number_in_token t.kind else number_due (u ∷ v ∷ vs)) (sym (no_print_last (v ∷ vs) q))
+        ∙ ap (λ (b : Bool). if b then 0 else (if ends_in_print (v ∷ vs) then number_in_token t.kind else number_due (u ∷ v ∷ vs))) (sym p))
 
 ends-push : (ts : List Token) (t : Token) → ends_in_print (ts ++ t ∷ []) ≡ is_print t.kind
 ends-push [] t = refl

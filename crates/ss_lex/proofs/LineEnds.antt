@@ -2,7 +2,7 @@
 use Rattle.std.proofs.Common.{◌≡◌, ℕ, zero, suc, ◌+◌, ◌-◌, ◌<◌, Bool, true, false, ◌==◌, List, [], ◌∷◌, length, get_or, take, drop, refl, sym, ap, ◌∙◌, arith, inl, inr, ◌⊎◌}
 use Rattle.std.specs.List.{prefix_len}
 use Rattle.std.proofs.lemmas.Bool.Decides.{nat_tests}
-use Rattle.ss_lex.specs.Lines.{with_first, lines_of, picture_of}
+use Rattle.ss_lex.specs.Lines.{with_byte_first, lines_of, picture_of}
 use Rattle.ss_lex.specs.Reading.{is_in_line}
 
 -- ---- the carriage return at the end
@@ -44,5 +44,5 @@ first_is text n some e = go text some ∙ ap (λ k. take k text ∷ lines_of (dr
         let k : 1 + prefix_len is_in_line (c ∷ bs) ≡ suc (prefix_len is_in_line (c ∷ bs)) = omega arith in
         elim (which (b == 10)) [
           | inl p ↦ rw p refl
-          | inr p ↦ rw (p, k) (ap (with_first b) ih)
+          | inr p ↦ rw (p, k) (ap (with_byte_first b) ih)
         ]

@@ -2,19 +2,19 @@
 use Rattle.std.proofs.Common.{◌≡◌, ℕ, zero, suc, ◌-◌, ◌<◌, ◌≤◌, false, ◌==◌, List, [], ◌∷◌, ◌++◌, length, get_or, take, refl, sym, ap, ◌∙◌, arith}
 use Rattle.std.proofs.lemmas.Bool.Decides.{nat_tests}
 use Rattle.std.proofs.Math.Seq.{take-suc}
-use Rattle.ss_lex.specs.Words.{in_front, without_end_periods}
+use Rattle.ss_lex.specs.Words.{with_byte_before, without_end_periods}
 
 after_period : (w : List ℕ) → without_end_periods (w ++ 46 ∷ []) ≡ without_end_periods w
 after_period [] = refl
-after_period (b ∷ bs) = ap (in_front b) (after_period bs)
+after_period (b ∷ bs) = ap (with_byte_before b) (after_period bs)
 
-in_front_more : (b c : ℕ) (bs : List ℕ) → in_front b (bs ++ c ∷ []) ≡ b ∷ (bs ++ c ∷ [])
+in_front_more : (b c : ℕ) (bs : List ℕ) → with_byte_before b (bs ++ c ∷ []) ≡ b ∷ (bs ++ c ∷ [])
 in_front_more b c [] = refl
 in_front_more b c (d ∷ bs) = refl
 
 after_other : (w : List ℕ) (c : ℕ) → (c == 46) ≡ false → without_end_periods (w ++ c ∷ []) ≡ w ++ c ∷ []
 after_other [] c e = rw e refl
-after_other (b ∷ bs) c e = ap (in_front b) (after_other bs c e) ∙ in_front_more b c bs
+after_other (b ∷ bs) c e = ap (with_byte_before b) (after_other bs c e) ∙ in_front_more b c bs
 
 -- a period is dropped
 pub one_less : (w : List ℕ) (n : ℕ) → 0 < n → n ≤ length w → get_or w (n - 1) 0 ≡ 46 → without_end_periods (take (n - 1) w) ≡ without_end_periods (take n w)

@@ -3,16 +3,16 @@ use Rattle.std.proofs.Common.{◌≡◌, ℕ, zero, suc, ◌+◌, ◌-◌, ◌<�
 use Rattle.std.proofs.lemmas.List.{append-nil}
 use Rattle.ss_lex.specs.declared.token.Token.{Token}
 use Rattle.ss_lex.specs.declared.error.LexError.{LexError}
-use Rattle.ss_lex.specs.Lines.{with_first, lines_of}
+use Rattle.ss_lex.specs.Lines.{with_byte_first, lines_of}
 use Rattle.ss_lex.specs.Tokens.{tokens_of, called_by, picture_at, AreTokensOf}
 use Rattle.ss_lex.specs.Refusals.{line_refusal, IsRefusedIn}
-use Rattle.ss_lex.specs.Reading.{pieces, IsRead, IsLineRead, IsLineRefused, IsTextReadTo}
+use Rattle.ss_lex.specs.Reading.{pieces, IsCodeLineRead, IsLineRead, IsLineRefused, IsTextReadTo}
 use Rattle.ss_lex.proofs.Cutting.{which, pieces_sound}
 use Rattle.ss_lex.proofs.TextLaws.{line_sound}
 
 -- ---- a line
 
-pub code_read : (bytes : List ℕ) (start line left : ℕ) (old new : List Token) (due : ℕ) → IsRead bytes start line left old new due → IsLineRead bytes start line left 0 old new due
+pub code_read : (bytes : List ℕ) (start line left : ℕ) (old new : List Token) (due : ℕ) → IsCodeLineRead bytes start line left old new due → IsLineRead bytes start line left 0 old new due
 code_read bytes start line left old new due r =
     let here = tokens_of (pieces bytes) start line in
     let sound = line_sound (pieces bytes) old start line left r.sound in
@@ -38,7 +38,7 @@ picture_read bytes start line left (suc due) old new some le e =
 
 -- ---- a text
 
-with_first_count : (b : ℕ) (ls : List (List ℕ)) → length (with_first b ls) ≡ max 1 (length ls)
+with_first_count : (b : ℕ) (ls : List (List ℕ)) → length (with_byte_first b ls) ≡ max 1 (length ls)
 with_first_count b [] = refl
 with_first_count b (l ∷ ls) = omega arith
 

@@ -14,7 +14,7 @@ use denote.Enum.Bare.{sameb, same_true}
 use Rattle.ss_lex.specs.contracts.word.Word.{the_type}
 use Rattle.ss_lex.specs.declared.word.Word.{Word}
 use Rattle.ss_lex.specs.Parts.{part, part_for}
-use Rattle.ss_lex.specs.Words.{reserved, found_in}
+use Rattle.ss_lex.specs.Words.{reserved, word_in_table}
 
 -- a row of the code's table, and of the definition's
 abbrev pub Row : Type 0
@@ -92,7 +92,7 @@ all_begin : (ℕ → Bool) → List (List ℕ × Word) → Bool
 all_begin test [] = true
 all_begin test (row ∷ rows) = begins test row.0 && all_begin test rows
 
-none_begins : (test : ℕ → Bool) (rows : List (List ℕ × Word)) (b : ℕ) (bs : List ℕ) → all_begin test rows ≡ true → test b ≡ false → found_in rows (b ∷ bs) ≡ None
+none_begins : (test : ℕ → Bool) (rows : List (List ℕ × Word)) (b : ℕ) (bs : List ℕ) → all_begin test rows ≡ true → test b ≡ false → word_in_table rows (b ∷ bs) ≡ None
 unfolding all_begin begins
 none_begins test [] b bs all differs = refl
 none_begins test (row ∷ rows) b bs all differs =
@@ -101,7 +101,7 @@ none_begins test (row ∷ rows) b bs all differs =
       | inr f ↦ rw f (none_begins test rows b bs (both_true _ _ all).1 differs)
     ]
 
-found_before : (low high : List (List ℕ × Word)) (spelling : List ℕ) → found_in high spelling ≡ None → found_in (low ++ high) spelling ≡ found_in low spelling
+found_before : (low high : List (List ℕ × Word)) (spelling : List ℕ) → word_in_table high spelling ≡ None → word_in_table (low ++ high) spelling ≡ word_in_table low spelling
 found_before [] high spelling none = none
 found_before (row ∷ low) high spelling none =
     elim (which (bytes_eq row.0 spelling)) [
@@ -109,18 +109,18 @@ found_before (row ∷ low) high spelling none =
       | inr f ↦ rw f (found_before low high spelling none)
     ]
 
-found_after : (low high : List (List ℕ × Word)) (spelling : List ℕ) → found_in low spelling ≡ None → found_in (low ++ high) spelling ≡ found_in high spelling
+found_after : (low high : List (List ℕ × Word)) (spelling : List ℕ) → word_in_table low spelling ≡ None → word_in_table (low ++ high) spelling ≡ word_in_table high spelling
 found_after [] high spelling none = refl
 found_after (row ∷ low) high spelling none =
     elim (which (bytes_eq row.0 spelling)) [
-      | inl t ↦ (let some : found_in (row ∷ low) spelling ≡ Some row.1 = rw t refl in absurd cc)
-      | inr f ↦ (let step : found_in (row ∷ low) spelling ≡ found_in low spelling = rw f refl in rw f (found_after low high spelling (sym step ∙ none)))
+      | inl t ↦ (let some : word_in_table (row ∷ low) spelling ≡ Some row.1 = rw t refl in absurd cc)
+      | inr f ↦ (let step : word_in_table (row ∷ low) spelling ≡ word_in_table low spelling = rw f refl in rw f (found_after low high spelling (sym step ∙ none)))
     ]
 
-below : (bound : ℕ) (low high : List (List ℕ × Word)) (b : ℕ) (bs : List ℕ) → all_begin (λ c. not (nat_lt c bound)) high ≡ true → nat_lt b bound ≡ true → found_in (low ++ high) (b ∷ bs) ≡ found_in low (b ∷ bs)
+below : (bound : ℕ) (low high : List (List ℕ × Word)) (b : ℕ) (bs : List ℕ) → all_begin (λ c. not (nat_lt c bound)) high ≡ true → nat_lt b bound ≡ true → word_in_table (low ++ high) (b ∷ bs) ≡ word_in_table low (b ∷ bs)
 below bound low high b bs all lt = found_before low high (b ∷ bs) (none_begins (λ c. not (nat_lt c bound)) high b bs all (ap not lt))
 
-above : (bound : ℕ) (low high : List (List ℕ × Word)) (b : ℕ) (bs : List ℕ) → all_begin (λ c. nat_lt c bound) low ≡ true → nat_lt b bound ≡ false → found_in (low ++ high) (b ∷ bs) ≡ found_in high (b ∷ bs)
+above : (bound : ℕ) (low high : List (List ℕ × Word)) (b : ℕ) (bs : List ℕ) → all_begin (λ c. nat_lt c bound) low ≡ true → nat_lt b bound ≡ false → word_in_table (low ++ high) (b ∷ bs) ≡ word_in_table high (b ∷ bs)
 above bound low high b bs all ge = found_after low high (b ∷ bs) (none_begins (λ c. nat_lt c bound) low b bs all ge)
 
 from_a : reserved ≡ part 0 29 ++ part 29 112
@@ -159,22 +159,22 @@ s_on : all_begin (λ c. not (nat_lt c 83)) (part 108 33) ≡ true
 unfolding reserved all_begin begins
 s_on = refl
 
-after_d : (first : ℕ) (rest : List ℕ) → nat_lt first 69 ≡ false → found_in reserved (first ∷ rest) ≡ found_in (part 29 42 ++ part 71 70) (first ∷ rest)
+after_d : (first : ℕ) (rest : List ℕ) → nat_lt first 69 ≡ false → word_in_table reserved (first ∷ rest) ≡ word_in_table (part 29 42 ++ part 71 70) (first ∷ rest)
 after_d first rest ge =
-    ap (λ table. found_in table (first ∷ rest)) from_a
+    ap (λ table. word_in_table table (first ∷ rest)) from_a
     ∙ above 69 (part 0 29) (part 29 112) first rest to_d ge
-    ∙ ap (λ table. found_in table (first ∷ rest)) from_e
+    ∙ ap (λ table. word_in_table table (first ∷ rest)) from_e
 
-after_l : (first : ℕ) (rest : List ℕ) → nat_lt first 69 ≡ false → nat_lt first 77 ≡ false → found_in reserved (first ∷ rest) ≡ found_in (part 71 37 ++ part 108 33) (first ∷ rest)
+after_l : (first : ℕ) (rest : List ℕ) → nat_lt first 69 ≡ false → nat_lt first 77 ≡ false → word_in_table reserved (first ∷ rest) ≡ word_in_table (part 71 37 ++ part 108 33) (first ∷ rest)
 after_l first rest a b =
     after_d first rest a
     ∙ above 77 (part 29 42) (part 71 70) first rest to_l b
-    ∙ ap (λ table. found_in table (first ∷ rest)) from_m
+    ∙ ap (λ table. word_in_table table (first ∷ rest)) from_m
 
-found_in_part : (first : ℕ) (rest : List ℕ) → found_in reserved (first ∷ rest) ≡ found_in (part_for first) (first ∷ rest)
+found_in_part : (first : ℕ) (rest : List ℕ) → word_in_table reserved (first ∷ rest) ≡ word_in_table (part_for first) (first ∷ rest)
 found_in_part first rest =
     elim (which (nat_lt first 69)) [
-      | inl t ↦ rw t (ap (λ table. found_in table (first ∷ rest)) from_a ∙ below 69 (part 0 29) (part 29 112) first rest e_on t)
+      | inl t ↦ rw t (ap (λ table. word_in_table table (first ∷ rest)) from_a ∙ below 69 (part 0 29) (part 29 112) first rest e_on t)
       | inr a ↦ elim (which (nat_lt first 77)) [
         | inl t ↦ rw (a, t) (after_d first rest a ∙ below 77 (part 29 42) (part 71 70) first rest m_on t)
         | inr b ↦ elim (which (nat_lt first 83)) [
@@ -184,11 +184,11 @@ found_in_part first rest =
       ]
     ]
 
-found_by_first : (first : ℕ) (spelling : List ℕ) → Some first ≡ slice_get spelling 0 → found_in reserved spelling ≡ found_in (part_for first) spelling
+found_by_first : (first : ℕ) (spelling : List ℕ) → Some first ≡ slice_get spelling 0 → word_in_table reserved spelling ≡ word_in_table (part_for first) spelling
 found_by_first first [] e = absurd cc
 found_by_first first (b ∷ bs) e =
     let same : b ≡ first = cc in
-    subst (λ f. found_in reserved (b ∷ bs) ≡ found_in (part_for f) (b ∷ bs)) same (found_in_part b bs)
+    subst (λ f. word_in_table reserved (b ∷ bs) ≡ word_in_table (part_for f) (b ∷ bs)) same (found_in_part b bs)
 
 -- ---- a row that is found
 
@@ -198,7 +198,7 @@ is_found (Some found) word = sameb the_type found word
 
 each_found : List (List ℕ × Word) → List (List ℕ × Word) → Bool
 each_found table [] = true
-each_found table (row ∷ rows) = is_found (found_in table row.0) row.1 && each_found table rows
+each_found table (row ∷ rows) = is_found (word_in_table table row.0) row.1 && each_found table rows
 
 found_for : (first : ℕ) → each_found (part_for first) (part_for first) ≡ true
 unfolding reserved each_found is_found
@@ -219,25 +219,25 @@ unfolding is_found
 found_true None word e = absurd cc
 found_true (Some found) word e = ap (λ w. Some w) (same_true the_type (search rules) found word e)
 
-row_found : (table : List (List ℕ × Word)) (rows : List Row) → each_found table (map row_of rows) ≡ true → (i : ℕ) (d : Row) → i < length rows → found_in table (get_or rows i d).0.now ≡ Some (get_or rows i d).1
+row_found : (table : List (List ℕ × Word)) (rows : List Row) → each_found table (map row_of rows) ≡ true → (i : ℕ) (d : Row) → i < length rows → word_in_table table (get_or rows i d).0.now ≡ Some (get_or rows i d).1
 unfolding each_found
 row_found table [] e i d lt = absurd (omega arith)
 row_found table (row ∷ rows) e zero d lt = found_true _ _ (both_true _ _ e).0
 row_found table (row ∷ rows) e (suc i) d lt = row_found table rows (both_true _ _ e).1 i d (omega arith)
 
-pub found_at : (rows : List Row) (first : ℕ) (spelling : List ℕ) (i : ℕ) (d : Row) → map row_of rows ≡ part_for first → Some first ≡ slice_get spelling 0 → i < length rows → order spelling (get_or rows i d) ≡ Equal → Some (get_or rows i d).1 ≡ found_in reserved spelling
+pub found_at : (rows : List Row) (first : ℕ) (spelling : List ℕ) (i : ℕ) (d : Row) → map row_of rows ≡ part_for first → Some first ≡ slice_get spelling 0 → i < length rows → order spelling (get_or rows i d) ≡ Equal → Some (get_or rows i d).1 ≡ word_in_table reserved spelling
 found_at rows first spelling i d e begun lt here =
     let found = row_found (part_for first) rows (ap (each_found (part_for first)) e ∙ found_for first) i d lt in
-    sym found ∙ ap (found_in (part_for first)) (equal_text (get_or rows i d).0.now spelling here) ∙ sym (found_by_first first spelling begun)
+    sym found ∙ ap (word_in_table (part_for first)) (equal_text (get_or rows i d).0.now spelling here) ∙ sym (found_by_first first spelling begun)
 
 -- ---- a spelling that is not there
 
-pub none_empty : (spelling : List ℕ) → None ≡ slice_get spelling 0 → None ≡ found_in reserved spelling
+pub none_empty : (spelling : List ℕ) → None ≡ slice_get spelling 0 → None ≡ word_in_table reserved spelling
 unfolding reserved
 none_empty [] e = refl
 none_empty (b ∷ bs) e = absurd cc
 
-none_equal : (rows : List Row) (spelling : List ℕ) → ((k : ℕ) (d : Row) → k < length rows → order spelling (get_or rows k d) ≡ Equal → ⊥) → None ≡ found_in (map row_of rows) spelling
+none_equal : (rows : List Row) (spelling : List ℕ) → ((k : ℕ) (d : Row) → k < length rows → order spelling (get_or rows k d) ≡ Equal → ⊥) → None ≡ word_in_table (map row_of rows) spelling
 none_equal [] spelling none = refl
 none_equal (row ∷ rows) spelling none =
     let rest = none_equal rows spelling (λ k d lt e. none (suc k) d (omega arith) e) in
@@ -246,11 +246,11 @@ none_equal (row ∷ rows) spelling none =
       | inr t ↦ rw t rest
     ]
 
-pub not_found : (rows : List Row) (first : ℕ) (spelling : List ℕ) (i : ℕ) → map row_of rows ≡ part_for first → Some first ≡ slice_get spelling 0 → IsPartitionPoint (λ row. order spelling row ≡ Less) (λ row. order spelling row ≡ Greater) rows i → None ≡ found_in reserved spelling
+pub not_found : (rows : List Row) (first : ℕ) (spelling : List ℕ) (i : ℕ) → map row_of rows ≡ part_for first → Some first ≡ slice_get spelling 0 → IsPartitionPoint (λ row. order spelling row ≡ Less) (λ row. order spelling row ≡ Greater) rows i → None ≡ word_in_table reserved spelling
 not_found rows first spelling i e begun (low, high) =
     none_equal rows spelling (λ k d lt here. elim (cases_lt k i) [
       | inl h ↦ (let p = low k d (omega arith) h in absurd cc)
       | inr h ↦ (let p = high k d h lt in absurd cc)
     ])
-    ∙ ap (λ table. found_in table spelling) e
+    ∙ ap (λ table. word_in_table table spelling) e
     ∙ sym (found_by_first first spelling begun)

@@ -6,7 +6,7 @@ use Rattle.std.proofs.lemmas.Bool.Decides.{nat_tests}
 use Rattle.ss_lex.specs.declared.token.Token.{Token}
 use Rattle.ss_lex.specs.declared.meaning.Fault.{Fault}
 use Rattle.ss_lex.specs.declared.error.LexError.{LexError}
-use Rattle.ss_lex.specs.Pieces.{Piece, IsCut, meaning, fault_in, first_fault}
+use Rattle.ss_lex.specs.Pieces.{LinePiece, IsCutInto, piece_meaning, fault_in, first_fault}
 use Rattle.ss_lex.specs.Tokens.{tokens_of, called_by, picture_at, AreTokensOf}
 use Rattle.ss_lex.specs.Refusals.{refusal_for, means_trigger, has_trigger, to_trigger, cut_of, line_refusal, IsRefusedIn}
 use Rattle.ss_lex.specs.Reading.{pieces}
@@ -23,7 +23,7 @@ fault_none None line e = refl
 fault_none (Some fault) line e = absurd cc
 
 -- the line is read: it has no fault, and enough lines are left
-pub line_sound : (ps : List Piece) (before : List Token) (start line left : ℕ) → line_refusal ps before start line left ≡ None → (first_fault ps ≡ None) × (called_by before (tokens_of ps start line) ≤ left)
+pub line_sound : (ps : List LinePiece) (before : List Token) (start line left : ℕ) → line_refusal ps before start line left ≡ None → (first_fault ps ≡ None) × (called_by before (tokens_of ps start line) ≤ left)
 line_sound ps before start line left e =
     let a = or_none (refusal_for (first_fault (to_trigger ps)) line) _ e in
     let b = or_none (cut_of left (called_by before (tokens_of ps start line)) line) _ a.1 in
@@ -33,25 +33,25 @@ line_sound ps before start line left e =
     enough true t n = let wrong = rw t at n in absurd cc
     enough false t n = grind (arith, nat_tests)
 
-none_to_trigger : (ps : List Piece) → first_fault ps ≡ None → first_fault (to_trigger ps) ≡ None
+none_to_trigger : (ps : List LinePiece) → first_fault ps ≡ None → first_fault (to_trigger ps) ≡ None
 none_to_trigger [] e = refl
 none_to_trigger (p ∷ ps) e =
-    let two = or_none (fault_in (meaning p)) (first_fault ps) e in
+    let two = or_none (fault_in (piece_meaning p)) (first_fault ps) e in
     let ih = none_to_trigger ps two.1 in
-    go (means_trigger (meaning p) || has_trigger ps) two.0 ih
+    go (means_trigger (piece_meaning p) || has_trigger ps) two.0 ih
   where
-    go : (t : Bool) → fault_in (meaning p) ≡ None → first_fault (to_trigger ps) ≡ None → first_fault (if t then p ∷ to_trigger ps else []) ≡ None
+    go : (t : Bool) → fault_in (piece_meaning p) ≡ None → first_fault (to_trigger ps) ≡ None → first_fault (if t then p ∷ to_trigger ps else []) ≡ None
     go true f ih = (λ i. option_or (f i) (ih i))
     go false f ih = refl
 
-line_none : (ps : List Piece) (before : List Token) (start line left : ℕ) → first_fault ps ≡ None → called_by before (tokens_of ps start line) ≤ left → line_refusal ps before start line left ≡ None
+line_none : (ps : List LinePiece) (before : List Token) (start line left : ℕ) → first_fault ps ≡ None → called_by before (tokens_of ps start line) ≤ left → line_refusal ps before start line left ≡ None
 line_none ps before start line left f le =
     let t : nat_lt left (called_by before (tokens_of ps start line)) ≡ false = grind (arith, nat_tests) in
     rw (none_to_trigger ps f, t, f) refl
 
 -- ---- no other tokens
 
-same_pieces : (ps qs : List Piece) (l : List ℕ) → IsCut ps l → IsCut qs l → ps ≡ qs
+same_pieces : (ps qs : List LinePiece) (l : List ℕ) → IsCutInto ps l → IsCutInto qs l → ps ≡ qs
 same_pieces ps qs l c d = sym (pieces_complete ps l c) ∙ pieces_complete qs l d
 
 pub one_list_of : (ls : List (List ℕ)) (due : ℕ) (before : List Token) (start line : ℕ) (a b : List Token) → AreTokensOf ls due before start line a → AreTokensOf ls due before start line b → a ≡ b
@@ -62,7 +62,7 @@ one_list_of (l ∷ ls) (suc due) before start line a b (rest, e, s) (rest', e', 
     e ∙ (ap (λ r. picture_at l start line ∷ r) ih ∙ sym e')
 one_list_of (l ∷ ls) zero before start line a b (ps, rest, c, f, e, s) (qs, rest', c', f', e', s') =
     let same = same_pieces qs ps l c' c in
-    let s'' = subst (λ (x : List Piece). AreTokensOf ls (called_by before (tokens_of x start line)) (before ++ tokens_of x start line) (start + length l + 1) (line + 1) rest') same s' in
+    let s'' = subst (λ (x : List LinePiece). AreTokensOf ls (called_by before (tokens_of x start line)) (before ++ tokens_of x start line) (start + length l + 1) (line + 1) rest') same s' in
     let ih = one_list_of ls (called_by before (tokens_of ps start line)) (before ++ tokens_of ps start line) (start + length l + 1) (line + 1) rest rest' s s'' in
     e ∙ ((λ i. tokens_of (sym same i) start line ++ ih i) ∙ sym e')
 
@@ -80,9 +80,9 @@ none_refused_of (l ∷ ls) (suc due) before start line ts refusal (rest, e, s) r
 none_refused_of (l ∷ ls) zero before start line ts refusal (ps, rest, c, f, e, s) (qs, c', r) =
     let same = same_pieces qs ps l c' c in
     let enough = enough_lines ls (called_by before (tokens_of ps start line)) (before ++ tokens_of ps start line) (start + length l + 1) (line + 1) rest s in
-    let none = ap (λ (x : List Piece). line_refusal x before start line (length ls)) same ∙ line_none ps before start line (length ls) f enough in
+    let none = ap (λ (x : List LinePiece). line_refusal x before start line (length ls)) same ∙ line_none ps before start line (length ls) f enough in
     let r' = subst (λ (o : Option LexError). MatchOption o (IsRefusedIn ls (called_by before (tokens_of qs start line)) (before ++ tokens_of qs start line) (start + length l + 1) (line + 1) refusal) (λ first. refusal ≡ first)) none r in
-    let r'' = subst (λ (x : List Piece). IsRefusedIn ls (called_by before (tokens_of x start line)) (before ++ tokens_of x start line) (start + length l + 1) (line + 1) refusal) same r' in
+    let r'' = subst (λ (x : List LinePiece). IsRefusedIn ls (called_by before (tokens_of x start line)) (before ++ tokens_of x start line) (start + length l + 1) (line + 1) refusal) same r' in
     none_refused_of ls (called_by before (tokens_of ps start line)) (before ++ tokens_of ps start line) (start + length l + 1) (line + 1) rest refusal s r''
 
 -- ---- no other refusal
@@ -92,11 +92,11 @@ one_refusal_of [] due before start line e f r s = absurd r
 one_refusal_of (l ∷ ls) (suc due) before start line e f r s = one_refusal_of ls due (before ++ picture_at l start line ∷ []) (start + length l + 1) (line + 1) e f r s
 one_refusal_of (l ∷ ls) zero before start line e f (ps, c, r) (qs, c', s) =
     let same = same_pieces qs ps l c' c in
-    let s' = subst (λ (x : List Piece). Goes x f) same s in
+    let s' = subst (λ (x : List LinePiece). Goes x f) same s in
     go (line_refusal ps before start line (length ls)) r s'
     (one_refusal_of ls (called_by before (tokens_of ps start line)) (before ++ tokens_of ps start line) (start + length l + 1) (line + 1) e f)
   where
-    Goes : List Piece → LexError → Type 0
+    Goes : List LinePiece → LexError → Type 0
     Goes x refusal = MatchOption (line_refusal x before start line (length ls)) (IsRefusedIn ls (called_by before (tokens_of x start line)) (before ++ tokens_of x start line) (start + length l + 1) (line + 1) refusal) (λ first. refusal ≡ first)
 
     go : (o : Option LexError) → MatchOption o (IsRefusedIn ls (called_by before (tokens_of ps start line)) (before ++ tokens_of ps start line) (start + length l + 1) (line + 1) e) (λ first. e ≡ first)

@@ -2,7 +2,7 @@
 use Rattle.std.specs.Prelude.{◌≡◌, ℕ, Bool, false, if◌then◌else◌, List, [], ◌∷◌}
 use Rattle.ss_lex.specs.declared.token.TokenKind.{TokenKind}
 use Rattle.ss_lex.specs.declared.token.Token.{Token}
-use Rattle.ss_lex.specs.Tokens.{is_print, is_print_or_trigger, number_in, number_due}
+use Rattle.ss_lex.specs.Tokens.{is_print, is_print_or_trigger, number_in_token, number_due}
 
 -- the last token is PRINT
 abbrev pub ends_in_print : List Token → Bool
@@ -18,4 +18,4 @@ pub record IsSummary (tokens : List Token) (print_last : Bool) (number : ℕ) : 
 -- the number of pictures that a trigger word calls for after these tokens and one of this kind
 abbrev pub number_after : List Token → TokenKind → ℕ
 number_after ts kind =
-    if is_print_or_trigger kind then 0 else (if ends_in_print ts then number_in kind else number_due ts)
+    if is_print_or_trigger kind then 0 else (if ends_in_print ts then number_in_token kind else number_due ts)

@@ -17,14 +17,14 @@ first_foreign line (b ∷ bs) =
     if is_character b then first_foreign (if b == 10 then line + 1 else line) bs else Some line
 
 -- the lines, with a byte more at the front of the first
-abbrev pub with_first : ℕ → List (List ℕ) → List (List ℕ)
-with_first b [] = (b ∷ []) ∷ []
-with_first b (l ∷ ls) = (b ∷ l) ∷ ls
+abbrev pub with_byte_first : ℕ → List (List ℕ) → List (List ℕ)
+with_byte_first b [] = (b ∷ []) ∷ []
+with_byte_first b (l ∷ ls) = (b ∷ l) ∷ ls
 
 -- the lines without their line feeds; what follows the last line feed is a line where it isn't empty
 abbrev pub lines_of : List ℕ → List (List ℕ)
 lines_of [] = []
-lines_of (b ∷ bs) = if b == 10 then [] ∷ lines_of bs else with_first b (lines_of bs)
+lines_of (b ∷ bs) = if b == 10 then [] ∷ lines_of bs else with_byte_first b (lines_of bs)
 
 -- a line without the carriage return at its end
 abbrev pub picture_of : List ℕ → List ℕ

@@ -10,21 +10,21 @@ use Rattle.ss_lex.specs.declared.token.Symbol.TheVariants.{OpenParenthesis, Clos
 use Rattle.ss_lex.specs.declared.token.TokenKind.TheVariants as kinds
 use Rattle.ss_lex.specs.declared.meaning.Fault.{Fault}
 use Rattle.ss_lex.specs.declared.meaning.Fault.TheVariants.{OpenText, AlphaTooLong}
-use Rattle.ss_lex.specs.declared.meaning.Meaning.{Meaning}
-use Rattle.ss_lex.specs.declared.meaning.Meaning.TheVariants as meanings
+use Rattle.ss_lex.specs.declared.meaning.PieceMeaning.{PieceMeaning}
+use Rattle.ss_lex.specs.declared.meaning.PieceMeaning.TheVariants as meanings
 
 -- A piece of a line. A comment or a text that the line's end cuts off is open.
-pub data Piece : Type 0 where
-  separator : ℕ → Piece
-  word : List ℕ → Piece
-  comment : List ℕ → Piece
-  open_comment : List ℕ → Piece
-  quoted : List ℕ → Piece
-  open_quoted : List ℕ → Piece
-  single : ℕ → Piece
+pub data LinePiece : Type 0 where
+  separator : ℕ → LinePiece
+  word : List ℕ → LinePiece
+  comment : List ℕ → LinePiece
+  open_comment : List ℕ → LinePiece
+  quoted : List ℕ → LinePiece
+  open_quoted : List ℕ → LinePiece
+  single : ℕ → LinePiece
 
 -- its bytes: 39 is an apostrophe, 34 a quote
-abbrev pub spelled : Piece → List ℕ
+abbrev pub spelled : LinePiece → List ℕ
 spelled (separator b) = b ∷ []
 spelled (word w) = w
 spelled (comment body) = 39 ∷ 39 ∷ (body ++ (39 ∷ 39 ∷ []))
@@ -34,27 +34,27 @@ spelled (open_quoted body) = 34 ∷ body
 spelled (single b) = b ∷ []
 
 -- a blank, a tab or a carriage return
-abbrev pub is_separator : ℕ → Bool
-is_separator b = b == 32 || (b == 9 || b == 13)
+abbrev pub is_blank_byte : ℕ → Bool
+is_blank_byte b = b == 32 || (b == 9 || b == 13)
 
 -- a letter, a digit or a period
-abbrev pub is_word_byte : ℕ → Bool
-is_word_byte b = is_ascii_alphanumeric b || is_period b
+abbrev pub is_word_part : ℕ → Bool
+is_word_part b = is_ascii_alphanumeric b || is_period b
 
 -- a byte that is allowed between quotes
 abbrev pub is_quotable : ℕ → Bool
 is_quotable b = is_text_byte b && not (b == 34)
 
-abbrev pub begins : (ℕ → Bool) → List ℕ → Bool
-begins test [] = false
-begins test (b ∷ bs) = test b
+abbrev pub passes_first : (ℕ → Bool) → List ℕ → Bool
+passes_first test [] = false
+passes_first test (b ∷ bs) = test b
 
 abbrev pub is_apostrophe : ℕ → Bool
 is_apostrophe b = b == 39
 
 -- two apostrophes
 abbrev pub opens_comment : ℕ → List ℕ → Bool
-opens_comment b rest = is_apostrophe b && begins is_apostrophe rest
+opens_comment b rest = is_apostrophe b && passes_first is_apostrophe rest
 
 -- no two apostrophes are side by side
 abbrev pub is_apart : List ℕ → Bool
@@ -67,19 +67,19 @@ is_closed [] = false
 is_closed (b ∷ bs) = b == 34 || (is_text_byte b && is_closed bs)
 
 -- the piece is right where this follows it on its line
-abbrev pub Fits : Piece → List ℕ → Type 0
-Fits (separator b) rest = is_separator b ≡ true
-Fits (word w) rest = (0 < length w) × (list_all is_word_byte w ≡ true) × (begins is_word_byte rest ≡ false)
-Fits (comment body) rest = is_apart (body ++ 39 ∷ []) ≡ true
-Fits (open_comment body) rest = (is_apart body ≡ true) × (rest ≡ [])
-Fits (quoted body) rest = list_all is_quotable body ≡ true
-Fits (open_quoted body) rest = (is_closed body ≡ false) × (rest ≡ [])
-Fits (single b) rest = (is_separator b ≡ false) × (is_word_byte b ≡ false) × ((b == 34) ≡ false) × (opens_comment b rest ≡ false)
+abbrev pub FitsBefore : LinePiece → List ℕ → Type 0
+FitsBefore (separator b) rest = is_blank_byte b ≡ true
+FitsBefore (word w) rest = (0 < length w) × (list_all is_word_part w ≡ true) × (passes_first is_word_part rest ≡ false)
+FitsBefore (comment body) rest = is_apart (body ++ 39 ∷ []) ≡ true
+FitsBefore (open_comment body) rest = (is_apart body ≡ true) × (rest ≡ [])
+FitsBefore (quoted body) rest = list_all is_quotable body ≡ true
+FitsBefore (open_quoted body) rest = (is_closed body ≡ false) × (rest ≡ [])
+FitsBefore (single b) rest = (is_blank_byte b ≡ false) × (is_word_part b ≡ false) × ((b == 34) ≡ false) × (opens_comment b rest ≡ false)
 
 -- the line is these pieces, one after the other
-abbrev pub IsCut : List Piece → List ℕ → Type 0
-IsCut [] line = line ≡ []
-IsCut (p ∷ ps) line = (rest : List ℕ) × (line ≡ spelled p ++ rest) × Fits p rest × IsCut ps rest
+abbrev pub IsCutInto : List LinePiece → List ℕ → Type 0
+IsCutInto [] line = line ≡ []
+IsCutInto (p ∷ ps) line = (rest : List ℕ) × (line ≡ spelled p ++ rest) × FitsBefore p rest × IsCutInto ps rest
 
 -- the token that a character is
 abbrev pub symbol_of : ℕ → Symbol
@@ -94,27 +94,27 @@ symbol_of b =
     else Other b))))))
 
 -- the meaning of what is between quotes: this text, if it is short enough to be one
-abbrev pub text_meaning : Option (List ℕ) → ℕ → Meaning
+abbrev pub text_meaning : Option (List ℕ) → ℕ → PieceMeaning
 text_meaning None spelling = meanings.Fault AlphaTooLong
 text_meaning (Some text) spelling = meanings.Token (kinds.Text text) spelling
 
 -- What a piece means: nothing, a token with the length of its spelling, or a fault.
-abbrev pub meaning : Piece → Meaning
-meaning (separator b) = meanings.Nothing
-meaning (word w) = word_meaning (without_end_periods w)
-meaning (comment body) = meanings.Nothing
-meaning (open_comment body) = meanings.Nothing
-meaning (quoted body) = text_meaning (text_of body) (length body + 2)
-meaning (open_quoted body) = meanings.Fault OpenText
-meaning (single b) = meanings.Token (kinds.Symbol (symbol_of b)) 1
+abbrev pub piece_meaning : LinePiece → PieceMeaning
+piece_meaning (separator b) = meanings.Nothing
+piece_meaning (word w) = word_meaning (without_end_periods w)
+piece_meaning (comment body) = meanings.Nothing
+piece_meaning (open_comment body) = meanings.Nothing
+piece_meaning (quoted body) = text_meaning (text_of body) (length body + 2)
+piece_meaning (open_quoted body) = meanings.Fault OpenText
+piece_meaning (single b) = meanings.Token (kinds.Symbol (symbol_of b)) 1
 
 -- the fault of a piece, if it means one
-abbrev pub fault_in : Meaning → Option Fault
+abbrev pub fault_in : PieceMeaning → Option Fault
 fault_in meanings.Nothing = None
 fault_in (meanings.Token kind spelling) = None
 fault_in (meanings.Fault fault) = Some fault
 
 -- the first fault of pieces
-abbrev pub first_fault : List Piece → Option Fault
+abbrev pub first_fault : List LinePiece → Option Fault
 first_fault [] = None
-first_fault (p ∷ ps) = option_or (fault_in (meaning p)) (first_fault ps)
+first_fault (p ∷ ps) = option_or (fault_in (piece_meaning p)) (first_fault ps)

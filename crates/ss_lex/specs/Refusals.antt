@@ -2,40 +2,40 @@
 use Rattle.std.specs.Prelude.{◌≡◌, ℕ, zero, suc, ◌+◌, Bool, false, ◌||◌, List, [], ◌∷◌, ◌++◌, length, nat_lt, MatchBool, Option, Some, None, MatchOption, if◌then◌else◌}
 use Rattle.std.specs.Option.{option_or}
 use Rattle.ss_lex.specs.declared.token.Token.{Token}
-use Rattle.ss_lex.specs.declared.meaning.Meaning.{Meaning}
-use Rattle.ss_lex.specs.declared.meaning.Meaning.TheVariants as meanings
+use Rattle.ss_lex.specs.declared.meaning.PieceMeaning.{PieceMeaning}
+use Rattle.ss_lex.specs.declared.meaning.PieceMeaning.TheVariants as meanings
 use Rattle.ss_lex.specs.declared.meaning.Fault.{Fault}
 use Rattle.ss_lex.specs.declared.meaning.Fault.TheVariants as faults
 use Rattle.ss_lex.specs.declared.error.LexError.{LexError}
 use Rattle.ss_lex.specs.declared.error.LexError.TheVariants as errors
 use Rattle.ss_lex.specs.Lines.{source_limit, first_foreign, lines_of}
-use Rattle.ss_lex.specs.Pieces.{Piece, IsCut, meaning, first_fault}
+use Rattle.ss_lex.specs.Pieces.{LinePiece, IsCutInto, piece_meaning, first_fault}
 use Rattle.ss_lex.specs.Tokens.{is_trigger, tokens_of, called_by, picture_at}
 
 -- the refusal for a fault in this line
-abbrev pub refusal_of : Fault → ℕ → LexError
-refusal_of faults.BadNumber line = errors.BadNumber (record { 0 = line })
-refusal_of faults.OpenText line = errors.OpenText (record { 0 = line })
-refusal_of faults.AlphaTooLong line = errors.AlphaTooLong (record { 0 = line })
-refusal_of faults.NameTooLong line = errors.NameTooLong (record { 0 = line })
+abbrev pub error_of_fault : Fault → ℕ → LexError
+error_of_fault faults.BadNumber line = errors.BadNumber (record { 0 = line })
+error_of_fault faults.OpenText line = errors.OpenText (record { 0 = line })
+error_of_fault faults.AlphaTooLong line = errors.AlphaTooLong (record { 0 = line })
+error_of_fault faults.NameTooLong line = errors.NameTooLong (record { 0 = line })
 
 abbrev pub refusal_for : Option Fault → ℕ → Option LexError
 refusal_for None line = None
-refusal_for (Some fault) line = Some (refusal_of fault line)
+refusal_for (Some fault) line = Some (error_of_fault fault line)
 
-abbrev pub means_trigger : Meaning → Bool
+abbrev pub means_trigger : PieceMeaning → Bool
 means_trigger meanings.Nothing = false
 means_trigger (meanings.Token kind spelling) = is_trigger kind
 means_trigger (meanings.Fault fault) = false
 
-abbrev pub has_trigger : List Piece → Bool
+abbrev pub has_trigger : List LinePiece → Bool
 has_trigger [] = false
-has_trigger (p ∷ ps) = means_trigger (meaning p) || has_trigger ps
+has_trigger (p ∷ ps) = means_trigger (piece_meaning p) || has_trigger ps
 
 -- the pieces up to the last trigger word
-abbrev pub to_trigger : List Piece → List Piece
+abbrev pub to_trigger : List LinePiece → List LinePiece
 to_trigger [] = []
-to_trigger (p ∷ ps) = if means_trigger (meaning p) || has_trigger ps then p ∷ to_trigger ps else []
+to_trigger (p ∷ ps) = if means_trigger (piece_meaning p) || has_trigger ps then p ∷ to_trigger ps else []
 
 -- a refusal where fewer lines are left than a line calls for
 abbrev pub cut_of : ℕ → ℕ → ℕ → Option LexError
@@ -43,7 +43,7 @@ cut_of left called line = if nat_lt left called then Some (errors.PictureCut (re
 
 -- What is wrong first with a line: a fault up to its last trigger word, the pictures that this word is short of,
 -- or a fault after it. So many lines are left after the line.
-abbrev pub line_refusal : List Piece → List Token → ℕ → ℕ → ℕ → Option LexError
+abbrev pub line_refusal : List LinePiece → List Token → ℕ → ℕ → ℕ → Option LexError
 line_refusal pieces before start line left =
     option_or (refusal_for (first_fault (to_trigger pieces)) line)
     (option_or (cut_of left (called_by before (tokens_of pieces start line)) line)
@@ -55,7 +55,7 @@ IsRefusedIn [] due before start line refusal = ⊥
 IsRefusedIn (l ∷ ls) (suc due) before start line refusal =
     IsRefusedIn ls due (before ++ picture_at l start line ∷ []) (start + length l + 1) (line + 1) refusal
 IsRefusedIn (l ∷ ls) zero before start line refusal =
-    (pieces : List Piece) × IsCut pieces l
+    (pieces : List LinePiece) × IsCutInto pieces l
     × MatchOption (line_refusal pieces before start line (length ls))
     (IsRefusedIn ls (called_by before (tokens_of pieces start line)) (before ++ tokens_of pieces start line) (start + length l + 1) (line + 1) refusal)
     (λ first. refusal ≡ first)

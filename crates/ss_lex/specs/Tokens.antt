@@ -6,10 +6,10 @@ use Rattle.ss_lex.specs.declared.word.Word.TheVariants as words
 use Rattle.ss_lex.specs.declared.token.TokenKind.{TokenKind}
 use Rattle.ss_lex.specs.declared.token.TokenKind.TheVariants as kinds
 use Rattle.ss_lex.specs.declared.token.Token.{Token}
-use Rattle.ss_lex.specs.declared.meaning.Meaning.{Meaning}
-use Rattle.ss_lex.specs.declared.meaning.Meaning.TheVariants as meanings
+use Rattle.ss_lex.specs.declared.meaning.PieceMeaning.{PieceMeaning}
+use Rattle.ss_lex.specs.declared.meaning.PieceMeaning.TheVariants as meanings
 use Rattle.ss_lex.specs.Lines.{source_limit, is_character, lines_of, picture_of}
-use Rattle.ss_lex.specs.Pieces.{Piece, spelled, IsCut, meaning, first_fault}
+use Rattle.ss_lex.specs.Pieces.{LinePiece, spelled, IsCutInto, piece_meaning, first_fault}
 
 -- a token of this line, whose spelling begins at this place and is so long
 abbrev pub token_at : TokenKind → ℕ → ℕ → ℕ → Token
@@ -17,16 +17,16 @@ token_at kind spelling start line =
     record { kind = kind; span = record { start = start; length = spelling }; line = record { 0 = line } }
 
 -- the token of a meaning, if it is one
-abbrev pub token_in : Meaning → ℕ → ℕ → List Token
+abbrev pub token_in : PieceMeaning → ℕ → ℕ → List Token
 token_in meanings.Nothing start line = []
 token_in (meanings.Token kind spelling) start line = token_at kind spelling start line ∷ []
 token_in (meanings.Fault fault) start line = []
 
 -- the tokens of the pieces of a line
-abbrev pub tokens_of : List Piece → ℕ → ℕ → List Token
+abbrev pub tokens_of : List LinePiece → ℕ → ℕ → List Token
 tokens_of [] start line = []
 tokens_of (p ∷ ps) start line =
-    token_in (meaning p) start line ++ tokens_of ps (start + length (spelled p)) line
+    token_in (piece_meaning p) start line ++ tokens_of ps (start + length (spelled p)) line
 
 -- ---- pictures
 
@@ -58,18 +58,18 @@ is_print (kinds.Symbol symbol) = false
 is_print (kinds.Picture picture) = false
 
 -- the number that a token is, and 0 where it is another
-abbrev pub number_in : TokenKind → ℕ
-number_in (kinds.Word word) = 0
-number_in (kinds.Name name) = 0
-number_in (kinds.Number number) = unsigned_abs number
-number_in (kinds.Text text) = 0
-number_in (kinds.Symbol symbol) = 0
-number_in (kinds.Picture picture) = 0
+abbrev pub number_in_token : TokenKind → ℕ
+number_in_token (kinds.Word word) = 0
+number_in_token (kinds.Name name) = 0
+number_in_token (kinds.Number number) = unsigned_abs number
+number_in_token (kinds.Text text) = 0
+number_in_token (kinds.Symbol symbol) = 0
+number_in_token (kinds.Picture picture) = 0
 
 -- the number that is the first of these tokens, and 0 where it is another
 abbrev pub first_number : List Token → ℕ
 first_number [] = 0
-first_number (t ∷ ts) = number_in t.kind
+first_number (t ∷ ts) = number_in_token t.kind
 
 -- a PRINT or a trigger word
 abbrev pub is_print_or_trigger : TokenKind → Bool
@@ -108,7 +108,7 @@ AreTokensOf (l ∷ ls) (suc due) before start line tokens =
     (rest : List Token) × (tokens ≡ picture_at l start line ∷ rest)
     × AreTokensOf ls due (before ++ picture_at l start line ∷ []) (start + length l + 1) (line + 1) rest
 AreTokensOf (l ∷ ls) zero before start line tokens =
-    (pieces : List Piece) × (rest : List Token) × IsCut pieces l × (first_fault pieces ≡ None)
+    (pieces : List LinePiece) × (rest : List Token) × IsCutInto pieces l × (first_fault pieces ≡ None)
     × (tokens ≡ tokens_of pieces start line ++ rest)
     × AreTokensOf ls (called_by before (tokens_of pieces start line)) (before ++ tokens_of pieces start line) (start + length l + 1) (line + 1) rest
 

@@ -9,8 +9,8 @@ use Rattle.ss_lex.specs.declared.word.Word.TheVariants as words
 use Rattle.ss_lex.specs.declared.token.TokenKind.{TokenKind}
 use Rattle.ss_lex.specs.declared.token.TokenKind.TheVariants as kinds
 use Rattle.ss_lex.specs.declared.meaning.Fault.TheVariants.{BadNumber, NameTooLong}
-use Rattle.ss_lex.specs.declared.meaning.Meaning.{Meaning}
-use Rattle.ss_lex.specs.declared.meaning.Meaning.TheVariants as meanings
+use Rattle.ss_lex.specs.declared.meaning.PieceMeaning.{PieceMeaning}
+use Rattle.ss_lex.specs.declared.meaning.PieceMeaning.TheVariants as meanings
 
 -- the reserved words and their spellings
 unfoldable pub reserved : List (List ℕ × Word)
@@ -159,9 +159,9 @@ reserved =
     []
 
 -- the word with this spelling, in a table
-abbrev pub found_in : List (List ℕ × Word) → List ℕ → Option Word
-found_in [] spelling = None
-found_in (row ∷ rows) spelling = if bytes_eq row.0 spelling then Some row.1 else found_in rows spelling
+abbrev pub word_in_table : List (List ℕ × Word) → List ℕ → Option Word
+word_in_table [] spelling = None
+word_in_table (row ∷ rows) spelling = if bytes_eq row.0 spelling then Some row.1 else word_in_table rows spelling
 
 -- a reserved word, or a name, by its spelling in capitals
 abbrev pub word_or_name : Option Word → List ℕ → TokenKind
@@ -169,10 +169,10 @@ word_or_name None spelling = kinds.Name spelling
 word_or_name (Some word) spelling = kinds.Word word
 
 -- what a word with a letter means
-abbrev pub name_meaning : List ℕ → Meaning
+abbrev pub name_meaning : List ℕ → PieceMeaning
 name_meaning w =
     if nat_lt name_limit (length w) then meanings.Fault NameTooLong
-    else meanings.Token (word_or_name (found_in reserved (in_capitals w)) (in_capitals w)) (length w)
+    else meanings.Token (word_or_name (word_in_table reserved (in_capitals w)) (in_capitals w)) (length w)
 
 -- the number that digits after a number spell
 abbrev pub number_from : ℕ → List ℕ → ℕ
@@ -187,23 +187,23 @@ abbrev pub largest_number : ℕ
 largest_number = 9223372036854775807
 
 -- what a word without a letter means
-abbrev pub number_meaning : List ℕ → Meaning
+abbrev pub number_meaning : List ℕ → PieceMeaning
 number_meaning w =
     if list_any is_period w || nat_lt largest_number (number_from 0 w) then meanings.Fault BadNumber
     else meanings.Token (kinds.Number (pos (number_from 0 w))) (length w)
 
 -- a byte of a word in front of those after it, which have no period at their end
-abbrev pub in_front : ℕ → List ℕ → List ℕ
-in_front b [] = if is_period b then [] else b ∷ []
-in_front b (c ∷ cs) = b ∷ c ∷ cs
+abbrev pub with_byte_before : ℕ → List ℕ → List ℕ
+with_byte_before b [] = if is_period b then [] else b ∷ []
+with_byte_before b (c ∷ cs) = b ∷ c ∷ cs
 
 -- a word without the periods at its end
 abbrev pub without_end_periods : List ℕ → List ℕ
 without_end_periods [] = []
-without_end_periods (b ∷ bs) = in_front b (without_end_periods bs)
+without_end_periods (b ∷ bs) = with_byte_before b (without_end_periods bs)
 
 -- what a word means that has no period at its end
-abbrev pub word_meaning : List ℕ → Meaning
+abbrev pub word_meaning : List ℕ → PieceMeaning
 word_meaning [] = meanings.Nothing
 word_meaning (b ∷ bs) =
     if list_any is_ascii_alphabetic (b ∷ bs) then name_meaning (b ∷ bs) else number_meaning (b ∷ bs)

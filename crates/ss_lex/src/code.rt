@@ -1,19 +1,19 @@
 //! Lines of code.
 
 ghost use Rattle.std.specs.Prelude.{◌≡◌, ◌≢◌, ◌<◌, ◌+◌, ◌^◌, length, Some, IfOk, IfErr};
-ghost use Rattle.ss_lex.specs.Refusals.{refusal_of, has_trigger, means_trigger, line_refusal};
+ghost use Rattle.ss_lex.specs.Refusals.{error_of_fault, has_trigger, means_trigger, line_refusal};
 ghost use Rattle.ss_lex.specs.Pieces.{fault_in};
-ghost use Rattle.ss_lex.specs.Reading.{pieces, trigger_step_of, fault_refusal, IsRead};
+ghost use Rattle.ss_lex.specs.Reading.{pieces, trigger_step_of, fault_refusal, IsCodeLineRead};
 
 use crate::collected::{Collected, is_trigger};
 use crate::error::LexError;
-use crate::meaning::{Fault, Meaning};
+use crate::meaning::{Fault, PieceMeaning};
 use crate::pieces::step;
 use ss_base::Line;
 
 /// The refusal for a fault in this line.
-fn refusal_of(fault: Fault, line: Line) -> LexError
-    ensures { result ≡ refusal_of fault line.0 }
+fn error_of_fault(fault: Fault, line: Line) -> LexError
+    ensures { result ≡ error_of_fault fault line.0 }
 {
     match fault {
         Fault::BadNumber => LexError::BadNumber(line),
@@ -23,23 +23,23 @@ fn refusal_of(fault: Fault, line: Line) -> LexError
     }
 }
 
-fn means_trigger(meaning: &Meaning) -> bool
+fn means_trigger(meaning: &PieceMeaning) -> bool
     ensures { result ≡ means_trigger meaning.now }
 {
     match meaning {
-        Meaning::Nothing => false,
-        Meaning::Token(kind, _) => is_trigger(kind),
-        Meaning::Fault(_) => false,
+        PieceMeaning::Nothing => false,
+        PieceMeaning::Token(kind, _) => is_trigger(kind),
+        PieceMeaning::Fault(_) => false,
     }
 }
 
-fn fault_in(meaning: &Meaning) -> Option<Fault>
+fn fault_in(meaning: &PieceMeaning) -> Option<Fault>
     ensures { result ≡ fault_in meaning.now }
 {
     match meaning {
-        Meaning::Nothing => None,
-        Meaning::Token(_, _) => None,
-        Meaning::Fault(fault) => Some(*fault),
+        PieceMeaning::Nothing => None,
+        PieceMeaning::Token(_, _) => None,
+        PieceMeaning::Fault(fault) => Some(*fault),
     }
 }
 
@@ -72,11 +72,11 @@ fn fault_refusal(fault: Fault, after: &[u8], due: u64, left: u64, line: Line) ->
     ensures { result ≡ fault_refusal fault after.now due left line.0 }
 {
     if has_trigger(after) {
-        refusal_of(fault, line)
+        error_of_fault(fault, line)
     } else if due > left {
         LexError::PictureCut(line)
     } else {
-        refusal_of(fault, line)
+        error_of_fault(fault, line)
     }
 }
 
@@ -89,7 +89,7 @@ pub fn code_line(
     left: u64,
 ) -> Result<u64, LexError>
     requires { start + length bytes.now < 2 ^ 64 }
-    ensures ok { IfOk result (λ due. IsRead bytes.now start line.0 left tokens.old tokens.new due) }
+    ensures ok { IfOk result (λ due. IsCodeLineRead bytes.now start line.0 left tokens.old tokens.new due) }
     ensures err { IfErr result (λ e. e ≢ LexError.Memory → line_refusal (pieces bytes.now) tokens.old start line.0 left ≡ Some e) }
 {
     let mut at = start;

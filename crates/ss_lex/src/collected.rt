@@ -1,10 +1,10 @@
 //! The tokens so far.
 
 ghost use Rattle.std.specs.Prelude.{◌≡◌};
-ghost use Rattle.ss_lex.specs.Tokens.{is_trigger, is_print, number_in};
+ghost use Rattle.ss_lex.specs.Tokens.{is_trigger, is_print, number_in_token};
 ghost use Rattle.ss_lex.specs.Lines.{picture_of};
 
-use crate::meaning::Meaning;
+use crate::meaning::PieceMeaning;
 use crate::token::{Span, Token, TokenKind};
 use crate::word::Word;
 use ss_base::{Line, PictureLine};
@@ -31,8 +31,8 @@ fn is_print(kind: &TokenKind) -> bool
 }
 
 /// The number that a token is, or 0.
-fn number_in(kind: &TokenKind) -> u64
-    ensures { result ≡ number_in kind.now }
+fn number_in_token(kind: &TokenKind) -> u64
+    ensures { result ≡ number_in_token kind.now }
 {
     match kind {
         TokenKind::Number(number) => number.unsigned_abs(),
@@ -105,7 +105,7 @@ impl Collected {
         if is_print(kind) || is_trigger(kind) {
             0
         } else if self.print_last {
-            number_in(kind)
+            number_in_token(kind)
         } else {
             self.number
         }
@@ -127,7 +127,7 @@ impl Collected {
     /// was `due` before.
     pub fn add(
         &mut self,
-        meaning: Meaning,
+        meaning: PieceMeaning,
         start: usize,
         line: Line,
         due: u64,
@@ -136,8 +136,8 @@ impl Collected {
         ensures due { IfOk result (λ d. d ≡ due_from due self.old (token_in meaning start line.0)) }
     {
         match meaning {
-            Meaning::Nothing => Ok(due),
-            Meaning::Token(kind, length) => {
+            PieceMeaning::Nothing => Ok(due),
+            PieceMeaning::Token(kind, length) => {
                 let due = if is_trigger(&kind) {
                     self.number_due()
                 } else {
@@ -147,7 +147,7 @@ impl Collected {
                 self.push(Token { kind, span, line })?;
                 Ok(due)
             }
-            Meaning::Fault(_) => Ok(due),
+            PieceMeaning::Fault(_) => Ok(due),
         }
     }
 

@@ -1,5 +1,5 @@
 ghost use Rattle.std.specs.Prelude.{◌≡◌};
-ghost use Rattle.ss_lex.specs.Errors.{error_number, error_name, error_line};
+ghost use Rattle.ss_lex.specs.Errors.{lex_error_number, lex_error_name, lex_error_line};
 ghost use Rattle.ss_lex.specs.declared.error.LexError.TheVariants.{Memory};
 
 use ss_base::Line;
@@ -37,7 +37,7 @@ pub enum LexError {
 impl LexError {
     /// The number that the refusal is reported by, 31 to 37; 0 where memory ran out.
     pub fn number(&self) -> u32
-        ensures { result ≡ error_number self.now }
+        ensures { result ≡ lex_error_number self.now }
     {
         match self {
             LexError::TooLong(_) => 31,
@@ -53,7 +53,7 @@ impl LexError {
 
     /// The name that the refusal is reported by.
     pub fn name(&self) -> &str
-        ensures { result.now ≡ error_name self.now }
+        ensures { result.now ≡ lex_error_name self.now }
     {
         match self {
             LexError::TooLong(_) => "TooLong",
@@ -69,7 +69,7 @@ impl LexError {
 
     /// The line that the refusal is reported with; 0 for `TooLong` and where memory ran out.
     pub fn line(&self) -> Line
-        ensures { result ≡ error_line self.now }
+        ensures { result ≡ lex_error_line self.now }
     {
         match self {
             LexError::TooLong(line)

@@ -11,7 +11,7 @@ pub enum Fault {
 
 /// What a piece of a line means.
 #[derive(Drop)]
-pub enum Meaning {
+pub enum PieceMeaning {
     Nothing,
     /// A token, and the length of its spelling in bytes.
     Token(TokenKind, usize),

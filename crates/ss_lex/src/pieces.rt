@@ -2,22 +2,22 @@
 
 ghost use Rattle.std.specs.Prelude.{◌≡◌, ◌≤◌, ◌+◌, ◌==◌, [], ◌∷◌, drop, length, MatchOption};
 ghost use Rattle.ss_base.specs.Values.{text_of};
-ghost use Rattle.ss_lex.specs.Pieces.{is_separator, is_word_byte, is_quotable, begins, opens_comment, symbol_of, text_meaning};
+ghost use Rattle.ss_lex.specs.Pieces.{is_blank_byte, is_word_part, is_quotable, passes_first, opens_comment, symbol_of, text_meaning};
 ghost use Rattle.ss_lex.specs.Reading.{run_length, quotable_length, comment_at, quote_step_of, step_of};
 
-use crate::meaning::{Fault, Meaning};
+use crate::meaning::{Fault, PieceMeaning};
 use crate::token::{Symbol, TokenKind};
 use crate::words::word_meaning;
 use ss_base::Alpha;
 
-fn is_separator(b: u8) -> bool
-    ensures { result ≡ is_separator b }
+fn is_blank_byte(b: u8) -> bool
+    ensures { result ≡ is_blank_byte b }
 {
     b == b' ' || b == b'\t' || b == b'\r'
 }
 
-fn is_word_byte(b: u8) -> bool
-    ensures { result ≡ is_word_byte b }
+fn is_word_part(b: u8) -> bool
+    ensures { result ≡ is_word_part b }
 {
     b.is_ascii_alphanumeric() || b == b'.'
 }
@@ -33,7 +33,7 @@ fn run_length(bytes: &[u8]) -> usize
     ensures value { result ≡ run_length bytes.now }
     ensures bound { result ≤ length bytes.now }
 {
-    bytes.iter().take_while(|b| is_word_byte(**b)).count()
+    bytes.iter().take_while(|b| is_word_part(**b)).count()
 }
 
 /// How many bytes that are allowed between quotes are at the front.
@@ -65,7 +65,7 @@ pub fn tail(bytes: &[u8]) -> &[u8]
 }
 
 fn begins_with(wanted: u8, bytes: &[u8]) -> bool
-    ensures { result ≡ begins (λ b. b == wanted) bytes.now }
+    ensures { result ≡ passes_first (λ b. b == wanted) bytes.now }
 {
     match bytes {
         [] => false,
@@ -95,24 +95,24 @@ fn after_comment(bytes: &[u8]) -> &[u8]
 }
 
 /// What the bytes between two quotes mean.
-fn text_meaning(body: &[u8]) -> Meaning
+fn text_meaning(body: &[u8]) -> PieceMeaning
     ensures { result ≡ text_meaning (text_of body.now) (length body.now + 2) }
 {
     match Alpha::of(body) {
-        None => Meaning::Fault(Fault::AlphaTooLong),
-        Some(text) => Meaning::Token(TokenKind::Text(text), body.len() + 2),
+        None => PieceMeaning::Fault(Fault::AlphaTooLong),
+        Some(text) => PieceMeaning::Token(TokenKind::Text(text), body.len() + 2),
     }
 }
 
 /// What a text means whose quote is read, and what follows it.
-fn after_quote(bytes: &[u8]) -> (Meaning, &[u8])
+fn after_quote(bytes: &[u8]) -> (PieceMeaning, &[u8])
     ensures { (result.0, result.1.now) ≡ quote_step_of bytes.now }
 {
     let (body, after) = bytes.split_at(quotable_length(bytes));
     if begins_with(b'"', after) {
         (text_meaning(body), tail(after))
     } else {
-        (Meaning::Fault(Fault::OpenText), &[])
+        (PieceMeaning::Fault(Fault::OpenText), &[])
     }
 }
 
@@ -133,24 +133,24 @@ fn symbol_of(b: u8) -> Symbol
 
 /// What the piece at the front means, and what follows it.
 #[tactic(auto, unfolding(crate::specs::Reading::step_of, crate::specs::Reading::piece_at))]
-pub fn step(bytes: &[u8]) -> (Meaning, &[u8])
+pub fn step(bytes: &[u8]) -> (PieceMeaning, &[u8])
     ensures { (result.0, result.1.now) ≡ step_of bytes.now }
 {
     match split_first(bytes) {
-        None => (Meaning::Nothing, bytes),
+        None => (PieceMeaning::Nothing, bytes),
         Some((b, rest)) => {
-            if is_separator(b) {
-                (Meaning::Nothing, rest)
-            } else if is_word_byte(b) {
+            if is_blank_byte(b) {
+                (PieceMeaning::Nothing, rest)
+            } else if is_word_part(b) {
                 let (word, after) = bytes.split_at(run_length(rest) + 1);
                 (word_meaning(word), after)
             } else if opens_comment(b, rest) {
-                (Meaning::Nothing, after_comment(tail(rest)))
+                (PieceMeaning::Nothing, after_comment(tail(rest)))
             } else if b == b'"' {
                 after_quote(rest)
             } else {
                 let symbol = symbol_of(b);
-                (Meaning::Token(TokenKind::Symbol(symbol), 1), rest)
+                (PieceMeaning::Token(TokenKind::Symbol(symbol), 1), rest)
             }
         }
     }

@@ -1,6 +1,6 @@
 ghost use Rattle.std.specs.Prelude.{◌≡◌, map};
 ghost use Rattle.ss_lex.specs.Parts.{part, part_for};
-ghost use Rattle.ss_lex.specs.Words.{found_in, reserved};
+ghost use Rattle.ss_lex.specs.Words.{word_in_table, reserved};
 
 use crate::word::Word;
 
@@ -206,7 +206,7 @@ fn rows_for(first: u8) -> &'static [Row]
 
 /// The reserved word with this spelling.
 pub fn reserved_word(spelling: &[u8]) -> Option<Word>
-    ensures { result ≡ found_in reserved spelling.now }
+    ensures { result ≡ word_in_table reserved spelling.now }
 {
     let Some(first) = spelling.first() else {
         return None;

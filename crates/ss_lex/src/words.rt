@@ -3,7 +3,7 @@ ghost use Rattle.std.specs.Char.{is_ascii_alphabetic};
 ghost use Rattle.std.specs.List.{list_any};
 ghost use Rattle.ss_lex.specs.Words.{is_period, without_end_periods, name_meaning, number_meaning, word_meaning, number_from, largest_number};
 
-use crate::meaning::{Fault, Meaning};
+use crate::meaning::{Fault, PieceMeaning};
 use crate::reserved::reserved_word;
 use crate::token::TokenKind;
 use ss_base::Name;
@@ -24,15 +24,15 @@ fn has_period(word: &[u8]) -> bool
 }
 
 /// What a word with a letter means.
-fn name_meaning(word: &[u8]) -> Meaning
+fn name_meaning(word: &[u8]) -> PieceMeaning
     requires { 0 < length word.now }
     ensures { result ≡ name_meaning word.now }
 {
     match Name::of(word) {
-        None => Meaning::Fault(Fault::NameTooLong),
+        None => PieceMeaning::Fault(Fault::NameTooLong),
         Some(name) => match reserved_word(name.bytes()) {
-            Some(reserved) => Meaning::Token(TokenKind::Word(reserved), word.len()),
-            None => Meaning::Token(TokenKind::Name(name), word.len()),
+            Some(reserved) => PieceMeaning::Token(TokenKind::Word(reserved), word.len()),
+            None => PieceMeaning::Token(TokenKind::Name(name), word.len()),
         },
     }
 }
@@ -52,15 +52,15 @@ fn number(digits: &[u8]) -> Option<u64>
 }
 
 /// What a word without a letter means.
-fn number_meaning(word: &[u8]) -> Meaning
+fn number_meaning(word: &[u8]) -> PieceMeaning
     ensures { result ≡ number_meaning word.now }
 {
     if has_period(word) {
-        return Meaning::Fault(Fault::BadNumber);
+        return PieceMeaning::Fault(Fault::BadNumber);
     }
     match number(word) {
-        None => Meaning::Fault(Fault::BadNumber),
-        Some(n) => Meaning::Token(TokenKind::Number(n as i64), word.len()),
+        None => PieceMeaning::Fault(Fault::BadNumber),
+        Some(n) => PieceMeaning::Token(TokenKind::Number(n as i64), word.len()),
     }
 }
 
@@ -76,12 +76,12 @@ fn without_end_periods(word: &[u8]) -> &[u8]
 }
 
 /// What a word means.
-pub fn word_meaning(word: &[u8]) -> Meaning
+pub fn word_meaning(word: &[u8]) -> PieceMeaning
     ensures { result ≡ word_meaning (without_end_periods word.now) }
 {
     let trimmed = without_end_periods(word);
     if trimmed.is_empty() {
-        Meaning::Nothing
+        PieceMeaning::Nothing
     } else if has_letter(trimmed) {
         name_meaning(trimmed)
     } else {

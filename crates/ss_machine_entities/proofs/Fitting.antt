@@ -9,15 +9,15 @@ use Rattle.ss_base.specs.declared.layout.Discipline.{Discipline}
 use Rattle.ss_base.specs.declared.layout.Discipline.TheVariants.{Fifo, Lifo, Ranked}
 use Rattle.ss_records.specs.State.{modes_of}
 use Rattle.ss_records.specs.Sets.{member_class}
-use Rattle.ss_sets.specs.Disciplines.{Fits}
+use Rattle.ss_sets.specs.Disciplines.{FitsMembers}
 use Rattle.ss_meaning.specs.Sets.{is_field, is_fit}
 
-fits_decided : (l : PlainLayout) (set : ℕ) (d : Discipline) → Decides (is_fit l set d) (Fits l set d)
+fits_decided : (l : PlainLayout) (set : ℕ) (d : Discipline) → Decides (is_fit l set d) (FitsMembers l set d)
 fits_decided l set Fifo = (λ e. tt, λ u. refl)
 fits_decided l set Lifo = (λ e. tt, λ u. refl)
 fits_decided l set (Ranked ks) =
     let fields = length (modes_of l (member_class l set)) in
     Decides-by_and (λ (k : RankKey). nat_lt k.field fields) (λ (k : RankKey). k.field < fields) (list_all (is_field l (member_class l set))) (λ k. Decides-ltb k.field fields) refl (λ k rest. refl) ks
 
-pub fit_is : (l : PlainLayout) (set : ℕ) (d : Discipline) (r : Bool) → Decides r (Fits l set d) → r ≡ is_fit l set d
+pub fit_is : (l : PlainLayout) (set : ℕ) (d : Discipline) (r : Bool) → Decides r (FitsMembers l set d) → r ≡ is_fit l set d
 fit_is l set d r h = same_from_decides r (is_fit l set d) h (fits_decided l set d)

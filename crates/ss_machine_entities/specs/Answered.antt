@@ -1,7 +1,7 @@
 -- Answers of operations, in the terms of the meaning.
 use Rattle.std.specs.Prelude.{ℤ, Result, Ok, Err}
 use Rattle.ss_meaning.specs.Values.{Trouble as Meant, Fails, Misfit as IsMisfit}
-use Rattle.ss_machine_entities.specs.declared.known.Known.{Known}
+use Rattle.ss_machine_entities.specs.declared.known.EntityId.{EntityId}
 use Rattle.ss_machine_entities.specs.declared.trouble.Trouble.{Trouble}
 use Rattle.ss_machine_entities.specs.declared.trouble.Trouble.TheVariants.{Fault, Misfit}
 
@@ -15,6 +15,6 @@ to_meaning (Ok a) = Ok a
 to_meaning (Err t) = Err (meant t)
 
 -- the number of what was looked at
-abbrev pub numbered : Result Known Trouble → Result ℤ Trouble
-numbered (Ok k) = Ok k.number
-numbered (Err t) = Err t
+abbrev pub number_found : Result EntityId Trouble → Result ℤ Trouble
+number_found (Ok k) = Ok k.number
+number_found (Err t) = Err t

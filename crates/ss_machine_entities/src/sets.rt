@@ -2,7 +2,7 @@
 
 ghost use Rattle.std.specs.Prelude.{◌≡◌, ◌<◌, length, is_some, IsTrue};
 ghost use Rattle.ss_machine_entities.specs.Layouts.{set_in};
-ghost use Rattle.ss_meaning.specs.Sets.{owner_by};
+ghost use Rattle.ss_meaning.specs.Sets.{owner_by_layout};
 ghost use Rattle.ss_meaning.specs.Values.{sure};
 
 use ss_base::{Layout, Owner, Value};
@@ -20,7 +20,7 @@ pub fn has_set(layout: &Layout, set: usize) -> bool
 /// and what refers to the owner fits.
 #[inline(always)]
 pub fn owner_of(layout: &Layout, set: usize, owner: Option<Value>) -> Option<i64>
-    ensures { owner_by (set_in layout.now set) owner ≡ sure result }
+    ensures { owner_by_layout (set_in layout.now set) owner ≡ sure result }
 {
     match layout.sets.get(set) {
         None => None,

@@ -15,12 +15,12 @@ use Rattle.ss_world.specs.State.{Record, State, kind_of, kind_in, numbered, and_
 use Rattle.ss_meaning.specs.Values.{Trouble as Meant, if_ok, turned, due, where_fit}
 use Rattle.ss_meaning.specs.Store.{Notices, Store}
 use Rattle.ss_meaning.specs.Entities.{entity, attribute}
-use Rattle.ss_meaning.specs.Events.{ranked_from, ranked_as, attributes}
+use Rattle.ss_meaning.specs.Events.{ranked_from, ranked_as, attributes_given}
 use Rattle.ss_machine_entities.specs.declared.trouble.Trouble.TheVariants.{Fault, Misfit}
 use Rattle.ss_machine_entities.specs.declared.trouble.Unmade.{Unmade}
 use Rattle.ss_machine_entities.specs.declared.trouble.Unmade.TheVariants as unmade
 use Rattle.ss_machine_entities.specs.Answered.{meant}
-use Rattle.ss_machine_events.specs.declared.coming.Event.{Event}
+use Rattle.ss_machine_events.specs.declared.coming.TakenEvent.{TakenEvent}
 use Rattle.ss_machine_events.specs.Scheduled.{Finds}
 use Rattle.ss_machine_entities.specs.Ranks.{ranked_at}
 use Rattle.ss_machine_entities.specs.Layouts.{kind_at}
@@ -134,21 +134,21 @@ module _ (h : State) (n : ℤ) where
 -- ## The event of a notice
 
 module _ (h : State) (n : ℤ) where
-  pub event_found : (es : List Notices) (rank : ℕ) (said : Notices) (c : Event) → slice_get es rank ≡ Some said → is_of h n said.class ≡ true → first_of h n 0 es ≡ first_of h n rank (drop rank es)
+  pub event_found : (es : List Notices) (rank : ℕ) (said : Notices) (c : TakenEvent) → slice_get es rank ≡ Some said → is_of h n said.class ≡ true → first_of h n 0 es ≡ first_of h n rank (drop rank es)
       → c ≡ record { rank = rank; class = said.class; line = said.line; given = said.given; saved = said.saved; notice = n } → First h es n (Some c)
   event_found es rank said c at same before e =
-      let d : Event = record { rank = rank; class = said.class; line = said.line; given = said.given; saved = said.saved; notice = n } in (
+      let d : TakenEvent = record { rank = rank; class = said.class; line = said.line; given = said.given; saved = said.saved; notice = n } in (
         found_of h n es rank said at same before ∙ ap (λ (o : Option Notices). option_map (λ (said : Notices). record { rank = rank; said = said }) o) at
-            ∙ sym (ap (λ (o : Option Notices). Some (ranked_meant d (ties_in o))) at) ∙ ap (λ (c : Event). Some (ranked_meant c (ties_at es c.rank))) (sym e),
-        ap (λ (c : Event). c.notice) e,
+            ∙ sym (ap (λ (o : Option Notices). Some (ranked_meant d (ties_in o))) at) ∙ ap (λ (c : TakenEvent). Some (ranked_meant c (ties_at es c.rank))) (sym e),
+        ap (λ (c : TakenEvent). c.notice) e,
       )
 
-pub event_of_first : (e : Seen) (n : ℤ) (r : Option Event) → First e.heap e.notices n r → IsEventOf e n r
+pub event_of_first : (e : Seen) (n : ℤ) (r : Option TakenEvent) → First e.heap e.notices n r → IsEventOf e n r
 event_of_first e n None f = λ s. first_is e.heap n (with_seen s e) ∙ f
 event_of_first e n (Some c) f = (λ s. first_is e.heap n (with_seen s e) ∙ f.0, f.1)
 
 -- the event of a number whose class is known
-module _ (e : Seen) (n : ℤ) (class rank : ℕ) (said : Notices) (c : Event) (has : HasClass e.heap n class) (kind : is_notice_kind (kind_at e.heap.layout class) ≡ true) where
+module _ (e : Seen) (n : ℤ) (class rank : ℕ) (said : Notices) (c : TakenEvent) (has : HasClass e.heap n class) (kind : is_notice_kind (kind_at e.heap.layout class) ≡ true) where
   noticed_there : notice e.heap n ≡ Ok has.seen
   noticed_there =
       let h = e.heap in
@@ -159,35 +159,35 @@ module _ (e : Seen) (n : ℤ) (class rank : ℕ) (said : Notices) (c : Event) (h
       → c ≡ record { rank = rank; class = said.class; line = said.line; given = said.given; saved = said.saved; notice = n } → IsEventOf e n (Some c)
   near_event at here is =
       let es = e.notices in
-      let d : Event = record { rank = rank; class = said.class; line = said.line; given = said.given; saved = said.saved; notice = n } in (
+      let d : TakenEvent = record { rank = rank; class = said.class; line = said.line; given = said.given; saved = said.saved; notice = n } in (
         λ s. ap (λ (q : OkOr Record FaultKind). ranked_as q (with_seen s e)) noticed_there
             ∙ ap (λ k. ranked_from 0 es k) has.class ∙ at
             ∙ ap (λ (o : Option Notices). option_map (λ (said : Notices). record { rank = rank; said = said }) o) here
-            ∙ sym (ap (λ (o : Option Notices). Some (ranked_meant d (ties_in o))) here) ∙ ap (λ (c : Event). Some (ranked_meant c (ties_at es c.rank))) (sym is),
-        ap (λ (c : Event). c.notice) is,
+            ∙ sym (ap (λ (o : Option Notices). Some (ranked_meant d (ties_in o))) here) ∙ ap (λ (c : TakenEvent). Some (ranked_meant c (ties_at es c.rank))) (sym is),
+        ap (λ (c : TakenEvent). c.notice) is,
       )
 
 -- ## The values that an event takes
 
 module _ (class field : ℕ) (x : Value) (s : Store) (vs : List Value) where
-  pub not_read : (k j : ℕ) (t : Meant) → k ≡ suc j → attribute class field x s ≡ Err t → turned {B = List Value} (λ us. vs ++ us) (attributes class field k x s) ≡ Err t
+  pub not_read : (k j : ℕ) (t : Meant) → k ≡ suc j → attribute class field x s ≡ Err t → turned {B = List Value} (λ us. vs ++ us) (attributes_given class field k x s) ≡ Err t
   not_read k j t e h =
-      ap (λ k. turned {B = List Value} (λ us. vs ++ us) (attributes class field k x s)) e
-      ∙ ap (λ r. turned {B = List Value} (λ us. vs ++ us) (if_ok r (λ v. turned (λ us. v ∷ us) (attributes class (field + 1) j x s)))) h
+      ap (λ k. turned {B = List Value} (λ us. vs ++ us) (attributes_given class field k x s)) e
+      ∙ ap (λ r. turned {B = List Value} (λ us. vs ++ us) (if_ok r (λ v. turned (λ us. v ∷ us) (attributes_given class (field + 1) j x s)))) h
 
   put_at_end : (v : Value) (r : OkOr (List Value) Meant) → turned {B = List Value} (λ us. vs ++ us) (turned {B = List Value} (λ us. v ∷ us) r) ≡ turned (λ us. (vs ++ v ∷ []) ++ us) r
   put_at_end v (Ok us) = ap (λ (us : List Value). Ok us) (sym (append_assoc vs (v ∷ []) us))
   put_at_end v (Err t) = refl
 
-  pub read_on : (k j : ℕ) (v : Value) → k ≡ suc j → attribute class field x s ≡ Ok v → turned {B = List Value} (λ us. vs ++ us) (attributes class field k x s) ≡ turned (λ us. (vs ++ v ∷ []) ++ us) (attributes class (field + 1) j x s)
+  pub read_on : (k j : ℕ) (v : Value) → k ≡ suc j → attribute class field x s ≡ Ok v → turned {B = List Value} (λ us. vs ++ us) (attributes_given class field k x s) ≡ turned (λ us. (vs ++ v ∷ []) ++ us) (attributes_given class (field + 1) j x s)
   read_on k j v e h =
-      ap (λ k. turned {B = List Value} (λ us. vs ++ us) (attributes class field k x s)) e
-      ∙ ap (λ r. turned {B = List Value} (λ us. vs ++ us) (if_ok r (λ v. turned (λ us. v ∷ us) (attributes class (field + 1) j x s)))) h
-      ∙ put_at_end v (attributes class (field + 1) j x s)
+      ap (λ k. turned {B = List Value} (λ us. vs ++ us) (attributes_given class field k x s)) e
+      ∙ ap (λ r. turned {B = List Value} (λ us. vs ++ us) (if_ok r (λ v. turned (λ us. v ∷ us) (attributes_given class (field + 1) j x s)))) h
+      ∙ put_at_end v (attributes_given class (field + 1) j x s)
 
 -- no value is found, or memory for it was refused
-module _ (class field count : ℕ) (x : Value) (e : Seen) (vs : List Value) (k j : ℕ) (more : k ≡ suc j) (before : (s : Store) → attributes class 0 count x (with_seen s e) ≡ turned (λ us. vs ++ us) (attributes class field k x (with_seen s e))) where
-  pub unread : (u : Unmade) → Finds {A = Value} (attribute class field x) e (Err u) → Finds {A = List Value} (attributes class 0 count x) e (Err u)
+module _ (class field count : ℕ) (x : Value) (e : Seen) (vs : List Value) (k j : ℕ) (more : k ≡ suc j) (before : (s : Store) → attributes_given class 0 count x (with_seen s e) ≡ turned (λ us. vs ++ us) (attributes_given class field k x (with_seen s e))) where
+  pub unread : (u : Unmade) → Finds {A = Value} (attribute class field x) e (Err u) → Finds {A = List Value} (attributes_given class 0 count x) e (Err u)
   unread (unmade.Fault kind) h = λ s. before s ∙ not_read class field x (with_seen s e) vs k j (meant (Fault kind)) more (h s)
   unread unmade.Misfit h = λ s. before s ∙ not_read class field x (with_seen s e) vs k j (meant Misfit) more (h s)
   unread unmade.Memory h = tt

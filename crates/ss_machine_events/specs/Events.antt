@@ -13,7 +13,7 @@ use Rattle.ss_meaning.specs.Values.{Trouble as Meant, turned}
 use Rattle.ss_meaning.specs.Store.{Notices, Store}
 use Rattle.ss_meaning.specs.Places.{assigned_variable}
 use Rattle.ss_meaning.specs.Events.{Ranked, Coming, Beginning, ranked_as, next_event, begun, saved_or_gone}
-use Rattle.ss_machine_events.specs.declared.coming.Event.{Event}
+use Rattle.ss_machine_events.specs.declared.coming.TakenEvent.{TakenEvent}
 use Rattle.ss_machine_events.specs.declared.coming.Fate.{Fate}
 use Rattle.ss_machine_events.specs.declared.coming.Fate.TheVariants.{Saved, Gone}
 use Rattle.ss_machine_entities.specs.declared.trouble.Trouble.TheVariants.{Fault, Misfit}
@@ -27,14 +27,14 @@ use Rattle.ss_machine_world.specs.Seen.{Seen, with_seen}
 -- ## What comes next
 
 -- what the program says of the class of an event
-abbrev pub ranked_meant : Event → List RankKey → Ranked
+abbrev pub ranked_meant : TakenEvent → List RankKey → Ranked
 ranked_meant c ties = record {
   rank = c.rank;
   said = record { class = c.class; ties = ties; line = c.line; given = c.given; saved = c.saved };
 }
 
 -- an event, in the terms of the meaning
-abbrev pub coming_meant : Event → List RankKey → Store → Coming
+abbrev pub coming_meant : TakenEvent → List RankKey → Store → Coming
 coming_meant c ties s = record { ranked = ranked_meant c ties; notice = Whole c.notice; store = s }
 
 -- the attributes that break the ties of a class
@@ -46,7 +46,7 @@ abbrev pub ties_at : List Notices → (rank : ℕ) → List RankKey
 ties_at es rank = ties_in (slice_get es rank)
 
 -- an event comes, and what is seen afterwards is as it begins; or none comes, and nothing changes
-abbrev pub Comes : (old new : Seen) → Option Event → Type 0
+abbrev pub Comes : (old new : Seen) → Option TakenEvent → Type 0
 Comes old new None = ((s : Store) → next_event (with_seen s old) ≡ None) × (new ≡ old)
 Comes old new (Some c) = (s : Store) → next_event (with_seen s old) ≡ Some (coming_meant c (ties_at new.notices c.rank) (with_seen s new))
 
@@ -64,7 +64,7 @@ abbrev pub passed_on : Seen → Seen
 passed_on e = record e { time = time_next (next e.pending) e.time; pending = after_next e.pending }
 
 -- an event comes next, and what is seen once it was taken out is as it begins; or none comes
-abbrev pub Nears : Seen → Option Event → Type 0
+abbrev pub Nears : Seen → Option TakenEvent → Type 0
 Nears e None = (s : Store) → next_event (with_seen s e) ≡ None
 Nears e (Some c) = (s : Store) → next_event (with_seen s e) ≡ Some (coming_meant c (ties_at e.notices c.rank) (with_seen s (passed_on e)))
 
@@ -90,12 +90,12 @@ first_of h n rank [] = None
 first_of h n rank (e ∷ es) = if is_of h n e.class then Some (record { rank = rank; said = e }) else first_of h n (rank + 1) es
 
 -- the event of a number that is a notice of one of some classes
-abbrev pub First : State → List Notices → (number : ℤ) → Option Event → Type 0
+abbrev pub First : State → List Notices → (number : ℤ) → Option TakenEvent → Type 0
 First h es n None = first_of h n 0 es ≡ None
 First h es n (Some c) = (first_of h n 0 es ≡ Some (ranked_meant c (ties_at es c.rank))) × (c.notice ≡ n)
 
 -- the event of a number of which the meaning knows the class
-abbrev pub IsEventOf : Seen → (number : ℤ) → Option Event → Type 0
+abbrev pub IsEventOf : Seen → (number : ℤ) → Option TakenEvent → Type 0
 IsEventOf e n None = (s : Store) → ranked_as (notice e.heap n) (with_seen s e) ≡ None
 IsEventOf e n (Some c) = ((s : Store) → ranked_as (notice e.heap n) (with_seen s e) ≡ Some (ranked_meant c (ties_at e.notices c.rank))) × (c.notice ≡ n)
 
@@ -110,12 +110,12 @@ IsPut v old new (Ok u) = new ≡ old ++ v ∷ []
 IsPut v old new (Err t) = t ≡ unmade.Memory
 
 -- an operation looks, and the value that it finds is added after others
-abbrev pub Adds : (Store → Result Value Meant) → Seen → (old new : List Value) → Result (Unit {0}) Unmade → Type 0
-Adds f e old new (Ok u) = (v : Value) × (new ≡ old ++ v ∷ []) × ((s : Store) → f (with_seen s e) ≡ Ok v)
-Adds f e old new (Err t) = Finds {A = Value} f e (Err t)
+abbrev pub AddsFound : (Store → Result Value Meant) → Seen → (old new : List Value) → Result (Unit {0}) Unmade → Type 0
+AddsFound f e old new (Ok u) = (v : Value) × (new ≡ old ++ v ∷ []) × ((s : Store) → f (with_seen s e) ≡ Ok v)
+AddsFound f e old new (Err t) = Finds {A = Value} f e (Err t)
 
 -- what becomes of the notice
-abbrev pub Lets : Event → (old new : Seen) → Result Fate Unmade → Type 0
+abbrev pub Lets : TakenEvent → (old new : Seen) → Result Fate Unmade → Type 0
 Lets c old new (Ok (Saved k)) =
     ((s : Store) → saved_or_gone c.saved c.class (Whole c.notice) (with_seen s old) ≡ assigned_variable (Global k) (Whole c.notice) (with_seen s old))
     × (new ≡ old)
@@ -126,7 +126,7 @@ Lets c old new (Err unmade.Misfit) = ((s : Store) → saved_or_gone c.saved c.cl
 Lets c old new (Err unmade.Memory) = new ≡ old
 
 -- an event begins with values; its notice is gone, or it is still to be assigned to a global variable
-abbrev pub Begins : Event → List RankKey → List Value → (old new : Seen) → Result Fate Unmade → Type 0
+abbrev pub Begins : TakenEvent → List RankKey → List Value → (old new : Seen) → Result Fate Unmade → Type 0
 Begins c ties vs old new (Ok (Saved k)) =
     ((s : Store) → begun (coming_meant c ties (with_seen s old)) ≡ turned (beginning c.rank vs) (assigned_variable (Global k) (Whole c.notice) (with_seen s old)))
     × (new ≡ old)

@@ -4,17 +4,17 @@ ghost use Rattle.std.specs.Prelude.{◌≡◌, true, false, List, Ok, Some, IfSo
 ghost use Rattle.ss_base.specs.declared.layout.RankKey.{RankKey as KeySeen};
 ghost use Rattle.ss_base.specs.declared.value.Value.TheVariants.{Whole};
 ghost use Rattle.ss_meaning.specs.Entities.{attribute, gone};
-ghost use Rattle.ss_meaning.specs.Events.{attributes};
+ghost use Rattle.ss_meaning.specs.Events.{attributes_given};
 ghost use Rattle.ss_meaning.specs.Store.{Store as StoreSeen};
 ghost use Rattle.ss_records.specs.Classed.{HasClass};
 ghost use Rattle.ss_machine_entities.specs.Layouts.{kind_at};
 ghost use Rattle.ss_machine_world.specs.Seen.{with_seen};
 ghost use Rattle.ss_machine_events.specs.Scheduled.{Finds, put_there};
-ghost use Rattle.ss_machine_events.specs.Events.{Comes, Nears, passed_on, Begins, Lets, First, IsEventOf, Adds, IsPut, is_of, is_notice_kind};
+ghost use Rattle.ss_machine_events.specs.Events.{Comes, Nears, passed_on, Begins, Lets, First, IsEventOf, AddsFound, IsPut, is_of, is_notice_kind};
 
 use crate::scheduling::lacking;
 use ss_base::{ClassKind, Line, Value};
-use ss_machine_entities::known::Known;
+use ss_machine_entities::known::EntityId;
 use ss_machine_entities::trouble::Unmade;
 use ss_machine_entities::{NoticeClass, rank_of};
 use ss_machine_world::scene::Scene;
@@ -23,7 +23,7 @@ use ss_machine_world::scene::Scene;
 /// line of its routine, how many attributes that takes, and the global variable that a notice is saved in, if it is
 /// saved.
 #[derive(Clone, Copy)]
-pub struct Event {
+pub struct TakenEvent {
     pub rank: usize,
     pub class: usize,
     pub line: Line,
@@ -43,10 +43,10 @@ pub enum Fate {
 
 // The event of a notice of this class, which has this rank.
 #[inline(always)]
-fn event_of(said: &NoticeClass, rank: usize, notice: i64) -> Event
+fn event_of(said: &NoticeClass, rank: usize, notice: i64) -> TakenEvent
     ensures { result ≡ record { rank = rank; class = said.now.class; line = said.now.line; given = said.now.given; saved = said.now.saved; notice = notice } }
 {
-    Event {
+    TakenEvent {
         rank,
         class: said.class(),
         line: said.line(),
@@ -58,7 +58,7 @@ fn event_of(said: &NoticeClass, rank: usize, notice: i64) -> Event
 
 // Whether a number is a notice of a class.
 #[inline(always)]
-fn is_of(scene: &Scene, class: usize, known: Known) -> bool
+fn is_of(scene: &Scene, class: usize, known: EntityId) -> bool
     ensures { result ≡ is_of scene.now.heap known.number class }
 {
     match scene.kind(class) {
@@ -69,7 +69,7 @@ fn is_of(scene: &Scene, class: usize, known: Known) -> bool
 
 // The event of a notice, by its number, where its class is one of these.
 #[inline(always)]
-fn event_among(scene: &Scene, notices: &[NoticeClass], known: Known) -> Option<Event>
+fn event_among(scene: &Scene, notices: &[NoticeClass], known: EntityId) -> Option<TakenEvent>
     ensures { First scene.now.heap notices.now known.number result }
 {
     for rank in 0..notices.len() {
@@ -83,7 +83,7 @@ fn event_among(scene: &Scene, notices: &[NoticeClass], known: Known) -> Option<E
 
 // The event of a notice, by its number.
 #[inline(always)]
-fn numbered_event(scene: &Scene, known: Known) -> Option<Event>
+fn numbered_event(scene: &Scene, known: EntityId) -> Option<TakenEvent>
     ensures { IsEventOf scene.now known.number result }
 {
     event_among(scene, &scene.notices, known)
@@ -91,7 +91,7 @@ fn numbered_event(scene: &Scene, known: Known) -> Option<Event>
 
 // The event of a notice, by its number, out of line.
 #[inline(never)]
-fn event_apart(scene: &Scene, known: Known) -> Option<Event>
+fn event_apart(scene: &Scene, known: EntityId) -> Option<TakenEvent>
     ensures { IsEventOf scene.now known.number result }
 {
     numbered_event(scene, known)
@@ -99,7 +99,7 @@ fn event_apart(scene: &Scene, known: Known) -> Option<Event>
 
 // The event of a notice of a class, by its number.
 #[inline(always)]
-fn event_in(scene: &Scene, class: usize, known: Known) -> Option<Event>
+fn event_in(scene: &Scene, class: usize, known: EntityId) -> Option<TakenEvent>
     requires class { HasClass scene.now.heap known.number class }
     requires kind { is_notice_kind (kind_at scene.now.heap.layout class) ≡ true }
     ensures { IfSome result (λ event. IsEventOf scene.now known.number (Some event)) }
@@ -115,7 +115,7 @@ fn event_in(scene: &Scene, class: usize, known: Known) -> Option<Event>
 
 // The event of a notice, by its number, where it is found at once.
 #[inline(always)]
-fn event_near(scene: &Scene, known: Known) -> Option<Event>
+fn event_near(scene: &Scene, known: EntityId) -> Option<TakenEvent>
     ensures { IfSome result (λ event. IsEventOf scene.now known.number (Some event)) }
 {
     match scene.population.class_near(known.number) {
@@ -129,7 +129,7 @@ fn event_near(scene: &Scene, known: Known) -> Option<Event>
 
 // The event of a notice, by its number, which is remembered, so that it is found sooner.
 #[inline(always)]
-fn met_event(scene: &mut Scene, known: Known) -> Option<Event>
+fn met_event(scene: &mut Scene, known: EntityId) -> Option<TakenEvent>
     ensures value { IsEventOf scene.old known.number result }
     ensures same { scene.new ≡ scene.old }
 {
@@ -143,20 +143,20 @@ fn met_event(scene: &mut Scene, known: Known) -> Option<Event>
 /// The event that comes next, which stays where it is. There is none where no notice is pending or the number that comes next is
 /// not a notice of these classes.
 #[inline(always)]
-pub fn upcoming(scene: &mut Scene) -> Option<Event>
+pub fn upcoming(scene: &mut Scene) -> Option<TakenEvent>
     ensures value { Nears scene.old result }
     ensures same { scene.new ≡ scene.old }
 {
     match scene.timeline.least() {
         None => None,
-        Some((_, number)) => met_event(scene, Known { number }),
+        Some((_, number)) => met_event(scene, EntityId { number }),
     }
 }
 
 /// Destroys the notice that comes next, of this class, and takes it out: TIME.V is then its time. Says whether it did; if not,
 /// nothing has changed.
 #[inline(always)]
-pub fn pass_event(scene: &mut Scene, class: usize, notice: Known) -> bool
+pub fn pass_event(scene: &mut Scene, class: usize, notice: EntityId) -> bool
     ensures done { result ≡ true → (s : StoreSeen) → gone class (Whole notice.number) (with_seen s (passed_on scene.old)) ≡ Ok (with_seen s scene.new) }
     ensures kept { result ≡ false → scene.new ≡ scene.old }
 {
@@ -171,12 +171,12 @@ pub fn pass_event(scene: &mut Scene, class: usize, notice: Known) -> bool
 
 /// Takes out the event that comes next, and TIME.V is then its time. There is none, and nothing changes, where no
 /// notice is pending or the number that comes next is not a notice of these classes.
-pub fn next_event(scene: &mut Scene) -> Option<Event>
+pub fn next_event(scene: &mut Scene) -> Option<TakenEvent>
     ensures { Comes scene.old scene.new result }
 {
     match scene.timeline.least() {
         None => None,
-        Some((_, number)) => match met_event(scene, Known { number }) {
+        Some((_, number)) => match met_event(scene, EntityId { number }) {
             None => None,
             Some(event) => {
                 scene.timeline.pass();
@@ -192,10 +192,10 @@ fn read_one(
     scene: &Scene,
     class: usize,
     field: usize,
-    known: Known,
+    known: EntityId,
     values: &mut Vec<Value>,
 ) -> Result<(), Unmade>
-    ensures { Adds (attribute class field (Whole known.number)) scene.now values.old.items values.new.items result }
+    ensures { AddsFound (attribute class field (Whole known.number)) scene.now values.old.items values.new.items result }
 {
     match scene.whole_field(class, field, known) {
         Some(number) => put(values, Value::Whole(number)),
@@ -209,10 +209,10 @@ fn read_any(
     scene: &Scene,
     class: usize,
     field: usize,
-    known: Known,
+    known: EntityId,
     values: &mut Vec<Value>,
 ) -> Result<(), Unmade>
-    ensures { Adds (attribute class field (Whole known.number)) scene.now values.old.items values.new.items result }
+    ensures { AddsFound (attribute class field (Whole known.number)) scene.now values.old.items values.new.items result }
 {
     match scene.field_value(class, field, known) {
         Err(trouble) => Err(lacking(trouble)),
@@ -226,10 +226,10 @@ fn read(
     scene: &Scene,
     class: usize,
     count: usize,
-    known: Known,
+    known: EntityId,
     values: &mut Vec<Value>,
 ) -> Result<(), Unmade>
-    ensures { Finds (attributes class 0 count (Whole known.number)) scene.now (put_there values.new.items result) }
+    ensures { Finds (attributes_given class 0 count (Whole known.number)) scene.now (put_there values.new.items result) }
 {
     values.clear();
     for field in 0..count {
@@ -243,7 +243,7 @@ fn read(
 
 // What becomes of the notice of an event.
 #[inline(always)]
-fn let_go(scene: &mut Scene, event: Event) -> Result<Fate, Unmade>
+fn let_go(scene: &mut Scene, event: TakenEvent) -> Result<Fate, Unmade>
     ensures { Lets event scene.old scene.new result }
 {
     match event.saved {
@@ -258,10 +258,14 @@ fn let_go(scene: &mut Scene, event: Event) -> Result<Fate, Unmade>
 /// An event that was taken out begins: its routine takes the values, which are those of the first attributes of the
 /// notice, in place of what was there. The notice is destroyed unless it is to be saved. Faults: 9 and 10. Nothing
 /// changes after a fault, or where memory for the values was refused.
-pub fn begin_event(scene: &mut Scene, event: Event, values: &mut Vec<Value>) -> Result<Fate, Unmade>
+pub fn begin_event(
+    scene: &mut Scene,
+    event: TakenEvent,
+    values: &mut Vec<Value>,
+) -> Result<Fate, Unmade>
     ensures { (ties : List KeySeen) → Begins event ties values.new.items scene.old scene.new result }
 {
-    let known = Known {
+    let known = EntityId {
         number: event.notice,
     };
     match read(scene, event.class, event.given, known, values) {

@@ -14,7 +14,7 @@ ghost use Rattle.ss_machine_events.specs.Scheduled.{Leads, Forms, Goes, Finds, A
 
 use ss_base::{FaultKind, RankKey, Refused, Value, plus};
 use ss_events::Key;
-use ss_machine_entities::known::Known;
+use ss_machine_entities::known::EntityId;
 use ss_machine_entities::trouble::{Trouble, Unmade};
 use ss_machine_entities::{NoticeClass, rank_of};
 use ss_machine_world::at_once::Number;
@@ -190,7 +190,7 @@ fn give_whole(scene: &mut Scene, class: usize, field: usize, x: &Value, value: &
 {
     match (x, value) {
         (Value::Whole(number), Value::Whole(value)) => {
-            let known = Known { number: *number };
+            let known = EntityId { number: *number };
             scene.assign_field(class, field, known, Number { value: *value })
         }
         _ => false,
@@ -345,7 +345,7 @@ fn whole_of(scene: &Scene, class: usize, field: usize, x: &Value) -> Option<i64>
 {
     match x {
         Value::Whole(number) => {
-            let known = Known { number: *number };
+            let known = EntityId { number: *number };
             scene.whole_field(class, field, known)
         }
         Value::Text(_) => None,
@@ -512,7 +512,7 @@ fn key_apart(
     scene: &Scene,
     alloc: Global,
     class: usize,
-    notice: Known,
+    notice: EntityId,
     time: i64,
 ) -> Result<Key, Unmade>
     ensures { Finds (key_meant class (Whole notice.number) time) scene.now result }
@@ -526,7 +526,7 @@ fn key_known(
     scene: &Scene,
     alloc: Global,
     class: usize,
-    notice: Known,
+    notice: EntityId,
     time: i64,
 ) -> Result<Key, Unmade>
     ensures { Finds (key_meant class (Whole notice.number) time) scene.now result }
@@ -539,7 +539,7 @@ fn key_known(
 
 // A notice is filed under a key, by its number.
 #[inline(always)]
-fn schedule_known(scene: &mut Scene, key: Key, known: Known) -> Result<(), Unmade>
+fn schedule_known(scene: &mut Scene, key: Key, known: EntityId) -> Result<(), Unmade>
     ensures { Grows (scheduled_known key known.number) scene.old scene.new result }
 {
     settled(scene.timeline.schedule(key, known.number))
@@ -551,7 +551,7 @@ fn file_pending(
     scene: &mut Scene,
     alloc: Global,
     class: usize,
-    notice: Known,
+    notice: EntityId,
     time: i64,
 ) -> Result<(), Unmade>
     ensures { Grows (filed_notice class (Whole notice.number) time) scene.old scene.new result }
@@ -567,7 +567,7 @@ fn file_pending(
 
 // Files a notice out of line, with the answer as one value.
 #[inline(never)]
-fn file_apart(scene: &mut Scene, alloc: Global, class: usize, notice: Known, time: i64) -> Filed
+fn file_apart(scene: &mut Scene, alloc: Global, class: usize, notice: EntityId, time: i64) -> Filed
     ensures { Grows (filed_notice class (Whole notice.number) time) scene.old scene.new (filing_of result) }
 {
     in_one(file_pending(scene, alloc, class, notice, time))
@@ -576,7 +576,7 @@ fn file_apart(scene: &mut Scene, alloc: Global, class: usize, notice: Known, tim
 // A notice without ties is pending for a time and by a rank, by its number, where it is found at once that nothing is in the way; and
 // says whether it is. If not, nothing has changed.
 #[inline(always)]
-fn schedule_untied(scene: &mut Scene, rank: usize, notice: Known, time: i64) -> bool
+fn schedule_untied(scene: &mut Scene, rank: usize, notice: EntityId, time: i64) -> bool
     ensures { Does (scheduled_known (record { time = time; rank = rank; ties = [] }) notice.number) result scene.old scene.new }
 {
     if scene.timeline.schedule_at_once(time, rank, notice.number) {
@@ -588,7 +588,7 @@ fn schedule_untied(scene: &mut Scene, rank: usize, notice: Known, time: i64) -> 
 // A notice of a class without ties is filed among those that are pending, by its number, where it is found at once that nothing is in
 // the way; and says whether it was. If not, nothing has changed.
 #[inline(always)]
-fn file_at_once(scene: &mut Scene, class: usize, notice: Known, time: i64) -> bool
+fn file_at_once(scene: &mut Scene, class: usize, notice: EntityId, time: i64) -> bool
     ensures { Does (filed_notice class (Whole notice.number) time) result scene.old scene.new }
 {
     if !scene.is_near(class, notice) {
@@ -608,7 +608,7 @@ pub fn file_known(
     scene: &mut Scene,
     alloc: Global,
     class: usize,
-    notice: Known,
+    notice: EntityId,
     time: i64,
 ) -> Result<(), Unmade>
     ensures { Grows (filed_notice class (Whole notice.number) time) scene.old scene.new result }
@@ -632,7 +632,7 @@ fn file_any(
 {
     match x {
         Value::Whole(number) => {
-            let notice = Known { number: *number };
+            let notice = EntityId { number: *number };
             file_known(scene, alloc, class, notice, time)
         }
         Value::Text(_) => Err(Unmade::Misfit),

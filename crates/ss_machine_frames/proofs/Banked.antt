@@ -8,7 +8,7 @@ use Rattle.ss_base.specs.declared.value.Value.TheVariants.{Whole, Text}
 use Rattle.ss_base.specs.Layout.{mode_of}
 use Rattle.ss_meaning.specs.Values.{Misfit}
 use Rattle.ss_meaning.specs.Store.{put_at}
-use Rattle.ss_machine_frames.specs.Banks.{value_of, valued}
+use Rattle.ss_machine_frames.specs.Banks.{banked_value, valued}
 use Rattle.ss_machine_frames.proofs.Puts.{put_none, put_other, put_there}
 
 pub valued_long : (ns : List ℤ) (ts : List (Option (List ℕ))) → length (valued ns ts) ≡ length ns
@@ -20,13 +20,13 @@ valued_long (n ∷ ns) (t ∷ ts) = ap suc (valued_long ns ts)
 
 abbrev looked : Option (Option (List ℕ)) → ℤ → Value
 looked None n = Whole n
-looked (Some t) n = value_of n t
+looked (Some t) n = banked_value n t
 
 get_there : (ns : List ℤ) (ts : List (Option (List ℕ))) (k : ℕ) (n : ℤ) → slice_get ns k ≡ Some n → slice_get (valued ns ts) k ≡ Some (looked (slice_get ts k) n)
 get_there [] ts k n e = absurd cc
 get_there (m ∷ ns) [] zero n e = let same : m ≡ n = cc in ap (λ z. Some (Whole z)) same
 get_there (m ∷ ns) [] (suc k) n e = get_there ns [] k n e
-get_there (m ∷ ns) (t ∷ ts) zero n e = let same : m ≡ n = cc in ap (λ z. Some (value_of z t)) same
+get_there (m ∷ ns) (t ∷ ts) zero n e = let same : m ≡ n = cc in ap (λ z. Some (banked_value z t)) same
 get_there (m ∷ ns) (t ∷ ts) (suc k) n e = get_there ns ts k n e
 
 pub get_text : (ns : List ℤ) (ts : List (Option (List ℕ))) (k : ℕ) (n : ℤ) (t : List ℕ) → slice_get ns k ≡ Some n → slice_get ts k ≡ Some (Some t) → slice_get (valued ns ts) k ≡ Some (Text t)
@@ -56,7 +56,7 @@ no_text_there (n ∷ ns) (u ∷ ts) zero e t f = by u refl
   where
     by : (o : Option (List ℕ)) → u ≡ o → ⊥
     by None q = let other : Some None ≡ Some (Some t) = ap Some (sym q) ∙ f in absurd cc
-    by (Some v) q = let mode : Some (mode_of (value_of n (Some v))) ≡ Some Integer = ap (λ o. Some (mode_of (value_of n o))) (sym q) ∙ e in absurd cc
+    by (Some v) q = let mode : Some (mode_of (banked_value n (Some v))) ≡ Some Integer = ap (λ o. Some (mode_of (banked_value n o))) (sym q) ∙ e in absurd cc
 no_text_there (n ∷ ns) (u ∷ ts) (suc k) e t f = no_text_there ns ts k e t f
 
 -- ## Another value in its place
@@ -68,24 +68,24 @@ set_number_there (n ∷ ns) [] zero z none = refl
 set_number_there (n ∷ ns) [] (suc k) z none = ap (λ l. Whole n ∷ l) (set_number_there ns [] k z none)
 set_number_there (n ∷ ns) (None ∷ ts) zero z none = refl
 set_number_there (n ∷ ns) (Some t ∷ ts) zero z none = absurd (none t refl)
-set_number_there (n ∷ ns) (t ∷ ts) (suc k) z none = ap (λ l. value_of n t ∷ l) (set_number_there ns ts k z none)
+set_number_there (n ∷ ns) (t ∷ ts) (suc k) z none = ap (λ l. banked_value n t ∷ l) (set_number_there ns ts k z none)
 
 pub set_text_there : (ns : List ℤ) (ts : List (Option (List ℕ))) (k : ℕ) (t : List ℕ) → k < length ts → length ts ≡ length ns → valued ns (set ts k (Some t)) ≡ set (valued ns ts) k (Text t)
 set_text_there ns [] k t h g = absurd (omega (arith, h))
 set_text_there [] (u ∷ ts) k t h g = absurd (omega (arith, g))
 set_text_there (n ∷ ns) (u ∷ ts) zero t h g = refl
-set_text_there (n ∷ ns) (u ∷ ts) (suc k) t h g = ap (λ l. value_of n u ∷ l) (set_text_there ns ts k t (omega (arith, h)) (omega (arith, g)))
+set_text_there (n ∷ ns) (u ∷ ts) (suc k) t h g = ap (λ l. banked_value n u ∷ l) (set_text_there ns ts k t (omega (arith, h)) (omega (arith, g)))
 
 -- ## More values
 
-pub push_both : (ns ms : List ℤ) (ts us : List (Option (List ℕ))) (n : ℤ) (t : Option (List ℕ)) → length ts ≡ length ns → ms ≡ ns ++ n ∷ [] → us ≡ ts ++ t ∷ [] → valued ms us ≡ valued ns ts ++ value_of n t ∷ []
+pub push_both : (ns ms : List ℤ) (ts us : List (Option (List ℕ))) (n : ℤ) (t : Option (List ℕ)) → length ts ≡ length ns → ms ≡ ns ++ n ∷ [] → us ≡ ts ++ t ∷ [] → valued ms us ≡ valued ns ts ++ banked_value n t ∷ []
 push_both ns ms ts us n t h e f = ap (λ l. valued l us) e ∙ ap (valued (ns ++ n ∷ [])) f ∙ both ns ts h
   where
-    both : (ns : List ℤ) (ts : List (Option (List ℕ))) → length ts ≡ length ns → valued (ns ++ n ∷ []) (ts ++ t ∷ []) ≡ valued ns ts ++ value_of n t ∷ []
+    both : (ns : List ℤ) (ts : List (Option (List ℕ))) → length ts ≡ length ns → valued (ns ++ n ∷ []) (ts ++ t ∷ []) ≡ valued ns ts ++ banked_value n t ∷ []
     both [] [] h = refl
     both [] (u ∷ ts) h = absurd (omega (arith, h))
     both (m ∷ ns) [] h = absurd (omega (arith, h))
-    both (m ∷ ns) (u ∷ ts) h = ap (λ l. value_of m u ∷ l) (both ns ts (omega (arith, h)))
+    both (m ∷ ns) (u ∷ ts) h = ap (λ l. banked_value m u ∷ l) (both ns ts (omega (arith, h)))
 
 -- ## What an assignment says
 
@@ -124,4 +124,4 @@ take_both [] [] (suc k) h = refl
 take_both [] (t ∷ ts) k h = absurd (omega (arith, h))
 take_both (n ∷ ns) [] k h = absurd (omega (arith, h))
 take_both (n ∷ ns) (t ∷ ts) zero h = refl
-take_both (n ∷ ns) (t ∷ ts) (suc k) h = ap (λ l. value_of n t ∷ l) (take_both ns ts k (omega (arith, h)))
+take_both (n ∷ ns) (t ∷ ts) (suc k) h = ap (λ l. banked_value n t ∷ l) (take_both ns ts k (omega (arith, h)))

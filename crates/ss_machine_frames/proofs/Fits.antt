@@ -5,17 +5,17 @@ use Rattle.ss_base.specs.declared.layout.Mode.{Mode}
 use Rattle.ss_base.specs.declared.value.Value.{Value}
 use Rattle.ss_base.specs.Layout.{mode_of}
 use Rattle.ss_meaning.specs.Values.{same_mode}
-use Rattle.ss_meaning.specs.Store.{taken, prepended}
+use Rattle.ss_meaning.specs.Store.{taken_by_modes, prepended}
 use Rattle.ss_machine_frames.specs.Frames.{if_taken}
 
 -- as many as are taken
-pub taken_short : (ms : List Mode) (vs : List Value) → length vs ≢ length ms → taken ms vs ≡ None
+pub taken_short : (ms : List Mode) (vs : List Value) → length vs ≢ length ms → taken_by_modes ms vs ≡ None
 taken_short [] [] h = absurd (h refl)
 taken_short [] (v ∷ vs) h = refl
 taken_short (m ∷ ms) [] h = refl
 taken_short (m ∷ ms) (v ∷ vs) h = by (same_mode (mode_of v) m) (taken_short ms vs (λ e. h (ap suc e)))
   where
-    by : (b : Bool) → taken ms vs ≡ None → (if b then prepended v (taken ms vs) else None) ≡ None
+    by : (b : Bool) → taken_by_modes ms vs ≡ None → (if b then prepended v (taken_by_modes ms vs) else None) ≡ None
     by true e = ap (prepended v) e
     by false e = refl
 
@@ -29,13 +29,13 @@ all_of [] vs = true
 all_of (m ∷ ms) [] = true
 all_of (m ∷ ms) (v ∷ vs) = same_mode (mode_of v) m && all_of ms vs
 
-pub taken_all : (ms : List Mode) (vs : List Value) → length vs ≡ length ms → taken ms vs ≡ if_taken (all_of ms vs) vs
+pub taken_all : (ms : List Mode) (vs : List Value) → length vs ≡ length ms → taken_by_modes ms vs ≡ if_taken (all_of ms vs) vs
 taken_all [] [] h = refl
 taken_all [] (v ∷ vs) h = absurd (omega (arith, h))
 taken_all (m ∷ ms) [] h = absurd (omega (arith, h))
 taken_all (m ∷ ms) (v ∷ vs) h = by (same_mode (mode_of v) m) (taken_all ms vs (omega (arith, h)))
   where
-    by : (b : Bool) → taken ms vs ≡ if_taken (all_of ms vs) vs → (if b then prepended v (taken ms vs) else None) ≡ if_taken (b && all_of ms vs) (v ∷ vs)
+    by : (b : Bool) → taken_by_modes ms vs ≡ if_taken (all_of ms vs) vs → (if b then prepended v (taken_by_modes ms vs) else None) ≡ if_taken (b && all_of ms vs) (v ∷ vs)
     by true e = ap (prepended v) e ∙ appended_taken v (all_of ms vs) vs
     by false e = refl
 

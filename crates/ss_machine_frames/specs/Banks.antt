@@ -3,11 +3,11 @@ use Rattle.std.specs.Prelude.{ℕ, ℤ, List, [], ◌∷◌, Option, Some, None}
 use Rattle.ss_base.specs.declared.value.Value.{Value}
 use Rattle.ss_base.specs.declared.value.Value.TheVariants.{Whole, Text}
 
-abbrev pub value_of : ℤ → Option (List ℕ) → Value
-value_of n None = Whole n
-value_of n (Some t) = Text t
+abbrev pub banked_value : ℤ → Option (List ℕ) → Value
+banked_value n None = Whole n
+banked_value n (Some t) = Text t
 
 abbrev pub valued : List ℤ → List (Option (List ℕ)) → List Value
 valued [] ts = []
 valued (n ∷ ns) [] = Whole n ∷ valued ns []
-valued (n ∷ ns) (t ∷ ts) = value_of n t ∷ valued ns ts
+valued (n ∷ ns) (t ∷ ts) = banked_value n t ∷ valued ns ts

@@ -5,7 +5,7 @@ ghost use Rattle.ss_base.specs.declared.layout.Mode.TheVariants.{Integer};
 ghost use Rattle.ss_base.specs.declared.value.Value.TheVariants.{Whole, Text};
 ghost use Rattle.ss_meaning.specs.Store.{put_at};
 ghost use Rattle.ss_machine_frames.specs.Assignments.{put_result};
-ghost use Rattle.ss_machine_frames.specs.Banks.{value_of, valued};
+ghost use Rattle.ss_machine_frames.specs.Banks.{banked_value, valued};
 
 use ss_base::{Alpha, Value};
 
@@ -159,7 +159,7 @@ pub(crate) struct Word {
 /// The word and the text of a value.
 #[inline(always)]
 pub(crate) fn parted(value: Value) -> Word
-    ensures { value_of result.number result.text ≡ value }
+    ensures { banked_value result.number result.text ≡ value }
 {
     match value {
         Value::Whole(number) => Word { number, text: None },

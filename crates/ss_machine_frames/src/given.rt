@@ -3,14 +3,14 @@
 ghost use Rattle.std.specs.Prelude.{◌≡◌, ◌&&◌};
 ghost use Rattle.ss_base.specs.Layout.{mode_of};
 ghost use Rattle.ss_meaning.specs.Values.{same_mode};
-ghost use Rattle.ss_meaning.specs.Store.{taken};
+ghost use Rattle.ss_meaning.specs.Store.{taken_by_modes};
 ghost use Rattle.ss_machine_frames.specs.Frames.{if_taken};
 
 use ss_base::{Mode, Value};
 
 /// Whether these values are of these modes, and as many.
 pub fn are_of(values: &[Value], modes: &[Mode]) -> bool
-    ensures { taken modes.now values.now ≡ if_taken result values.now }
+    ensures { taken_by_modes modes.now values.now ≡ if_taken result values.now }
 {
     if values.len() != modes.len() {
         return false;

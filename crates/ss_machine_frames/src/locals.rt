@@ -4,7 +4,7 @@ ghost use Rattle.std.specs.Prelude.{◌≡◌, ◌++◌, [], ◌∷◌, true, fa
 ghost use Rattle.ss_base.specs.Layout.{mode_of};
 ghost use Rattle.ss_base.specs.declared.layout.Mode.TheVariants.{Integer};
 ghost use Rattle.ss_base.specs.declared.value.Value.TheVariants.{Whole};
-ghost use Rattle.ss_meaning.specs.Store.{put_at, firsts, yielded};
+ghost use Rattle.ss_meaning.specs.Store.{put_at, first_values, yielded};
 ghost use Rattle.ss_machine_frames.specs.Assignments.{put_result};
 ghost use Rattle.ss_machine_frames.specs.Frames.{if_taken};
 
@@ -108,7 +108,7 @@ impl Locals {
     /// Adds to the current call variables that hold these values, and then those of these modes as they are at first. The error
     /// comes where memory was refused.
     pub fn fill(&mut self, given: &[Value], others: &[Mode]) -> Result<(), AllocError>
-        ensures { OnOk result (self.new ≡ record { below = self.old.below; here = self.old.here ++ (given.now ++ firsts others.now) }) }
+        ensures { OnOk result (self.new ≡ record { below = self.old.below; here = self.old.here ++ (given.now ++ first_values others.now) }) }
     {
         for value in given {
             self.push(*value)?;
@@ -133,7 +133,7 @@ impl Locals {
     #[inline(always)]
     pub fn start(&mut self, others: &[Mode]) -> bool
         ensures below { self.new.below ≡ self.old.below }
-        ensures here { result ≡ true → self.new.here ≡ self.old.here ++ firsts others.now }
+        ensures here { result ≡ true → self.new.here ≡ self.old.here ++ first_values others.now }
     {
         for mode in others {
             if !self.put(mode.first_value()) {

@@ -5,7 +5,7 @@ ghost use Rattle.ss_base.specs.declared.layout.Mode.TheVariants.{Integer};
 ghost use Rattle.ss_base.specs.declared.value.Value.{Value as ValueSeen};
 ghost use Rattle.ss_base.specs.declared.value.Value.TheVariants.{Whole};
 ghost use Rattle.ss_meaning.specs.Values.{same_mode};
-ghost use Rattle.ss_meaning.specs.Store.{put_at, firsts};
+ghost use Rattle.ss_meaning.specs.Store.{put_at, first_values};
 ghost use Rattle.ss_base.specs.Layout.{mode_of};
 ghost use Rattle.ss_machine_frames.specs.Assignments.{put_result};
 
@@ -40,7 +40,7 @@ impl Model for Variables {
 impl Variables {
     /// Variables of these modes, as they are at first. The error comes where memory was refused.
     pub fn of(alloc: Global, modes: &[Mode]) -> Result<Variables, AllocError>
-        ensures { IfOk result (λ variables. variables ≡ firsts modes.now) }
+        ensures { IfOk result (λ variables. variables ≡ first_values modes.now) }
     {
         let mut variables = Variables::new(alloc);
         for mode in modes {

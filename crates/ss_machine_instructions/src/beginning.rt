@@ -10,17 +10,17 @@ ghost use Rattle.ss_machine_instructions.specs.Beginning.{BeganAs, Saves};
 ghost use Rattle.ss_machine_instructions.specs.Holding.{store_of, core_of, IsOutcome};
 
 use crate::calling::{enter_event, entry_at};
-use crate::working::{Outcome, Working};
+use crate::working::{InstructionOutcome, Working};
 use ss_base::Value;
 use ss_code::code::Code;
 use ss_code_instructions::instruction::Instruction;
 use ss_machine_entities::trouble::{Trouble, Unmade};
-use ss_machine_events::coming::{self, Event, Fate, next_event};
+use ss_machine_events::coming::{self, Fate, TakenEvent, next_event};
 use ss_program::expression::Variable;
 use std::alloc::AllocError;
 
 // Saves the notice of an event, or it is gone already.
-fn save(working: &mut Working, event: Event, fate: Fate) -> Result<(), Trouble>
+fn save(working: &mut Working, event: TakenEvent, fate: Fate) -> Result<(), Trouble>
     ensures rests { Rests working.old working.new }
     ensures given { working.new.given ≡ working.old.given }
     ensures store { (input : List ℕ) → Saves event fate result (store_of working.old input) (store_of working.new input) }
@@ -34,7 +34,7 @@ fn save(working: &mut Working, event: Event, fate: Fate) -> Result<(), Trouble>
 }
 
 // An event that was taken out begins: the values for its routine are there, and its notice is saved or gone.
-fn begin_event(working: &mut Working, event: Event) -> Result<Result<(), Trouble>, AllocError>
+fn begin_event(working: &mut Working, event: TakenEvent) -> Result<Result<(), Trouble>, AllocError>
     ensures rests { IfOk result (λ answer. Rests working.old working.new) }
     ensures store { IfOk result (λ answer. (ties : List KeySeen) (input : List ℕ) → BeganAs answer event.rank working.new.given.items (begun (coming_meant event ties (store_of working.old input))) (store_of working.new input)) }
 {
@@ -47,18 +47,18 @@ fn begin_event(working: &mut Working, event: Event) -> Result<Result<(), Trouble
 }
 
 /// Takes out the notice that comes next, and begins its event.
-pub fn take_event(working: &mut Working, code: &Code) -> Result<Outcome, AllocError>
+pub fn take_event(working: &mut Working, code: &Code) -> Result<InstructionOutcome, AllocError>
     requires { working.old.place + 1 < 2 ^ 64 }
     ensures { IfOk result (λ outcome. (input : List ℕ) → IsOutcome outcome (act code.now Instruction.TakeEvent (core_of working.old input)) (core_of working.new input)) }
 {
     let Some(event) = next_event(&mut working.scene) else {
-        return Ok(Outcome::Missing);
+        return Ok(InstructionOutcome::Missing);
     };
     match begin_event(working, event)? {
-        Err(Trouble::Fault(kind)) => Ok(Outcome::Faults(kind, event.line)),
-        Err(Trouble::Misfit) => Ok(Outcome::Missing),
+        Err(Trouble::Fault(kind)) => Ok(InstructionOutcome::Faults(kind, event.line)),
+        Err(Trouble::Misfit) => Ok(InstructionOutcome::Missing),
         Ok(()) => match entry_at(code.events(), event.rank) {
-            None => Ok(Outcome::Missing),
+            None => Ok(InstructionOutcome::Missing),
             Some(entry) => enter_event(working, entry, event.rank),
         },
     }

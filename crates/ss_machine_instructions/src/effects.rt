@@ -10,7 +10,7 @@ ghost use Rattle.ss_machine_entities.specs.declared.trouble.Unmade.TheVariants.{
 ghost use Rattle.ss_machine_instructions.specs.Holding.{frames_of, store_of, core_of, IsOutcome};
 ghost use Rattle.ss_machine_instructions.specs.Effects.{Follows, Settles, Gathers, unmade_of};
 
-use crate::working::{Outcome, Working};
+use crate::working::{InstructionOutcome, Working};
 use ss_base::{Line, Value};
 use ss_machine_entities::trouble::{Trouble, Unmade};
 use std::alloc::AllocError;
@@ -22,33 +22,33 @@ impl Working {
         &mut self,
         answer: Result<Value, Trouble>,
         line: Line,
-    ) -> Result<Outcome, AllocError>
+    ) -> Result<InstructionOutcome, AllocError>
         requires { self.old.place + 1 < 2 ^ 64 }
         ensures { IfOk result (λ outcome. Follows self.old self.new outcome line answer (λ v here c. onward (v ∷ here) c c.store)) }
     {
         match answer {
-            Err(Trouble::Fault(kind)) => Ok(Outcome::Faults(kind, line)),
-            Err(Trouble::Misfit) => Ok(Outcome::Missing),
+            Err(Trouble::Fault(kind)) => Ok(InstructionOutcome::Faults(kind, line)),
+            Err(Trouble::Misfit) => Ok(InstructionOutcome::Missing),
             Ok(value) => {
                 self.operands.push(value)?;
                 self.place += 1;
-                Ok(Outcome::Went)
+                Ok(InstructionOutcome::Went)
             }
         }
     }
 
     /// Goes on to the next instruction where a look had no fault.
     #[inline(always)]
-    pub fn pass_by<A: Copy>(&mut self, answer: Result<A, Trouble>, line: Line) -> Outcome
+    pub fn pass_by<A: Copy>(&mut self, answer: Result<A, Trouble>, line: Line) -> InstructionOutcome
         requires { self.old.place + 1 < 2 ^ 64 }
         ensures { Follows self.old self.new result line answer (λ a here c. onward here c c.store) }
     {
         match answer {
-            Err(Trouble::Fault(kind)) => Outcome::Faults(kind, line),
-            Err(Trouble::Misfit) => Outcome::Missing,
+            Err(Trouble::Fault(kind)) => InstructionOutcome::Faults(kind, line),
+            Err(Trouble::Misfit) => InstructionOutcome::Missing,
             Ok(_) => {
                 self.place += 1;
-                Outcome::Went
+                InstructionOutcome::Went
             }
         }
     }
@@ -61,13 +61,13 @@ impl Working {
         negated: bool,
         skip: usize,
         line: Line,
-    ) -> Outcome
+    ) -> InstructionOutcome
         requires { self.old.place + 1 < 2 ^ 64 }
         ensures { Follows self.old self.new result line answer (λ b here c. To (core_with (past skip (unless negated b) (c.place + 1)) here c.frames c.store)) }
     {
         match answer {
-            Err(Trouble::Fault(kind)) => Outcome::Faults(kind, line),
-            Err(Trouble::Misfit) => Outcome::Missing,
+            Err(Trouble::Fault(kind)) => InstructionOutcome::Faults(kind, line),
+            Err(Trouble::Misfit) => InstructionOutcome::Missing,
             Ok(holds) => self.choose(goes_on(negated, holds), skip),
         }
     }
@@ -79,13 +79,13 @@ impl Working {
         answer: Result<i64, Trouble>,
         skip: usize,
         line: Line,
-    ) -> Result<Outcome, AllocError>
+    ) -> Result<InstructionOutcome, AllocError>
         requires { self.old.place + 1 < 2 ^ 64 }
         ensures { IfOk result (λ outcome. Follows self.old self.new outcome line answer (λ x here c. To (core_with (past skip (not (is_none x)) (c.place + 1)) (Whole x ∷ here) c.frames c.store))) }
     {
         match answer {
-            Err(Trouble::Fault(kind)) => Ok(Outcome::Faults(kind, line)),
-            Err(Trouble::Misfit) => Ok(Outcome::Missing),
+            Err(Trouble::Fault(kind)) => Ok(InstructionOutcome::Faults(kind, line)),
+            Err(Trouble::Misfit) => Ok(InstructionOutcome::Missing),
             Ok(member) => {
                 let member = Value::Whole(member);
                 let there = is_member(&member);
@@ -97,50 +97,55 @@ impl Working {
 
     /// Jumps back where a loop goes on, and goes on to the next instruction otherwise.
     #[inline(always)]
-    pub fn go_back(&mut self, answer: Result<bool, Trouble>, back: usize, line: Line) -> Outcome
+    pub fn go_back(
+        &mut self,
+        answer: Result<bool, Trouble>,
+        back: usize,
+        line: Line,
+    ) -> InstructionOutcome
         requires { self.old.place + 1 < 2 ^ 64 }
         ensures { Follows self.old self.new result line answer (λ b here c. To (core_with (backwards back b c.place) here c.frames c.store)) }
     {
         match answer {
-            Err(Trouble::Fault(kind)) => Outcome::Faults(kind, line),
-            Err(Trouble::Misfit) => Outcome::Missing,
+            Err(Trouble::Fault(kind)) => InstructionOutcome::Faults(kind, line),
+            Err(Trouble::Misfit) => InstructionOutcome::Missing,
             Ok(true) => {
                 self.place = self.place.saturating_sub(back);
-                Outcome::Went
+                InstructionOutcome::Went
             }
             Ok(false) => {
                 self.place += 1;
-                Outcome::Went
+                InstructionOutcome::Went
             }
         }
     }
 
     /// Jumps back, or goes on to the next instruction: for a loop that has made its test.
     #[inline(always)]
-    pub fn turn_back(&mut self, again: bool, back: usize) -> Outcome
+    pub fn turn_back(&mut self, again: bool, back: usize) -> InstructionOutcome
         requires { self.old.place + 1 < 2 ^ 64 }
         ensures { (input : List ℕ) → IsOutcome result (To (core_with (backwards back again self.old.place) self.old.operands.here (frames_of self.old) (store_of self.old input))) (core_of self.new input) }
     {
         if again {
             self.place = self.place.saturating_sub(back);
-            return Outcome::Went;
+            return InstructionOutcome::Went;
         }
         self.place += 1;
-        Outcome::Went
+        InstructionOutcome::Went
     }
 
     /// Goes on to the next instruction where an operation changed what it should.
     #[inline(always)]
-    pub fn settle(&mut self, answer: Result<(), Trouble>, line: Line) -> Outcome
+    pub fn settle(&mut self, answer: Result<(), Trouble>, line: Line) -> InstructionOutcome
         requires { self.old.place + 1 < 2 ^ 64 }
         ensures { Settles self.old self.new result line answer }
     {
         match answer {
-            Err(Trouble::Fault(kind)) => Outcome::Faults(kind, line),
-            Err(Trouble::Misfit) => Outcome::Missing,
+            Err(Trouble::Fault(kind)) => InstructionOutcome::Faults(kind, line),
+            Err(Trouble::Misfit) => InstructionOutcome::Missing,
             Ok(()) => {
                 self.place += 1;
-                Outcome::Went
+                InstructionOutcome::Went
             }
         }
     }
@@ -151,17 +156,17 @@ impl Working {
         &mut self,
         answer: Result<Value, Trouble>,
         line: Line,
-    ) -> Result<Outcome, AllocError>
+    ) -> Result<InstructionOutcome, AllocError>
         requires { self.old.place + 1 < 2 ^ 64 }
         ensures { IfOk result (λ outcome. Gathers self.old self.new outcome line answer) }
     {
         match answer {
-            Err(Trouble::Fault(kind)) => Ok(Outcome::Faults(kind, line)),
-            Err(Trouble::Misfit) => Ok(Outcome::Missing),
+            Err(Trouble::Fault(kind)) => Ok(InstructionOutcome::Faults(kind, line)),
+            Err(Trouble::Misfit) => Ok(InstructionOutcome::Missing),
             Ok(value) => {
                 self.operands.push(value)?;
                 self.place += 1;
-                Ok(Outcome::Went)
+                Ok(InstructionOutcome::Went)
             }
         }
     }

@@ -6,7 +6,7 @@ ghost use Rattle.ss_machine_instructions.specs.Holding.{core_of, IsOutcome};
 
 use crate::effects::{made, made_value};
 use crate::filing::pop_filing;
-use crate::working::{Outcome, Working};
+use crate::working::{InstructionOutcome, Working};
 use ss_base::{Line, Value};
 use ss_code_instructions::instruction::{Filing, Instruction};
 use ss_program::statement::{Counted, End};
@@ -14,7 +14,11 @@ use std::alloc::AllocError;
 
 /// Puts the number of a new entity on top.
 #[inline(always)]
-pub fn create(working: &mut Working, class: usize, line: Line) -> Result<Outcome, AllocError>
+pub fn create(
+    working: &mut Working,
+    class: usize,
+    line: Line,
+) -> Result<InstructionOutcome, AllocError>
     requires { working.old.place + 1 < 2 ^ 64 }
     ensures { IfOk result (λ outcome. (code : CodeSeen) (input : List ℕ) → IsOutcome outcome (act code (Instruction.Create class line) (core_of working.old input)) (core_of working.new input)) }
 {
@@ -29,12 +33,12 @@ pub fn create_all(
     working: &mut Working,
     counted: Counted,
     line: Line,
-) -> Result<Outcome, AllocError>
+) -> Result<InstructionOutcome, AllocError>
     requires { working.old.place + 1 < 2 ^ 64 }
     ensures { IfOk result (λ outcome. (code : CodeSeen) (input : List ℕ) → IsOutcome outcome (act code (Instruction.CreateAll counted line) (core_of working.old input)) (core_of working.new input)) }
 {
     let Some(Value::Whole(count)) = working.globals.get(counted.variable) else {
-        return Ok(Outcome::Missing);
+        return Ok(InstructionOutcome::Missing);
     };
     let created = working.scene.create_all(counted.class, count);
     let answer = made(created)?;
@@ -43,12 +47,12 @@ pub fn create_all(
 
 /// The entity that the value on top refers to goes.
 #[inline(always)]
-pub fn destroy(working: &mut Working, class: usize, line: Line) -> Outcome
+pub fn destroy(working: &mut Working, class: usize, line: Line) -> InstructionOutcome
     requires { working.old.place + 1 < 2 ^ 64 }
     ensures { (code : CodeSeen) (input : List ℕ) → IsOutcome result (act code (Instruction.Destroy class line) (core_of working.old input)) (core_of working.new input) }
 {
     let Some(x) = working.operands.pop() else {
-        return Outcome::Missing;
+        return InstructionOutcome::Missing;
     };
     let answer = working.scene.destroy(class, x);
     working.settle(answer, line)
@@ -56,18 +60,24 @@ pub fn destroy(working: &mut Working, class: usize, line: Line) -> Outcome
 
 /// Files a member in the set of an owner, which lies on top, above the one beside which it is filed, if any.
 #[inline(always)]
-pub fn file(working: &mut Working, filing: Filing, set: usize, system: bool, line: Line) -> Outcome
+pub fn file(
+    working: &mut Working,
+    filing: Filing,
+    set: usize,
+    system: bool,
+    line: Line,
+) -> InstructionOutcome
     requires { working.old.place + 1 < 2 ^ 64 }
     ensures { (code : CodeSeen) (input : List ℕ) → IsOutcome result (act code (Instruction.File filing set system line) (core_of working.old input)) (core_of working.new input) }
 {
     let Some(owner) = working.operands.pop_owner(system) else {
-        return Outcome::Missing;
+        return InstructionOutcome::Missing;
     };
     let Some(filing) = pop_filing(&mut working.operands, filing) else {
-        return Outcome::Missing;
+        return InstructionOutcome::Missing;
     };
     let Some(x) = working.operands.pop() else {
-        return Outcome::Missing;
+        return InstructionOutcome::Missing;
     };
     let answer = working.scene.file(filing, set, owner, x);
     working.settle(answer, line)
@@ -75,15 +85,15 @@ pub fn file(working: &mut Working, filing: Filing, set: usize, system: bool, lin
 
 /// Removes the member below the owner from its set.
 #[inline(always)]
-pub fn remove(working: &mut Working, set: usize, system: bool, line: Line) -> Outcome
+pub fn remove(working: &mut Working, set: usize, system: bool, line: Line) -> InstructionOutcome
     requires { working.old.place + 1 < 2 ^ 64 }
     ensures { (code : CodeSeen) (input : List ℕ) → IsOutcome result (act code (Instruction.Remove set system line) (core_of working.old input)) (core_of working.new input) }
 {
     let Some(owner) = working.operands.pop_owner(system) else {
-        return Outcome::Missing;
+        return InstructionOutcome::Missing;
     };
     let Some(x) = working.operands.pop() else {
-        return Outcome::Missing;
+        return InstructionOutcome::Missing;
     };
     let answer = working.scene.remove(set, owner, x);
     working.settle(answer, line)
@@ -97,12 +107,12 @@ pub fn remove_end(
     set: usize,
     system: bool,
     line: Line,
-) -> Result<Outcome, AllocError>
+) -> Result<InstructionOutcome, AllocError>
     requires { working.old.place + 1 < 2 ^ 64 }
     ensures { IfOk result (λ outcome. (code : CodeSeen) (input : List ℕ) → IsOutcome outcome (act code (Instruction.RemoveEnd end set system line) (core_of working.old input)) (core_of working.new input)) }
 {
     let Some(owner) = working.operands.pop_owner(system) else {
-        return Ok(Outcome::Missing);
+        return Ok(InstructionOutcome::Missing);
     };
     let answer = working.scene.remove_end(end, set, owner);
     working.gather(answer, line)
@@ -110,12 +120,12 @@ pub fn remove_end(
 
 /// The notice on top is pending no longer.
 #[inline(always)]
-pub fn cancel(working: &mut Working, class: usize, line: Line) -> Outcome
+pub fn cancel(working: &mut Working, class: usize, line: Line) -> InstructionOutcome
     requires { working.old.place + 1 < 2 ^ 64 }
     ensures { (code : CodeSeen) (input : List ℕ) → IsOutcome result (act code (Instruction.Cancel class line) (core_of working.old input)) (core_of working.new input) }
 {
     let Some(x) = working.operands.pop() else {
-        return Outcome::Missing;
+        return InstructionOutcome::Missing;
     };
     let answer = working.scene.cancel(class, x);
     working.settle(answer, line)

@@ -10,7 +10,7 @@ ghost use Rattle.ss_machine_world.specs.Seen.{with_seen};
 ghost use Rattle.ss_machine_instructions.specs.Holding.{core_of, IsOutcome};
 
 use crate::effects::{made, made_value};
-use crate::working::{Outcome, Working};
+use crate::working::{InstructionOutcome, Working};
 use ss_base::{Line, Value};
 use ss_code_instructions::instruction::Instruction;
 use ss_machine_entities::trouble::Trouble;
@@ -20,12 +20,16 @@ use std::alloc::AllocError;
 
 /// Puts the time that a value says or, if later, that is so many units from now, in its place.
 #[inline(always)]
-pub fn when(working: &mut Working, later: bool, line: Line) -> Result<Outcome, AllocError>
+pub fn when(
+    working: &mut Working,
+    later: bool,
+    line: Line,
+) -> Result<InstructionOutcome, AllocError>
     requires { working.old.place + 1 < 2 ^ 64 }
     ensures { IfOk result (λ outcome. (code : CodeSeen) (input : List ℕ) → IsOutcome outcome (act code (Instruction.When later line) (core_of working.old input)) (core_of working.new input)) }
 {
     let Some(value) = working.operands.pop() else {
-        return Ok(Outcome::Missing);
+        return Ok(InstructionOutcome::Missing);
     };
     let answer = due_at(&working.scene, later, value);
     working.answer(answer, line)
@@ -37,15 +41,15 @@ pub fn make_notice(
     class: usize,
     given: usize,
     line: Line,
-) -> Result<Outcome, AllocError>
+) -> Result<InstructionOutcome, AllocError>
     requires { working.old.place + 1 < 2 ^ 64 }
     ensures { IfOk result (λ outcome. (code : CodeSeen) (input : List ℕ) → IsOutcome outcome (act code (Instruction.MakeNotice class given line) (core_of working.old input)) (core_of working.new input)) }
 {
     let Some(time) = working.operands.pop_number() else {
-        return Ok(Outcome::Missing);
+        return Ok(InstructionOutcome::Missing);
     };
     let Some(values) = working.operands.last(given) else {
-        return Ok(Outcome::Missing);
+        return Ok(InstructionOutcome::Missing);
     };
     let notice = scheduling::make_notice(&mut working.scene, class, values, time.value);
     working.operands.forget(given);
@@ -55,15 +59,19 @@ pub fn make_notice(
 }
 
 /// Files the notice on top among those that are pending, for the time below it.
-pub fn file_notice(working: &mut Working, class: usize, line: Line) -> Result<Outcome, AllocError>
+pub fn file_notice(
+    working: &mut Working,
+    class: usize,
+    line: Line,
+) -> Result<InstructionOutcome, AllocError>
     requires { working.old.place + 1 < 2 ^ 64 }
     ensures { IfOk result (λ outcome. (code : CodeSeen) (input : List ℕ) → IsOutcome outcome (act code (Instruction.FileNotice class line) (core_of working.old input)) (core_of working.new input)) }
 {
     let Some(x) = working.operands.pop() else {
-        return Ok(Outcome::Missing);
+        return Ok(InstructionOutcome::Missing);
     };
     let Some(time) = working.operands.pop_number() else {
-        return Ok(Outcome::Missing);
+        return Ok(InstructionOutcome::Missing);
     };
     let filed = scheduling::file_notice(&mut working.scene, working.alloc, class, x, time.value);
     let answer = made(filed)?;
@@ -76,18 +84,18 @@ pub fn reschedule(
     class: usize,
     given: usize,
     line: Line,
-) -> Result<Outcome, AllocError>
+) -> Result<InstructionOutcome, AllocError>
     requires { working.old.place + 1 < 2 ^ 64 }
     ensures { IfOk result (λ outcome. (code : CodeSeen) (input : List ℕ) → IsOutcome outcome (act code (Instruction.Reschedule class given line) (core_of working.old input)) (core_of working.new input)) }
 {
     let Some(time) = working.operands.pop_number() else {
-        return Ok(Outcome::Missing);
+        return Ok(InstructionOutcome::Missing);
     };
     let Some(x) = working.operands.under(given) else {
-        return Ok(Outcome::Missing);
+        return Ok(InstructionOutcome::Missing);
     };
     let Some(values) = working.operands.last(given) else {
-        return Ok(Outcome::Missing);
+        return Ok(InstructionOutcome::Missing);
     };
     let filed = scheduling::reschedule(
         &mut working.scene,
@@ -105,7 +113,7 @@ pub fn reschedule(
 
 /// Goes on where a notice is pending, and jumps otherwise.
 #[inline(always)]
-pub fn await_event(working: &mut Working, skip: usize) -> Outcome
+pub fn await_event(working: &mut Working, skip: usize) -> InstructionOutcome
     requires { working.old.place + 1 < 2 ^ 64 }
     ensures { (code : CodeSeen) (input : List ℕ) → IsOutcome result (act code (Instruction.Await skip) (core_of working.old input)) (core_of working.new input) }
 {
@@ -115,7 +123,7 @@ pub fn await_event(working: &mut Working, skip: usize) -> Outcome
 
 /// Jumps back where a notice is pending, and goes on otherwise.
 #[inline(always)]
-pub fn next_event(working: &mut Working, back: usize) -> Outcome
+pub fn next_event(working: &mut Working, back: usize) -> InstructionOutcome
     requires { working.old.place + 1 < 2 ^ 64 }
     ensures { (code : CodeSeen) (input : List ℕ) → IsOutcome result (act code (Instruction.NextEvent back) (core_of working.old input)) (core_of working.new input) }
 {

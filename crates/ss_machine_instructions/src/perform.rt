@@ -12,7 +12,7 @@ use crate::leaving::leave;
 use crate::looping::{begin, begin_class, forget, next};
 use crate::members::{begin_at, begin_set, next_member, take_member};
 use crate::statistics::{figure, look_mean, reset};
-use crate::working::{Outcome, Working};
+use crate::working::{InstructionOutcome, Working};
 use ss_code::code::Code;
 use ss_code_instructions::instruction::Instruction;
 use std::alloc::AllocError;
@@ -24,7 +24,7 @@ pub fn perform(
     working: &mut Working,
     code: &Code,
     instruction: &Instruction,
-) -> Result<Outcome, AllocError>
+) -> Result<InstructionOutcome, AllocError>
     requires { working.old.place + 1 < 2 ^ 64 }
     ensures { IfOk result (λ outcome. IsTrue (is_own instruction.now) → (input : List ℕ) → IsOutcome outcome (act code.now instruction.now (core_of working.old input)) (core_of working.new input)) }
 {
@@ -51,7 +51,7 @@ pub fn perform(
             line,
         } => figure(working, fold, statistic, system, line),
         Instruction::Compare { relation, skip } => Ok(working.compare(relation, skip)),
-        Instruction::TestData { .. } => Ok(Outcome::Missing),
+        Instruction::TestData { .. } => Ok(InstructionOutcome::Missing),
         Instruction::TestEmpty {
             negated,
             set,
@@ -78,9 +78,9 @@ pub fn perform(
         Instruction::Assign { to, line } => Ok(working.assign(to, line)),
         Instruction::Change { sign, to, line } => Ok(working.change(sign, to, line)),
         Instruction::Give { to, line } => Ok(working.give(to, line)),
-        Instruction::Read { .. } => Ok(Outcome::Missing),
-        Instruction::Print { .. } => Ok(Outcome::Missing),
-        Instruction::Skip { .. } => Ok(Outcome::Missing),
+        Instruction::Read { .. } => Ok(InstructionOutcome::Missing),
+        Instruction::Print { .. } => Ok(InstructionOutcome::Missing),
+        Instruction::Skip { .. } => Ok(InstructionOutcome::Missing),
         Instruction::Turn => Ok(working.turn()),
         Instruction::Repeat { back } => Ok(working.repeat(back)),
         Instruction::Begin { skip, line } => begin(working, skip, line),

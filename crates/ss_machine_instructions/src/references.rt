@@ -4,7 +4,7 @@ ghost use Rattle.std.specs.Prelude.{◌≡◌, ◌+◌, ◌<◌, ◌^◌, ℕ, L
 ghost use Rattle.ss_code_instructions.specs.Machine.{Code as CodeSeen, act};
 ghost use Rattle.ss_machine_instructions.specs.Holding.{core_of, IsOutcome};
 
-use crate::working::{Outcome, Working};
+use crate::working::{InstructionOutcome, Working};
 use ss_base::Line;
 use ss_code_instructions::instruction::Instruction;
 use ss_program::expression::{MemberQuery, SetQuery};
@@ -18,12 +18,12 @@ impl Working {
         class: usize,
         field: usize,
         line: Line,
-    ) -> Result<Outcome, AllocError>
+    ) -> Result<InstructionOutcome, AllocError>
         requires { self.old.place + 1 < 2 ^ 64 }
         ensures { IfOk result (λ outcome. (code : CodeSeen) (input : List ℕ) → IsOutcome outcome (act code (Instruction.Attribute class field line) (core_of self.old input)) (core_of self.new input)) }
     {
         let Some(x) = self.operands.pop() else {
-            return Ok(Outcome::Missing);
+            return Ok(InstructionOutcome::Missing);
         };
         let answer = self.scene.attribute(class, field, x);
         self.answer(answer, line)
@@ -37,12 +37,12 @@ impl Working {
         set: usize,
         system: bool,
         line: Line,
-    ) -> Result<Outcome, AllocError>
+    ) -> Result<InstructionOutcome, AllocError>
         requires { self.old.place + 1 < 2 ^ 64 }
         ensures { IfOk result (λ outcome. (code : CodeSeen) (input : List ℕ) → IsOutcome outcome (act code (Instruction.OfSet query set system line) (core_of self.old input)) (core_of self.new input)) }
     {
         let Some(owner) = self.operands.pop_owner(system) else {
-            return Ok(Outcome::Missing);
+            return Ok(InstructionOutcome::Missing);
         };
         let answer = self.scene.of_set(query, set, owner);
         self.answer(answer, line)
@@ -55,12 +55,12 @@ impl Working {
         query: MemberQuery,
         set: usize,
         line: Line,
-    ) -> Result<Outcome, AllocError>
+    ) -> Result<InstructionOutcome, AllocError>
         requires { self.old.place + 1 < 2 ^ 64 }
         ensures { IfOk result (λ outcome. (code : CodeSeen) (input : List ℕ) → IsOutcome outcome (act code (Instruction.OfMember query set line) (core_of self.old input)) (core_of self.new input)) }
     {
         let Some(x) = self.operands.pop() else {
-            return Ok(Outcome::Missing);
+            return Ok(InstructionOutcome::Missing);
         };
         let answer = self.scene.of_member(query, set, x);
         self.answer(answer, line)
@@ -68,7 +68,7 @@ impl Working {
 
     /// Puts TIME.V on top.
     #[inline(always)]
-    pub fn clock(&mut self) -> Result<Outcome, AllocError>
+    pub fn clock(&mut self) -> Result<InstructionOutcome, AllocError>
         requires { self.old.place + 1 < 2 ^ 64 }
         ensures { IfOk result (λ outcome. (code : CodeSeen) (input : List ℕ) → IsOutcome outcome (act code Instruction.Clock (core_of self.old input)) (core_of self.new input)) }
     {
@@ -78,12 +78,12 @@ impl Working {
 
     /// Puts TIME.A of a notice in its place.
     #[inline(always)]
-    pub fn time_of(&mut self, line: Line) -> Result<Outcome, AllocError>
+    pub fn time_of(&mut self, line: Line) -> Result<InstructionOutcome, AllocError>
         requires { self.old.place + 1 < 2 ^ 64 }
         ensures { IfOk result (λ outcome. (code : CodeSeen) (input : List ℕ) → IsOutcome outcome (act code (Instruction.TimeOf line) (core_of self.old input)) (core_of self.new input)) }
     {
         let Some(x) = self.operands.pop() else {
-            return Ok(Outcome::Missing);
+            return Ok(InstructionOutcome::Missing);
         };
         let answer = self.scene.time_of(x);
         self.answer(answer, line)
@@ -98,12 +98,12 @@ impl Working {
         system: bool,
         skip: usize,
         line: Line,
-    ) -> Outcome
+    ) -> InstructionOutcome
         requires { self.old.place + 1 < 2 ^ 64 }
         ensures { (code : CodeSeen) (input : List ℕ) → IsOutcome result (act code (Instruction.TestEmpty negated set system skip line) (core_of self.old input)) (core_of self.new input) }
     {
         let Some(owner) = self.operands.pop_owner(system) else {
-            return Outcome::Missing;
+            return InstructionOutcome::Missing;
         };
         let answer = self.scene.is_empty(set, owner);
         self.test(answer, negated, skip, line)
@@ -118,15 +118,15 @@ impl Working {
         system: bool,
         skip: usize,
         line: Line,
-    ) -> Outcome
+    ) -> InstructionOutcome
         requires { self.old.place + 1 < 2 ^ 64 }
         ensures { (code : CodeSeen) (input : List ℕ) → IsOutcome result (act code (Instruction.TestMember negated set system skip line) (core_of self.old input)) (core_of self.new input) }
     {
         let Some(owner) = self.operands.pop_owner(system) else {
-            return Outcome::Missing;
+            return InstructionOutcome::Missing;
         };
         let Some(x) = self.operands.pop() else {
-            return Outcome::Missing;
+            return InstructionOutcome::Missing;
         };
         let answer = self.scene.is_in(set, x, owner);
         self.test(answer, negated, skip, line)
@@ -134,12 +134,12 @@ impl Working {
 
     /// Looks at a reference to an entity of a class, which stays on top.
     #[inline(always)]
-    pub fn look_entity(&mut self, class: usize, line: Line) -> Outcome
+    pub fn look_entity(&mut self, class: usize, line: Line) -> InstructionOutcome
         requires { self.old.place + 1 < 2 ^ 64 }
         ensures { (code : CodeSeen) (input : List ℕ) → IsOutcome result (act code (Instruction.LookEntity class line) (core_of self.old input)) (core_of self.new input) }
     {
         let Some(x) = self.operands.top() else {
-            return Outcome::Missing;
+            return InstructionOutcome::Missing;
         };
         let answer = self.scene.entity(class, x);
         self.pass_by(answer, line)
@@ -147,12 +147,12 @@ impl Working {
 
     /// Looks at a reference to an entity that may be a member of a set, which stays on top.
     #[inline(always)]
-    pub fn look_member(&mut self, set: usize, line: Line) -> Outcome
+    pub fn look_member(&mut self, set: usize, line: Line) -> InstructionOutcome
         requires { self.old.place + 1 < 2 ^ 64 }
         ensures { (code : CodeSeen) (input : List ℕ) → IsOutcome result (act code (Instruction.LookMember set line) (core_of self.old input)) (core_of self.new input) }
     {
         let Some(x) = self.operands.top() else {
-            return Outcome::Missing;
+            return InstructionOutcome::Missing;
         };
         let answer = self.scene.member(set, x);
         self.pass_by(answer, line)
@@ -160,12 +160,12 @@ impl Working {
 
     /// Looks at the owner of a set, which stays on top.
     #[inline(always)]
-    pub fn look_owner(&mut self, set: usize, system: bool, line: Line) -> Outcome
+    pub fn look_owner(&mut self, set: usize, system: bool, line: Line) -> InstructionOutcome
         requires { self.old.place + 1 < 2 ^ 64 }
         ensures { (code : CodeSeen) (input : List ℕ) → IsOutcome result (act code (Instruction.LookOwner set system line) (core_of self.old input)) (core_of self.new input) }
     {
         let Some(owner) = self.operands.owner(system) else {
-            return Outcome::Missing;
+            return InstructionOutcome::Missing;
         };
         let answer = self.scene.known_owner(set, owner);
         self.pass_by(answer, line)

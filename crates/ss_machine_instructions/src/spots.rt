@@ -13,7 +13,7 @@ ghost use Rattle.ss_machine_instructions.specs.Effects.{Came, Rests};
 ghost use Rattle.ss_machine_frames.specs.Spots.{spot_seen};
 ghost use Rattle.ss_machine_instructions.specs.Holding.{store_of, core_of, IsOutcome};
 
-use crate::working::{Outcome, Working};
+use crate::working::{InstructionOutcome, Working};
 use ss_base::{Line, Value};
 use ss_code_instructions::instruction::{Destination, Instruction};
 use ss_machine_entities::trouble::Trouble;
@@ -120,15 +120,15 @@ impl Working {
 
     /// Assigns the value on top, above the reference of the destination.
     #[inline(always)]
-    pub fn assign(&mut self, to: Destination, line: Line) -> Outcome
+    pub fn assign(&mut self, to: Destination, line: Line) -> InstructionOutcome
         requires { self.old.place + 1 < 2 ^ 64 }
         ensures { (code : CodeSeen) (input : List ℕ) → IsOutcome result (act code (Instruction.Assign to line) (core_of self.old input)) (core_of self.new input) }
     {
         let Some(value) = self.operands.pop() else {
-            return Outcome::Missing;
+            return InstructionOutcome::Missing;
         };
         let Some(spot) = self.operands.pop_spot(to) else {
-            return Outcome::Missing;
+            return InstructionOutcome::Missing;
         };
         let answer = self.write(spot, value);
         self.settle(answer, line)
@@ -136,15 +136,15 @@ impl Working {
 
     /// Assigns the value below the reference of the destination, which is on top.
     #[inline(always)]
-    pub fn give(&mut self, to: Destination, line: Line) -> Outcome
+    pub fn give(&mut self, to: Destination, line: Line) -> InstructionOutcome
         requires { self.old.place + 1 < 2 ^ 64 }
         ensures { (code : CodeSeen) (input : List ℕ) → IsOutcome result (act code (Instruction.Give to line) (core_of self.old input)) (core_of self.new input) }
     {
         let Some(spot) = self.operands.pop_spot(to) else {
-            return Outcome::Missing;
+            return InstructionOutcome::Missing;
         };
         let Some(value) = self.operands.pop() else {
-            return Outcome::Missing;
+            return InstructionOutcome::Missing;
         };
         let answer = self.write(spot, value);
         self.settle(answer, line)
@@ -175,15 +175,15 @@ impl Working {
 
     /// Adds the value below the reference of the destination to what it holds, or takes it away.
     #[inline(always)]
-    pub fn change(&mut self, sign: Sign, to: Destination, line: Line) -> Outcome
+    pub fn change(&mut self, sign: Sign, to: Destination, line: Line) -> InstructionOutcome
         requires { self.old.place + 1 < 2 ^ 64 }
         ensures { (code : CodeSeen) (input : List ℕ) → IsOutcome result (act code (Instruction.Change sign to line) (core_of self.old input)) (core_of self.new input) }
     {
         let Some(spot) = self.operands.pop_spot(to) else {
-            return Outcome::Missing;
+            return InstructionOutcome::Missing;
         };
         let Some(value) = self.operands.pop() else {
-            return Outcome::Missing;
+            return InstructionOutcome::Missing;
         };
         let answer = self.add_to(sign, spot, value);
         self.settle(answer, line)
@@ -191,12 +191,12 @@ impl Working {
 
     /// Assigns the item on top, which stays there, to the variable of a loop.
     #[inline(always)]
-    pub fn take(&mut self, variable: Variable, line: Line) -> Outcome
+    pub fn take(&mut self, variable: Variable, line: Line) -> InstructionOutcome
         requires { self.old.place + 1 < 2 ^ 64 }
         ensures { (code : CodeSeen) (input : List ℕ) → IsOutcome result (act code (Instruction.Take variable line) (core_of self.old input)) (core_of self.new input) }
     {
         let Some(value) = self.operands.top() else {
-            return Outcome::Missing;
+            return InstructionOutcome::Missing;
         };
         let answer = self.write_variable(variable, value);
         self.settle(answer, line)
@@ -204,18 +204,18 @@ impl Working {
 
     /// Assigns the number of a new notice, which is on top and stays there with its time below it.
     #[inline(always)]
-    pub fn name(&mut self, to: Destination, line: Line) -> Result<Outcome, AllocError>
+    pub fn name(&mut self, to: Destination, line: Line) -> Result<InstructionOutcome, AllocError>
         requires { self.old.place + 1 < 2 ^ 64 }
         ensures { IfOk result (λ outcome. (code : CodeSeen) (input : List ℕ) → IsOutcome outcome (act code (Instruction.Name to line) (core_of self.old input)) (core_of self.new input)) }
     {
         let Some(notice) = self.operands.pop() else {
-            return Ok(Outcome::Missing);
+            return Ok(InstructionOutcome::Missing);
         };
         let Some(time) = self.operands.pop() else {
-            return Ok(Outcome::Missing);
+            return Ok(InstructionOutcome::Missing);
         };
         let Some(spot) = self.operands.pop_spot(to) else {
-            return Ok(Outcome::Missing);
+            return Ok(InstructionOutcome::Missing);
         };
         let answer = self.write_copy(spot, &notice);
         self.operands.push(time)?;

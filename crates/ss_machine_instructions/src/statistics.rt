@@ -7,7 +7,7 @@ ghost use Rattle.ss_machine_world.specs.Figures.{held_by};
 ghost use Rattle.ss_machine_instructions.specs.Effects.{Came, Rests};
 ghost use Rattle.ss_machine_instructions.specs.Holding.{store_of, core_of, IsOutcome};
 
-use crate::working::{Outcome, Working};
+use crate::working::{InstructionOutcome, Working};
 use ss_base::{Line, Value};
 use ss_code_instructions::instruction::Instruction;
 use ss_machine_entities::trouble::Trouble;
@@ -22,12 +22,12 @@ pub fn figure(
     statistic: usize,
     system: bool,
     line: Line,
-) -> Result<Outcome, AllocError>
+) -> Result<InstructionOutcome, AllocError>
     requires { working.old.place + 1 < 2 ^ 64 }
     ensures { IfOk result (λ outcome. (code : CodeSeen) (input : List ℕ) → IsOutcome outcome (act code (Instruction.Figure fold statistic system line) (core_of working.old input)) (core_of working.new input)) }
 {
     let Some(whose) = working.operands.pop_owner(system) else {
-        return Ok(Outcome::Missing);
+        return Ok(InstructionOutcome::Missing);
     };
     let answer = working.scene.figure(fold, statistic, whose);
     working.answer(answer, line)
@@ -35,12 +35,17 @@ pub fn figure(
 
 /// Looks at the mean that a statistic is, of the entity that has its subject, the reference to which stays on top, unless
 /// the system has it.
-pub fn look_mean(working: &mut Working, statistic: usize, system: bool, line: Line) -> Outcome
+pub fn look_mean(
+    working: &mut Working,
+    statistic: usize,
+    system: bool,
+    line: Line,
+) -> InstructionOutcome
     requires { working.old.place + 1 < 2 ^ 64 }
     ensures { (code : CodeSeen) (input : List ℕ) → IsOutcome result (act code (Instruction.LookMean statistic system line) (core_of working.old input)) (core_of working.new input) }
 {
     let Some(whose) = working.operands.owner(system) else {
-        return Outcome::Missing;
+        return InstructionOutcome::Missing;
     };
     let answer = working.scene.mean(statistic, whose);
     working.pass_by(answer, line)
@@ -48,12 +53,17 @@ pub fn look_mean(working: &mut Working, statistic: usize, system: bool, line: Li
 
 /// The history of a statistic starts afresh with the present value, that of the entity that the value on top refers
 /// to, unless the system has its subject.
-pub fn reset(working: &mut Working, statistic: usize, system: bool, line: Line) -> Outcome
+pub fn reset(
+    working: &mut Working,
+    statistic: usize,
+    system: bool,
+    line: Line,
+) -> InstructionOutcome
     requires { working.old.place + 1 < 2 ^ 64 }
     ensures { (code : CodeSeen) (input : List ℕ) → IsOutcome result (act code (Instruction.Reset statistic system line) (core_of working.old input)) (core_of working.new input) }
 {
     let Some(whose) = working.operands.pop_owner(system) else {
-        return Outcome::Missing;
+        return InstructionOutcome::Missing;
     };
     let answer = start_afresh(working, statistic, whose);
     working.settle(answer, line)

@@ -35,7 +35,7 @@ pub struct Working {
 
 /// The result of an instruction.
 #[derive(Clone, Copy)]
-pub enum Outcome {
+pub enum InstructionOutcome {
     Went,
     Ends,
     Faults(FaultKind, Line),
@@ -45,13 +45,13 @@ pub enum Outcome {
 impl Working {
     /// Puts a value on top.
     #[inline(always)]
-    pub fn push(&mut self, value: Value) -> Result<Outcome, AllocError>
+    pub fn push(&mut self, value: Value) -> Result<InstructionOutcome, AllocError>
         requires { self.old.place + 1 < 2 ^ 64 }
         ensures { IfOk result (λ outcome. (code : CodeSeen) (input : List ℕ) → IsOutcome outcome (act code (Instruction.Push value) (core_of self.old input)) (core_of self.new input)) }
     {
         self.operands.push(value)?;
         self.place += 1;
-        Ok(Outcome::Went)
+        Ok(InstructionOutcome::Went)
     }
 
     // What a variable holds, if it is there.
@@ -67,27 +67,31 @@ impl Working {
 
     /// Puts the value of a variable on top.
     #[inline(always)]
-    pub fn fetch(&mut self, variable: Variable) -> Result<Outcome, AllocError>
+    pub fn fetch(&mut self, variable: Variable) -> Result<InstructionOutcome, AllocError>
         requires { self.old.place + 1 < 2 ^ 64 }
         ensures { IfOk result (λ outcome. (code : CodeSeen) (input : List ℕ) → IsOutcome outcome (act code (Instruction.Fetch variable) (core_of self.old input)) (core_of self.new input)) }
     {
         let Some(value) = self.value_of(variable) else {
-            return Ok(Outcome::Missing);
+            return Ok(InstructionOutcome::Missing);
         };
         self.push(value)
     }
 
     /// Makes a calculation of two values.
     #[inline(always)]
-    pub fn calculate(&mut self, operator: Operator, line: Line) -> Result<Outcome, AllocError>
+    pub fn calculate(
+        &mut self,
+        operator: Operator,
+        line: Line,
+    ) -> Result<InstructionOutcome, AllocError>
         requires { self.old.place + 1 < 2 ^ 64 }
         ensures { IfOk result (λ outcome. (code : CodeSeen) (input : List ℕ) → IsOutcome outcome (act code (Instruction.Calculate operator line) (core_of self.old input)) (core_of self.new input)) }
     {
         let Some(y) = self.operands.pop() else {
-            return Ok(Outcome::Missing);
+            return Ok(InstructionOutcome::Missing);
         };
         let Some(x) = self.operands.pop() else {
-            return Ok(Outcome::Missing);
+            return Ok(InstructionOutcome::Missing);
         };
         let made = calculated(operator, x, y);
         self.answer(made, line)
@@ -95,12 +99,12 @@ impl Working {
 
     /// Puts a sign before a value.
     #[inline(always)]
-    pub fn sign(&mut self, sign: Sign, line: Line) -> Result<Outcome, AllocError>
+    pub fn sign(&mut self, sign: Sign, line: Line) -> Result<InstructionOutcome, AllocError>
         requires { self.old.place + 1 < 2 ^ 64 }
         ensures { IfOk result (λ outcome. (code : CodeSeen) (input : List ℕ) → IsOutcome outcome (act code (Instruction.Signed sign line) (core_of self.old input)) (core_of self.new input)) }
     {
         let Some(x) = self.operands.pop() else {
-            return Ok(Outcome::Missing);
+            return Ok(InstructionOutcome::Missing);
         };
         let made = signed(sign, x);
         self.answer(made, line)
@@ -108,12 +112,12 @@ impl Working {
 
     /// Takes the distance of a value from 0.
     #[inline(always)]
-    pub fn absolute(&mut self, line: Line) -> Result<Outcome, AllocError>
+    pub fn absolute(&mut self, line: Line) -> Result<InstructionOutcome, AllocError>
         requires { self.old.place + 1 < 2 ^ 64 }
         ensures { IfOk result (λ outcome. (code : CodeSeen) (input : List ℕ) → IsOutcome outcome (act code (Instruction.Absolute line) (core_of self.old input)) (core_of self.new input)) }
     {
         let Some(x) = self.operands.pop() else {
-            return Ok(Outcome::Missing);
+            return Ok(InstructionOutcome::Missing);
         };
         let made = absolute(x);
         self.answer(made, line)
@@ -121,53 +125,53 @@ impl Working {
 
     // Goes on past so many instructions after this.
     #[inline(always)]
-    fn pass(&mut self, skip: usize) -> Outcome
+    fn pass(&mut self, skip: usize) -> InstructionOutcome
         requires { self.old.place + 1 < 2 ^ 64 }
         ensures { (input : List ℕ) → IsOutcome result (To (core_with (self.old.place + 1 + skip) self.old.operands.here (frames_of self.old) (store_of self.old input))) (core_of self.new input) }
     {
         match (self.place + 1).checked_add(skip) {
-            None => Outcome::Missing,
+            None => InstructionOutcome::Missing,
             Some(place) => {
                 self.place = place;
-                Outcome::Went
+                InstructionOutcome::Went
             }
         }
     }
 
     /// Goes on to the next instruction, or past so many more: for an instruction that has made its test.
     #[inline(always)]
-    pub fn choose(&mut self, holds: bool, skip: usize) -> Outcome
+    pub fn choose(&mut self, holds: bool, skip: usize) -> InstructionOutcome
         requires { self.old.place + 1 < 2 ^ 64 }
         ensures { (input : List ℕ) → IsOutcome result (To (core_with (past skip holds (self.old.place + 1)) self.old.operands.here (frames_of self.old) (store_of self.old input))) (core_of self.new input) }
     {
         if holds {
             self.place += 1;
-            return Outcome::Went;
+            return InstructionOutcome::Went;
         }
         self.pass(skip)
     }
 
     /// Goes on where two values are in a relation, and jumps where they aren't.
     #[inline(always)]
-    pub fn compare(&mut self, relation: Relation, skip: usize) -> Outcome
+    pub fn compare(&mut self, relation: Relation, skip: usize) -> InstructionOutcome
         requires { self.old.place + 1 < 2 ^ 64 }
         ensures { (code : CodeSeen) (input : List ℕ) → IsOutcome result (act code (Instruction.Compare relation skip) (core_of self.old input)) (core_of self.new input) }
     {
         let Some(y) = self.operands.pop() else {
-            return Outcome::Missing;
+            return InstructionOutcome::Missing;
         };
         let Some(x) = self.operands.pop() else {
-            return Outcome::Missing;
+            return InstructionOutcome::Missing;
         };
         let Some(holds) = related(relation, x, y) else {
-            return Outcome::Missing;
+            return InstructionOutcome::Missing;
         };
         self.choose(holds, skip)
     }
 
     /// Jumps.
     #[inline(always)]
-    pub fn jump(&mut self, skip: usize) -> Outcome
+    pub fn jump(&mut self, skip: usize) -> InstructionOutcome
         requires { self.old.place + 1 < 2 ^ 64 }
         ensures { (code : CodeSeen) (input : List ℕ) → IsOutcome result (act code (Instruction.Jump skip) (core_of self.old input)) (core_of self.new input) }
     {
@@ -176,28 +180,28 @@ impl Working {
 
     /// Jumps back.
     #[inline(always)]
-    pub fn repeat(&mut self, back: usize) -> Outcome
+    pub fn repeat(&mut self, back: usize) -> InstructionOutcome
         ensures { (code : CodeSeen) (input : List ℕ) → IsOutcome result (act code (Instruction.Repeat back) (core_of self.old input)) (core_of self.new input) }
     {
         self.place = self.place.saturating_sub(back);
-        Outcome::Went
+        InstructionOutcome::Went
     }
 
     /// A turn of a loop.
     #[inline(always)]
-    pub fn turn(&mut self) -> Outcome
+    pub fn turn(&mut self) -> InstructionOutcome
         requires { self.old.place + 1 < 2 ^ 64 }
         ensures { (code : CodeSeen) (input : List ℕ) → IsOutcome result (act code Instruction.Turn (core_of self.old input)) (core_of self.new input) }
     {
         self.place += 1;
-        Outcome::Went
+        InstructionOutcome::Went
     }
 
     /// The run ends.
     #[inline(always)]
-    pub fn halt(&self) -> Outcome
+    pub fn halt(&self) -> InstructionOutcome
         ensures { (code : CodeSeen) (input : List ℕ) → IsOutcome result (act code Instruction.Halt (core_of self.now input)) (core_of self.now input) }
     {
-        Outcome::Ends
+        InstructionOutcome::Ends
     }
 }

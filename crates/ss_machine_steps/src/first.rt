@@ -1,7 +1,7 @@
 //! The first state of a machine.
 
 ghost use Rattle.std.specs.Prelude.{◌≡◌, [], IfOk};
-ghost use Rattle.ss_meaning.specs.Store.{firsts};
+ghost use Rattle.ss_meaning.specs.Store.{first_values};
 ghost use Rattle.ss_machine_instructions.specs.Holding.{frames_of};
 ghost use Rattle.ss_machine_steps.specs.Start.{IsAtStart};
 
@@ -18,7 +18,7 @@ use std::alloc::{AllocError, Global};
 
 // Local variables of MAIN as they are at first. The error comes where memory was refused.
 fn first_locals(alloc: Global, code: &Code) -> Result<Locals, AllocError>
-    ensures { IfOk result (λ locals. locals ≡ record { below = []; here = firsts code.now.locals }) }
+    ensures { IfOk result (λ locals. locals ≡ record { below = []; here = first_values code.now.locals }) }
 {
     let mut locals = Locals::new(alloc);
     locals.fill(&[], code.locals())?;

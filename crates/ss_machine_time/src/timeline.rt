@@ -9,7 +9,7 @@ ghost use Rattle.ss_base.specs.declared.layout.Owner.TheVariants.{System, Class}
 ghost use Rattle.ss_world.specs.PendingList.{none_pending, is_pending, cancelled, next};
 ghost use Rattle.ss_stats_histories.specs.Places.{is_about};
 ghost use Rattle.ss_stats_histories.specs.Records.{HasRooms, IsOnly, OwnsNone, Spares, Takes, is_up_to, renewed_where, figured, mean_in, columns_of};
-ghost use Rattle.ss_stats_histories.specs.Histories.{no_histories, starting, ending, all_noting, history_of, folded, renewed};
+ghost use Rattle.ss_stats_histories.specs.Histories.{no_histories, starting, ending, all_noting, history_of_subject, folded, renewed};
 ghost use Rattle.ss_stats_histories.specs.Values.{if_ok, sure};
 ghost use Rattle.ss_picture.specs.Suited.{IsMean};
 ghost use Rattle.ss_program.specs.declared.sections.Subject.TheVariants.{OfVariable, OfAttribute, OfCount};
@@ -316,7 +316,7 @@ impl Timeline {
         statistic: usize,
         entity: i64,
     ) -> Option<Result<i64, FaultKind>>
-        ensures { if_ok (history_of statistic entity (columns self.now)) (folded fold self.now.time) ≡ figured result }
+        ensures { if_ok (history_of_subject statistic entity (columns self.now)) (folded fold self.now.time) ≡ figured result }
     {
         self.histories.figure(fold, statistic, entity, self.time)
     }

@@ -11,7 +11,7 @@ use Rattle.ss_world.specs.State as S
 use Rattle.ss_world.specs.Sets.{joiner}
 use Rattle.ss_meaning.specs.Values.{Trouble as Meant, if_ok, turned, due, where_fit, number_of}
 use Rattle.ss_meaning.specs.Store.{Store}
-use Rattle.ss_meaning.specs.Sets.{is_one, of_member, owner_by}
+use Rattle.ss_meaning.specs.Sets.{is_one, of_member, owner_by_layout}
 use Rattle.ss_machine_entities.specs.Layouts.{set_in}
 use Rattle.ss_machine_world.specs.Seen.{Seen, with_seen, member_answer}
 
@@ -30,6 +30,6 @@ asked_is Successor set x e s = asked_once (number_of x) (is_some (set_in e.heap.
 asked_is Membership set x e s = asked_once (number_of x) (is_some (set_in e.heap.layout set)) (joiner e.heap set) _ (λ o. Whole (is_one o))
 
 -- a set whose owner is known is there
-pub owned_there : (t : Option SetLayout) (o : Option Value) (n : ℤ) → owner_by t o ≡ Ok n → is_some t ≡ true
+pub owned_there : (t : Option SetLayout) (o : Option Value) (n : ℤ) → owner_by_layout t o ≡ Ok n → is_some t ≡ true
 owned_there None o n e = absurd cc
 owned_there (Some t) o n e = refl

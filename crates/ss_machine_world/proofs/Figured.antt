@@ -11,7 +11,7 @@ use Rattle.ss_meaning.specs.Values.{if_ok, turned, sure, number_of}
 use Rattle.ss_meaning.specs.Store.{Store}
 use Rattle.ss_meaning.specs.Histories.{figure_kept, mean_kept}
 use Rattle.ss_meaning.specs.Statistics.{subject_of, bearer, present, figure, mean, reset}
-use Rattle.ss_machine_entities.specs.declared.known.Known.{Known}
+use Rattle.ss_machine_entities.specs.declared.known.EntityId.{EntityId}
 use Rattle.ss_machine_entities.specs.declared.trouble.Trouble.{Trouble}
 use Rattle.ss_machine_entities.specs.Answered.{to_meaning}
 use Rattle.ss_machine_world.specs.Seen.{Seen, with_seen, Looks, Changes, ChangesWhere}
@@ -25,13 +25,13 @@ subject_there e j t s = by (slice_get e.statistics j)
     by None is = absurd cc
     by (Some u) is = let same : t ≡ u.subject = cc in ap Ok (sym same)
 
-pub figured_of : (fold : Fold) (j : ℕ) (whose : Option Value) (e f : Seen) (t : Subject) (k : Known) (r : OkOr Value Trouble) → Some t ≡ subject_in e.statistics j → ((s : Store) → bearer t whose (with_seen s e) ≡ Ok k.number) → f ≡ e → Looks (figure_kept fold j k.number) f r → Looks (figure fold j whose) e r
+pub figured_of : (fold : Fold) (j : ℕ) (whose : Option Value) (e f : Seen) (t : Subject) (k : EntityId) (r : OkOr Value Trouble) → Some t ≡ subject_in e.statistics j → ((s : Store) → bearer t whose (with_seen s e) ≡ Ok k.number) → f ≡ e → Looks (figure_kept fold j k.number) f r → Looks (figure fold j whose) e r
 figured_of fold j whose e f t k r is found same kept s =
     ap (λ q. if_ok q (λ t. if_ok (bearer t whose (with_seen s e)) (λ n. figure_kept fold j n (with_seen s e)))) (subject_there e j t s is)
     ∙ ap (λ q. if_ok q (λ n. figure_kept fold j n (with_seen s e))) (found s)
     ∙ subst (λ (e : Seen). figure_kept fold j k.number (with_seen s e) ≡ to_meaning r) same (kept s)
 
-pub mean_found : (j : ℕ) (whose : Option Value) (e f : Seen) (t : Subject) (k : Known) (r : OkOr (ℤ × ℤ) Trouble) → Some t ≡ subject_in e.statistics j → ((s : Store) → bearer t whose (with_seen s e) ≡ Ok k.number) → f ≡ e → Looks (mean_kept j k.number) f r → Looks (mean j whose) e r
+pub mean_found : (j : ℕ) (whose : Option Value) (e f : Seen) (t : Subject) (k : EntityId) (r : OkOr (ℤ × ℤ) Trouble) → Some t ≡ subject_in e.statistics j → ((s : Store) → bearer t whose (with_seen s e) ≡ Ok k.number) → f ≡ e → Looks (mean_kept j k.number) f r → Looks (mean j whose) e r
 mean_found j whose e f t k r is found same kept s =
     ap (λ q. if_ok q (λ t. if_ok (bearer t whose (with_seen s e)) (λ n. mean_kept j n (with_seen s e)))) (subject_there e j t s is)
     ∙ ap (λ q. if_ok q (λ n. mean_kept j n (with_seen s e))) (found s)
@@ -45,7 +45,7 @@ present_is e j whose held (OfVariable k) s is h = ap sure (ap (λ o. held_in (va
 present_is e j whose held (OfAttribute class field) s is h = refl
 present_is e j whose held (OfCount set) s is h = refl
 
-module _ (j : ℕ) (whose held : Option Value) (e new : Seen) (t : Subject) (k : Known) (is : Some t ≡ subject_in e.statistics j) (found : (s : Store) → bearer t whose (with_seen s e) ≡ Ok k.number) where
+module _ (j : ℕ) (whose held : Option Value) (e new : Seen) (t : Subject) (k : EntityId) (is : Some t ≡ subject_in e.statistics j) (found : (s : Store) → bearer t whose (with_seen s e) ≡ Ok k.number) where
   at : (s : Store) → held_by j (with_seen s e) ≡ held → reset j whose (with_seen s e) ≡ reset_of j t k.number whose held (with_seen s e)
   at s h =
       let z : Store = with_seen s e in
@@ -57,5 +57,5 @@ module _ (j : ℕ) (whose held : Option Value) (e new : Seen) (t : Subject) (k :
   by (Ok u) c = λ s h. at s h ∙ c s
   by (Err x) c = (λ s h. at s h ∙ c.0 s, c.1)
 
-pub reset_where : (j : ℕ) (whose held : Option Value) (e f new : Seen) (t : Subject) (k : Known) (r : OkOr (Unit {0}) Trouble) → Some t ≡ subject_in e.statistics j → ((s : Store) → bearer t whose (with_seen s e) ≡ Ok k.number) → f ≡ e → Changes (reset_of j t k.number whose held) f new r → ChangesWhere (λ s. held_by j s ≡ held) (reset j whose) e new r
+pub reset_where : (j : ℕ) (whose held : Option Value) (e f new : Seen) (t : Subject) (k : EntityId) (r : OkOr (Unit {0}) Trouble) → Some t ≡ subject_in e.statistics j → ((s : Store) → bearer t whose (with_seen s e) ≡ Ok k.number) → f ≡ e → Changes (reset_of j t k.number whose held) f new r → ChangesWhere (λ s. held_by j s ≡ held) (reset j whose) e new r
 reset_where j whose held e f new t k r is found same c = by j whose held e new t k is found r (subst (λ (e : Seen). Changes (reset_of j t k.number whose held) e new r) same c)

@@ -23,8 +23,8 @@ use Rattle.ss_world.specs.Disciplines.{member_test, filed}
 use Rattle.ss_meaning.specs.Values.{Trouble as Meant, if_ok, turned, due, sure, where_fit}
 use Rattle.ss_meaning.specs.Store.{Column, Store, with_histories}
 use Rattle.ss_meaning.specs.Histories.{same_subject, noting, all_noting, noted}
-use Rattle.ss_meaning.specs.Sets.{Filing, ByRule, Hindmost, is_fit, of_set, is_none, is_in, or_gone, goes_on, coming, beside, owner_by, owner_number, filed_by, filed_in, recounted, end_removed, removed_at}
-use Rattle.ss_machine_entities.specs.declared.known.Known.{Known}
+use Rattle.ss_meaning.specs.Sets.{Filing, ByRule, Hindmost, is_fit, of_set, is_none, is_in, or_gone, goes_on, coming, beside, owner_by_layout, owner_number, filed_by, filed_in, recounted, end_removed, removed_at}
+use Rattle.ss_machine_entities.specs.declared.known.EntityId.{EntityId}
 use Rattle.ss_machine_entities.proofs.Refiled.{last_refiled}
 use Rattle.ss_machine_entities.specs.declared.trouble.Trouble.{Trouble}
 use Rattle.ss_machine_entities.specs.Layouts.{set_in}
@@ -72,10 +72,10 @@ ignores_still subject old new same ignored = subst (λ (e : Seen). Ignores subje
 -- ## A set
 
 -- a set that has an owner is there
-pub owned_there : (layout : Layout) (set : ℕ) (o : Option Value) (n : ℤ) → owner_by (slice_get layout.sets set) o ≡ Ok n → (is_some (slice_get layout.sets set) ≡ true) × (set < length layout.sets)
+pub owned_there : (layout : Layout) (set : ℕ) (o : Option Value) (n : ℤ) → owner_by_layout (slice_get layout.sets set) o ≡ Ok n → (is_some (slice_get layout.sets set) ≡ true) × (set < length layout.sets)
 owned_there layout set o n of = by (slice_get layout.sets set) refl of
   where
-    by : (t : Option SetLayout) → slice_get layout.sets set ≡ t → owner_by t o ≡ Ok n → (is_some (slice_get layout.sets set) ≡ true) × (set < length layout.sets)
+    by : (t : Option SetLayout) → slice_get layout.sets set ≡ t → owner_by_layout t o ≡ Ok n → (is_some (slice_get layout.sets set) ≡ true) × (set < length layout.sets)
     by None at of = absurd cc
     by (Some t) at of = (ap is_some at, slice_get_within layout.sets set t at)
 
@@ -83,10 +83,10 @@ pub system_there : (layout : Layout) (set : ℕ) → IsOfSystem layout set → s
 system_there layout set of = (owned_there layout set None (pos zero) of).1
 
 -- the system, as an owner
-abbrev pub the_system : Known
+abbrev pub the_system : EntityId
 the_system = record { number = pos zero }
 
-filed_known : (filing : Filing) (set : ℕ) (n : ℤ) (k : Known) (old new : Seen) → Rehomes set None (λ o. filed_by filing set o n) old new (Ok k) → IsCountable new.heap set k.number → Ignores (OfCount set) old → Does (filed_in filing set (Whole n) None) true old new
+filed_known : (filing : Filing) (set : ℕ) (n : ℤ) (k : EntityId) (old new : Seen) → Rehomes set None (λ o. filed_by filing set o n) old new (Ok k) → IsCountable new.heap set k.number → Ignores (OfCount set) old → Does (filed_in filing set (Whole n) None) true old new
 filed_known filing set n k old new d counted ignored =
     rehomed_notes set (Whole n) None old n refl (λ n m s. filed_by filing set m n s) (λ m s h e. by_joined filing set m n (with_seen s old) h e)
     new k d new (Ok tt) counted
@@ -94,12 +94,12 @@ filed_known filing set n k old new d counted ignored =
     ap (λ q. if_ok (due q) (λ c. noted (OfCount set) k.number (Whole c) (with_seen s new))) counted.1.1
     ∙ noted_still (OfCount set) k.number (Whole counted.1.0) new s (ignores_still (OfCount set) old new d.1 ignored))
 
-pub filed_where : (filing : Filing) (set : ℕ) (n : ℤ) (r : OkOr Known Trouble) (old new : Seen) → Rehomes set None (λ o. filed_by filing set o n) old new r → IfOk r (λ k. IsCountable new.heap set k.number) → Ignores (OfCount set) old → Does (filed_in filing set (Whole n) None) (is_ok r) old new
+pub filed_where : (filing : Filing) (set : ℕ) (n : ℤ) (r : OkOr EntityId Trouble) (old new : Seen) → Rehomes set None (λ o. filed_by filing set o n) old new r → IfOk r (λ k. IsCountable new.heap set k.number) → Ignores (OfCount set) old → Does (filed_in filing set (Whole n) None) (is_ok r) old new
 filed_where filing set n (Ok k) old new d counted ignored = filed_known filing set n k old new d counted ignored
 filed_where filing set n (Err t) old new d counted ignored = d.1
 
 -- a member is filed last
-module _ (set : ℕ) (n : ℤ) (k : Known) (old new : Seen) (did : filed_last old.heap set k.number n ≡ Ok new.heap) where
+module _ (set : ℕ) (n : ℤ) (k : EntityId) (old new : Seen) (did : filed_last old.heap set k.number n ≡ Ok new.heap) where
   pub last_by : (by_rule : Bool) → (by_rule ≡ true → slice_get old.disciplines set ≡ Some Fifo) → (s : Store) → filed_by (if by_rule then ByRule else Hindmost) set k.number n (with_seen s old) ≡ Ok new.heap
   last_by true fifo s = ap (λ d. if_ok (sure d) (λ d. where_fit (is_fit old.heap.layout set d) (due (filed old.heap d set k.number n)))) (fifo refl) ∙ ap (λ r. due r) did
   last_by false fifo s = ap (λ r. due r) did
@@ -109,7 +109,7 @@ module _ (set : ℕ) (n : ℤ) (k : Known) (old new : Seen) (did : filed_last ol
       filed_known (if by_rule then ByRule else Hindmost) set n k old new (λ s. (found s, last_by by_rule fifo s), rest)
       (countable old.heap new.heap set k.number (last_refiled old.heap new.heap set k.number n did) within) ignored
 
-pub last_where : (by_rule : Bool) (set : ℕ) (n : ℤ) (k : Known) (b : Bool) (old new : Seen) → set < length old.heap.layout.sets → ((s : Store) → owner_number set None (with_seen s old) ≡ Ok k.number) → (by_rule ≡ true → slice_get old.disciplines set ≡ Some Fifo) → Ignores (OfCount set) old → (b ≡ true → filed_last old.heap set k.number n ≡ Ok new.heap) → new ≡ record old { heap = new.heap } → (b ≡ false → new ≡ old) → Does (filed_in (if by_rule then ByRule else Hindmost) set (Whole n) None) b old new
+pub last_where : (by_rule : Bool) (set : ℕ) (n : ℤ) (k : EntityId) (b : Bool) (old new : Seen) → set < length old.heap.layout.sets → ((s : Store) → owner_number set None (with_seen s old) ≡ Ok k.number) → (by_rule ≡ true → slice_get old.disciplines set ≡ Some Fifo) → Ignores (OfCount set) old → (b ≡ true → filed_last old.heap set k.number n ≡ Ok new.heap) → new ≡ record old { heap = new.heap } → (b ≡ false → new ≡ old) → Does (filed_in (if by_rule then ByRule else Hindmost) set (Whole n) None) b old new
 last_where by_rule set n k true old new within found fifo ignored did rest same = last_known set n k old new (did refl) by_rule within found fifo ignored rest
 last_where by_rule set n k false old new within found fifo ignored did rest same = same refl
 

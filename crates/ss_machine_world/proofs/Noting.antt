@@ -18,7 +18,7 @@ use Rattle.ss_meaning.specs.Histories.{same_subject, with_history, noting_in, no
 use Rattle.ss_machine_entities.specs.declared.trouble.Trouble.{Trouble}
 use Rattle.ss_machine_entities.specs.declared.trouble.Trouble.TheVariants.{Fault}
 use Rattle.ss_machine_entities.specs.Answered.{to_meaning}
-use Rattle.ss_machine_world.specs.Seen.{Seen, with_seen, Changes, Stays, Notes, mode_at}
+use Rattle.ss_machine_world.specs.Seen.{Seen, with_seen, Changes, Stays, Notes, mode_of_field}
 use Rattle.ss_machine_world.specs.Filed.{IsCountable, recounted_now}
 use Rattle.ss_machine_world.proofs.Once.{set_once}
 
@@ -97,7 +97,7 @@ module _ (f : Store → OkOr Store Meant) (g : Store → OkOr Store Meant) (old 
   noted_changes (Err t) stays h = (λ s. at s ∙ h.0 s, stays t h)
 
 -- an attribute of an entity that is there is assigned a value, which its histories note
-pub assigned_notes : (class field : ℕ) (n : ℤ) (v : Value) (old mid new : Seen) (r : OkOr (Unit {0}) Trouble) → is_of_mode v (mode_at old.heap.layout class field) ≡ true → assigned old.heap class field n v ≡ Ok mid.heap → mid ≡ record old { heap = mid.heap } → Changes (noted (OfAttribute class field) n v) mid new r → Notes (assigned_attribute class field (Whole n) v) old new r
+pub assigned_notes : (class field : ℕ) (n : ℤ) (v : Value) (old mid new : Seen) (r : OkOr (Unit {0}) Trouble) → is_of_mode v (mode_of_field old.heap.layout class field) ≡ true → assigned old.heap class field n v ≡ Ok mid.heap → mid ≡ record old { heap = mid.heap } → Changes (noted (OfAttribute class field) n v) mid new r → Notes (assigned_attribute class field (Whole n) v) old new r
 assigned_notes class field n v old mid new r fits done same h =
     noted_changes (assigned_attribute class field (Whole n) v) (noted (OfAttribute class field) n v) old mid new
     (λ s.
@@ -107,5 +107,5 @@ assigned_notes class field n v old mid new r fits done same h =
     r (λ t h. noting_stays (OfAttribute class field) n v old mid new t h) h
 
 -- an attribute of one that is not there is not
-pub assigned_not : (class field : ℕ) (n : ℤ) (v : Value) (e : Seen) (k : FaultKind) (s : Store) → is_of_mode v (mode_at e.heap.layout class field) ≡ true → assigned e.heap class field n v ≡ Err k → assigned_attribute class field (Whole n) v (with_seen s e) ≡ to_meaning {A = Store} (Err (Fault k))
+pub assigned_not : (class field : ℕ) (n : ℤ) (v : Value) (e : Seen) (k : FaultKind) (s : Store) → is_of_mode v (mode_of_field e.heap.layout class field) ≡ true → assigned e.heap class field n v ≡ Err k → assigned_attribute class field (Whole n) v (with_seen s e) ≡ to_meaning {A = Store} (Err (Fault k))
 assigned_not class field n v e k s fits miss = set_once e class field n v s fits ∙ ap (λ r. if_ok (due r) (λ h. noted (OfAttribute class field) n v (with_heap (with_seen s e) h))) miss

@@ -19,7 +19,7 @@ use Rattle.ss_machine_entities.specs.declared.trouble.Trouble.{Trouble}
 use Rattle.ss_machine_entities.specs.declared.trouble.Trouble.TheVariants.{Fault, Misfit}
 use Rattle.ss_machine_entities.specs.Answered.{meant}
 use Rattle.ss_machine_entities.specs.Layouts.{class_in, mode_in}
-use Rattle.ss_machine_world.specs.Seen.{Seen, with_seen, mode_at, IsEarlier}
+use Rattle.ss_machine_world.specs.Seen.{Seen, with_seen, mode_of_field, IsEarlier}
 use Rattle.ss_machine_world.proofs.Late.{look_first}
 
 -- a value that is a number
@@ -40,15 +40,15 @@ module _ (e : Seen) (class : ℕ) (n : ℤ) where
   earlier_is rest later first s d h = look_first n rest (is_some (class_in e.heap.layout class)) (S.known_in e.heap class n) (meant later) (meant first) d (h s)
 
   -- an attribute that is not there
-  pub value_misfit : (field : ℕ) (first : Trouble) (s : Store) → is_some (mode_at e.heap.layout class field) ≡ false → IsEarlier class n e Misfit first → attribute class field (Whole n) (with_seen s e) ≡ (let r : OkOr Value Meant = Err (meant first) in r)
+  pub value_misfit : (field : ℕ) (first : Trouble) (s : Store) → is_some (mode_of_field e.heap.layout class field) ≡ false → IsEarlier class n e Misfit first → attribute class field (Whole n) (with_seen s e) ≡ (let r : OkOr Value Meant = Err (meant first) in r)
   value_misfit field first s none h =
-      earlier_is (λ k. where_fit (is_some (mode_at e.heap.layout class field)) (due (S.value_in e.heap class field k))) Misfit first s
+      earlier_is (λ k. where_fit (is_some (mode_of_field e.heap.layout class field)) (due (S.value_in e.heap class field k))) Misfit first s
       (ap (λ b. where_fit b (due (S.value_in e.heap class field n))) none) h
 
   -- or not of the mode of a value
-  pub set_misfit : (field : ℕ) (v : Value) (first : Trouble) (s : Store) → is_of_mode v (mode_at e.heap.layout class field) ≡ false → IsEarlier class n e Misfit first → assigned_attribute class field (Whole n) v (with_seen s e) ≡ (let r : OkOr Store Meant = Err (meant first) in r)
+  pub set_misfit : (field : ℕ) (v : Value) (first : Trouble) (s : Store) → is_of_mode v (mode_of_field e.heap.layout class field) ≡ false → IsEarlier class n e Misfit first → assigned_attribute class field (Whole n) v (with_seen s e) ≡ (let r : OkOr Store Meant = Err (meant first) in r)
   set_misfit field v first s none h =
-      earlier_is (λ k. where_fit (is_of_mode v (mode_at e.heap.layout class field)) (go k)) Misfit first s
+      earlier_is (λ k. where_fit (is_of_mode v (mode_of_field e.heap.layout class field)) (go k)) Misfit first s
       (ap (λ b. where_fit b (go n)) none) h
     where
       go : ℤ → OkOr Store Meant
@@ -94,28 +94,28 @@ module _ (e : Seen) (class field : ℕ) (n : ℤ) where
   there = is_some (slice_get e.heap.layout.classes class)
 
   -- a look at the value is one at the entity
-  pub value_once : (s : Store) → is_some (mode_at e.heap.layout class field) ≡ true → attribute class field (Whole n) (with_seen s e) ≡ due (S.value_in e.heap class field n)
+  pub value_once : (s : Store) → is_some (mode_of_field e.heap.layout class field) ≡ true → attribute class field (Whole n) (with_seen s e) ≡ due (S.value_in e.heap class field n)
   value_once s fits =
-      one_look n (λ k. where_fit (is_some (mode_at e.heap.layout class field)) (due (S.value_in e.heap class field k))) there (S.entity e.heap class n)
+      one_look n (λ k. where_fit (is_some (mode_of_field e.heap.layout class field)) (due (S.value_in e.heap class field k))) there (S.entity e.heap class n)
       (field_there (slice_get e.heap.layout.classes class) field fits)
       (λ k no. at n ∙ ap (λ (q : OkOr S.Record FaultKind). due (S.and_then q (λ r. Ok (slice_index_or r.values field (Whole (pos 0)))))) no)
       ∙ at n
     where
-      at : (k : ℤ) → where_fit (is_some (mode_at e.heap.layout class field)) (due (S.value_in e.heap class field k)) ≡ due (S.value_in e.heap class field k)
+      at : (k : ℤ) → where_fit (is_some (mode_of_field e.heap.layout class field)) (due (S.value_in e.heap class field k)) ≡ due (S.value_in e.heap class field k)
       at k = ap (λ b. where_fit b (due (S.value_in e.heap class field k))) fits
 
   -- so is an assignment
-  pub set_once : (v : Value) (s : Store) → is_of_mode v (mode_at e.heap.layout class field) ≡ true → assigned_attribute class field (Whole n) v (with_seen s e) ≡ if_ok (due (S.assigned e.heap class field n v)) (λ h. noted (OfAttribute class field) n v (with_heap (with_seen s e) h))
+  pub set_once : (v : Value) (s : Store) → is_of_mode v (mode_of_field e.heap.layout class field) ≡ true → assigned_attribute class field (Whole n) v (with_seen s e) ≡ if_ok (due (S.assigned e.heap class field n v)) (λ h. noted (OfAttribute class field) n v (with_heap (with_seen s e) h))
   set_once v s fits =
-      one_look n (λ k. where_fit (is_of_mode v (mode_at e.heap.layout class field)) (go k)) there (S.entity e.heap class n)
-      (field_there (slice_get e.heap.layout.classes class) field (mode_there v (mode_at e.heap.layout class field) fits))
+      one_look n (λ k. where_fit (is_of_mode v (mode_of_field e.heap.layout class field)) (go k)) there (S.entity e.heap class n)
+      (field_there (slice_get e.heap.layout.classes class) field (mode_there v (mode_of_field e.heap.layout class field) fits))
       (λ k no. at n ∙ ap (λ (q : OkOr S.Record FaultKind). if_ok (due (S.and_then q (λ r. Ok (S.with_entity e.heap class (S.number_in n) (S.with_value r field v))))) (λ h. noted (OfAttribute class field) n v (with_heap (with_seen s e) h))) no)
       ∙ at n
     where
       go : ℤ → OkOr Store Meant
       go k = if_ok (due (S.assigned e.heap class field k v)) (λ h. noted (OfAttribute class field) k v (with_heap (with_seen s e) h))
 
-      at : (k : ℤ) → where_fit (is_of_mode v (mode_at e.heap.layout class field)) (go k) ≡ go k
+      at : (k : ℤ) → where_fit (is_of_mode v (mode_of_field e.heap.layout class field)) (go k) ≡ go k
       at k = ap (λ b. where_fit b (go k)) fits
 
 -- ## Destroying

@@ -8,11 +8,11 @@ use Rattle.ss_world.specs.Sets.{joiner}
 use Rattle.ss_meaning.specs.Values.{Trouble as Meant, if_ok, turned, due, where_fit, number_of}
 use Rattle.ss_meaning.specs.Store.{Store}
 use Rattle.ss_meaning.specs.Sets.{member, owner_number, recounted}
-use Rattle.ss_machine_entities.specs.declared.known.Known.{Known}
+use Rattle.ss_machine_entities.specs.declared.known.EntityId.{EntityId}
 use Rattle.ss_machine_entities.specs.declared.trouble.Trouble.{Trouble}
 use Rattle.ss_machine_entities.specs.Layouts.{set_in}
 use Rattle.ss_machine_world.specs.Seen.{Seen, with_seen, Changes, Notes, Gains}
-use Rattle.ss_machine_world.specs.Filed.{IsCountable, IsEarliest, Rehomes, Resettles, Gives, recounted_now, end_out, end_counted, end_removed_known}
+use Rattle.ss_machine_world.specs.Filed.{IsCountable, IsEarliest, Rehomes, Resettles, GivesValue, recounted_now, end_out, end_counted, end_removed_known}
 use Rattle.ss_machine_world.proofs.Asking.{owned_there}
 use Rattle.ss_machine_world.proofs.Late.{late_trouble}
 use Rattle.ss_machine_world.proofs.Noting.{noted_changes, recounting_stays}
@@ -20,7 +20,7 @@ use Rattle.ss_machine_world.proofs.Recounting.{noted_after}
 
 -- ## The owner
 
-module _ (set : ℕ) (o : Option Value) (f : ℤ → Store → OkOr State Meant) (k : Known) (old new : Seen) (found : (s : Store) → owner_number set o (with_seen s old) ≡ Ok k.number) where
+module _ (set : ℕ) (o : Option Value) (f : ℤ → Store → OkOr State Meant) (k : EntityId) (old new : Seen) (found : (s : Store) → owner_number set o (with_seen s old) ≡ Ok k.number) where
   pub rehomes : Resettles (f k.number) old new (Ok tt) → Rehomes set o f old new (Ok k)
   rehomes h = (λ s. (found s, h.0 s), h.1)
 
@@ -49,7 +49,7 @@ module _ (set : ℕ) (x : Value) (o : Option Value) (old : Seen) (n : ℤ) (foun
   abbrev whole : Store → OkOr Store Meant
   whole s = if_ok (member set x s) (λ n. if_ok (owner_number set o s) (λ m. if_ok (go n m s) (recounted set m s)))
 
-  module _ (mid : Seen) (k : Known) (d : Rehomes set o (go n) old mid (Ok k)) where
+  module _ (mid : Seen) (k : EntityId) (d : Rehomes set o (go n) old mid (Ok k)) where
     at : (s : Store) → whole (with_seen s old) ≡ recounted_now set k.number (with_seen s mid)
     at s =
         let i = joins k.number s mid.heap (d.0 s).1 in
@@ -76,13 +76,13 @@ module _ (end : End) (set : ℕ) (o : ℤ) (old : Seen) (there : is_some (set_in
   fits : (s : Store) → end_removed_known end set o (with_seen s old) ≡ end_counted end set o (with_seen s old)
   fits s = ap (λ b. where_fit b (end_counted end set o (with_seen s old))) there
 
-  pub not_taken : (t : Trouble) (new : Seen) → Gives (end_out end set o) old new (Err t) → Gains (end_removed_known end set o) old new (Err t)
+  pub not_taken : (t : Trouble) (new : Seen) → GivesValue (end_out end set o) old new (Err t) → Gains (end_removed_known end set o) old new (Err t)
   not_taken t new d = (
     λ s. fits s ∙ ap (λ r. if_ok r (λ p. turned (λ t. (p.0, t)) (recounted set o (with_seen s old) p.1))) (d.0 s),
     λ kind e ne. d.1,
   )
 
-  module _ (v : Value) (mid new : Seen) (d : Gives (end_out end set o) old mid (Ok v)) where
+  module _ (v : Value) (mid new : Seen) (d : GivesValue (end_out end set o) old mid (Ok v)) where
     out_at : (s : Store) → end_removed_known end set o (with_seen s old) ≡ turned (λ t. (v, t)) (recounted_now set o (with_seen s mid))
     out_at s =
         fits s

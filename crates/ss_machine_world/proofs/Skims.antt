@@ -11,7 +11,7 @@ use Rattle.ss_records.specs.Skimming.{Steps, IsMember, PassesOver, IsSkimmed as 
 use Rattle.ss_records.specs.Filter.{Filter}
 use Rattle.ss_records.specs.Skimmed.{Skimmed}
 use Rattle.ss_machine_entities.specs.Layouts.{set_in}
-use Rattle.ss_machine_world.specs.Seen.{Seen, with_seen, mode_at}
+use Rattle.ss_machine_world.specs.Seen.{Seen, with_seen, mode_of_field}
 use Rattle.ss_machine_world.specs.Skims.{Takes, TakesOver, IsSkimmed}
 use Rattle.ss_machine_world.proofs.Going.{next_found}
 use Rattle.ss_machine_world.proofs.Once.{value_once}
@@ -24,7 +24,7 @@ steps_as : {S T : ℤ → ℤ → Type 0} → ((x y : ℤ) → S x y → T x y) 
 steps_as f zero x y s = s
 steps_as f (suc k) x y s = (s.0, (steps_as f k x s.0 s.1.0, f s.0 y s.1.1))
 
-module _ (set : ℕ) (o : Option Value) (m : ℤ) (e : Seen) (reverse : Bool) (f : Filter) (there : is_some (set_in e.heap.layout set) ≡ true) (mode : is_some (mode_at e.heap.layout f.class f.field) ≡ true) (found : (s : Store) → owner_number set o (with_seen s e) ≡ Ok m) where
+module _ (set : ℕ) (o : Option Value) (m : ℤ) (e : Seen) (reverse : Bool) (f : Filter) (there : is_some (set_in e.heap.layout set) ≡ true) (mode : is_some (mode_of_field e.heap.layout f.class f.field) ≡ true) (found : (s : Store) → owner_number set o (with_seen s e) ≡ Ok m) where
   taken : (x y v : ℤ) → IsMember e.heap set m reverse f x y v → Takes e reverse set o f x y v
   taken x y v member =
       let on = next_found set o x m e reverse (Some y) there found (member.inside, beside_is reverse e.heap set x ∙ member.next) in

@@ -15,7 +15,7 @@ use Rattle.ss_meaning.specs.Store.{Store}
 use Rattle.ss_meaning.specs.Sets.{Filing as MeantFiling, ByRule, Foremost, Hindmost, JustBefore, JustAfter, recounted, set_at, member, owner_number, filed_by, end_removed, from_or_after}
 use Rattle.ss_machine_world.specs.declared.filing.Filing.{Filing}
 use Rattle.ss_machine_world.specs.declared.filing.Filing.TheVariants.{ByDiscipline, First, Last, Before, After}
-use Rattle.ss_machine_entities.specs.declared.known.Known.{Known}
+use Rattle.ss_machine_entities.specs.declared.known.EntityId.{EntityId}
 use Rattle.ss_machine_entities.specs.declared.known.Membership.{Membership}
 use Rattle.ss_machine_entities.specs.declared.trouble.Trouble.{Trouble}
 use Rattle.ss_machine_entities.specs.Answered.{to_meaning}
@@ -61,7 +61,7 @@ abbrev pub with_owner : {B : Type 0} → (set : ℕ) → Option Value → (ℤ �
 with_owner set o go s = if_ok (owner_number set o s) (λ m. go m s)
 
 -- other entities by an operation with an owner, whose number is answered
-abbrev pub Rehomes : (set : ℕ) → Option Value → (ℤ → Store → Result State Meant) → (old new : Seen) → Result Known Trouble → Type 0
+abbrev pub Rehomes : (set : ℕ) → Option Value → (ℤ → Store → Result State Meant) → (old new : Seen) → Result EntityId Trouble → Type 0
 Rehomes set o f old new (Ok k) =
     ((s : Store) → (owner_number set o (with_seen s old) ≡ Ok k.number) × (f k.number (with_seen s old) ≡ Ok new.heap)) × (new ≡ record old { heap = new.heap })
 Rehomes set o f old new (Err t) = ((s : Store) → with_owner set o f (with_seen s old) ≡ to_meaning {A = State} (Err t)) × (new ≡ old)
@@ -90,9 +90,9 @@ abbrev pub out_of : (set : ℕ) → (owner member : ℤ) → Store → Result St
 out_of set o x s = due (removed s.scene.heap set o x)
 
 -- an operation gives a value and other entities, or fails and changes nothing
-abbrev pub Gives : {A : Type 0} → (Store → Result (A × State) Meant) → (old new : Seen) → Result A Trouble → Type 0
-Gives f old new (Ok a) = ((s : Store) → f (with_seen s old) ≡ Ok (a, new.heap)) × (new ≡ record old { heap = new.heap })
-Gives {A} f old new (Err t) = ((s : Store) → f (with_seen s old) ≡ to_meaning {A = A × State} (Err t)) × (new ≡ old)
+abbrev pub GivesValue : {A : Type 0} → (Store → Result (A × State) Meant) → (old new : Seen) → Result A Trouble → Type 0
+GivesValue f old new (Ok a) = ((s : Store) → f (with_seen s old) ≡ Ok (a, new.heap)) × (new ≡ record old { heap = new.heap })
+GivesValue {A} f old new (Err t) = ((s : Store) → f (with_seen s old) ≡ to_meaning {A = A × State} (Err t)) × (new ≡ old)
 
 -- removing at an end
 abbrev pub end_out : End → (set : ℕ) → (owner : ℤ) → Store → Result (Value × State) Meant

@@ -119,8 +119,8 @@ unless_unnoted (Some unnoted.Full) = Err (Fault Overflow)
 unless_unnoted (Some unnoted.Misfit) = Err Misfit
 
 -- the mode of a field
-abbrev pub mode_at : PlainLayout → ℕ → ℕ → Option Mode
-mode_at l class field = slice_get (modes_of l class) field
+abbrev pub mode_of_field : PlainLayout → ℕ → ℕ → Option Mode
+mode_of_field l class field = slice_get (modes_of l class) field
 
 -- the trouble of a look at an entity, by its number, or else one that came later
 abbrev pub IsEarlier : (class : ℕ) → (number : ℤ) → Seen → (later first : Trouble) → Type 0

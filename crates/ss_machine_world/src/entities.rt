@@ -6,14 +6,14 @@ ghost use Rattle.ss_meaning.specs.Entities.{is_single, is_permanent, entity, att
 ghost use Rattle.ss_meaning.specs.Events.{with_time};
 ghost use Rattle.ss_meaning.specs.Store.{Store as StoreSeen};
 ghost use Rattle.ss_meaning.specs.Places.{is_of_mode, assigned_attribute};
-ghost use Rattle.ss_machine_entities.specs.Answered.{numbered};
+ghost use Rattle.ss_machine_entities.specs.Answered.{number_found};
 ghost use Rattle.ss_machine_entities.specs.declared.trouble.Unmade.TheVariants.{Memory};
 ghost use Rattle.ss_machine_entities.specs.Layouts.{class_in, kind_at};
-ghost use Rattle.ss_machine_world.specs.Seen.{Looks, Changes, Notes, Makes, Grows, GoesWell, IsEarlier, as_value, count_open, number_made, created_all_known, mode_at, with_seen};
+ghost use Rattle.ss_machine_world.specs.Seen.{Looks, Changes, Notes, Makes, Grows, GoesWell, IsEarlier, as_value, count_open, number_made, created_all_known, mode_of_field, with_seen};
 
 use crate::scene::Scene;
 use ss_base::{ClassKind, FaultKind, Mode, Refused, Value};
-use ss_machine_entities::known::{Known, known_number};
+use ss_machine_entities::known::{EntityId, known_number};
 use ss_machine_entities::trouble::{Trouble, Unmade, number_of};
 use ss_machine_entities::{class_kind, field_mode, fits, is_permanent, is_single};
 
@@ -42,15 +42,15 @@ impl Scene {
     // The mode of a field, where the layout has it.
     #[inline(always)]
     pub(crate) fn mode(&self, class: usize, field: usize) -> Option<Mode>
-        ensures { result ≡ mode_at self.now.heap.layout class field }
+        ensures { result ≡ mode_of_field self.now.heap.layout class field }
     {
         field_mode(self.population.layout(), class, field)
     }
 
     // A number as that of an entity of a class.
     #[inline(always)]
-    fn find_known(&self, class: usize, known: Known) -> Result<Known, Trouble>
-        ensures { Looks (entity class (Whole known.number)) self.now (numbered result) }
+    fn find_known(&self, class: usize, known: EntityId) -> Result<EntityId, Trouble>
+        ensures { Looks (entity class (Whole known.number)) self.now (number_found result) }
     {
         if self.kind(class).is_none() {
             return Err(Trouble::Misfit);
@@ -63,15 +63,15 @@ impl Scene {
 
     // A number as that of an entity of a class, out of line.
     #[inline(never)]
-    fn find_apart(&self, class: usize, known: Known) -> Result<Known, Trouble>
-        ensures { Looks (entity class (Whole known.number)) self.now (numbered result) }
+    fn find_apart(&self, class: usize, known: EntityId) -> Result<EntityId, Trouble>
+        ensures { Looks (entity class (Whole known.number)) self.now (number_found result) }
     {
         self.find_known(class, known)
     }
 
     /// Whether a number is that of an entity of a class, where that is found at once.
     #[inline(always)]
-    pub fn is_near(&self, class: usize, known: Known) -> bool
+    pub fn is_near(&self, class: usize, known: EntityId) -> bool
         ensures { result ≡ true → Looks (entity class (Whole known.number)) self.now (Ok known.number) }
     {
         match self.population.class_near(known.number) {
@@ -82,8 +82,8 @@ impl Scene {
 
     /// A number as that of an entity of a class that comes and goes. Faults: 1 to 4.
     #[inline(always)]
-    pub fn find_by_number(&self, class: usize, known: Known) -> Result<Known, Trouble>
-        ensures { Looks (entity class (Whole known.number)) self.now (numbered result) }
+    pub fn find_by_number(&self, class: usize, known: EntityId) -> Result<EntityId, Trouble>
+        ensures { Looks (entity class (Whole known.number)) self.now (number_found result) }
     {
         if self.is_near(class, known) {
             return Ok(known);
@@ -93,8 +93,8 @@ impl Scene {
 
     /// The entity of a class that a value refers to. Faults: 1 to 5.
     #[inline(always)]
-    pub fn find(&self, class: usize, x: Value) -> Result<Known, Trouble>
-        ensures { Looks (entity class x) self.now (numbered result) }
+    pub fn find(&self, class: usize, x: Value) -> Result<EntityId, Trouble>
+        ensures { Looks (entity class x) self.now (number_found result) }
     {
         match known_number(x) {
             Ok(known) => self.find_known(class, known),
@@ -104,7 +104,7 @@ impl Scene {
 
     // The trouble of a look at an entity, by its number, or else one that came later.
     #[inline(never)]
-    fn earlier(&self, class: usize, known: Known, later: Trouble) -> Trouble
+    fn earlier(&self, class: usize, known: EntityId, later: Trouble) -> Trouble
         ensures { IsEarlier class known.number self.now later result }
     {
         match self.find_known(class, known) {
@@ -126,7 +126,7 @@ impl Scene {
 
     /// The value of an attribute by its number in the class, of an entity by its number. Faults: 1 to 5.
     #[inline(always)]
-    pub fn field_value(&self, class: usize, field: usize, known: Known) -> Result<Value, Trouble>
+    pub fn field_value(&self, class: usize, field: usize, known: EntityId) -> Result<Value, Trouble>
         ensures { Looks (attribute class field (Whole known.number)) self.now result }
     {
         if self.mode(class, field).is_none() {
@@ -180,7 +180,7 @@ impl Scene {
     // Whether a value has the mode of a field that the layout has.
     #[inline(always)]
     fn fits(&self, class: usize, field: usize, value: &Value) -> bool
-        ensures { result ≡ is_of_mode value.now (mode_at self.now.heap.layout class field) }
+        ensures { result ≡ is_of_mode value.now (mode_of_field self.now.heap.layout class field) }
     {
         fits(self.population.layout(), class, field, value)
     }
@@ -191,7 +191,7 @@ impl Scene {
         &mut self,
         class: usize,
         field: usize,
-        known: Known,
+        known: EntityId,
         value: Value,
     ) -> Result<(), Trouble>
         ensures { Notes (assigned_attribute class field (Whole known.number) value) self.old self.new result }
@@ -317,7 +317,7 @@ impl Scene {
 
     /// An entity goes by its number, and its histories end, whether or not it is pending. Faults: 1 to 4, then 9 and 10.
     #[inline(always)]
-    pub fn remove_known(&mut self, class: usize, known: Known) -> Result<(), Trouble>
+    pub fn remove_known(&mut self, class: usize, known: EntityId) -> Result<(), Trouble>
         ensures { Changes (gone class (Whole known.number)) self.old self.new result }
     {
         if !self.is_single(class) {
@@ -328,7 +328,7 @@ impl Scene {
 
     // An entity goes by its number, and its histories end, of a class whose entities come and go one by one.
     #[inline(always)]
-    fn remove_single(&mut self, class: usize, known: Known) -> Result<(), Trouble>
+    fn remove_single(&mut self, class: usize, known: EntityId) -> Result<(), Trouble>
         requires single { is_single (class_in self.old.heap.layout class) ≡ true }
         ensures { Changes (gone class (Whole known.number)) self.old self.new result }
     {
@@ -368,7 +368,7 @@ impl Scene {
 
     // An entity goes by its number, unless it is pending.
     #[inline(always)]
-    fn destroy_known(&mut self, class: usize, known: Known) -> Result<(), Trouble>
+    fn destroy_known(&mut self, class: usize, known: EntityId) -> Result<(), Trouble>
         ensures { Changes (without class (Whole known.number)) self.old self.new result }
     {
         if self.timeline.is_scheduled(known.number) {
@@ -382,7 +382,7 @@ impl Scene {
 
     /// An entity goes by its number, unless it is pending, of a class whose entities come and go one by one.
     #[inline(always)]
-    pub fn destroy_single(&mut self, class: usize, known: Known) -> Result<(), Trouble>
+    pub fn destroy_single(&mut self, class: usize, known: EntityId) -> Result<(), Trouble>
         requires single { is_single (class_in self.old.heap.layout class) ≡ true }
         ensures { Changes (without class (Whole known.number)) self.old self.new result }
     {

@@ -8,7 +8,7 @@ ghost use Rattle.ss_machine_world.specs.Filed.{GoesLast, Resettles, Rehomes, IsC
 
 use crate::scene::Scene;
 use ss_base::{Discipline, Value};
-use ss_machine_entities::known::{Known, Membership, known_number};
+use ss_machine_entities::known::{EntityId, Membership, known_number};
 use ss_machine_entities::trouble::{Trouble, or_trouble};
 
 /// Where a member is filed.
@@ -146,9 +146,9 @@ impl Scene {
         &mut self,
         filing: Filing,
         set: usize,
-        member: Known,
+        member: EntityId,
         owner: Option<Value>,
-    ) -> Result<Known, Trouble>
+    ) -> Result<EntityId, Trouble>
         ensures value { Rehomes set owner (λ o. filed_by (filing_meant filing) set o member.number) self.old self.new result }
         ensures counted { IfOk result (λ owner. IsCountable self.new.heap set owner.number) }
     {
@@ -170,9 +170,9 @@ impl Scene {
         &mut self,
         filing: Filing,
         set: usize,
-        member: Known,
+        member: EntityId,
         owner: Option<Value>,
-    ) -> Result<Known, Trouble>
+    ) -> Result<EntityId, Trouble>
         ensures value { Rehomes set owner (λ o. filed_by (filing_meant filing) set o member.number) self.old self.new result }
         ensures counted { IfOk result (λ owner. IsCountable self.new.heap set owner.number) }
     {

@@ -5,7 +5,7 @@ ghost use Rattle.ss_world.specs.Sets.{joiner, owner};
 ghost use Rattle.ss_world.specs.Disciplines.{member_test};
 ghost use Rattle.ss_meaning.specs.Sets.{member, known_owner, is_in, outset, beside, begun, coming, from_or_after, begun_at, or_gone, goes_on};
 ghost use Rattle.ss_meaning.specs.Values.{due, turned, where_fit};
-ghost use Rattle.ss_machine_entities.specs.Answered.{to_meaning, numbered};
+ghost use Rattle.ss_machine_entities.specs.Answered.{to_meaning, number_found};
 ghost use Rattle.ss_machine_entities.specs.Layouts.{set_in};
 ghost use Rattle.ss_machine_world.specs.Seen.{Looks};
 ghost use Rattle.ss_machine_world.specs.Filed.{both_known, paired, with_owner, tested, IsEarliest, begun_from};
@@ -13,14 +13,14 @@ ghost use Rattle.ss_machine_world.specs.Filed.{both_known, paired, with_owner, t
 use crate::scene::Scene;
 use crate::sets::is_none;
 use ss_base::{FaultKind, Value};
-use ss_machine_entities::known::{Known, Membership, known_number};
+use ss_machine_entities::known::{EntityId, Membership, known_number};
 use ss_machine_entities::trouble::Trouble;
 
 impl Scene {
     // A number as that of an entity that may be a member of a set.
     #[inline(always)]
-    fn look_member(&mut self, set: usize, known: Known) -> Result<Known, Trouble>
-        ensures value { where_fit (is_some (set_in self.old.heap.layout set)) (turned (λ _. known.number) (due (joiner self.old.heap set known.number))) ≡ to_meaning (numbered result) }
+    fn look_member(&mut self, set: usize, known: EntityId) -> Result<EntityId, Trouble>
+        ensures value { where_fit (is_some (set_in self.old.heap.layout set)) (turned (λ _. known.number) (due (joiner self.old.heap set known.number))) ≡ to_meaning (number_found result) }
         ensures there { IfOk result (λ _. set < length self.old.heap.layout.sets) }
         ensures same { self.new ≡ self.old }
     {
@@ -35,8 +35,8 @@ impl Scene {
 
     // The entity that a value refers to as one that may be a member of a set.
     #[inline(always)]
-    pub(crate) fn find_member(&mut self, set: usize, x: Value) -> Result<Known, Trouble>
-        ensures value { Looks (member set x) self.old (numbered result) }
+    pub(crate) fn find_member(&mut self, set: usize, x: Value) -> Result<EntityId, Trouble>
+        ensures value { Looks (member set x) self.old (number_found result) }
         ensures there { IfOk result (λ _. set < length self.old.heap.layout.sets) }
         ensures same { self.new ≡ self.old }
     {
@@ -60,8 +60,8 @@ impl Scene {
 
     // A number as that of an owner of a set, where the layout has the set.
     #[inline(always)]
-    fn look_owner(&mut self, set: usize, known: Known) -> Result<Known, Trouble>
-        ensures value { where_fit (is_some (set_in self.old.heap.layout set)) (turned (λ _. known.number) (due (owner self.old.heap set known.number))) ≡ to_meaning (numbered result) }
+    fn look_owner(&mut self, set: usize, known: EntityId) -> Result<EntityId, Trouble>
+        ensures value { where_fit (is_some (set_in self.old.heap.layout set)) (turned (λ _. known.number) (due (owner self.old.heap set known.number))) ≡ to_meaning (number_found result) }
         ensures same { self.new ≡ self.old }
     {
         if !self.has_set(set) {
@@ -75,8 +75,12 @@ impl Scene {
 
     // The owner of a set that a value refers to.
     #[inline(always)]
-    pub(crate) fn find_owner(&mut self, set: usize, owner: Option<Value>) -> Result<Known, Trouble>
-        ensures value { Looks (known_owner set owner) self.old (numbered result) }
+    pub(crate) fn find_owner(
+        &mut self,
+        set: usize,
+        owner: Option<Value>,
+    ) -> Result<EntityId, Trouble>
+        ensures value { Looks (known_owner set owner) self.old (number_found result) }
         ensures same { self.new ≡ self.old }
     {
         match self.owner(set, owner) {
@@ -135,7 +139,7 @@ impl Scene {
 
     // Whether an entity is in the set of an owner, by its number and what refers to the owner.
     #[inline(always)]
-    fn test(&mut self, set: usize, member: Known, owner: Option<Value>) -> Result<bool, Trouble>
+    fn test(&mut self, set: usize, member: EntityId, owner: Option<Value>) -> Result<bool, Trouble>
         ensures value { Looks (with_owner set owner (tested set member.number)) self.old result }
         ensures same { self.new ≡ self.old }
     {
@@ -150,7 +154,7 @@ impl Scene {
 
     // The trouble of a look at a member, or else one that came later.
     #[inline(never)]
-    pub(crate) fn earliest(&mut self, set: usize, member: Known, later: Trouble) -> Trouble
+    pub(crate) fn earliest(&mut self, set: usize, member: EntityId, later: Trouble) -> Trouble
         ensures value { IsEarliest self.old.heap set member.number later result }
         ensures same { self.new ≡ self.old }
     {
@@ -177,7 +181,7 @@ impl Scene {
 
     // The member of the set of an owner that comes first, by the owner's number, where the layout has the set.
     #[inline(always)]
-    fn outset(&mut self, reverse: bool, set: usize, known: Known) -> Result<i64, Trouble>
+    fn outset(&mut self, reverse: bool, set: usize, known: EntityId) -> Result<i64, Trouble>
         ensures value { where_fit (is_some (set_in self.old.heap.layout set)) (due (outset reverse self.old.heap set known.number)) ≡ to_meaning result }
         ensures same { self.new ≡ self.old }
     {

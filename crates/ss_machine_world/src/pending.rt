@@ -7,7 +7,7 @@ ghost use Rattle.ss_machine_world.specs.Seen.{Changes, cancelled_known, with_see
 
 use crate::scene::Scene;
 use ss_base::Value;
-use ss_machine_entities::known::Known;
+use ss_machine_entities::known::EntityId;
 use ss_machine_entities::trouble::Trouble;
 
 impl Scene {
@@ -20,7 +20,7 @@ impl Scene {
     }
 
     // A notice is pending no longer, by its number.
-    fn cancel_known(&mut self, known: Known) -> Result<(), Trouble>
+    fn cancel_known(&mut self, known: EntityId) -> Result<(), Trouble>
         ensures { Changes (cancelled_known known.number) self.old self.new result }
     {
         match self.timeline.cancel(known.number) {

@@ -3,11 +3,11 @@
 ghost use Rattle.std.specs.Prelude.{◌≡◌, ◌<◌, length, IfOk};
 ghost use Rattle.ss_meaning.specs.Sets.{removed_from, removed_at};
 ghost use Rattle.ss_machine_world.specs.Seen.{Notes, Gains};
-ghost use Rattle.ss_machine_world.specs.Filed.{Resettles, Rehomes, Gives, IsCountable, out_of, end_out, end_removed_known};
+ghost use Rattle.ss_machine_world.specs.Filed.{Resettles, Rehomes, GivesValue, IsCountable, out_of, end_out, end_removed_known};
 
 use crate::scene::Scene;
 use ss_base::Value;
-use ss_machine_entities::known::{Known, Membership, known_number};
+use ss_machine_entities::known::{EntityId, Membership, known_number};
 use ss_machine_entities::trouble::{Trouble, or_trouble};
 use ss_program::statement::End;
 
@@ -29,9 +29,9 @@ impl Scene {
     fn remove_member(
         &mut self,
         set: usize,
-        member: Known,
+        member: EntityId,
         owner: Option<Value>,
-    ) -> Result<Known, Trouble>
+    ) -> Result<EntityId, Trouble>
         ensures value { Rehomes set owner (λ o. out_of set o member.number) self.old self.new result }
         ensures counted { IfOk result (λ owner. IsCountable self.new.heap set owner.number) }
     {
@@ -65,9 +65,9 @@ impl Scene {
 
     // Takes the member at an end out of the set of an owner, by the owner's number.
     #[inline(always)]
-    fn take_end(&mut self, end: End, set: usize, known: Known) -> Result<Value, Trouble>
+    fn take_end(&mut self, end: End, set: usize, known: EntityId) -> Result<Value, Trouble>
         requires set { set < length self.old.heap.layout.sets }
-        ensures { Gives (end_out end set known.number) self.old self.new result }
+        ensures { GivesValue (end_out end set known.number) self.old self.new result }
     {
         match self.population.remove_end(end, set, known.number) {
             Ok(number) => Ok(Value::Whole(number)),
@@ -77,7 +77,7 @@ impl Scene {
 
     // Takes the member at an end out of a set that the layout has, as a change of the whole scene: histories note N. of the set.
     #[inline(always)]
-    fn remove_end_known(&mut self, end: End, set: usize, known: Known) -> Result<Value, Trouble>
+    fn remove_end_known(&mut self, end: End, set: usize, known: EntityId) -> Result<Value, Trouble>
         ensures { Gains (end_removed_known end set known.number) self.old self.new result }
     {
         if !self.has_set(set) {

@@ -5,13 +5,13 @@ ghost use Rattle.ss_base.specs.declared.value.Value.TheVariants.{Whole};
 ghost use Rattle.ss_meaning.specs.Sets.{set_answer, owner_number, of_set, of_member, is_none, is_empty};
 ghost use Rattle.ss_world.specs.Sets.{count_in};
 ghost use Rattle.ss_meaning.specs.Values.{due, turned, where_fit};
-ghost use Rattle.ss_machine_entities.specs.Answered.{to_meaning, numbered};
+ghost use Rattle.ss_machine_entities.specs.Answered.{to_meaning, number_found};
 ghost use Rattle.ss_machine_entities.specs.Layouts.{set_in};
 ghost use Rattle.ss_machine_world.specs.Seen.{Looks, member_answer};
 
 use crate::scene::Scene;
 use ss_base::{FaultKind, Value};
-use ss_machine_entities::known::{Known, known_number};
+use ss_machine_entities::known::{EntityId, known_number};
 use ss_machine_entities::trouble::Trouble;
 use ss_machine_entities::{has_set, owner_of};
 use ss_program::expression::{MemberQuery, SetQuery};
@@ -28,18 +28,18 @@ impl Scene {
 
     // The owner of a set, 0 for the system, by who owns the sets of its name.
     #[inline(always)]
-    pub(crate) fn owner(&self, set: usize, owner: Option<Value>) -> Result<Known, Trouble>
-        ensures { Looks (owner_number set owner) self.now (numbered result) }
+    pub(crate) fn owner(&self, set: usize, owner: Option<Value>) -> Result<EntityId, Trouble>
+        ensures { Looks (owner_number set owner) self.now (number_found result) }
     {
         match owner_of(self.population.layout(), set, owner) {
             None => Err(Trouble::Misfit),
-            Some(number) => Ok(Known { number }),
+            Some(number) => Ok(EntityId { number }),
         }
     }
 
     // What is asked of the set of an owner by its number, where the layout has the set.
     #[inline(always)]
-    fn asked(&mut self, query: SetQuery, set: usize, known: Known) -> Result<Value, Trouble>
+    fn asked(&mut self, query: SetQuery, set: usize, known: EntityId) -> Result<Value, Trouble>
         ensures value { where_fit (is_some (set_in self.old.heap.layout set)) (turned Whole (due (set_answer query self.old.heap set known.number))) ≡ to_meaning result }
         ensures same { self.new ≡ self.old }
     {
@@ -76,7 +76,7 @@ impl Scene {
 
     // Whether the set of an owner has no member, by the owner's number, where the layout has the set.
     #[inline(always)]
-    fn is_empty_known(&mut self, set: usize, known: Known) -> Result<bool, Trouble>
+    fn is_empty_known(&mut self, set: usize, known: EntityId) -> Result<bool, Trouble>
         ensures value { where_fit (is_some (set_in self.old.heap.layout set)) (turned is_none (due (count_in self.old.heap set known.number))) ≡ to_meaning result }
         ensures same { self.new ≡ self.old }
     {
@@ -107,7 +107,7 @@ impl Scene {
         &mut self,
         query: MemberQuery,
         set: usize,
-        known: Known,
+        known: EntityId,
     ) -> Result<Value, Trouble>
         ensures value { where_fit (is_some (set_in self.old.heap.layout set)) (member_answer query self.old.heap set known.number) ≡ to_meaning result }
         ensures same { self.new ≡ self.old }

@@ -7,7 +7,7 @@ ghost use Rattle.ss_meaning.specs.Histories.{noted, figure_kept, mean_kept};
 ghost use Rattle.ss_meaning.specs.Statistics.{bearer, figure, mean, reset};
 ghost use Rattle.ss_picture.specs.Suited.{IsMean};
 ghost use Rattle.ss_machine_time.specs.Records.{figured};
-ghost use Rattle.ss_machine_entities.specs.Answered.{to_meaning, numbered};
+ghost use Rattle.ss_machine_entities.specs.Answered.{to_meaning, number_found};
 ghost use Rattle.ss_program.specs.declared.sections.Subject.TheVariants.{OfVariable, OfAttribute, OfCount};
 ghost use Rattle.ss_base.specs.declared.value.Value.TheVariants.{Whole};
 ghost use Rattle.ss_machine_time.specs.Figures.{subject_in, variable_in, variable_of, held_by, present_with, renewed_known, reset_of};
@@ -18,7 +18,7 @@ ghost use Rattle.ss_machine_world.specs.Seen.{Looks, Changes, ChangesWhere, or_u
 
 use crate::scene::Scene;
 use ss_base::{FaultKind, Value};
-use ss_machine_entities::known::{Known, known_number};
+use ss_machine_entities::known::{EntityId, known_number};
 use ss_machine_entities::trouble::Trouble;
 use ss_machine_time::Unnoted;
 use ss_program::expression::{Fold, SetQuery};
@@ -55,7 +55,7 @@ impl Scene {
 
     // Notes a value of a subject in its histories of an entity, by its number.
     #[inline(always)]
-    fn note(&mut self, subject: Subject, known: Known, value: Value) -> Result<(), Trouble>
+    fn note(&mut self, subject: Subject, known: EntityId, value: Value) -> Result<(), Trouble>
         ensures { Changes (noted subject known.number value) self.old self.new result }
     {
         or_unnoted(self.timeline.note(subject, known.number, value))
@@ -63,7 +63,7 @@ impl Scene {
 
     // Notes a value of a subject, and answers why it is not noted, if it is not.
     #[inline(always)]
-    fn try_noting(&mut self, subject: Subject, known: Known, value: Value) -> Option<Unnoted>
+    fn try_noting(&mut self, subject: Subject, known: EntityId, value: Value) -> Option<Unnoted>
         ensures { Changes (noted subject known.number value) self.old self.new (unless_unnoted result) }
     {
         match self.timeline.note(subject, known.number, value) {
@@ -78,7 +78,7 @@ impl Scene {
         &mut self,
         class: usize,
         field: usize,
-        known: Known,
+        known: EntityId,
         value: Value,
     ) -> Result<(), Trouble>
         ensures { Changes (noted (OfAttribute class field) known.number value) self.old self.new result }
@@ -94,12 +94,16 @@ impl Scene {
     pub fn note_variable(&mut self, number: usize, value: Value) -> Result<(), Trouble>
         ensures { Changes (noted (OfVariable number) (pos 0) value) self.old self.new result }
     {
-        self.note(Subject::OfVariable { number }, Known { number: 0 }, value)
+        self.note(
+            Subject::OfVariable { number },
+            EntityId { number: 0 },
+            value,
+        )
     }
 
     // Notes N. of the set of an owner, by its number, in its histories.
     #[inline(always)]
-    pub(crate) fn recount(&mut self, set: usize, owner: Known) -> Result<(), Trouble>
+    pub(crate) fn recount(&mut self, set: usize, owner: EntityId) -> Result<(), Trouble>
         requires counted { IsCountable self.old.heap set owner.number }
         ensures { Changes (recounted_now set owner.number) self.old self.new result }
     {
@@ -114,7 +118,7 @@ impl Scene {
 
     // Notes N. of the set of an owner, where there are statistics, and answers why it is not noted, if it is not.
     #[inline(never)]
-    fn recount_watched(&mut self, set: usize, owner: Known) -> Option<Unnoted>
+    fn recount_watched(&mut self, set: usize, owner: EntityId) -> Option<Unnoted>
         requires counted { IsCountable self.old.heap set owner.number }
         ensures { Changes (recounted_now set owner.number) self.old self.new (unless_unnoted result) }
     {
@@ -126,7 +130,7 @@ impl Scene {
 
     // N. of the set of an owner, by its number, or something else where no statistic is about it.
     #[inline(always)]
-    fn count_watched(&mut self, set: usize, owner: Known) -> Result<Value, Trouble>
+    fn count_watched(&mut self, set: usize, owner: EntityId) -> Result<Value, Trouble>
         requires counted { IsCountable self.old.heap set owner.number }
         ensures value { CountsWatched set owner.number self.old result }
         ensures same { self.new ≡ self.old }
@@ -142,7 +146,7 @@ impl Scene {
 
     // The place of the only statistic of N. of a set, if the history of the owner in it takes a number: then noting one does not fail.
     #[inline(always)]
-    pub(crate) fn taking(&self, set: usize, owner: Known) -> Option<usize>
+    pub(crate) fn taking(&self, set: usize, owner: EntityId) -> Option<usize>
         ensures { IfSome result (λ place. TakesCount set place owner.number self.now) }
     {
         self.timeline.taking(set, owner.number)
@@ -150,7 +154,7 @@ impl Scene {
 
     // N. of the set of an owner that can be counted.
     #[inline(never)]
-    fn counted_far(&mut self, set: usize, owner: Known) -> i64
+    fn counted_far(&mut self, set: usize, owner: EntityId) -> i64
         requires counted { IsCountable self.old.heap set owner.number }
         ensures value { count_in self.old.heap set owner.number ≡ Ok result }
         ensures same { self.new ≡ self.old }
@@ -163,7 +167,7 @@ impl Scene {
 
     // N. of the set of an owner that can be counted, at once where that goes well.
     #[inline(always)]
-    fn counted(&mut self, set: usize, owner: Known) -> i64
+    fn counted(&mut self, set: usize, owner: EntityId) -> i64
         requires counted { IsCountable self.old.heap set owner.number }
         ensures value { count_in self.old.heap set owner.number ≡ Ok result }
         ensures same { self.new ≡ self.old }
@@ -176,7 +180,7 @@ impl Scene {
 
     // Notes a number as N. of the set of an owner in the only statistic of it, whose history takes a number.
     #[inline(always)]
-    fn note_count(&mut self, set: usize, place: usize, owner: Known, number: i64)
+    fn note_count(&mut self, set: usize, place: usize, owner: EntityId, number: i64)
         requires takes { TakesCount set place owner.number self.old }
         ensures { Changes (noted (OfCount set) owner.number (Whole number)) self.old self.new (Ok tt) }
     {
@@ -185,7 +189,7 @@ impl Scene {
 
     // Notes N. of the set of an owner as it is now, in the only statistic of it, whose history takes a number.
     #[inline(always)]
-    pub(crate) fn recount_at(&mut self, set: usize, place: usize, owner: Known)
+    pub(crate) fn recount_at(&mut self, set: usize, place: usize, owner: EntityId)
         requires counted { IsCountable self.old.heap set owner.number }
         requires takes { TakesCount set place owner.number self.old }
         ensures noted { Changes (recounted_now set owner.number) self.old self.new (Ok tt) }
@@ -203,13 +207,13 @@ impl Scene {
     }
 
     // The entity that has a subject, 0 for the system.
-    fn bearer(&mut self, subject: Subject, whose: &Option<Value>) -> Result<Known, Trouble>
-        ensures value { Looks (bearer subject whose.now) self.old (numbered result) }
+    fn bearer(&mut self, subject: Subject, whose: &Option<Value>) -> Result<EntityId, Trouble>
+        ensures value { Looks (bearer subject whose.now) self.old (number_found result) }
         ensures same { self.new ≡ self.old }
     {
         match subject {
             Subject::OfVariable { .. } => match whose {
-                None => Ok(Known { number: 0 }),
+                None => Ok(EntityId { number: 0 }),
                 Some(_) => Err(Trouble::Misfit),
             },
             Subject::OfAttribute { class, .. } => match whose {
@@ -221,7 +225,7 @@ impl Scene {
     }
 
     // What is asked of the history of an entity in a statistic, by its number.
-    fn figure_kept(&self, fold: Fold, statistic: usize, known: Known) -> Result<Value, Trouble>
+    fn figure_kept(&self, fold: Fold, statistic: usize, known: EntityId) -> Result<Value, Trouble>
         ensures { Looks (figure_kept fold statistic known.number) self.now result }
     {
         figure_answer(self.timeline.figure(fold, statistic, known.number))
@@ -248,7 +252,7 @@ impl Scene {
     }
 
     // The mean of the history of an entity in a statistic, by its number.
-    fn mean_kept(&self, statistic: usize, known: Known) -> Result<(i128, i64), Trouble>
+    fn mean_kept(&self, statistic: usize, known: EntityId) -> Result<(i128, i64), Trouble>
         ensures value { Looks (mean_kept statistic known.number) self.now result }
         ensures is_mean { IfOk result (λ mean. IsMean mean.0 mean.1) }
     {
@@ -306,7 +310,7 @@ impl Scene {
     }
 
     // Starts the history of an entity in a statistic afresh, by its number, with the present value.
-    fn renew(&mut self, statistic: usize, known: Known, present: Known) -> Result<(), Trouble>
+    fn renew(&mut self, statistic: usize, known: EntityId, present: EntityId) -> Result<(), Trouble>
         ensures { Changes (renewed_known statistic known.number present.number) self.old self.new result }
     {
         if self.timeline.renew(statistic, known.number, present.number) {
@@ -321,7 +325,7 @@ impl Scene {
         &mut self,
         statistic: usize,
         subject: Subject,
-        known: Known,
+        known: EntityId,
         whose: Option<Value>,
         held: Option<Value>,
     ) -> Result<(), Trouble>

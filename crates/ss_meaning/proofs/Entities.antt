@@ -26,7 +26,7 @@ use Rattle.ss_program.specs.declared.sections.Subject.TheVariants.{OfVariable, O
 use Rattle.ss_program.specs.declared.sections.Statistic.{Statistic}
 use Rattle.ss_program.specs.declared.statement.Counted.{Counted}
 use Rattle.ss_program.specs.Program.{Program}
-use Rattle.ss_program.specs.WellTyped.{WellTyped, mode_at, field_mode, kind_of as kind_said, is_created_singly, GoodSubject, GoodCount}
+use Rattle.ss_program.specs.WellTyped.{WellTyped, mode_at, field_mode, kind_of_class as kind_said, is_created_singly, GoodSubject, GoodCount}
 use Rattle.ss_meaning.specs.Values.{if_ok, turned, due, sure, where_fit, unless_fault, number_of, same_mode}
 use Rattle.ss_meaning.specs.Store.{Store, with_heap, fetched, put_at, put}
 use Rattle.ss_meaning.specs.Histories.{noted, ending}

@@ -25,14 +25,14 @@ use Rattle.ss_world.specs.Order.{comes_before}
 use Rattle.ss_world.specs.PendingList.{PendingList, scheduling_limit, is_pending, without, earlier, least, with_entry, scheduled, cancelled}
 use Rattle.ss_program.specs.declared.expression.Variable.TheVariants.{Global}
 use Rattle.ss_program.specs.Program.{Event, Program}
-use Rattle.ss_program.specs.WellTyped.{WellTyped, field_mode, fields_of, kind_of as kind_said, is_created_singly, GoodKeys, GoodEvent, IsPlain}
+use Rattle.ss_program.specs.WellTyped.{WellTyped, field_mode, fields_of, kind_of_class as kind_said, is_created_singly, GoodKeys, GoodEvent, IsPlain}
 use Rattle.ss_meaning.specs.Values.{if_ok, turned, due, sure, unless_fault, number_of}
 use Rattle.ss_meaning.specs.Store.{Notices, Store, with_heap, with_pending}
 use Rattle.ss_meaning.specs.Entities.{entity, attribute, made_one}
 use Rattle.ss_meaning.specs.Places.{assigned_attribute}
-use Rattle.ss_meaning.specs.Events.{Moment, AtTime, Later, AtOnce, not_past, time_at, endowed, with_time, prepared, made_notice, Ranked, ranked_from, ranked, ties_of, filed_notice, rescheduled, unscheduled, is_awaited, Beginning, attributes, saved_or_gone, Coming, at_event, ranked_as, coming_as, coming_with, next_event, begun}
+use Rattle.ss_meaning.specs.Events.{Moment, AtTime, Later, AtOnce, not_past, time_at, endowed, with_time, prepared, made_notice, Ranked, ranked_from, ranked, ties_of, filed_notice, rescheduled, unscheduled, is_awaited, Beginning, attributes_given, saved_or_gone, Coming, at_event, ranked_as, coming_as, coming_with, next_event, begun}
 use Rattle.ss_meaning.specs.Meaning.{said_of}
-use Rattle.ss_meaning.specs.Fitting.{Hold, class_in, LivesAs, Lives, IsNotice, Fits}
+use Rattle.ss_meaning.specs.Fitting.{Hold, class_of_record, LivesAs, Lives, IsNotice, Fits}
 use Rattle.ss_meaning.proofs.Fine.{Fine, Sane, There, Any, fine_then, fine_turned, due_fine, any_due, sure_fine, unless_fine}
 use Rattle.ss_meaning.proofs.Lists.{every_get, every_both, every_filter}
 use Rattle.ss_meaning.proofs.Heaps.{Changed, timed_sane}
@@ -81,7 +81,7 @@ notice_there h (pos (suc i)) n = by (slice_get h.records i) refl n.1
     kind_test r Temporary q = absurd cc
     kind_test r Notice q = refl
 
-    by : (o : Option (Option Record)) → slice_get h.records i ≡ o → class_in o ≡ Some n.0 → (r : Record) × (notice h (pos (suc i)) ≡ Ok r) × (kind_of h.layout r.class ≡ Notice)
+    by : (o : Option (Option Record)) → slice_get h.records i ≡ o → class_of_record o ≡ Some n.0 → (r : Record) × (notice h (pos (suc i)) ≡ Ok r) × (kind_of h.layout r.class ≡ Notice)
     by None g q = absurd cc
     by (Some None) g q = absurd cc
     by (Some (Some r)) g q =
@@ -319,11 +319,11 @@ module _ (p : Program) (typed : WellTyped p) (ms : List Mode) where
           (subst (λ r. There ComingAs (coming_as (ranked_as r s) e.key.time e.notice s)) (sym n.1)
           (with_class e q n.0.class k (ranked n.0.class s) (ranked_there n.0.class s k f)))
 
-  attributes_fine : (c k : ℕ) (ns : List Mode) (x : Value) (s : Store) → FieldsAre c k ns → mode_of x ≡ Integer → Fits p ms s → Fine (λ vs. Hold vs ns) (attributes c k (length ns) x s)
+  attributes_fine : (c k : ℕ) (ns : List Mode) (x : Value) (s : Store) → FieldsAre c k ns → mode_of x ≡ Integer → Fits p ms s → Fine (λ vs. Hold vs ns) (attributes_given c k (length ns) x s)
   attributes_fine c k [] x s g m f = refl
   attributes_fine c k (n ∷ ns) x s g m f =
-      fine_then (λ vs. Hold vs (n ∷ ns)) (attribute c k x s) (λ v. turned (λ vs. v ∷ vs) (attributes c (k + 1) (length ns) x s)) (attribute_fine p typed ms c k n x s (first_field c k n ns g) m f) (λ v h.
-      fine_turned (λ vs. Hold vs (n ∷ ns)) (λ vs. v ∷ vs) (attributes c (k + 1) (length ns) x s) (attributes_fine c (k + 1) ns x s (later_fields c k n ns g) m f) (λ vs hs. let all : Hold (v ∷ vs) (n ∷ ns) = cc in all))
+      fine_then (λ vs. Hold vs (n ∷ ns)) (attribute c k x s) (λ v. turned (λ vs. v ∷ vs) (attributes_given c (k + 1) (length ns) x s)) (attribute_fine p typed ms c k n x s (first_field c k n ns g) m f) (λ v h.
+      fine_turned (λ vs. Hold vs (n ∷ ns)) (λ vs. v ∷ vs) (attributes_given c (k + 1) (length ns) x s) (attributes_fine c (k + 1) ns x s (later_fields c k n ns g) m f) (λ vs hs. let all : Hold (v ∷ vs) (n ∷ ns) = cc in all))
 
   saved_fine : (o : Option ℕ) (c : ℕ) (n : ℤ) (s : Store) → IfSome o (λ k. (slice_get p.globals k ≡ Some Integer) × IsPlain p (Global k)) → kind_said p c ≡ Some Notice → Every (λ (e : PendingNotice). n ≡ e.notice → ⊥) s.scene.pending.entries → Fits p ms s → Fine (Fits p ms) (saved_or_gone o c (Whole n) s)
   saved_fine (Some k) c n s h q a f = global_fine p typed ms k Integer (Whole n) s h.0 refl f
@@ -338,8 +338,8 @@ module _ (p : Program) (typed : WellTyped p) (ms : List Mode) where
 
   pub begun_fine : (c : Coming) → ComingAs c → Fine BegunAs (begun c)
   begun_fine c ok =
-      subst (λ (n : Notices). Fine BegunAs (if_ok (attributes n.class 0 n.given c.notice c.store) (λ vs. turned (λ t. record { rank = c.ranked.rank; given = vs; store = t }) (saved_or_gone n.saved n.class c.notice c.store)))) (sym ok.ranked.said)
-      (fine_then BegunAs (attributes e.class 0 (length e.given) c.notice c.store) (λ vs. turned (λ t. record { rank = c.ranked.rank; given = vs; store = t }) (saved_or_gone e.saved e.class c.notice c.store))
+      subst (λ (n : Notices). Fine BegunAs (if_ok (attributes_given n.class 0 n.given c.notice c.store) (λ vs. turned (λ t. record { rank = c.ranked.rank; given = vs; store = t }) (saved_or_gone n.saved n.class c.notice c.store)))) (sym ok.ranked.said)
+      (fine_then BegunAs (attributes_given e.class 0 (length e.given) c.notice c.store) (λ vs. turned (λ t. record { rank = c.ranked.rank; given = vs; store = t }) (saved_or_gone e.saved e.class c.notice c.store))
       (attributes_fine e.class 0 e.given c.notice c.store (subst (λ ns. FieldsAre e.class 0 ns) (sym good.given) (fields_are e.class (length e.given) good.modes good.fields)) (ap mode_of ok.notice) ok.fits) (λ vs h.
       fine_turned BegunAs (λ t. record { rank = c.ranked.rank; given = vs; store = t }) (saved_or_gone e.saved e.class c.notice c.store)
       (subst (λ x. Fine (Fits p ms) (saved_or_gone e.saved e.class x c.store)) (sym ok.notice) (saved_fine e.saved e.class ok.number c.store good.saved good.notice ok.apart ok.fits)) (λ t ft.

@@ -26,7 +26,7 @@ use Rattle.ss_meaning.specs.Places.{InAttribute}
 use Rattle.ss_meaning.specs.Sets.{member, known_owner, of_set, of_member, is_empty, is_in, JustBefore, JustAfter}
 use Rattle.ss_meaning.specs.Events.{AtTime, Later, AtOnce, time_at}
 use Rattle.ss_meaning.specs.Statistics.{figure, mean}
-use Rattle.ss_meaning.specs.Expressions.{value, values, mean_shown, item, items, value_if_any, looked_at, entity_value, member_value, owner_value, owner_looked_at, spot, filing, time_value, unless, passed, both, either, all_hold, holds, passes, all_pass}
+use Rattle.ss_meaning.specs.Expressions.{value, values, mean_shown, item, shown_items, value_if_any, looked_at, entity_value, member_value, owner_value, owner_looked_at, spot, filing, time_value, unless, passed, both, either, all_hold, holds, passes, all_pass}
 use Rattle.ss_meaning.specs.Fitting.{Hold, Fits}
 use Rattle.ss_meaning.proofs.Fine.{Fine, There, Any, fine_then, fine_turned, any_due, sure_fine}
 use Rattle.ss_meaning.proofs.Entities.{HasField as FieldThere, field_said, entity_fine, attribute_fine, time_of_fine, fetched_there, SpotTakes}
@@ -130,13 +130,13 @@ module _ (p : Program) (typed : WellTyped p) (ms : List Mode) (b : Bool) where
   item_fine field (AMeanOf k e) h s f =
       fine_then (TakenBy field) (value e s) (λ x. mean_shown (mean k (Some x) s)) (value_fine e Integer h.1 s f) (λ x g. mean_shown_fine field k (Some x) h.2 s (asked_of k x h.0 g) f)
 
-  pub items_fine : (fields : List Field) (xs : List Item) → AllZip (TakesItem here) fields xs → (s : Store) → Fits p ms s → Fine (AllTaken fields) (items xs s)
+  pub items_fine : (fields : List Field) (xs : List Item) → AllZip (TakesItem here) fields xs → (s : Store) → Fits p ms s → Fine (AllTaken fields) (shown_items xs s)
   items_fine [] [] h s f = refl
   items_fine [] (x ∷ xs) h s f = absurd h
   items_fine (field ∷ fields) [] h s f = absurd h
   items_fine (field ∷ fields) (x ∷ xs) h s f =
-      fine_then (AllTaken (field ∷ fields)) (item x s) (λ y. turned (λ ys. y ∷ ys) (items xs s)) (item_fine field x h.0 s f) (λ y g.
-      fine_turned (AllTaken (field ∷ fields)) (λ ys. y ∷ ys) (items xs s) (items_fine fields xs h.1 s f) (λ ys k. both_true (takes field y) (take_all fields ys) g k))
+      fine_then (AllTaken (field ∷ fields)) (item x s) (λ y. turned (λ ys. y ∷ ys) (shown_items xs s)) (item_fine field x h.0 s f) (λ y g.
+      fine_turned (AllTaken (field ∷ fields)) (λ ys. y ∷ ys) (shown_items xs s) (items_fine fields xs h.1 s f) (λ ys k. both_true (takes field y) (take_all fields ys) g k))
 
   -- an expression that may be left out
   abbrev pub OptionOk : Option Value → Type 0

@@ -12,7 +12,7 @@ use Rattle.ss_base.specs.declared.layout.Layout.{Layout}
 use Rattle.ss_base.specs.declared.value.Value.{Value}
 use Rattle.ss_base.specs.Layout.{mode_of, first_value}
 use Rattle.ss_world.specs.State.{Record, State, kind_of, modes_of, and_then, issued_record, numbered, indexed_record, indexed, records_in, of_class, of_notice, is_notice, entity, entity_of_kind, notice, number_in, with_value, with_time, with_entity, with_entity_of_kind, with_indexed, value_in, assigned, timed, created, with_created, first_record, created_all, is_made, with_made, made_many, destroyed, let_go, in_a_set, owns_members, LAST_NUMBER, MOST_ENTITIES}
-use Rattle.ss_meaning.specs.Fitting.{Hold, RecordFits, HeapFits, class_in, living, made, IsIndex, LivesAs, Lives}
+use Rattle.ss_meaning.specs.Fitting.{Hold, RecordFits, HeapFits, class_of_record, living, made, IsIndex, LivesAs, Lives}
 use Rattle.ss_meaning.proofs.Fine.{Sane, sane_then}
 use Rattle.ss_meaning.proofs.Lists.{every_get, every_set, every_both, every_replicate}
 
@@ -87,7 +87,7 @@ entity_known h c x = kind_known (kind_of h.layout c) h c x
 
 living_by : (h : State) (x : ℤ) (r : Record) → HasRecord h x r → living h x ≡ Some r.class
 living_by h (pos zero) r q = absurd q
-living_by h (pos (suc i)) r q = ap class_in q
+living_by h (pos (suc i)) r q = ap class_of_record q
 living_by h (negsuc k) r q = absurd q
 
 pub get_within : {A : Type 0} (xs : List A) (i : ℕ) (a : A) → slice_get xs i ≡ Some a → i < length xs
@@ -152,9 +152,9 @@ set_modes (w ∷ vs) (n ∷ ms) (suc k) m v q g p =
     let later : Hold (slice_set vs k v) ms = set_modes vs ms k m v rest g p in cc
 
 -- another record of the same class in place of one
-set_class : (rs : List (Option Record)) (i : ℕ) (r q : Record) → slice_get rs i ≡ Some (Some r) → q.class ≡ r.class → (j : ℕ) → class_in (slice_get (slice_set rs i (Some q)) j) ≡ class_in (slice_get rs j)
+set_class : (rs : List (Option Record)) (i : ℕ) (r q : Record) → slice_get rs i ≡ Some (Some r) → q.class ≡ r.class → (j : ℕ) → class_of_record (slice_get (slice_set rs i (Some q)) j) ≡ class_of_record (slice_get rs j)
 set_class [] i r q g c j = absurd cc
-set_class (o ∷ rs) zero r q g c zero = let there : o ≡ Some r = cc in ap Some c ∙ sym (ap (λ y. class_in (Some y)) there)
+set_class (o ∷ rs) zero r q g c zero = let there : o ≡ Some r = cc in ap Some c ∙ sym (ap (λ y. class_of_record (Some y)) there)
 set_class (o ∷ rs) zero r q g c (suc j) = refl
 set_class (o ∷ rs) (suc i) r q g c zero = refl
 set_class (o ∷ rs) (suc i) r q g c (suc j) = set_class rs i r q g c j
@@ -276,17 +276,17 @@ get_before (x ∷ xs) y zero a q = q
 get_before (x ∷ xs) y (suc i) a q = get_before xs y i a q
 
 -- what a longer list has was there, or is the new one
-get_either : (xs : List (Option Record)) (y : Record) (i : ℕ) (c : ℕ) → class_in (slice_get (xs ++ Some y ∷ []) i) ≡ Some c → (class_in (slice_get xs i) ≡ Some c) ⊎ ((i ≡ length xs) × (y.class ≡ c))
+get_either : (xs : List (Option Record)) (y : Record) (i : ℕ) (c : ℕ) → class_of_record (slice_get (xs ++ Some y ∷ []) i) ≡ Some c → (class_of_record (slice_get xs i) ≡ Some c) ⊎ ((i ≡ length xs) × (y.class ≡ c))
 get_either [] y zero c q = inr (refl, cc)
 get_either [] y (suc i) c q = absurd cc
 get_either (x ∷ xs) y zero c q = inl q
 get_either (x ∷ xs) y (suc i) c q = by (get_either xs y i c q)
   where
-    by : (class_in (slice_get xs i) ≡ Some c) ⊎ ((i ≡ length xs) × (y.class ≡ c)) → (class_in (slice_get (x ∷ xs) (suc i)) ≡ Some c) ⊎ ((suc i ≡ length (x ∷ xs)) × (y.class ≡ c))
+    by : (class_of_record (slice_get xs i) ≡ Some c) ⊎ ((i ≡ length xs) × (y.class ≡ c)) → (class_of_record (slice_get (x ∷ xs) (suc i)) ≡ Some c) ⊎ ((suc i ≡ length (x ∷ xs)) × (y.class ≡ c))
     by (inl h) = inl h
     by (inr h) = inr (ap suc h.0, h.1)
 
-get_last : (xs : List (Option Record)) (y : Record) → class_in (slice_get (xs ++ Some y ∷ []) (length xs)) ≡ Some y.class
+get_last : (xs : List (Option Record)) (y : Record) → class_of_record (slice_get (xs ++ Some y ∷ []) (length xs)) ≡ Some y.class
 get_last [] y = refl
 get_last (x ∷ xs) y = get_last xs y
 
@@ -324,9 +324,9 @@ with_created_is h class f = record {
     kept (pos zero) c q = absurd cc
     kept (pos (suc i)) c q = by (slice_get h.records i) refl q
       where
-        by : (o : Option (Option Record)) → slice_get h.records i ≡ o → class_in o ≡ Some c → class_in (slice_get (h.records ++ Some (first_record h.layout class) ∷ []) i) ≡ Some c
+        by : (o : Option (Option Record)) → slice_get h.records i ≡ o → class_of_record o ≡ Some c → class_of_record (slice_get (h.records ++ Some (first_record h.layout class) ∷ []) i) ≡ Some c
         by None g p = absurd cc
-        by (Some o) g p = ap class_in (get_before h.records (Some (first_record h.layout class)) i o g) ∙ p
+        by (Some o) g p = ap class_of_record (get_before h.records (Some (first_record h.layout class)) i o g) ∙ p
     kept (negsuc k) c q = absurd cc
 
     new : living (with_created h class) (pos (length h.records + 1)) ≡ Some class
@@ -336,7 +336,7 @@ with_created_is h class f = record {
     other (pos zero) c q = absurd cc
     other (pos (suc i)) c q = by (get_either h.records (first_record h.layout class) i c q)
       where
-        by : (class_in (slice_get h.records i) ≡ Some c) ⊎ ((i ≡ length h.records) × (class ≡ c)) → (living h (pos (suc i)) ≡ Some c) ⊎ ((pos (suc i) ≡ pos (length h.records + 1)) × (class ≡ c))
+        by : (class_of_record (slice_get h.records i) ≡ Some c) ⊎ ((i ≡ length h.records) × (class ≡ c)) → (living h (pos (suc i)) ≡ Some c) ⊎ ((pos (suc i) ≡ pos (length h.records + 1)) × (class ≡ c))
         by (inl g) = inl g
         by (inr g) = inr (ap pos (ap suc g.0 ∙ sym one), g.1)
     other (negsuc k) c q = absurd cc
@@ -407,14 +407,14 @@ pub record Gone (h : State) (x : ℤ) (t : State) : Type 0 where
   pub kept : (y : ℤ) (c : ℕ) → (x ≡ y → ⊥) → living h y ≡ Some c → living t y ≡ Some c
   pub absent : (c : ℕ) → living t x ≡ Some c → ⊥
 
-cut_before : (rs : List (Option Record)) (i j c : ℕ) → class_in (slice_get (slice_set rs i None) j) ≡ Some c → class_in (slice_get rs j) ≡ Some c
+cut_before : (rs : List (Option Record)) (i j c : ℕ) → class_of_record (slice_get (slice_set rs i None) j) ≡ Some c → class_of_record (slice_get rs j) ≡ Some c
 cut_before [] i j c q = q
 cut_before (r ∷ rs) zero zero c q = absurd cc
 cut_before (r ∷ rs) zero (suc j) c q = q
 cut_before (r ∷ rs) (suc i) zero c q = q
 cut_before (r ∷ rs) (suc i) (suc j) c q = cut_before rs i j c q
 
-cut_absent : (rs : List (Option Record)) (i c : ℕ) → class_in (slice_get (slice_set rs i None) i) ≡ Some c → ⊥
+cut_absent : (rs : List (Option Record)) (i c : ℕ) → class_of_record (slice_get (slice_set rs i None) i) ≡ Some c → ⊥
 cut_absent [] i c q = absurd cc
 cut_absent (r ∷ rs) zero c q = absurd cc
 cut_absent (r ∷ rs) (suc i) c q = cut_absent rs i c q
@@ -436,7 +436,7 @@ cut_is h i f = record {
 
     kept : (y : ℤ) (c : ℕ) → (pos (suc i) ≡ y → ⊥) → living h y ≡ Some c → living (record h { records = slice_set h.records i None }) y ≡ Some c
     kept (pos zero) c other q = q
-    kept (pos (suc j)) c other q = ap class_in (get_other h.records i None j (λ e. other (ap pos (ap suc e)))) ∙ q
+    kept (pos (suc j)) c other q = ap class_of_record (get_other h.records i None j (λ e. other (ap pos (ap suc e)))) ∙ q
     kept (negsuc k) c other q = q
 
 let_go_sane : (h : State) (c : ℕ) (x : ℤ) (r : Record) → HeapFits h → HasRecord h x r → Sane (Gone h x) (let_go h c (number_in x))

@@ -21,8 +21,8 @@ use Rattle.ss_program.specs.declared.sections.Subject.TheVariants.{OfVariable, O
 use Rattle.ss_program.specs.declared.sections.Statistic.{Statistic}
 use Rattle.ss_meaning.specs.Values.{sure, turned, unless_fault, number_of}
 use Rattle.ss_meaning.specs.Store.{Column}
-use Rattle.ss_meaning.specs.Histories.{same_subject, same_owner, home, at_start, begun_in, starting, ended_in, ending, with_history, noting_in, noting, all_noting, history_in, history_of, renewed}
-use Rattle.ss_meaning.specs.Fitting.{made, IsIndex, living, LivesAs, Lives, BearsBy, Bears, Has, IsKept, HistoriesFit}
+use Rattle.ss_meaning.specs.Histories.{same_subject, same_owner, home, at_start, begun_in, starting, ended_in, ending, with_history, noting_in, noting, all_noting, history_in, history_of_subject, renewed}
+use Rattle.ss_meaning.specs.Fitting.{made, IsIndex, living, LivesAs, Lives, BearsBy, Bears, Has, HasHistories, HistoriesFit}
 use Rattle.ss_meaning.proofs.Fine.{Fine, Any, fine_then, fine_turned, unless_fine}
 use Rattle.ss_meaning.proofs.Heaps.{Same, Gone}
 
@@ -45,7 +45,7 @@ keeps_cons c d cs ds keep all zero e q = (d, refl, subst (λ b. KeepsColumn b d)
     same = cc
 keeps_cons c d cs ds keep all (suc j) e q = all j e q
 
-pub kept_on : (j : ℕ) (cs ds : List Column) (these : ℤ → Type 0) → KeepsAll cs ds → IsKept j cs these → IsKept j ds these
+pub kept_on : (j : ℕ) (cs ds : List Column) (these : ℤ → Type 0) → KeepsAll cs ds → HasHistories j cs these → HasHistories j ds these
 kept_on j cs ds these keep k = (d.0, d.1, λ x g. d.2 x (k.2 x g))
   where
     d : (d : Column) × (slice_get ds j ≡ Some d) × KeepsColumn k.0 d
@@ -117,11 +117,11 @@ all_noting_fine subject x now v (s ∷ ss) (c ∷ cs) h there =
         noting_fine x now v c (h zero s refl same) (has (there zero s refl).0 (there zero s refl).1 ((there zero s refl).2 same))
     by false q = λ y g. g
 
-pub history_fine : (j : ℕ) (x : ℤ) (cs : List Column) (these : ℤ → Type 0) → IsKept j cs these → these x → Fine Any (history_of j x cs)
+pub history_fine : (j : ℕ) (x : ℤ) (cs : List Column) (these : ℤ → Type 0) → HasHistories j cs these → these x → Fine Any (history_of_subject j x cs)
 history_fine j x cs these k g =
     subst (λ o. Fine Any (history_in o x)) (sym k.1) (subst (λ o. Fine Any (sure o)) (sym (k.2 x g).1) tt)
 
-pub renewed_fine : (j : ℕ) (x now z : ℤ) (cs : List Column) (these : ℤ → Type 0) → IsKept j cs these → these x → Fine (KeepsAll cs) (renewed j x now z cs)
+pub renewed_fine : (j : ℕ) (x now z : ℤ) (cs : List Column) (these : ℤ → Type 0) → HasHistories j cs these → these x → Fine (KeepsAll cs) (renewed j x now z cs)
 renewed_fine j x now z [] these k g = absurd (by k.1)
   where
     by : slice_get [] j ≡ Some k.0 → ⊥
@@ -233,7 +233,7 @@ borne h t subject x l f g = borne_by (home h.layout subject) h t x f (subst (λ 
 pub fit_on : (ss : List Statistic) (h t : State) (cs ds : List Column) → t.layout ≡ h.layout → ((c : ℕ) (x : ℤ) → Lives t c x → Lives h c x) → KeepsAll cs ds → HistoriesFit ss h cs → HistoriesFit ss t ds
 fit_on ss h t cs ds l f keep fit j s q = (k.0, k.1, λ x g. k.2 x (borne h t s.subject x l (λ c. f c x) g))
   where
-    k : IsKept j ds (Bears h s.subject)
+    k : HasHistories j ds (Bears h s.subject)
     k = kept_on j cs ds (Bears h s.subject) keep (fit j s q)
 
 pub fit_same : (ss : List Statistic) (h t : State) (cs ds : List Column) → Same h t → KeepsAll cs ds → HistoriesFit ss h cs → HistoriesFit ss t ds
@@ -248,7 +248,7 @@ pub fit_gone : (ss : List Statistic) (h t : State) (class : ℕ) (x : ℤ) (cs :
 fit_gone ss h t class x cs gone single fit j s q =
     (e.0, e.1, λ y g. e.2 y (apart y g) (k.2 y (borne h t s.subject y gone.layout (λ c. lived h t c y gone.layout (gone.before y c) (gone.made c)) g)))
   where
-    k : IsKept j cs (Bears h s.subject)
+    k : HasHistories j cs (Bears h s.subject)
     k = fit j s q
 
     e : (d : Column) × (slice_get (ending t.layout class x ss cs) j ≡ Some d) × ((y : ℤ) → (home t.layout s.subject ≡ Class class → x ≡ y → ⊥) → Has k.0 y → Has d y)

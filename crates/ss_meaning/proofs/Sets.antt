@@ -36,9 +36,9 @@ use Rattle.ss_program.specs.WellTyped.{WellTyped, IsSet, IsOwned, owner_of, Good
 use Rattle.ss_stats.specs.History.{History, sum_of, mean_of}
 use Rattle.ss_meaning.specs.Values.{Trouble, Misfit, Fails, if_ok, turned, due, sure, where_fit, unless_fault, number_of}
 use Rattle.ss_meaning.specs.Store.{Store, with_heap, with_histories, fetched}
-use Rattle.ss_meaning.specs.Histories.{noted, history_of, folded, figure_kept, mean_kept, renewed}
+use Rattle.ss_meaning.specs.Histories.{noted, history_of_subject, folded, figure_kept, mean_kept, renewed}
 use Rattle.ss_meaning.specs.Entities.{entity}
-use Rattle.ss_meaning.specs.Sets.{set_at, member, owner_as, owner_by, owner_number, known_owner, set_answer, of_set, is_one, of_member, is_none, is_empty, is_in, recounted, is_field, is_fit, Filing, ByRule, Foremost, Hindmost, JustBefore, JustAfter, filed_by, filed_in, removed_from, end_removed, removed_at, outset, beside, begun, coming, from_or_after, begun_at, or_gone, goes_on}
+use Rattle.ss_meaning.specs.Sets.{set_at, member, owner_as, owner_by_layout, owner_number, known_owner, set_answer, of_set, is_one, of_member, is_none, is_empty, is_in, recounted, is_field, is_fit, Filing, ByRule, Foremost, Hindmost, JustBefore, JustAfter, filed_by, filed_in, removed_from, end_removed, removed_at, outset, beside, begun, coming, from_or_after, begun_at, or_gone, goes_on}
 use Rattle.ss_meaning.specs.Statistics.{subject_of, bearer, present, figure, mean, reset}
 use Rattle.ss_meaning.specs.Fitting.{HeapFits, Lives, BearsBy, Bears, Fits}
 use Rattle.ss_meaning.proofs.Fine.{Fine, Sane, There, Any, fine_then, fine_turned, fine_weaker, due_fine, any_due, sure_fine, fit_fine, unless_fine, sane_then}
@@ -98,7 +98,7 @@ module _ (p : Program) (typed : WellTyped p) (ms : List Mode) where
       let here : set_at set s ≡ Some t.0 = set_here set t.0 s t.1 f in
       let said : owner_of p set ≡ Some t.0.owner = ap (λ l. option_map (λ (u : SetLayout). u.owner) l) t.1 in
       let kind : owner_kind s.scene.heap.layout set ≡ t.0.owner = ap (λ l. Rattle.ss_world.specs.Sets.owner_in l) here in
-      subst (λ l. Fine (IsOwnerNumber s.scene.heap set) (owner_by l o)) (sym here)
+      subst (λ l. Fine (IsOwnerNumber s.scene.heap set) (owner_by_layout l o)) (sym here)
       (fine_weaker (IsOwnerNumber s.scene.heap set) (owner_as t.0.owner o) (as_fine t.0.owner o set said q) (λ n h e. h (sym kind ∙ e)))
 
   owner_lives : (h : State) (c : ℕ) (n : ℤ) → Sane (λ m. Lives h c n) (owner_of_kind h (Class c) n)
@@ -299,14 +299,14 @@ module _ (p : Program) (typed : WellTyped p) (ms : List Mode) where
       fine_then (λ v. mode_of v ≡ Integer) (subject_of j s) (λ t. if_ok (bearer t o s) (λ n. figure_kept fold j n s)) (subject_fine j a.statistic s a.there f) (λ t e.
       subst (λ u. Fine (λ v. mode_of v ≡ Integer) (if_ok (bearer u o s) (λ n. figure_kept fold j n s))) (sym e)
       (fine_then (λ v. mode_of v ≡ Integer) (bearer a.statistic.subject o s) (λ n. figure_kept fold j n s) (bearer_fine a.statistic.subject o s (good_subject j a.statistic a.there) a.fits f) (λ n b.
-      fine_then (λ v. mode_of v ≡ Integer) (history_of j n s.scene.histories) (folded fold s.scene.time) (history_fine j n s.scene.histories (Bears s.scene.heap a.statistic.subject) (f.sound.scene.histories j a.statistic a.there) b) (λ h u. folded_fine fold s.scene.time h))))
+      fine_then (λ v. mode_of v ≡ Integer) (history_of_subject j n s.scene.histories) (folded fold s.scene.time) (history_fine j n s.scene.histories (Bears s.scene.heap a.statistic.subject) (f.sound.scene.histories j a.statistic a.there) b) (λ h u. folded_fine fold s.scene.time h))))
 
   pub mean_fine : (j : ℕ) (o : Option Value) (s : Store) → AskedStatistic j o → Fits p ms s → Fine Any (mean j o s)
   mean_fine j o s a f =
       fine_then Any (subject_of j s) (λ t. if_ok (bearer t o s) (λ n. mean_kept j n s)) (subject_fine j a.statistic s a.there f) (λ t e.
       subst (λ u. Fine Any (if_ok (bearer u o s) (λ n. mean_kept j n s))) (sym e)
       (fine_then Any (bearer a.statistic.subject o s) (λ n. mean_kept j n s) (bearer_fine a.statistic.subject o s (good_subject j a.statistic a.there) a.fits f) (λ n b.
-      fine_turned Any (λ (h : History). mean_of h s.scene.time) (history_of j n s.scene.histories) (history_fine j n s.scene.histories (Bears s.scene.heap a.statistic.subject) (f.sound.scene.histories j a.statistic a.there) b) (λ h u. tt))))
+      fine_turned Any (λ (h : History). mean_of h s.scene.time) (history_of_subject j n s.scene.histories) (history_fine j n s.scene.histories (Bears s.scene.heap a.statistic.subject) (f.sound.scene.histories j a.statistic a.there) b) (λ h u. tt))))
 
   pub reset_fine : (j : ℕ) (o : Option Value) (s : Store) → AskedStatistic j o → Fits p ms s → Fine (Fits p ms) (reset j o s)
   reset_fine j o s a f =

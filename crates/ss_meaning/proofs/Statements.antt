@@ -22,7 +22,7 @@ use Rattle.ss_program.specs.declared.head.PhraseKind.TheVariants as kinds
 use Rattle.ss_program.specs.declared.statement.End.{End}
 use Rattle.ss_program.specs.declared.statement.Counted.{Counted}
 use Rattle.ss_program.specs.Program.{Expression, SetOwner, Head, Numbers, Members, Each, Start, AtEnd, From, After, Phrase, Guard, Place, ToVariable, Target, Position, When, Restart, Item, Statement, Let, Change, Call, Return, Stop, Read, Simulate, If, Loop, For, Find, Create, CreateEvery, Destroy, File, RemoveEnd, Remove, ScheduleNew, Schedule, Cancel, Reset, Print, Skip, Block, Done, Then, Routine, Program}
-use Rattle.ss_program.specs.WellTyped.{Scope, WellTyped, HasMode, OwnerFits, GoodCondition, TakesMode, GoodStart, GoodHead, GoodPhrase, GoodPosition, GoodWhen, GoodGiven, GoodRestart, GoodPrint, Good, GoodBlock, kind_of as kind_said}
+use Rattle.ss_program.specs.WellTyped.{Scope, WellTyped, HasMode, OwnerFits, GoodCondition, TakesMode, GoodStart, GoodHead, GoodPhrase, GoodPosition, GoodWhen, GoodGiven, GoodRestart, GoodPrint, Good, GoodBlock, kind_of_class as kind_said}
 use Rattle.ss_meaning.specs.Values.{if_ok, turned, due, sure, unless_fault, number_of, calculated, operator_of, take_all, lines_with, printed, empty_lines}
 use Rattle.ss_meaning.specs.Store.{Store}
 use Rattle.ss_meaning.specs.Entities.{class_at, is_permanent, made_count, made_one, made_all, without}
@@ -30,9 +30,9 @@ use Rattle.ss_meaning.specs.Places.{InVariable, held}
 use Rattle.ss_meaning.specs.Sets.{is_none, begun, begun_at, coming, goes_on, filed_in, removed_from, removed_at}
 use Rattle.ss_meaning.specs.Events.{made_notice, filed_notice, rescheduled, unscheduled, is_awaited}
 use Rattle.ss_meaning.specs.Statistics.{reset}
-use Rattle.ss_meaning.specs.Expressions.{value, values, items as items_meant, value_if_any, entity_value, member_value, owner_value, owner_looked_at, spot, filing, time_value, holds, all_pass}
+use Rattle.ss_meaning.specs.Expressions.{value, values, shown_items as items_meant, value_if_any, entity_value, member_value, owner_value, owner_looked_at, spot, filing, time_value, holds, all_pass}
 use Rattle.ss_meaning.specs.Parts.{World, Returned, Stopped, Faulted, OutOfTicks, Wrong, Outcome, WentOn, Left, Part, and_then, choose, look, get, tick_from, Again, Over, go_on, loop}
-use Rattle.ss_meaning.specs.Loops.{Turn, GoesOn, EndsLoop, IsFound, phrase, phrases, visit, items, after_turn, over_items, step_number, range_of, range, indices, Outset, from_member, outset, next_member, member_turn, over, guarded}
+use Rattle.ss_meaning.specs.Loops.{Turn, GoesOn, EndsLoop, IsFound, phrase, phrases, visit, range_items, after_turn, over_items, step_number, range_of, range, indices, Outset, from_member, outset, next_member, member_turn, over, guarded}
 use Rattle.ss_meaning.specs.Statements.{give_to, give_each, change_by, with_input, read_word, read_each, print, create_every, file, remove, remove_end, schedule_new, schedule, next_due, event_turn, simulate, restart_each, Calls, effect, effects}
 use Rattle.ss_meaning.specs.Fitting.{Hold, Fits}
 use Rattle.ss_meaning.proofs.Fine.{Fine, There, Any, fine_then, fine_turned, sure_fine, fit_fine, unless_fine}
@@ -164,9 +164,9 @@ module _ (p : Program) (typed : WellTyped p) (ms : List Mode) (b : Bool) where
 
   pub over_safe : (n : ℕ) (l : Line) (head : Head) (turn : Part Turn) → GoodHead here head → Safe p ms Any turn → Safe p ms Any (over n l head turn)
   over_safe n l (Numbers x a c d) turn g h =
-      safe_then {P = Any} (safe_look l (range a c d) (range_fine a c d g.1 g.2 g.3)) (λ r u. items_safe (visit l x turn) (items (suc n) r) (visit_safe l x turn g.0 h))
+      safe_then {P = Any} (safe_look l (range a c d) (range_fine a c d g.1 g.2 g.3)) (λ r u. items_safe (visit l x turn) (range_items (suc n) r) (visit_safe l x turn g.0 h))
   over_safe n l (Each x class) turn g h =
-      safe_then {P = Any} (safe_look l (indices class) (indices_fine class g.1)) (λ r u. items_safe (visit l x turn) (items (suc n) r) (visit_safe l x turn g.0 h))
+      safe_then {P = Any} (safe_look l (indices class) (indices_fine class g.1)) (λ r u. items_safe (visit l x turn) (range_items (suc n) r) (visit_safe l x turn g.0 h))
   over_safe n l (Members x set owner start reverse) turn g h =
       safe_then {P = OutsetOk set} (safe_look l (outset start reverse set owner) (outset_fine start reverse set owner g.2 g.1)) (λ o q.
       safe_choose (is_none o.first) (safe_went false tt) (safe_loop (member_safe l set reverse o.owner (visit l x turn) q (visit_safe l x turn g.0 h)) n o.first))

@@ -19,7 +19,7 @@ use Rattle.ss_program.specs.declared.sections.Statistic.{Statistic}
 use Rattle.ss_program.specs.Program.{Routine, Event, Program, Block}
 use Rattle.ss_program.specs.WellTyped.{WellTyped, GoodRoutine, GoodEvent, GoodBlock}
 use Rattle.ss_meaning.specs.Values.{same_mode}
-use Rattle.ss_meaning.specs.Store.{Column, Store, prepended, firsts, taken, appended, opened, front, yielded}
+use Rattle.ss_meaning.specs.Store.{Column, Store, prepended, first_values, taken_by_modes, appended, opened, front, yielded}
 use Rattle.ss_meaning.specs.Histories.{home, no_history, no_histories, starting}
 use Rattle.ss_meaning.specs.Events.{Beginning, Coming, next_event, begun, is_awaited}
 use Rattle.ss_meaning.specs.Parts.{World, Returned, Stopped, Faulted, OutOfTicks, Wrong, Outcome, WentOn, Left, Part, and_then, needed, take_tick}
@@ -37,9 +37,9 @@ use Rattle.ss_meaning.proofs.Statements.{CallsSafe, block_safe}
 
 -- ## Variables of routines
 
-firsts_modes : (modes : List Mode) → Hold (firsts modes) modes
+firsts_modes : (modes : List Mode) → Hold (first_values modes) modes
 firsts_modes [] = refl
-firsts_modes (m ∷ ms) = let here : mode_of (first_value m) ≡ m = first_mode m in let rest : Hold (firsts ms) ms = firsts_modes ms in cc
+firsts_modes (m ∷ ms) = let here : mode_of (first_value m) ≡ m = first_mode m in let rest : Hold (first_values ms) ms = firsts_modes ms in cc
   where
     first_mode : (m : Mode) → mode_of (first_value m) ≡ m
     first_mode Integer = refl
@@ -49,15 +49,15 @@ prepended_there : (v : Value) (m : Mode) (ms : List Mode) (o : Option (List Valu
 prepended_there v m ms (Some vs) q h = let all : Hold (v ∷ vs) (m ∷ ms) = cc in all
 prepended_there v m ms None q h = absurd h
 
-taken_there : (ms : List Mode) (vs : List Value) → Hold vs ms → There (λ us. Hold us ms) (taken ms vs)
+taken_there : (ms : List Mode) (vs : List Value) → Hold vs ms → There (λ us. Hold us ms) (taken_by_modes ms vs)
 taken_there [] [] h = refl
 taken_there [] (v ∷ vs) h = absurd cc
 taken_there (m ∷ ms) [] h = absurd cc
 taken_there (m ∷ ms) (v ∷ vs) h =
     let here : mode_of v ≡ m = cc in
     let rest : Hold vs ms = cc in
-    subst (λ b. There (λ us. Hold us (m ∷ ms)) (if b then prepended v (taken ms vs) else None)) (sym (ap (λ n. same_mode n m) here ∙ same_is m))
-    (prepended_there v m ms (taken ms vs) here (taken_there ms vs rest))
+    subst (λ b. There (λ us. Hold us (m ∷ ms)) (if b then prepended v (taken_by_modes ms vs) else None)) (sym (ap (λ n. same_mode n m) here ∙ same_is m))
+    (prepended_there v m ms (taken_by_modes ms vs) here (taken_there ms vs rest))
 
 both_hold : (vs us : List Value) (ms ns : List Mode) → Hold vs ms → Hold us ns → Hold (vs ++ us) (ms ++ ns)
 both_hold [] us [] ns h g = g
@@ -69,10 +69,10 @@ both_hold (v ∷ vs) us (m ∷ ms) ns h g =
     let later : Hold (vs ++ us) (ms ++ ns) = both_hold vs us ms ns rest g in cc
 
 opened_there : (given others : List Mode) (vs : List Value) → Hold vs given → There (λ ls. Hold ls (given ++ others)) (opened given others vs)
-opened_there given others vs h = by (taken given vs) (taken_there given vs h)
+opened_there given others vs h = by (taken_by_modes given vs) (taken_there given vs h)
   where
-    by : (o : Option (List Value)) → There (λ us. Hold us given) o → There (λ ls. Hold ls (given ++ others)) (appended o (firsts others))
-    by (Some us) g = both_hold us (firsts others) given others g (firsts_modes others)
+    by : (o : Option (List Value)) → There (λ us. Hold us given) o → There (λ ls. Hold ls (given ++ others)) (appended o (first_values others))
+    by (Some us) g = both_hold us (first_values others) given others g (firsts_modes others)
     by None g = absurd g
 
 front_there : (ys os : List Mode) (ls : List Value) → Hold ls (ys ++ os) → There (λ us. Hold us ys) (front (length ys) ls)

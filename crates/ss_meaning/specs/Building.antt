@@ -47,8 +47,8 @@ integers zero = []
 integers (suc n) = Integer ∷ integers n
 
 -- a program with MAIN alone, which has so many integer variables
-abbrev pub plain : (locals : ℕ) → List Statement → Program
-plain locals statements = record {
+abbrev pub program_of_main : (locals : ℕ) → List Statement → Program
+program_of_main locals statements = record {
   layout = record { classes = []; sets = [] };
   disciplines = [];
   globals = [];
@@ -94,14 +94,14 @@ pool = 1
 abbrev pub rack : ℕ
 rack = 2
 
-abbrev pub class_of : ClassKind → (fields : ℕ) → ClassLayout
-class_of kind fields = record { kind = kind; fields = integers fields }
+abbrev pub class_with_fields : ClassKind → (fields : ℕ) → ClassLayout
+class_with_fields kind fields = record { kind = kind; fields = integers fields }
 
 -- the workshop with MAIN, its local integer variables, and a discipline of the pool; a bell does nothing
 abbrev pub workshop_by : Discipline → (locals : ℕ) → List Statement → Program
 workshop_by discipline locals statements = record {
   layout = record {
-    classes = class_of Permanent 0 ∷ class_of Temporary 1 ∷ class_of Temporary 1 ∷ class_of Notice 1 ∷ [];
+    classes = class_with_fields Permanent 0 ∷ class_with_fields Temporary 1 ∷ class_with_fields Temporary 1 ∷ class_with_fields Notice 1 ∷ [];
     sets = record { owner = Class machine; member = job } ∷ record { owner = System; member = job } ∷ record { owner = Class tool; member = job } ∷ [];
   };
   disciplines = Fifo ∷ discipline ∷ Fifo ∷ [];

@@ -19,7 +19,7 @@ use Rattle.ss_program.specs.declared.sections.Subject.TheVariants.{OfVariable, O
 use Rattle.ss_program.specs.declared.sections.Weighting.TheVariants.{Tally, Accumulate}
 use Rattle.ss_program.specs.declared.statement.End.TheVariants.{First}
 use Rattle.ss_program.specs.Program.{Expression, Attribute, Clock, TimeOf, Figure, AMean, Print, TheSystem, ByDiscipline, At, In, Statement, Let, Call, Simulate, Create, File, RemoveEnd, ScheduleNew, Schedule, Cancel, Reset, Event, Program}
-use Rattle.ss_meaning.specs.Building.{line, num, global, local, to_global, block, print_line, integers, class_of, bell, plain, workshop, ends, pauses, faults}
+use Rattle.ss_meaning.specs.Building.{line, num, global, local, to_global, block, print_line, integers, class_with_fields, bell, program_of_main, workshop, ends, pauses, faults}
 use Rattle.ss_meaning.specs.Meaning.{meaning}
 use Rattle.ss_meaning.specs.Values.{printed}
 
@@ -82,8 +82,8 @@ coloured class ties l picture = record {
 }
 
 abbrev colours : List Statement → Program
-colours ss = record (plain 0 ss) {
-  layout = record { classes = class_of Notice 1 ∷ class_of Notice 2 ∷ class_of Notice 1 ∷ []; sets = [] };
+colours ss = record (program_of_main 0 ss) {
+  layout = record { classes = class_with_fields Notice 1 ∷ class_with_fields Notice 2 ∷ class_with_fields Notice 1 ∷ []; sets = [] };
   globals = integers 3;
   events = coloured green [] 19 (codes "GREEN *") ∷ coloured blue (record { field = 1; high = true } ∷ []) 15 (codes "BLUE *") ∷ coloured red [] 11 (codes "RED *") ∷ [];
 }
@@ -113,8 +113,8 @@ saved_bell = record {
 
 -- SCHEDULE A BELL CALLED B GIVEN 7 AT 1: the global variable of B is the second
 abbrev ringing : Program
-ringing = record (plain 0 (ScheduleNew (line 9) 0 (to_global 1) (num (pos 7) ∷ []) (At (num (pos 1))) ∷ Simulate ∷ [])) {
-  layout = record { classes = class_of Notice 1 ∷ []; sets = [] };
+ringing = record (program_of_main 0 (ScheduleNew (line 9) 0 (to_global 1) (num (pos 7) ∷ []) (At (num (pos 1))) ∷ Simulate ∷ [])) {
+  layout = record { classes = class_with_fields Notice 1 ∷ []; sets = [] };
   globals = integers 2;
   events = saved_bell ∷ [];
 }
@@ -134,7 +134,7 @@ let_global l e = Let (line l) (to_global 0) e
 
 -- a TALLY of the global variable X; the routine prints it
 abbrev tallied : List Statement → Program
-tallied ss = record (plain 0 ss) {
+tallied ss = record (program_of_main 0 ss) {
   globals = integers 1;
   statistics = record { subject = OfVariable 0; weighting = Tally } ∷ [];
   routines = record { given = []; yielding = []; others = []; body = block (print_figures 7 ∷ []) } ∷ [];
@@ -186,14 +186,14 @@ abbrev event_of : (class : ℕ) → (l : ℕ) → Statement → Event
 event_of class l s = record { class = class; ties = []; line = line l; given = []; others = []; saved = None; body = block (s ∷ []) }
 
 abbrev stepping : Statement → List Statement → Program
-stepping step first = record (plain 0 first) { globals = integers 3; events = event_of 0 6 step ∷ event_of 1 9 (print_figures 10) ∷ [] }
+stepping step first = record (program_of_main 0 first) { globals = integers 3; events = event_of 0 6 step ∷ event_of 1 9 (print_figures 10) ∷ [] }
 
 abbrev schedule_both : List Statement
 schedule_both = schedule_at 15 0 [] 5 ∷ schedule_at 16 1 [] 10 ∷ Simulate ∷ []
 
 -- ACCUMULATE of the global variable X, here the third: 2 from the beginning on, and 4 from 5 on
 pub an_accumulated_variable : meaning (record (stepping (Let (line 7) (to_global 2) (num (pos 4))) (Let (line 14) (to_global 2) (num (pos 2)) ∷ schedule_both)) {
-  layout = record { classes = class_of Notice 0 ∷ class_of Notice 0 ∷ []; sets = [] };
+  layout = record { classes = class_with_fields Notice 0 ∷ class_with_fields Notice 0 ∷ []; sets = [] };
   statistics = record { subject = OfVariable 2; weighting = Accumulate } ∷ [];
 }) [] 9 ≡ ends (codes "10 30  4  0" ∷ []) 7
 unfolding filled picture_fields numeral in_64_bits comes_before
@@ -202,7 +202,7 @@ an_accumulated_variable = refl
 -- ACCUMULATE of N.POOL: a job is in the pool of the system until 5
 pub an_accumulated_set : meaning (record (stepping (RemoveEnd (line 8) First 0 (to_global 2) TheSystem)
     (Create (line 15) 2 (to_global 2) ∷ File (line 15) 0 (global 2) ByDiscipline TheSystem ∷ schedule_both)) {
-      layout = record { classes = class_of Notice 0 ∷ class_of Notice 0 ∷ class_of Temporary 0 ∷ []; sets = record { owner = System; member = 2 } ∷ [] };
+      layout = record { classes = class_with_fields Notice 0 ∷ class_with_fields Notice 0 ∷ class_with_fields Temporary 0 ∷ []; sets = record { owner = System; member = 2 } ∷ [] };
       disciplines = Fifo ∷ [];
       statistics = record { subject = OfCount 0; weighting = Accumulate } ∷ [];
     }) [] 9 ≡ ends (codes "10  5  1  0" ∷ []) 7

@@ -103,10 +103,10 @@ pub record Beginning : Type 0 where
   pub store : Store
 
 -- the values of so many attributes from a number on
-abbrev pub attributes : (class field count : ℕ) → (x : Value) → Store → Result (List Value) Trouble
-attributes class field zero x s = Ok []
-attributes class field (suc k) x s =
-    if_ok (attribute class field x s) (λ v. turned (λ vs. v ∷ vs) (attributes class (field + 1) k x s))
+abbrev pub attributes_given : (class field count : ℕ) → (x : Value) → Store → Result (List Value) Trouble
+attributes_given class field zero x s = Ok []
+attributes_given class field (suc k) x s =
+    if_ok (attribute class field x s) (λ v. turned (λ vs. v ∷ vs) (attributes_given class (field + 1) k x s))
 
 -- a notice is saved in a global variable, or it is destroyed
 abbrev pub saved_or_gone : Option ℕ → (class : ℕ) → (x : Value) → Store → Result Store Trouble
@@ -141,6 +141,6 @@ next_event s = coming_with (next s.scene.pending) s
 -- an event begins
 abbrev pub begun : Coming → Result Beginning Trouble
 begun c =
-    if_ok (attributes c.ranked.said.class 0 c.ranked.said.given c.notice c.store) (λ vs.
+    if_ok (attributes_given c.ranked.said.class 0 c.ranked.said.given c.notice c.store) (λ vs.
     turned (λ t. record { rank = c.ranked.rank; given = vs; store = t })
     (saved_or_gone c.ranked.said.saved c.ranked.said.class c.notice c.store))

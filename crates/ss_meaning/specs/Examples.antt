@@ -12,18 +12,18 @@ use Rattle.ss_program.specs.declared.expression.Operator.TheVariants.{Add, Subtr
 use Rattle.ss_program.specs.declared.condition.Relation.TheVariants.{Equal, Less}
 use Rattle.ss_program.specs.declared.head.GuardKind.TheVariants.{While}
 use Rattle.ss_program.specs.Program.{Expression, Signed, Absolute, Calculate, Constant, Numbers, Compare, DataEnded, Statement, Let, Change, Call, Return, Stop, Read, If, For, Loop, Print, Skip, AValue, Routine, Program, Done}
-use Rattle.ss_meaning.specs.Building.{line, num, local, to_local, block, only, print_line, integers, plain, ends, pauses, faults}
+use Rattle.ss_meaning.specs.Building.{line, num, local, to_local, block, only, print_line, integers, program_of_main, ends, pauses, faults}
 use Rattle.ss_meaning.specs.Meaning.{meaning, WentWrong}
 
 -- PRINT 1 LINE WITH 6*7 THUS takes no tick
-pub an_answer : meaning (plain 0 (print_line 2 (Calculate Multiply (num (pos 6)) (num (pos 7)) ∷ []) (codes "ANSWER ***") ∷ [])) [] 1000 ≡
+pub an_answer : meaning (program_of_main 0 (print_line 2 (Calculate Multiply (num (pos 6)) (num (pos 7)) ∷ []) (codes "ANSWER ***") ∷ [])) [] 1000 ≡
     ends (codes "ANSWER  42" ∷ []) 1000
 unfolding filled picture_fields numeral times_of in_64_bits
 an_answer = refl
 
 -- FOR I = 1 TO 3, PRINT 1 LINE WITH I THUS: a tick for each item
 abbrev counting : Program
-counting = plain 1 (For (line 3) (Numbers (Local 0) (num (pos 1)) (num (pos 3)) None) [] (block (print_line 4 (local 0 ∷ []) (codes "*") ∷ [])) ∷ [])
+counting = program_of_main 1 (For (line 3) (Numbers (Local 0) (num (pos 1)) (num (pos 3)) None) [] (block (print_line 4 (local 0 ∷ []) (codes "*") ∷ [])) ∷ [])
 
 pub pauses_at_once : meaning counting [] 0 ≡ pauses []
 pauses_at_once = refl
@@ -42,7 +42,7 @@ unfolding filled picture_fields numeral
 ends_after_three = refl
 
 -- X = 9223372036854775807, which is printed; ADD 1 TO X in line 6 is then the fault OVERFLOW of that line
-pub a_fault_at_its_line : meaning (plain 1 (Let (line 3) (to_local 0) (num (pos 9223372036854775807)) ∷
+pub a_fault_at_its_line : meaning (program_of_main 1 (Let (line 3) (to_local 0) (num (pos 9223372036854775807)) ∷
     print_line 4 (local 0 ∷ []) (codes "*******************") ∷ Change (line 6) Plus (to_local 0) (num (pos 1)) ∷ [])) [] 9 ≡
     faults (codes "9223372036854775807" ∷ []) Overflow 6 9
 unfolding filled picture_fields numeral plus_of in_64_bits
@@ -50,7 +50,7 @@ a_fault_at_its_line = refl
 
 -- programs of one line, the second
 abbrev alone : Statement → Program
-alone s = plain 1 (s ∷ [])
+alone s = program_of_main 1 (s ∷ [])
 
 abbrev assigning : Expression → Program
 assigning e = alone (Let (line 2) (to_local 0) e)
@@ -93,14 +93,14 @@ unfolding plus_of in_64_bits
 a_loop_without_end = refl
 
 -- FOR I = 9223372036854775806 TO 9223372036854775807 BY 3 has one item, and no overflow; the items don't change with I
-pub an_item_near_the_end : meaning (plain 1 (For (line 2) (Numbers (Local 0) (num (pos 9223372036854775806)) (num (pos 9223372036854775807)) (Some (num (pos 3)))) []
+pub an_item_near_the_end : meaning (program_of_main 1 (For (line 2) (Numbers (Local 0) (num (pos 9223372036854775806)) (num (pos 9223372036854775807)) (Some (num (pos 3)))) []
     (block (Let (line 2) (to_local 0) (num (pos 1)) ∷ [])) ∷ print_line 3 (local 0 ∷ []) (codes "*") ∷ [])) [] 5 ≡ ends (codes "1" ∷ []) 4
 unfolding filled picture_fields numeral
 an_item_near_the_end = refl
 
 -- ## Input: READ X in line 3, and READ Y in line 4
 abbrev reading : Program
-reading = plain 2 (Read (line 3) (record { place = to_local 0; mode = Integer } ∷ []) ∷ Read (line 4) (record { place = to_local 1; mode = Integer } ∷ []) ∷ [])
+reading = program_of_main 2 (Read (line 3) (record { place = to_local 0; mode = Integer } ∷ []) ∷ Read (line 4) (record { place = to_local 1; mode = Integer } ∷ []) ∷ [])
 
 pub no_word_left : meaning reading (codes "5") 9 ≡ faults [] EndOfData 4 9
 no_word_left = refl
@@ -109,13 +109,13 @@ pub no_number : meaning reading (codes "5 12x") 9 ≡ faults [] BadData 4 9
 no_number = refl
 
 -- line 4 as IF DATA IS NOT ENDED READ Y ALWAYS
-pub data_are_ended : meaning (plain 2 (Read (line 3) (record { place = to_local 0; mode = Integer } ∷ []) ∷
+pub data_are_ended : meaning (program_of_main 2 (Read (line 3) (record { place = to_local 0; mode = Integer } ∷ []) ∷
     If (line 4) (only (DataEnded true)) (block (Read (line 4) (record { place = to_local 1; mode = Integer } ∷ []) ∷ [])) Done ∷ [])) (codes "5 ") 9 ≡ ends [] 9
 data_are_ended = refl
 
 -- READ W, a text, and two lines with it: it is put at the left of its field, and what doesn't fit gives asterisks
 abbrev texts : Program
-texts = record (plain 0 (Read (line 3) (record { place = to_local 0; mode = Alpha } ∷ []) ∷
+texts = record (program_of_main 0 (Read (line 3) (record { place = to_local 0; mode = Alpha } ∷ []) ∷
     Print (line 4) (AValue (local 0) ∷ AValue (local 0) ∷ []) (codes "[*****]" ∷ codes "[**]" ∷ []) ∷ [])) { locals = Alpha ∷ [] }
 
 pub a_text_in_its_field : meaning texts (codes "BOX") 9 ≡ ends (codes "[BOX  ]" ∷ codes "[**]" ∷ []) 9
@@ -149,7 +149,7 @@ half = record {
 
 -- CALL HALF GIVING 7 YIELDING X, Y; both are printed; CALL HALF GIVING 0 YIELDING X, Y
 abbrev halving : Program
-halving = record (plain 2 (Call (line 8) 0 (num (pos 7) ∷ []) (to_local 0 ∷ to_local 1 ∷ []) ∷ print_line 9 (local 0 ∷ local 1 ∷ []) (codes "* *") ∷
+halving = record (program_of_main 2 (Call (line 8) 0 (num (pos 7) ∷ []) (to_local 0 ∷ to_local 1 ∷ []) ∷ print_line 9 (local 0 ∷ local 1 ∷ []) (codes "* *") ∷
     Call (line 11) 0 (num (pos 0) ∷ []) (to_local 0 ∷ to_local 1 ∷ []) ∷ print_line 12 (local 0 ∷ []) (codes "*") ∷ [])) { routines = half ∷ [] }
 
 -- each call takes a tick; STOP in a routine ends the run

@@ -51,9 +51,9 @@ item (AMean j) s = mean_shown (mean j None s)
 item (AMeanOf j e) s = if_ok (value e s) (λ x. mean_shown (mean j (Some x) s))
 
 -- several items, from left to right
-abbrev pub items : List Item → Store → Result (List Shown) Trouble
-items [] s = Ok []
-items (i ∷ is) s = if_ok (item i s) (λ x. turned (λ xs. x ∷ xs) (items is s))
+abbrev pub shown_items : List Item → Store → Result (List Shown) Trouble
+shown_items [] s = Ok []
+shown_items (i ∷ is) s = if_ok (item i s) (λ x. turned (λ xs. x ∷ xs) (shown_items is s))
 
 abbrev pub value_if_any : Option Expression → Store → Result (Option Value) Trouble
 value_if_any None s = Ok None

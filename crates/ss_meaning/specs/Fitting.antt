@@ -35,14 +35,14 @@ HeapFits h =
     × ((k : ℕ) (rs : List Record) → slice_get h.permanents k ≡ Some (Some rs) → Every (λ (r : Record). Hold r.values (modes_of h.layout k)) rs)
 
 -- the class of the living entity of a creation number
-abbrev pub class_in : Option (Option Record) → Option ℕ
-class_in None = None
-class_in (Some None) = None
-class_in (Some (Some r)) = Some r.class
+abbrev pub class_of_record : Option (Option Record) → Option ℕ
+class_of_record None = None
+class_of_record (Some None) = None
+class_of_record (Some (Some r)) = Some r.class
 
 abbrev pub living : State → ℤ → Option ℕ
 living h (pos zero) = None
-living h (pos (suc i)) = class_in (slice_get h.records i)
+living h (pos (suc i)) = class_of_record (slice_get h.records i)
 living h (negsuc k) = None
 
 -- how many entities of a permanent class there are
@@ -82,11 +82,11 @@ abbrev pub Has : Column → ℤ → Type 0
 Has c x = (history : History) × (c x ≡ Some history)
 
 -- the histories of a statistic are there, with one for each of these entities
-abbrev pub IsKept : (statistic : ℕ) → List Column → (ℤ → Type 0) → Type 0
-IsKept j cs these = (c : Column) × (slice_get cs j ≡ Some c) × ((x : ℤ) → these x → Has c x)
+abbrev pub HasHistories : (statistic : ℕ) → List Column → (ℤ → Type 0) → Type 0
+HasHistories j cs these = (c : Column) × (slice_get cs j ≡ Some c) × ((x : ℤ) → these x → Has c x)
 
 abbrev pub HistoriesFit : List Statistic → State → List Column → Type 0
-HistoriesFit ss h cs = (j : ℕ) (t : Statistic) → slice_get ss j ≡ Some t → IsKept j cs (Bears h t.subject)
+HistoriesFit ss h cs = (j : ℕ) (t : Statistic) → slice_get ss j ≡ Some t → HasHistories j cs (Bears h t.subject)
 
 -- ## Stores
 

@@ -8,7 +8,7 @@ use Rattle.ss_base.specs.declared.layout.Owner.{Owner}
 use Rattle.ss_base.specs.declared.layout.Owner.TheVariants.{System, Class}
 use Rattle.ss_base.specs.declared.layout.Layout.{Layout}
 use Rattle.ss_world.specs.Sets.{owner_kind}
-use Rattle.ss_stats.specs.History.{History, Tally, Accumulate, is_full, with_value, restarted, number_of as count_of, sum_of, mean_of, maximum_of, minimum_of}
+use Rattle.ss_stats.specs.History.{History, Tally, Accumulate, is_full, with_value, restarted, number_noted as count_of, sum_of, mean_of, maximum_of, minimum_of}
 use Rattle.ss_program.specs.declared.expression.Fold.{Fold}
 use Rattle.ss_program.specs.declared.expression.Fold.TheVariants.{Number, Sum, Maximum, Minimum}
 use Rattle.ss_program.specs.declared.sections.Subject.{Subject}
@@ -128,8 +128,8 @@ abbrev pub history_in : Option Column → (entity : ℤ) → Result History Trou
 history_in None x = Err Misfit
 history_in (Some c) x = sure (c x)
 
-abbrev pub history_of : (statistic : ℕ) → (entity : ℤ) → List Column → Result History Trouble
-history_of j x cs = history_in (slice_get cs j) x
+abbrev pub history_of_subject : (statistic : ℕ) → (entity : ℤ) → List Column → Result History Trouble
+history_of_subject j x cs = history_in (slice_get cs j) x
 
 -- what is asked of a history, now
 abbrev pub folded : Fold → (now : ℤ) → History → Result Value Trouble
@@ -139,11 +139,11 @@ folded Maximum now h = Ok (Whole (maximum_of h))
 folded Minimum now h = Ok (Whole (minimum_of h))
 
 abbrev pub figure_kept : Fold → (statistic : ℕ) → (entity : ℤ) → Store → Result Value Trouble
-figure_kept fold j x s = if_ok (history_of j x s.scene.histories) (folded fold s.scene.time)
+figure_kept fold j x s = if_ok (history_of_subject j x s.scene.histories) (folded fold s.scene.time)
 
 -- the mean of a history, now: its exact sum and its number
 abbrev pub mean_kept : (statistic : ℕ) → (entity : ℤ) → Store → Result (ℤ × ℤ) Trouble
-mean_kept j x s = turned (λ h. mean_of h s.scene.time) (history_of j x s.scene.histories)
+mean_kept j x s = turned (λ h. mean_of h s.scene.time) (history_of_subject j x s.scene.histories)
 
 -- the histories of which that of a statistic of an entity starts afresh, with the present value
 abbrev pub renewed : (statistic : ℕ) → (entity now present : ℤ) → List Column → Result (List Column) Trouble

@@ -59,8 +59,8 @@ items_from zero limit step item = []
 items_from (suc k) limit step item =
     if int_le item limit then item ∷ items_from k limit step (item +ℤ step) else []
 
-abbrev pub items : (count : ℕ) → Range → List ℤ
-items count r = items_from count (int_min r.limit greatest) r.step r.first
+abbrev pub range_items : (count : ℕ) → Range → List ℤ
+range_items count r = items_from count (int_min r.limit greatest) r.step r.first
 
 -- what follows a turn: the later candidates, or the end of the loop
 abbrev pub after_turn : Turn → Part Bool → Part Bool
@@ -127,8 +127,8 @@ over_members n l set reverse go b =
 
 -- a FOR that makes at most n turns: whether the case was found. With n ticks no more than the first n + 1 items are reached
 abbrev pub over : ℕ → Line → Head → Part Turn → Part Bool
-over n l (Numbers x a b c) turn w = and_then (look l (range a b c) w) (λ r. over_items (visit l x turn) (items (suc n) r))
-over n l (Each x class) turn w = and_then (look l (indices class) w) (λ r. over_items (visit l x turn) (items (suc n) r))
+over n l (Numbers x a b c) turn w = and_then (look l (range a b c) w) (λ r. over_items (visit l x turn) (range_items (suc n) r))
+over n l (Each x class) turn w = and_then (look l (indices class) w) (λ r. over_items (visit l x turn) (range_items (suc n) r))
 over n l (Members x set owner start reverse) turn w =
     and_then (look l (outset start reverse set owner) w) (over_members n l set reverse (visit l x turn))
 

@@ -16,7 +16,7 @@ use Rattle.ss_world.specs.State.{first_state, modes_of}
 use Rattle.ss_world.specs.declared.ties.TieShape.{TieShape}
 use Rattle.ss_world.specs.PendingList.{none_pending}
 use Rattle.ss_program.specs.Program.{Routine, Event, Program}
-use Rattle.ss_meaning.specs.Store.{Notices, Setting, Scene, Store, firsts, opened, yielded}
+use Rattle.ss_meaning.specs.Store.{Notices, Setting, Scene, Store, first_values, opened, yielded}
 use Rattle.ss_meaning.specs.Histories.{no_histories, started}
 use Rattle.ss_meaning.specs.Events.{Beginning, Coming, next_event, begun}
 use Rattle.ss_meaning.specs.Parts.{World, Exit, Returned, Stopped, Faulted, OutOfTicks, Wrong, Outcome, WentOn, Left, Part, and_then, then_nothing, looked, needed, take_tick}
@@ -132,7 +132,7 @@ first_scene p input = record {
 -- the variables at first, and the histories of global variables and of the system's sets
 abbrev pub first_store : Program → List ℕ → Store
 first_store p input =
-    started System (pos 0) (record { globals = firsts p.globals; locals = firsts p.locals; scene = first_scene p input })
+    started System (pos 0) (record { globals = first_values p.globals; locals = first_values p.locals; scene = first_scene p input })
 
 abbrev pub first_world : Program → List ℕ → (ticks : ℕ) → World
 first_world p input n = record { store = first_store p input; report = []; ticks = n }

@@ -44,12 +44,12 @@ owner_as System (Some x) = Err Misfit
 owner_as (Class c) None = Err Misfit
 owner_as (Class c) (Some x) = number_of x
 
-abbrev pub owner_by : Option SetLayout → Option Value → Result ℤ Trouble
-owner_by None o = Err Misfit
-owner_by (Some t) o = owner_as t.owner o
+abbrev pub owner_by_layout : Option SetLayout → Option Value → Result ℤ Trouble
+owner_by_layout None o = Err Misfit
+owner_by_layout (Some t) o = owner_as t.owner o
 
 abbrev pub owner_number : (set : ℕ) → Option Value → Store → Result ℤ Trouble
-owner_number set o s = owner_by (set_at set s) o
+owner_number set o s = owner_by_layout (set_at set s) o
 
 -- the number of an owner that must be there: one that isn't is a fault
 abbrev pub known_owner : (set : ℕ) → Option Value → Store → Result ℤ Trouble

@@ -15,7 +15,7 @@ use Rattle.ss_meaning.specs.Places.{held}
 use Rattle.ss_meaning.specs.Sets.{filed_in, removed_from, removed_at}
 use Rattle.ss_meaning.specs.Events.{made_notice, filed_notice, rescheduled, unscheduled, is_awaited}
 use Rattle.ss_meaning.specs.Statistics.{reset}
-use Rattle.ss_meaning.specs.Expressions.{value, values, items, value_if_any, entity_value, member_value, owner_value, spot, filing, time_value, holds}
+use Rattle.ss_meaning.specs.Expressions.{value, values, shown_items, value_if_any, entity_value, member_value, owner_value, spot, filing, time_value, holds}
 use Rattle.ss_meaning.specs.Parts.{Returned, Stopped, Wrong, WentOn, Left, Part, and_then, then_nothing, choose, look, change, get, write, send, Next, Again, Over, loop}
 use Rattle.ss_meaning.specs.Loops.{GoesOn, IsFound, phrases, over, guarded}
 
@@ -54,7 +54,7 @@ read_each l (t ∷ ts) w = and_then (give_to l t.place (get l (read_word t.mode)
 -- the items, and then the lines with them
 abbrev pub print : Line → List Item → List (List ℕ) → Part (Unit {0})
 print l shown pictures w =
-    and_then (look l (λ s. if_ok (items shown s) (λ xs. sure (printed pictures xs))) w) send
+    and_then (look l (λ s. if_ok (shown_items shown s) (λ xs. sure (printed pictures xs))) w) send
 
 -- ## Entities and sets
 
@@ -147,7 +147,7 @@ abbrev mutual
   effect h n (Schedule l class e given when) w = schedule l class e given when w
   effect h n (Cancel l class e) w = cancel l class e w
   effect h n (Reset l restarts) w = restart_each l restarts w
-  effect h n (Print l items pictures) w = print l items pictures w
+  effect h n (Print l shown_items pictures) w = print l shown_items pictures w
   effect h n (Skip l e) w = and_then (look l (λ s. if_ok (value e s) empty_lines) w) send
 
   -- one statement after another

@@ -81,15 +81,15 @@ prepended v None = None
 prepended v (Some vs) = Some (v ∷ vs)
 
 -- what variables of these modes hold at first
-abbrev pub firsts : List Mode → List Value
-firsts modes = map first_value modes
+abbrev pub first_values : List Mode → List Value
+first_values modes = map first_value modes
 
 -- values that are given to variables of these modes, which are as many
-abbrev pub taken : List Mode → List Value → Option (List Value)
-taken [] [] = Some []
-taken [] (v ∷ vs) = None
-taken (m ∷ ms) [] = None
-taken (m ∷ ms) (v ∷ vs) = if same_mode (mode_of v) m then prepended v (taken ms vs) else None
+abbrev pub taken_by_modes : List Mode → List Value → Option (List Value)
+taken_by_modes [] [] = Some []
+taken_by_modes [] (v ∷ vs) = None
+taken_by_modes (m ∷ ms) [] = None
+taken_by_modes (m ∷ ms) (v ∷ vs) = if same_mode (mode_of v) m then prepended v (taken_by_modes ms vs) else None
 
 abbrev pub appended : Option (List Value) → List Value → Option (List Value)
 appended None others = None
@@ -97,7 +97,7 @@ appended (Some vs) others = Some (vs ++ others)
 
 -- the variables of a routine: those that take what is given, and then the others at first
 abbrev pub opened : (given others : List Mode) → List Value → Option (List Value)
-opened given others vs = appended (taken given vs) (firsts others)
+opened given others vs = appended (taken_by_modes given vs) (first_values others)
 
 -- the values of the first so many variables
 abbrev pub front : (count : ℕ) → List Value → Option (List Value)

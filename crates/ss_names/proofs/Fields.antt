@@ -9,8 +9,8 @@ use Rattle.std.proofs.lemmas.List.{ext_get_or, get_or-set_same, get_or-set_other
 use Rattle.std.proofs.lemmas.List.Elements.{filter-append}
 use Rattle.std.proofs.lemmas.List.FromFn.{length-map-range_with_len, get_or-map-range_with_len}
 use Rattle.ss_tree.specs.declared.preamble.Mode.{Mode}
-use Rattle.ss_names_declarations.specs.Sayings.{NameBytes}
-use Rattle.ss_names.specs.Entities.{AreAttributes, AttributesSeen, attribute_after, attributes_after, fields_among, fields_of}
+use Rattle.ss_tree.specs.Names.{NameBytes}
+use Rattle.ss_names.specs.Entities.{AreAttributes, AttributesSeen, attribute_after, attributes_after, attributes_of_class, fields_by_class}
 use Rattle.ss_names_declarations.specs.Firsts.{entry_beside, firsts, same_name, value_for, with_first}
 use Rattle.ss_names_declarations.proofs.Entries.{keys_append}
 
@@ -23,66 +23,66 @@ counting a (suc n) =
     ap (λ l. a ∷ l) (counting (a + 1) n ∙ ap (λ k. range_with_len (a + 1) n ++ k ∷ []) e)
 
 -- one more class
-pub fields_grow : (owned : List (NameBytes × ℕ)) (n : ℕ) → fields_of owned (n + 1) ≡ fields_of owned n ++ fields_among owned n ∷ []
+pub fields_grow : (owned : List (NameBytes × ℕ)) (n : ℕ) → fields_by_class owned (n + 1) ≡ fields_by_class owned n ++ attributes_of_class owned n ∷ []
 fields_grow owned n =
     let on : n + 1 ≡ suc n = omega arith in
     let same : 0 + n ≡ n = omega arith in
-    ap (fields_of owned) on ∙ ap (map (fields_among owned)) (counting 0 n) ∙ map_push (fields_among owned) (range_with_len 0 n) (0 + n)
-    ∙ ap (λ k. fields_of owned n ++ fields_among owned k ∷ []) same
+    ap (fields_by_class owned) on ∙ ap (map (attributes_of_class owned)) (counting 0 n) ∙ map_push (attributes_of_class owned) (range_with_len 0 n) (0 + n)
+    ∙ ap (λ k. fields_by_class owned n ++ attributes_of_class owned k ∷ []) same
 
 -- an attribute of another class, and an attribute of this class
 chosen : (name : NameBytes) (c d : ℕ) (same : Bool) → nat_eq c d ≡ same → keys_of (filter (λ (e : NameBytes × ℕ). nat_eq e.1 d) ((name, c) ∷ [])) ≡ cond same (name ∷ []) []
 chosen name c d true e = ap (λ b. keys_of (cond b ((name, c) ∷ []) [])) e
 chosen name c d false e = ap (λ b. keys_of (cond b ((name, c) ∷ []) [])) e
 
-fields_more : (owned : List (NameBytes × ℕ)) (name : NameBytes) (c d : ℕ) (same : Bool) → nat_eq c d ≡ same → fields_among (owned ++ (name, c) ∷ []) d ≡ fields_among owned d ++ cond same (name ∷ []) []
+fields_more : (owned : List (NameBytes × ℕ)) (name : NameBytes) (c d : ℕ) (same : Bool) → nat_eq c d ≡ same → attributes_of_class (owned ++ (name, c) ∷ []) d ≡ attributes_of_class owned d ++ cond same (name ∷ []) []
 fields_more owned name c d same e =
     let here : NameBytes × ℕ → Bool = λ f. nat_eq f.1 d in
     ap keys_of (filter-append here owned ((name, c) ∷ []))
     ∙ keys_append (filter here owned) (filter here ((name, c) ∷ []))
-    ∙ ap (λ l. fields_among owned d ++ l) (chosen name c d same e)
+    ∙ ap (λ l. attributes_of_class owned d ++ l) (chosen name c d same e)
 
 append_nil : {A : Type 0} (xs : List A) → xs ++ [] ≡ xs
 append_nil [] = refl
 append_nil (x ∷ xs) = ap (λ l. x ∷ l) (append_nil xs)
 
-same_row : (owned : List (NameBytes × ℕ)) (name : NameBytes) (c : ℕ) → fields_among (owned ++ (name, c) ∷ []) c ≡ fields_among owned c ++ name ∷ []
+same_row : (owned : List (NameBytes × ℕ)) (name : NameBytes) (c : ℕ) → attributes_of_class (owned ++ (name, c) ∷ []) c ≡ attributes_of_class owned c ++ name ∷ []
 same_row owned name c =
     elim (eqb_tells c c) [
       | inl h ↦ fields_more owned name c c true h.0
       | inr h ↦ absurd (h.1 refl)
     ]
 
-other_row : (owned : List (NameBytes × ℕ)) (name : NameBytes) (c d : ℕ) → (d ≡ c → ⊥) → fields_among (owned ++ (name, c) ∷ []) d ≡ fields_among owned d
-other_row owned name c d ne = fields_more owned name c d false (ne_eqb c d (λ e. ne (sym e))) ∙ append_nil (fields_among owned d)
+other_row : (owned : List (NameBytes × ℕ)) (name : NameBytes) (c d : ℕ) → (d ≡ c → ⊥) → attributes_of_class (owned ++ (name, c) ∷ []) d ≡ attributes_of_class owned d
+other_row owned name c d ne = fields_more owned name c d false (ne_eqb c d (λ e. ne (sym e))) ∙ append_nil (attributes_of_class owned d)
 
-row_at : (owned : List (NameBytes × ℕ)) (name : NameBytes) (n c i : ℕ) → c < n → i < n → get_or (slice_set (fields_of owned n) c (get_or (fields_of owned n) c [] ++ name ∷ [])) i [] ≡ fields_among (owned ++ (name, c) ∷ []) i
+row_at : (owned : List (NameBytes × ℕ)) (name : NameBytes) (n c i : ℕ) → c < n → i < n → get_or (slice_set (fields_by_class owned n) c (get_or (fields_by_class owned n) c [] ++ name ∷ [])) i [] ≡ attributes_of_class (owned ++ (name, c) ∷ []) i
 row_at owned name n c i lc li =
-    let rows = fields_of owned n in
+    let rows = fields_by_class owned n in
     let new = get_or rows c [] ++ name ∷ [] in
-    let long : length rows ≡ n = length-map-range_with_len (fields_among owned) 0 n in
-    let at : (j : ℕ) → j < n → get_or rows j [] ≡ fields_among owned j = λ j l. get_or-map-range_with_len (fields_among owned) 0 n j j [] l (omega arith) in
+    let long : length rows ≡ n = length-map-range_with_len (attributes_of_class owned) 0 n in
+    let at : (j : ℕ) → j < n → get_or rows j [] ≡ attributes_of_class owned j = λ j l. get_or-map-range_with_len (attributes_of_class owned) 0 n j j [] l (omega arith) in
     elim (eqb_tells i c) [
       | inl h ↦ ap (λ j. get_or (slice_set rows c new) j []) h.1
           ∙ get_or-set_same rows c new [] (omega (arith, long))
           ∙ ap (λ r. r ++ name ∷ []) (at c lc) ∙ sym (same_row owned name c)
-          ∙ ap (fields_among (owned ++ (name, c) ∷ [])) (sym h.1)
+          ∙ ap (attributes_of_class (owned ++ (name, c) ∷ [])) (sym h.1)
       | inr h ↦ get_or-set_other rows c i new [] h.1 ∙ at i li ∙ sym (other_row owned name c i h.1)
     ]
 
 -- one more attribute
-pub rows_more : (owned : List (NameBytes × ℕ)) (name : NameBytes) (n c : ℕ) → c < n → slice_set (fields_of owned n) c (get_or (fields_of owned n) c [] ++ name ∷ []) ≡ fields_of (owned ++ (name, c) ∷ []) n
+pub rows_more : (owned : List (NameBytes × ℕ)) (name : NameBytes) (n c : ℕ) → c < n → slice_set (fields_by_class owned n) c (get_or (fields_by_class owned n) c [] ++ name ∷ []) ≡ fields_by_class (owned ++ (name, c) ∷ []) n
 rows_more owned name n c lc =
-    let rows = fields_of owned n in
+    let rows = fields_by_class owned n in
     let after = slice_set rows c (get_or rows c [] ++ name ∷ []) in
     let more = owned ++ (name, c) ∷ [] in
-    let long : length after ≡ n = length-set rows c (get_or rows c [] ++ name ∷ []) ∙ length-map-range_with_len (fields_among owned) 0 n in
-    ext_get_or [] after (fields_of more n) (long ∙ sym (length-map-range_with_len (fields_among more) 0 n))
-    (λ i l. row_at owned name n c i lc (omega (arith, long)) ∙ sym (get_or-map-range_with_len (fields_among more) 0 n i i [] (omega (arith, long)) (omega arith)))
+    let long : length after ≡ n = length-set rows c (get_or rows c [] ++ name ∷ []) ∙ length-map-range_with_len (attributes_of_class owned) 0 n in
+    ext_get_or [] after (fields_by_class more n) (long ∙ sym (length-map-range_with_len (attributes_of_class more) 0 n))
+    (λ i l. row_at owned name n c i lc (omega (arith, long)) ∙ sym (get_or-map-range_with_len (attributes_of_class more) 0 n i i [] (omega (arith, long)) (omega arith)))
 
 -- the length of a row
-pub row_length : (owned : List (NameBytes × ℕ)) (n c : ℕ) → c < n → length (get_or (fields_of owned n) c []) ≡ length (fields_among owned c)
-row_length owned n c lc = ap length (get_or-map-range_with_len (fields_among owned) 0 n c c [] lc (omega arith))
+pub row_length : (owned : List (NameBytes × ℕ)) (n c : ℕ) → c < n → length (get_or (fields_by_class owned n) c []) ≡ length (attributes_of_class owned c)
+row_length owned n c lc = ap length (get_or-map-range_with_len (attributes_of_class owned) 0 n c c [] lc (omega arith))
 
 -- ---- entries
 
@@ -170,4 +170,4 @@ firsts_more f xs i x lt is = firsts_folded_more f [] xs i x lt is
 
 -- how many rows there are
 pub row_count : (usual : Option Mode) (defined : List (NameBytes × Mode)) (n : ℕ) (owned : List (NameBytes × ℕ)) (a : AttributesSeen) → AreAttributes usual defined n owned a → length a.fields ≡ n
-row_count usual defined n owned a are = ap length are.fields ∙ length-map-range_with_len (fields_among owned) 0 n
+row_count usual defined n owned a are = ap length are.fields ∙ length-map-range_with_len (attributes_of_class owned) 0 n

@@ -16,22 +16,23 @@ use Rattle.ss_tree.specs.declared.preamble.StatisticKind.{StatisticKind}
 use Rattle.ss_names_declarations.specs.declared.saying.Said.{Said}
 use Rattle.ss_names_declarations.specs.declared.saying.Said.TheVariants as said
 use Rattle.ss_names_declarations.specs.declared.saying.Saying.{Saying}
-use Rattle.ss_names_declarations.specs.Sayings.{NameBytes, sayings}
+use Rattle.ss_tree.specs.Names.{NameBytes}
+use Rattle.ss_names_declarations.specs.Sayings.{sayings}
 use Rattle.ss_names.specs.declared.entry.Attribute.{Attribute}
 use Rattle.ss_names.specs.declared.entry.Class.{Class}
 use Rattle.ss_names.specs.declared.entry.Set.{Set}
-use Rattle.ss_names.specs.declared.meaning.Meaning.{Meaning}
-use Rattle.ss_names.specs.declared.meaning.Meaning.TheVariants as meanings
-use Rattle.ss_names.specs.declared.entry.Statistic.{Statistic}
-use Rattle.ss_names.specs.Entities.{attribute_by, attribute_classes, attribute_entries, attributes_after, classes, defined_modes, fields_among, fields_of, member_by, member_entries, orderings, owner_by, owner_entries, set_members, set_names, set_of, set_owners, usual_mode}
+use Rattle.ss_names.specs.declared.meaning.GlobalMeaning.{GlobalMeaning}
+use Rattle.ss_names.specs.declared.meaning.GlobalMeaning.TheVariants as meanings
+use Rattle.ss_names.specs.declared.entry.StatisticEntry.{StatisticEntry}
+use Rattle.ss_names.specs.Entities.{attribute_by, attribute_classes, attribute_entries, attributes_after, classes, defined_modes, attributes_of_class, fields_by_class, member_by, member_entries, orderings, owner_declared, owner_entries, set_members, set_names, set_of, set_owners, usual_mode}
 use Rattle.ss_names_declarations.specs.Firsts.{entry_beside, entry_if, firsts, place_among, place_in, same_name, value_for, with_first}
 use Rattle.ss_names_declarations.proofs.Entries.{keys_append}
 use Rattle.ss_names.specs.Laws.{AttributesArePlaced, IsClassOrSystem, IsPlaced, NumbersArePlaces, RanksAreClasses, SetsArePlaced, StatisticsHaveHistories}
-use Rattle.ss_names.specs.Meanings.{class_meaning, class_meanings, count_meaning, class_name_meaning, meaning_by, meaning_entries, numbered, set_meanings}
-use Rattle.ss_names.specs.Statistics.{statistic_by, statistic_of, statistic_entries, weighings}
+use Rattle.ss_names.specs.Meanings.{class_meaning, class_meanings, count_meaning, class_name_meaning, meaning_by, meaning_entries, numbered_names, set_meanings}
+use Rattle.ss_names.specs.Statistics.{statistic_by, statistic_entry, statistic_entries, weighings}
 use Rattle.ss_names.specs.Histories.{history_of}
 use Rattle.ss_names.specs.Table.{declared}
-use Rattle.ss_names.specs.Variables.{count_name, declared_by, declared_entries, is_notice_class, notice, priority_by, priority_entries}
+use Rattle.ss_names.specs.Variables.{count_name, declared_by, declared_entries, is_notice_class, notice_entry, priority_by, priority_entries}
 
 -- ---- properties of all values
 
@@ -92,24 +93,24 @@ placed_in entries name = subst (λ n. IfSome (place_in entries name) (λ i. i < 
 
 -- ---- meanings of names
 
-both : (says : List Saying) (m : ℕ → ℕ → Meaning) (c v : Option ℕ) → ((class variable : ℕ) → class < length (declared says).classes → variable < length (declared says).variables → IsPlaced (declared says) (m class variable)) → IfSome c (λ i. i < length (declared says).classes) → IfSome v (λ i. i < length (declared says).variables) → IfSome (class_meaning m c v) (IsPlaced (declared says))
+both : (says : List Saying) (m : ℕ → ℕ → GlobalMeaning) (c v : Option ℕ) → ((class variable : ℕ) → class < length (declared says).classes → variable < length (declared says).variables → IsPlaced (declared says) (m class variable)) → IfSome c (λ i. i < length (declared says).classes) → IfSome v (λ i. i < length (declared says).variables) → IfSome (class_meaning m c v) (IsPlaced (declared says))
 both says m None v h k l = tt
 both says m (Some class) None h k l = tt
 both says m (Some class) (Some variable) h k l = h class variable k l
 
-name_placed : (says : List Saying) (name : NameBytes) → IfSome (class_name_meaning (numbered says) name) (IsPlaced (declared says))
+name_placed : (says : List Saying) (name : NameBytes) → IfSome (class_name_meaning (numbered_names says) name) (IsPlaced (declared says))
 name_placed says name = both says meanings.Class _ _ (λ c v l k. (l, k)) (placed_in (declared says).classes name) (placed_in (declared says).variables name)
 
-count_placed : (says : List Saying) (name : NameBytes) → IfSome (count_meaning (numbered says) name) (IsPlaced (declared says))
+count_placed : (says : List Saying) (name : NameBytes) → IfSome (count_meaning (numbered_names says) name) (IsPlaced (declared says))
 count_placed says name = both says meanings.Count _ _ (λ c v l k. (l, k)) (placed_in (declared says).classes name) (placed_in (declared says).variables (count_name name))
 
-class_placed : (says : List Saying) (kind : ClassKind) (name : NameBytes) → AllValues (IsPlaced (declared says)) (class_meanings (numbered says) kind name)
+class_placed : (says : List Saying) (kind : ClassKind) (name : NameBytes) → AllValues (IsPlaced (declared says)) (class_meanings (numbered_names says) kind name)
 class_placed says class_kinds.Permanent name =
-    all_append (IsPlaced (declared says)) (entry_if name (class_name_meaning (numbered says) name)) (entry_if (count_name name) (count_meaning (numbered says) name))
-    (all_entry (IsPlaced (declared says)) name (class_name_meaning (numbered says) name) (name_placed says name))
-    (all_entry (IsPlaced (declared says)) (count_name name) (count_meaning (numbered says) name) (count_placed says name))
-class_placed says class_kinds.Temporary name = all_entry (IsPlaced (declared says)) name (class_name_meaning (numbered says) name) (name_placed says name)
-class_placed says class_kinds.EventNotice name = all_entry (IsPlaced (declared says)) name (class_name_meaning (numbered says) name) (name_placed says name)
+    all_append (IsPlaced (declared says)) (entry_if name (class_name_meaning (numbered_names says) name)) (entry_if (count_name name) (count_meaning (numbered_names says) name))
+    (all_entry (IsPlaced (declared says)) name (class_name_meaning (numbered_names says) name) (name_placed says name))
+    (all_entry (IsPlaced (declared says)) (count_name name) (count_meaning (numbered_names says) name) (count_placed says name))
+class_placed says class_kinds.Temporary name = all_entry (IsPlaced (declared says)) name (class_name_meaning (numbered_names says) name) (name_placed says name)
+class_placed says class_kinds.EventNotice name = all_entry (IsPlaced (declared says)) name (class_name_meaning (numbered_names says) name) (name_placed says name)
 
 set_placed : (says : List Saying) (name : NameBytes) (set : Option ℕ) → IfSome set (λ i. i < length (declared says).set_names) → AllValues (IsPlaced (declared says)) (set_meanings name set)
 set_placed says name None h = tt
@@ -119,7 +120,7 @@ unless : {V : Type 0} (P : V → Type 0) (b : Bool) (o : Option V) → IfSome o 
 unless P true o h = tt
 unless P false o h = h
 
-said_placed : (says : List Saying) (what : Said) (name : Option NameBytes) → AllValues (IsPlaced (declared says)) (meaning_entries (numbered says) what name)
+said_placed : (says : List Saying) (what : Said) (name : Option NameBytes) → AllValues (IsPlaced (declared says)) (meaning_entries (numbered_names says) what name)
 said_placed says (said.Class kind) (Some name) = class_placed says kind name
 said_placed says (said.Attribute class) (Some name) =
     all_entry (IsPlaced (declared says)) name _ (mapped (λ i. i < length (declared says).attributes) (IsPlaced (declared says)) meanings.Attribute _ (λ i h. h) (placed_in (declared says).attributes name))
@@ -139,15 +140,15 @@ said_placed says _ _ = tt
 pub numbers_are_places : NumbersArePlaces
 numbers_are_places p name =
     let says = sayings p in
-    firsts_satisfy (IsPlaced (declared says)) (meaning_by (numbered says)) says name (λ (s : Saying). said_placed says s.said s.name)
+    firsts_satisfy (IsPlaced (declared says)) (meaning_by (numbered_names says)) says name (λ (s : Saying). said_placed says s.said s.name)
 
 -- ---- statistics and ranks
 
-statistic_placed : (count : ℕ) (kind : StatisticKind) (name : NameBytes) (history : Option ℕ) → IfSome history (λ i. i < count) → AllValues (λ (s : Statistic). s.history < count) (statistic_of kind name history)
+statistic_placed : (count : ℕ) (kind : StatisticKind) (name : NameBytes) (history : Option ℕ) → IfSome history (λ i. i < count) → AllValues (λ (s : StatisticEntry). s.history < count) (statistic_entry kind name history)
 statistic_placed count kind name None h = tt
 statistic_placed count kind name (Some history) h = (h, tt)
 
-statistic_said : (says : List Saying) (what : Said) (name : Option NameBytes) → AllValues (λ (s : Statistic). s.history < length (weighings says)) (statistic_entries (weighings says) what name)
+statistic_said : (says : List Saying) (what : Said) (name : Option NameBytes) → AllValues (λ (s : StatisticEntry). s.history < length (weighings says)) (statistic_entries (weighings says) what name)
 statistic_said says (said.Statistic weighting kind subject) (Some name) = statistic_placed (length (weighings says)) kind name _ (placed_in (weighings says) subject)
 statistic_said says _ _ = tt
 
@@ -156,13 +157,13 @@ statistics_have_histories p name =
     let says = sayings p in
     let names = (declared says).names in
     subst (λ n. IfSome (value_for (declared says).statistics name) (λ s. s.history < n)) (sym (length-map (weighings says) (history_of names)))
-    (firsts_satisfy (λ (s : Statistic). s.history < length (weighings says)) (statistic_by (weighings says)) says name (λ (s : Saying). statistic_said says s.said s.name))
+    (firsts_satisfy (λ (s : StatisticEntry). s.history < length (weighings says)) (statistic_by (weighings says)) says name (λ (s : Saying). statistic_said says s.said s.name))
 
 chosen : {V : Type 0} (P : V → Type 0) (b : Bool) (xs : List (NameBytes × V)) → AllValues P xs → AllValues P (if b then xs else [])
 chosen P true xs h = h
 chosen P false xs h = tt
 
-notice_placed : (cs : List (NameBytes × Class)) (name : NameBytes) → AllValues (λ class. class < length cs) (notice cs name)
+notice_placed : (cs : List (NameBytes × Class)) (name : NameBytes) → AllValues (λ class. class < length cs) (notice_entry cs name)
 notice_placed cs name = chosen (λ class. class < length cs) (is_notice_class (value_for cs name)) (entry_if name (place_in cs name)) (all_entry (λ class. class < length cs) name (place_in cs name) (placed_in cs name))
 
 priority_placed : (cs : List (NameBytes × Class)) (what : Said) (name : Option NameBytes) → AllValues (λ class. class < length cs) (priority_entries cs what name)
@@ -201,10 +202,10 @@ owned_classes says =
 abbrev IsField : ℕ → List (List NameBytes) → Attribute → Type 0
 IsField count rows a = (a.class < count) × (a.field < length (get_or rows a.class []))
 
-first_of_class : (e : NameBytes × ℕ) (es : List (NameBytes × ℕ)) (same : Bool) → nat_eq e.1 e.1 ≡ same → same ≡ true → 0 < length (fields_among (e ∷ es) e.1)
+first_of_class : (e : NameBytes × ℕ) (es : List (NameBytes × ℕ)) (same : Bool) → nat_eq e.1 e.1 ≡ same → same ≡ true → 0 < length (attributes_of_class (e ∷ es) e.1)
 first_of_class e es false h k = absurd cc
 first_of_class e es true h k =
-    let here : length (fields_among (e ∷ es) e.1) ≡ suc (length (fields_among es e.1)) =
+    let here : length (attributes_of_class (e ∷ es) e.1) ≡ suc (length (attributes_of_class es e.1)) =
     ap (λ b. length (keys_of (cond b (e ∷ filter (λ (f : NameBytes × ℕ). nat_eq f.1 e.1) es) (filter (λ (f : NameBytes × ℕ). nat_eq f.1 e.1) es)))) h in
     omega (arith, here)
 
@@ -212,21 +213,21 @@ same_number : (n : ℕ) → nat_eq n n ≡ true
 same_number n = elim (eqb_tells n n) [ inl h ↦ h.0 | inr h ↦ absurd (h.1 refl) ]
 
 -- the attributes of its class before it are fewer than those with it
-field_is_new : (before es : List (NameBytes × ℕ)) (e : NameBytes × ℕ) → length (fields_among before e.1) < length (fields_among (before ++ e ∷ es) e.1)
+field_is_new : (before es : List (NameBytes × ℕ)) (e : NameBytes × ℕ) → length (attributes_of_class before e.1) < length (attributes_of_class (before ++ e ∷ es) e.1)
 field_is_new before es e =
     let of : NameBytes × ℕ → Bool = λ f. nat_eq f.1 e.1 in
-    let split : fields_among (before ++ e ∷ es) e.1 ≡ fields_among before e.1 ++ fields_among (e ∷ es) e.1 =
+    let split : attributes_of_class (before ++ e ∷ es) e.1 ≡ attributes_of_class before e.1 ++ attributes_of_class (e ∷ es) e.1 =
     ap keys_of (filter-append of before (e ∷ es)) ∙ keys_append (filter of before) (filter of (e ∷ es)) in
     let more = first_of_class e es (nat_eq e.1 e.1) refl (same_number e.1) in
-    let long : length (fields_among (before ++ e ∷ es) e.1) ≡ length (fields_among before e.1) + length (fields_among (e ∷ es) e.1) =
-    ap length split ∙ length-append (fields_among before e.1) (fields_among (e ∷ es) e.1) in
+    let long : length (attributes_of_class (before ++ e ∷ es) e.1) ≡ length (attributes_of_class before e.1) + length (attributes_of_class (e ∷ es) e.1) =
+    ap length split ∙ length-append (attributes_of_class before e.1) (attributes_of_class (e ∷ es) e.1) in
     omega (arith, more, long)
 
-attributes_are_fields : (usual : Option Mode) (defined : List (NameBytes × Mode)) (count : ℕ) (all before es : List (NameBytes × ℕ)) → all ≡ before ++ es → AllValues (λ class. class < count) es → AllValues (IsField count (fields_of all count)) (attributes_after usual defined before es)
+attributes_are_fields : (usual : Option Mode) (defined : List (NameBytes × Mode)) (count : ℕ) (all before es : List (NameBytes × ℕ)) → all ≡ before ++ es → AllValues (λ class. class < count) es → AllValues (IsField count (fields_by_class all count)) (attributes_after usual defined before es)
 attributes_are_fields usual defined count all before [] is h = tt
 attributes_are_fields usual defined count all before (e ∷ es) is h =
-    let row : get_or (fields_of all count) e.1 [] ≡ fields_among all e.1 = get_or-map-range_with_len (fields_among all) 0 count e.1 e.1 [] h.0 (omega arith) in
-    let long : length (get_or (fields_of all count) e.1 []) ≡ length (fields_among (before ++ e ∷ es) e.1) = ap length row ∙ ap (λ l. length (fields_among l e.1)) is in (
+    let row : get_or (fields_by_class all count) e.1 [] ≡ attributes_of_class all e.1 = get_or-map-range_with_len (attributes_of_class all) 0 count e.1 e.1 [] h.0 (omega arith) in
+    let long : length (get_or (fields_by_class all count) e.1 []) ≡ length (attributes_of_class (before ++ e ∷ es) e.1) = ap length row ∙ ap (λ l. length (attributes_of_class l e.1)) is in (
       (h.0, omega (arith, long, field_is_new before es e)),
       attributes_are_fields usual defined count all (before ++ e ∷ []) es (is ∙ sym (append_assoc before (e ∷ []) es)) h.1,
     )
@@ -236,7 +237,7 @@ attributes_are_placed p name =
     let says = sayings p in
     let count = length (classes says) in
     let owned = attribute_classes says in
-    satisfied_for (IsField count (fields_of owned count)) (attributes_after (usual_mode says) (defined_modes says) [] owned) name
+    satisfied_for (IsField count (fields_by_class owned count)) (attributes_after (usual_mode says) (defined_modes says) [] owned) name
     (attributes_are_fields (usual_mode says) (defined_modes says) count owned [] owned refl (owned_classes says))
 
 -- ---- sets
@@ -259,7 +260,7 @@ sets_are_placed p set =
     let P : Set → Type 0 = λ s. IfSome s.owner (IsClassOrSystem (length cs)) × IfSome s.member (λ class. class < length cs) in
     let each : (name : NameBytes) → P (made name) =
     λ name. (
-      firsts_satisfy (IsClassOrSystem (length cs)) (owner_by cs) says name (λ (s : Saying). owner_placed cs s.said s.name),
+      firsts_satisfy (IsClassOrSystem (length cs)) (owner_declared cs) says name (λ (s : Saying). owner_placed cs s.said s.name),
       firsts_satisfy (λ class. class < length cs) (member_by cs) says name (λ (s : Saying). member_placed cs s.said s.name),
     ) in
     subst (λ o. IfSome o P) (sym (slice_get-map made (set_names says) set))

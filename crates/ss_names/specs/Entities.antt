@@ -10,7 +10,7 @@ use Rattle.ss_tree.specs.declared.preamble.Mode.{Mode}
 use Rattle.ss_names_declarations.specs.declared.saying.Said.{Said}
 use Rattle.ss_names_declarations.specs.declared.saying.Said.TheVariants as said
 use Rattle.ss_names_declarations.specs.declared.saying.Saying.{Saying}
-use Rattle.ss_names_declarations.specs.Sayings.{NameBytes}
+use Rattle.ss_tree.specs.Names.{NameBytes}
 use Rattle.ss_names.specs.declared.entry.Attribute.{Attribute}
 use Rattle.ss_names.specs.declared.entry.Class.{Class}
 use Rattle.ss_names.specs.declared.entry.Ordering.{Ordering}
@@ -67,17 +67,17 @@ abbrev pub attribute_classes : List Saying → List (NameBytes × ℕ)
 attribute_classes says = firsts (flat_map (attribute_by (classes says)) says)
 
 -- the attributes of a class, in the order of the text
-abbrev pub fields_among : List (NameBytes × ℕ) → ℕ → List NameBytes
-fields_among owned class = keys_of (filter (λ e. nat_eq e.1 class) owned)
+abbrev pub attributes_of_class : List (NameBytes × ℕ) → ℕ → List NameBytes
+attributes_of_class owned class = keys_of (filter (λ e. nat_eq e.1 class) owned)
 
 -- the mode of an attribute: that of its DEFINE, or else that of NORMALLY
-abbrev pub mode_of : Option Mode → List (NameBytes × Mode) → NameBytes → Option Mode
-mode_of usual defined name = option_or (value_for defined name) usual
+abbrev pub defined_mode : Option Mode → List (NameBytes × Mode) → NameBytes → Option Mode
+defined_mode usual defined name = option_or (value_for defined name) usual
 
 -- an attribute is numbered in its class: by how many attributes of the class come before it
 abbrev pub attribute_after : Option Mode → List (NameBytes × Mode) → List (NameBytes × ℕ) → NameBytes × ℕ → NameBytes × Attribute
 attribute_after usual defined before e =
-    (e.0, record { class = e.1; field = length (fields_among before e.1); mode = mode_of usual defined e.0 })
+    (e.0, record { class = e.1; field = length (attributes_of_class before e.1); mode = defined_mode usual defined e.0 })
 
 abbrev pub attributes_after : Option Mode → List (NameBytes × Mode) → List (NameBytes × ℕ) → List (NameBytes × ℕ) → List (NameBytes × Attribute)
 attributes_after usual defined before [] = []
@@ -89,11 +89,11 @@ abbrev pub attributes : List Saying → List (NameBytes × Attribute)
 attributes says = attributes_after (usual_mode says) (defined_modes says) [] (attribute_classes says)
 
 -- the attributes of each of so many classes, in the order of their numbers
-abbrev pub fields_of : List (NameBytes × ℕ) → ℕ → List (List NameBytes)
-fields_of owned count = map (fields_among owned) (range_with_len 0 count)
+abbrev pub fields_by_class : List (NameBytes × ℕ) → ℕ → List (List NameBytes)
+fields_by_class owned count = map (attributes_of_class owned) (range_with_len 0 count)
 
 abbrev pub fields : List Saying → List (List NameBytes)
-fields says = fields_of (attribute_classes says) (length (classes says))
+fields says = fields_by_class (attribute_classes says) (length (classes says))
 
 -- attributes, and those of each class
 pub record AttributesSeen : Type 0 where
@@ -103,7 +103,7 @@ pub record AttributesSeen : Type 0 where
 -- the attributes of so many classes, from these modes and from the number of the class of each
 pub record AreAttributes (usual : Option Mode) (defined : List (NameBytes × Mode)) (count : ℕ) (owned : List (NameBytes × ℕ)) (a : AttributesSeen) : Type 0 where
   pub entries : a.entries ≡ attributes_after usual defined [] owned
-  pub fields : a.fields ≡ fields_of owned count
+  pub fields : a.fields ≡ fields_by_class owned count
 
 -- ---- sets
 
@@ -125,12 +125,12 @@ owner_entries cs said.SystemSet (Some name) = (name, owners.System) ∷ []
 owner_entries cs (said.OwnedSet class) (Some name) = entry_if name (option_map owners.Class (place_in cs class))
 owner_entries cs _ _ = []
 
-abbrev pub owner_by : List (NameBytes × Class) → Saying → List (NameBytes × Owner)
-owner_by cs s = owner_entries cs s.said s.name
+abbrev pub owner_declared : List (NameBytes × Class) → Saying → List (NameBytes × Owner)
+owner_declared cs s = owner_entries cs s.said s.name
 
 -- each set that has an owner, with the first
 abbrev pub set_owners : List Saying → List (NameBytes × Owner)
-set_owners says = firsts (flat_map (owner_by (classes says)) says)
+set_owners says = firsts (flat_map (owner_declared (classes says)) says)
 
 abbrev pub member_entries : List (NameBytes × Class) → Said → Option NameBytes → List (NameBytes × ℕ)
 member_entries cs (said.MemberSet class) (Some name) = entry_if name (place_in cs class)

@@ -11,14 +11,14 @@ use Rattle.ss_tree.specs.declared.preamble.StatisticKind.TheVariants as folds
 use Rattle.ss_tree.specs.declared.preamble.Weighting.TheVariants.{Tally, Accumulate}
 use Rattle.ss_tree.specs.Tree.{has, owns, belongs_to, ranked, permanent_entities, temporary_entities, event_notices, every, normally, system_owns, define_variables, define_sets, priority_order, break_ties, statistics, main, routine, event, ProgramTree, SectionKindTree, SectionTree}
 use Rattle.ss_names_declarations.specs.declared.saying.SetRule.TheVariants as rules
-use Rattle.ss_names_declarations.specs.Sayings.{NameBytes}
+use Rattle.ss_tree.specs.Names.{NameBytes}
 use Rattle.ss_names.specs.declared.entry.Attribute.{Attribute}
 use Rattle.ss_names.specs.declared.entry.Class.{Class}
 use Rattle.ss_names.specs.declared.meaning.Derived.TheVariants.{Predecessor}
-use Rattle.ss_names.specs.declared.meaning.Meaning.{Meaning}
-use Rattle.ss_names.specs.declared.meaning.Meaning.TheVariants as meanings
-use Rattle.ss_names.specs.declared.meaning.Subject.TheVariants as subjects
-use Rattle.ss_names.specs.declared.entry.Variable.{Variable}
+use Rattle.ss_names.specs.declared.meaning.GlobalMeaning.{GlobalMeaning}
+use Rattle.ss_names.specs.declared.meaning.GlobalMeaning.TheVariants as meanings
+use Rattle.ss_names.specs.declared.meaning.SubjectNumber.TheVariants as subjects
+use Rattle.ss_names.specs.declared.entry.GlobalVariable.{GlobalVariable}
 use Rattle.ss_names.specs.declared.entry.VariableKind.{VariableKind}
 use Rattle.ss_names.specs.declared.entry.VariableKind.TheVariants.{Defined, OfClass, CountOf}
 use Rattle.ss_names_declarations.specs.Firsts.{place_in, value_for}
@@ -41,11 +41,11 @@ class kind n = record { kind = kind; line = line n }
 abbrev attribute : ℕ → ℕ → Option Mode → Attribute
 attribute number field mode = record { class = number; field = field; mode = mode }
 
-abbrev variable : VariableKind → Mode → Variable
+abbrev variable : VariableKind → Mode → GlobalVariable
 variable kind mode = record { kind = kind; mode = mode }
 
 -- the meaning of a name in a program
-abbrev meaning : ProgramTree → NameBytes → Option Meaning
+abbrev meaning : ProgramTree → NameBytes → Option GlobalMeaning
 meaning p name = value_for (table p).names name
 
 -- ---- a machine shop

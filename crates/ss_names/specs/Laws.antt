@@ -4,14 +4,14 @@ use Rattle.std.specs.Map.{keys_of}
 use Rattle.ss_base.specs.declared.layout.Owner.{Owner}
 use Rattle.ss_base.specs.declared.layout.Owner.TheVariants as owners
 use Rattle.ss_tree.specs.Tree.{ProgramTree}
-use Rattle.ss_names_declarations.specs.Sayings.{NameBytes}
-use Rattle.ss_names.specs.declared.meaning.Meaning.{Meaning}
-use Rattle.ss_names.specs.declared.meaning.Meaning.TheVariants as meanings
+use Rattle.ss_tree.specs.Names.{NameBytes}
+use Rattle.ss_names.specs.declared.meaning.GlobalMeaning.{GlobalMeaning}
+use Rattle.ss_names.specs.declared.meaning.GlobalMeaning.TheVariants as meanings
 use Rattle.ss_names_declarations.specs.Firsts.{place_in, value_for}
 use Rattle.ss_names.specs.Table.{Table, table}
 
 -- the numbers in a meaning are those of something in the table
-abbrev pub IsPlaced : Table → Meaning → Type 0
+abbrev pub IsPlaced : Table → GlobalMeaning → Type 0
 IsPlaced t (meanings.Variable variable) = variable < length t.variables
 IsPlaced t (meanings.Class class variable) = (class < length t.classes) × (variable < length t.variables)
 IsPlaced t (meanings.Count class variable) = (class < length t.classes) × (variable < length t.variables)

@@ -1,7 +1,7 @@
 -- Rows of names.
 use Rattle.std.specs.Prelude.{List}
 use Rattle.std.specs.Global.{Vec}
-use Rattle.ss_names_declarations.specs.Sayings.{NameBytes}
+use Rattle.ss_tree.specs.Names.{NameBytes}
 
 -- the names of a row
 abbrev pub row_of : Vec NameBytes → List NameBytes

@@ -6,8 +6,8 @@ use Rattle.ss_tree.specs.declared.preamble.Weighting.{Weighting}
 use Rattle.ss_names_declarations.specs.declared.saying.Said.{Said}
 use Rattle.ss_names_declarations.specs.declared.saying.Said.TheVariants as said
 use Rattle.ss_names_declarations.specs.declared.saying.Saying.{Saying}
-use Rattle.ss_names_declarations.specs.Sayings.{NameBytes}
-use Rattle.ss_names.specs.declared.entry.Statistic.{Statistic}
+use Rattle.ss_tree.specs.Names.{NameBytes}
+use Rattle.ss_names.specs.declared.entry.StatisticEntry.{StatisticEntry}
 use Rattle.ss_names_declarations.specs.Firsts.{firsts, place_in}
 
 abbrev pub weighing_entries : Said → Option NameBytes → List (NameBytes × Weighting)
@@ -22,16 +22,16 @@ abbrev pub weighings : List Saying → List (NameBytes × Weighting)
 weighings says = firsts (flat_map weighing_by says)
 
 -- a statistic, where its subject has a history
-abbrev pub statistic_of : StatisticKind → NameBytes → Option ℕ → List (NameBytes × Statistic)
-statistic_of kind name None = []
-statistic_of kind name (Some history) = (name, record { history = history; kind = kind }) ∷ []
+abbrev pub statistic_entry : StatisticKind → NameBytes → Option ℕ → List (NameBytes × StatisticEntry)
+statistic_entry kind name None = []
+statistic_entry kind name (Some history) = (name, record { history = history; kind = kind }) ∷ []
 
-abbrev pub statistic_entries : List (NameBytes × Weighting) → Said → Option NameBytes → List (NameBytes × Statistic)
-statistic_entries ws (said.Statistic weighting kind subject) (Some name) = statistic_of kind name (place_in ws subject)
+abbrev pub statistic_entries : List (NameBytes × Weighting) → Said → Option NameBytes → List (NameBytes × StatisticEntry)
+statistic_entries ws (said.Statistic weighting kind subject) (Some name) = statistic_entry kind name (place_in ws subject)
 statistic_entries ws _ _ = []
 
-abbrev pub statistic_by : List (NameBytes × Weighting) → Saying → List (NameBytes × Statistic)
+abbrev pub statistic_by : List (NameBytes × Weighting) → Saying → List (NameBytes × StatisticEntry)
 statistic_by ws s = statistic_entries ws s.said s.name
 
-abbrev pub statistics : List Saying → List (NameBytes × Statistic)
+abbrev pub statistics : List Saying → List (NameBytes × StatisticEntry)
 statistics says = firsts (flat_map (statistic_by (weighings says)) says)

@@ -2,10 +2,10 @@
 
 ghost use Rattle.std.specs.Prelude.{◌≡◌, ◌<◌, ◌++◌, ℕ, List, [], ◌∷◌, get_or, length, map, slice_set, OnOk, IfOk};
 ghost use Rattle.std.specs.List.{flat_map, fold};
-ghost use Rattle.ss_names.specs.Entities.{AreAttributes, attribute_by, fields_of, mode_of};
+ghost use Rattle.ss_names.specs.Entities.{AreAttributes, attribute_by, fields_by_class, defined_mode};
 ghost use Rattle.ss_names_declarations.specs.Firsts.{entry_if, firsts, place_in, with_first};
 ghost use Rattle.ss_names.specs.Rows.{row_of};
-ghost use Rattle.ss_names_declarations.specs.Sayings.{NameBytes};
+ghost use Rattle.ss_tree.specs.Names.{NameBytes};
 
 use crate::entry::{Attribute, Class};
 use ss_base::Name;
@@ -33,7 +33,7 @@ impl Model for Attributes {
 
 // Rows for so many classes, all empty.
 fn no_fields(alloc: Global, count: usize) -> Result<Vec<Vec<Name>>, AllocError>
-    ensures { IfOk result (λ rows. map row_of rows.items ≡ fields_of [] count) }
+    ensures { IfOk result (λ rows. map row_of rows.items ≡ fields_by_class [] count) }
 {
     let mut rows = Vec::new(alloc);
     for number in 0..count {
@@ -70,8 +70,8 @@ fn row_len(rows: &[Vec<Name>], class: usize) -> usize
 }
 
 // The mode of an attribute: that of its DEFINE, or else that of NORMALLY.
-fn mode_of(usual: Option<Mode>, defined: &Table<Name, Mode>, name: &Name) -> Option<Mode>
-    ensures { result ≡ mode_of usual defined.now name.now }
+fn defined_mode(usual: Option<Mode>, defined: &Table<Name, Mode>, name: &Name) -> Option<Mode>
+    ensures { result ≡ defined_mode usual defined.now name.now }
 {
     defined.get(name).copied().or(usual)
 }
@@ -100,7 +100,7 @@ impl Attributes {
 
     // No attributes, of so many classes.
     fn none(alloc: Global, seed: Seed, count: usize) -> Result<Attributes, AllocError>
-        ensures { IfOk result (λ a. a ≡ record { entries = []; fields = fields_of [] count }) }
+        ensures { IfOk result (λ a. a ≡ record { entries = []; fields = fields_by_class [] count }) }
     {
         let fields = no_fields(alloc, count)?;
         Ok(Attributes {
@@ -126,7 +126,7 @@ impl Attributes {
         let attribute = Attribute {
             class,
             field: row_len(&self.fields, class),
-            mode: mode_of(usual, defined, &name),
+            mode: defined_mode(usual, defined, &name),
         };
         self.entries.insert_new(name, attribute)?;
         add_field(&mut self.fields, class, name)

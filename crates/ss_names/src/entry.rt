@@ -50,14 +50,14 @@ pub enum VariableKind {
 
 /// A global variable.
 #[derive(Clone, Copy)]
-pub struct Variable {
+pub struct GlobalVariable {
     pub kind: VariableKind,
     pub mode: Mode,
 }
 
 /// A routine: the number of its section, and how many values it is given and yields.
 #[derive(Clone, Copy)]
-pub struct Routine {
+pub struct RoutineSection {
     pub section: usize,
     pub given: usize,
     pub yielding: usize,
@@ -65,7 +65,7 @@ pub struct Routine {
 
 /// The EVENT section of a class: its number, how many values it is given, and whether it saves its notice.
 #[derive(Clone, Copy)]
-pub struct Event {
+pub struct EventSection {
     pub section: usize,
     pub given: usize,
     pub saving: bool,
@@ -73,7 +73,7 @@ pub struct Event {
 
 /// A statistic: the number of its history, and its kind.
 #[derive(Clone, Copy)]
-pub struct Statistic {
+pub struct StatisticEntry {
     pub history: usize,
     pub kind: StatisticKind,
 }

@@ -2,9 +2,9 @@
 
 ghost use Rattle.std.specs.Prelude.{◌≡◌, map, IfOk};
 ghost use Rattle.ss_names_declarations.specs.Firsts.{value_for};
-ghost use Rattle.ss_names.specs.Histories.{history_of, subject_of};
+ghost use Rattle.ss_names.specs.Histories.{history_of, subject_of_name};
 
-use crate::meaning::{Derived, History, Meaning, Subject};
+use crate::meaning::{Derived, GlobalMeaning, History, SubjectNumber};
 use crate::meanings::Meanings;
 use ss_base::Name;
 use ss_names_declarations::Table;
@@ -12,18 +12,18 @@ use ss_tree::preamble::Weighting;
 use std::alloc::{AllocError, Global};
 
 // The subject that a meaning is, if it may have a history.
-fn subject_of(meaning: Option<Meaning>) -> Option<Subject>
-    ensures { result ≡ subject_of meaning }
+fn subject_of_name(meaning: Option<GlobalMeaning>) -> Option<SubjectNumber>
+    ensures { result ≡ subject_of_name meaning }
 {
     match meaning {
-        Some(Meaning::Variable(variable)) => Some(Subject::Variable(variable)),
-        Some(Meaning::Attribute(attribute)) => Some(Subject::Attribute(attribute)),
+        Some(GlobalMeaning::Variable(variable)) => Some(SubjectNumber::Variable(variable)),
+        Some(GlobalMeaning::Attribute(attribute)) => Some(SubjectNumber::Attribute(attribute)),
         Some(
-            Meaning::Derived {
+            GlobalMeaning::Derived {
                 derived: Derived::MemberCount,
                 set,
             },
-        ) => Some(Subject::MemberCount(set)),
+        ) => Some(SubjectNumber::MemberCount(set)),
         _ => None,
     }
 }
@@ -34,7 +34,7 @@ fn history_of(names: &Meanings, name: &Name, weighting: Weighting) -> History
 {
     History {
         weighting,
-        subject: subject_of(names.meaning(name)),
+        subject: subject_of_name(names.meaning(name)),
     }
 }
 

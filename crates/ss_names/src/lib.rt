@@ -25,11 +25,12 @@ pub use attributes::Attributes;
 pub use classes::usual_mode;
 pub use entities::{Entities, entities_of};
 pub use entry::{
-    Attribute, Class, Event, Ordering, Routine, Set, Statistic, Variable, VariableKind,
+    Attribute, Class, EventSection, GlobalVariable, Ordering, RoutineSection, Set, StatisticEntry,
+    VariableKind,
 };
 pub use keys::{RankedBy, TiedBy};
 pub use making::beside;
-pub use meaning::{Derived, History, Meaning, Subject};
+pub use meaning::{Derived, GlobalMeaning, History, SubjectNumber};
 pub use names::{NameId, Names};
 pub use notices::{Notices, notices_of};
 pub use sections::routines_of;

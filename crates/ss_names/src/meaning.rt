@@ -21,7 +21,7 @@ pub enum Derived {
 
 /// What a global or a derived name means, by its number.
 #[derive(Clone, Copy)]
-pub enum Meaning {
+pub enum GlobalMeaning {
     /// A global variable of a DEFINE.
     Variable(usize),
     /// A class, and the global variable of its name.
@@ -38,7 +38,7 @@ pub enum Meaning {
 
 /// The subject of a TALLY or an ACCUMULATE, by its number.
 #[derive(Clone, Copy)]
-pub enum Subject {
+pub enum SubjectNumber {
     /// A global variable of a DEFINE.
     Variable(usize),
     Attribute(usize),
@@ -51,5 +51,5 @@ pub enum Subject {
 #[derive(Clone, Copy)]
 pub struct History {
     pub weighting: Weighting,
-    pub subject: Option<Subject>,
+    pub subject: Option<SubjectNumber>,
 }

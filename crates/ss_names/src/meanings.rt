@@ -3,12 +3,12 @@
 ghost use Rattle.std.specs.Prelude.{◌≡◌, ◌<◌, [], ◌∷◌, length, slice_get, is_some, if◌then◌else◌, option_map, None, Some, OnOk, IfOk};
 ghost use Rattle.std.specs.List.{flat_map, fold};
 ghost use Rattle.std.specs.Map.{keys_of, values_of};
-ghost use Rattle.ss_names.specs.declared.meaning.Meaning.TheVariants as meanings;
+ghost use Rattle.ss_names.specs.declared.meaning.GlobalMeaning.TheVariants as meanings;
 ghost use Rattle.ss_names_declarations.specs.Firsts.{entry_if, firsts, place_among, place_in, value_for, with_first};
 ghost use Rattle.ss_names.specs.Meanings.{class_meanings, class_name_meaning, count_meaning, derived_entry, letter_of, meaning_by, meaning_entries, meanings_in, set_meanings, variable_meaning};
 ghost use Rattle.ss_names.specs.Variables.{count_name};
 
-use crate::meaning::{Derived, Meaning};
+use crate::meaning::{Derived, GlobalMeaning};
 use crate::numbers::Numbers;
 use ss_base::Name;
 use ss_names_declarations::{Said, Saying, Seed, Spelling, Table, insert_spelled, spelled_at};
@@ -32,17 +32,17 @@ fn letter_of(derived: Derived) -> u8
 /// The names that are declared, each with its meaning. A contract sees the list of the pairs.
 #[derive(Drop)]
 pub struct Meanings {
-    map: Table<Spelling, Meaning>,
+    map: Table<Spelling, GlobalMeaning>,
 }
 
 impl Model for Meanings {
     ghost use Rattle.std.specs.Prelude.{◌≡◌, true, List};
     ghost use Rattle.std.specs.Map.{keys_of};
-    ghost use Rattle.ss_names_declarations.specs.Sayings.{NameBytes};
-    ghost use Rattle.ss_names.specs.declared.meaning.Meaning.{Meaning};
+    ghost use Rattle.ss_tree.specs.Names.{NameBytes};
+    ghost use Rattle.ss_names.specs.declared.meaning.GlobalMeaning.{GlobalMeaning};
     ghost use Rattle.ss_names_declarations.specs.Spellings.{are_short};
 
-    ghost Value = { List (NameBytes × Meaning) };
+    ghost Value = { List (NameBytes × GlobalMeaning) };
 
     ghost view = { λ m. m.map };
 
@@ -60,7 +60,7 @@ impl Meanings {
     }
 
     // Adds the meaning of a name, unless it has one.
-    fn insert(&mut self, name: Spelling, meaning: Meaning) -> Result<(), AllocError>
+    fn insert(&mut self, name: Spelling, meaning: GlobalMeaning) -> Result<(), AllocError>
         ensures { OnOk result (self.new ≡ with_first self.old (name, meaning)) }
     {
         // no spelling is longer than SPELLING_LIMIT
@@ -69,7 +69,11 @@ impl Meanings {
     }
 
     // Adds the meaning of a name, if there is one, unless it has one already.
-    fn insert_if(&mut self, name: Spelling, meaning: Option<Meaning>) -> Result<(), AllocError>
+    fn insert_if(
+        &mut self,
+        name: Spelling,
+        meaning: Option<GlobalMeaning>,
+    ) -> Result<(), AllocError>
         ensures { OnOk result (self.new ≡ fold with_first self.old (entry_if name meaning)) }
     {
         match meaning {
@@ -108,14 +112,14 @@ impl Meanings {
         ensures { OnOk result (self.new ≡ with_first self.old (derived_entry name.now set derived)) }
     {
         let spelling = Spelling::derived(letter_of(derived), name);
-        self.insert(spelling, Meaning::Derived { derived, set })
+        self.insert(spelling, GlobalMeaning::Derived { derived, set })
     }
 
     // Adds a set and its derived names.
     fn insert_set(&mut self, name: &Name, set: usize) -> Result<(), AllocError>
         ensures { OnOk result (self.new ≡ fold with_first self.old (set_meanings name.now (Some set))) }
     {
-        self.insert(Spelling::of_name(name), Meaning::Set(set))?;
+        self.insert(Spelling::of_name(name), GlobalMeaning::Set(set))?;
         self.insert_derived(name, set, Derived::FirstMember)?;
         self.insert_derived(name, set, Derived::LastMember)?;
         self.insert_derived(name, set, Derived::MemberCount)?;
@@ -174,7 +178,7 @@ impl Meanings {
     }
 
     /// The meaning of a name.
-    pub fn meaning(&self, name: &Name) -> Option<Meaning>
+    pub fn meaning(&self, name: &Name) -> Option<GlobalMeaning>
         ensures { result ≡ value_for self.now name.now }
     {
         self.map.get(&Spelling::of_name(name)).copied()
@@ -192,7 +196,7 @@ impl Meanings {
     }
 
     /// The meaning of the name at this place.
-    pub fn at(&self, place: usize) -> Option<Meaning>
+    pub fn at(&self, place: usize) -> Option<GlobalMeaning>
         ensures { result ≡ slice_get (values_of self.now) place }
     {
         spelled_at(&self.map, place)

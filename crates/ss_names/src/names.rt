@@ -4,17 +4,19 @@ ghost use Rattle.std.specs.Prelude.{◌≡◌, ◌<◌, [], length, slice_get, g
 ghost use Rattle.std.specs.Map.{keys_of, values_of};
 ghost use Rattle.ss_names.specs.Entities.{classes as classes_said, sets as sets_said};
 ghost use Rattle.ss_names_declarations.specs.Firsts.{place_in, value_for};
-ghost use Rattle.ss_names.specs.Meanings.{meanings_in, numbered};
+ghost use Rattle.ss_names.specs.Meanings.{meanings_in, numbered_names};
 ghost use Rattle.ss_names.specs.Notices.{notices as notices_said};
 ghost use Rattle.ss_names.specs.Histories.{histories as histories_said};
 ghost use Rattle.ss_names.specs.Table.{declared};
 
 use crate::classes::usual_mode;
-use crate::entry::{Attribute, Class, Event, Routine, Set, Statistic, Variable};
+use crate::entry::{
+    Attribute, Class, EventSection, GlobalVariable, RoutineSection, Set, StatisticEntry,
+};
 use crate::histories::histories_of;
 use crate::keys::{RankedBy, TiedBy};
 use crate::making::beside;
-use crate::meaning::{History, Meaning};
+use crate::meaning::{GlobalMeaning, History};
 use crate::meanings::{Meanings, meanings_of};
 use crate::notices::{Notices, notices_of};
 use crate::numbers::{Numbers, numbers_of};
@@ -65,8 +67,8 @@ struct Named {
 
 // The lists in which things are numbered, and the meanings of names, by these sayings.
 fn named_in(alloc: Global, seed: Seed, sayings: &[Saying]) -> Result<Named, AllocError>
-    ensures numbers { IfOk result (λ n. n.numbers.value ≡ numbered sayings.now) }
-    ensures names { IfOk result (λ n. n.names ≡ meanings_in (numbered sayings.now) sayings.now) }
+    ensures numbers { IfOk result (λ n. n.numbers.value ≡ numbered_names sayings.now) }
+    ensures names { IfOk result (λ n. n.names ≡ meanings_in (numbered_names sayings.now) sayings.now) }
 {
     let numbers = Box::new(alloc, numbers_of(alloc, seed, sayings)?)?;
     let names = meanings_of(alloc, &numbers, sayings);
@@ -101,7 +103,7 @@ fn gathered_in(
     names: &Meanings,
     sayings: &[Saying],
 ) -> Result<Gathered, AllocError>
-    requires { numbers.now ≡ numbered sayings.now }
+    requires { numbers.now ≡ numbered_names sayings.now }
     ensures sets { IfOk result (λ t. t.sets.items ≡ sets_said sayings.now) }
     ensures notices { IfOk result (λ t. t.notices.value ≡ notices_said sayings.now) }
     ensures histories { IfOk result (λ t. t.histories.items ≡ histories_said names.now sayings.now) }
@@ -179,14 +181,14 @@ impl Names {
     }
 
     /// The meaning of a name of this table. None if it is none of them.
-    pub fn meaning_of(&self, id: NameId) -> Option<Meaning>
+    pub fn meaning_of(&self, id: NameId) -> Option<GlobalMeaning>
         ensures { result ≡ slice_get (values_of self.now.names) id.0 }
     {
         self.lists.names.at(id.0)
     }
 
     /// The meaning of a name. None if it is no global or derived name.
-    pub fn meaning(&self, name: &Name) -> Option<Meaning>
+    pub fn meaning(&self, name: &Name) -> Option<GlobalMeaning>
         ensures { result ≡ value_for self.now.names name.now }
     {
         self.lists.names.meaning(name)
@@ -277,7 +279,7 @@ impl Names {
     }
 
     /// The global variable of this number.
-    pub fn variable(&self, number: usize) -> Option<Variable>
+    pub fn variable(&self, number: usize) -> Option<GlobalVariable>
         ensures { result ≡ slice_get (values_of self.now.variables) number }
     {
         spelled_at(&self.lists.numbers.variables, number)
@@ -291,14 +293,14 @@ impl Names {
     }
 
     /// The routine of this number.
-    pub fn routine(&self, number: usize) -> Option<Routine>
+    pub fn routine(&self, number: usize) -> Option<RoutineSection>
         ensures { result ≡ slice_get (values_of self.now.routines) number }
     {
         value_at(&self.lists.numbers.others.routines, number)
     }
 
     /// The EVENT section of this name.
-    pub fn event(&self, name: &Name) -> Option<Event>
+    pub fn event(&self, name: &Name) -> Option<EventSection>
         ensures { result ≡ value_for self.now.events name.now }
     {
         self.lists.notices.events.get(name).copied()
@@ -334,7 +336,7 @@ impl Names {
     }
 
     /// The statistic of this number.
-    pub fn statistic(&self, number: usize) -> Option<Statistic>
+    pub fn statistic(&self, number: usize) -> Option<StatisticEntry>
         ensures { result ≡ slice_get (values_of self.now.statistics) number }
     {
         value_at(&self.lists.numbers.others.tellings.statistics, number)

@@ -4,7 +4,7 @@ ghost use Rattle.std.specs.Prelude.{◌≡◌, IfOk};
 ghost use Rattle.ss_names.specs.Notices.{notices};
 ghost use Rattle.ss_names.specs.Entities.{classes as classes_said};
 
-use crate::entry::{Class, Event};
+use crate::entry::{Class, EventSection};
 use crate::keys::{RankedBy, TiedBy, rank_keys_of, tie_keys_of};
 use crate::making::beside;
 use crate::ranks::ranks_of;
@@ -18,7 +18,7 @@ use std::marker::Model;
 /// sets and of ties. A contract sees a record of lists.
 #[derive(Drop)]
 pub struct Notices {
-    pub events: Table<Name, Event>,
+    pub events: Table<Name, EventSection>,
     pub ranks: Table<Name, usize>,
     pub rank_keys: Vec<RankedBy>,
     pub tie_keys: Vec<TiedBy>,

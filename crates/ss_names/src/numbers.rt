@@ -5,13 +5,13 @@ ghost use Rattle.ss_names_declarations.specs.Firsts.{place_among, place_in};
 ghost use Rattle.ss_names.specs.Entities.{attributes, classes, fields, set_names as set_names_said};
 ghost use Rattle.ss_names.specs.Statistics.{statistics, weighings};
 ghost use Rattle.ss_names.specs.Variables.{routines};
-ghost use Rattle.ss_names.specs.declared.meaning.Meaning.TheVariants as meanings;
-ghost use Rattle.ss_names.specs.Meanings.{class_name_meaning, count_meaning, numbered, variable_meaning};
+ghost use Rattle.ss_names.specs.declared.meaning.GlobalMeaning.TheVariants as meanings;
+ghost use Rattle.ss_names.specs.Meanings.{class_name_meaning, count_meaning, numbered_names, variable_meaning};
 
 use crate::entities::{Entities, entities_of};
-use crate::entry::{Routine, Variable};
+use crate::entry::{GlobalVariable, RoutineSection};
 use crate::making::beside;
-use crate::meaning::Meaning;
+use crate::meaning::GlobalMeaning;
 use crate::sections::routines_of;
 use crate::sets::set_names;
 use crate::statistics::{Tellings, tellings_of};
@@ -25,7 +25,7 @@ use std::marker::Model;
 #[derive(Drop)]
 pub struct Others {
     pub set_names: Keys<Name>,
-    pub routines: Table<Name, Routine>,
+    pub routines: Table<Name, RoutineSection>,
     pub tellings: Tellings,
 }
 
@@ -34,7 +34,7 @@ pub struct Others {
 pub struct Numbers {
     pub entities: Box<Entities>,
     pub others: Box<Others>,
-    pub variables: Table<Spelling, Variable>,
+    pub variables: Table<Spelling, GlobalVariable>,
 }
 
 impl Model for Numbers {
@@ -47,36 +47,39 @@ impl Model for Numbers {
 
 impl Numbers {
     /// The meaning of the name of a class.
-    pub fn class(&self, name: &Name) -> Option<Meaning>
+    pub fn class(&self, name: &Name) -> Option<GlobalMeaning>
         ensures { result ≡ class_name_meaning self.now name.now }
     {
         match self.entities.classes.place(name) {
             None => None,
             Some(class) => match self.variables.place(&Spelling::of_name(name)) {
                 None => None,
-                Some(variable) => Some(Meaning::Class { class, variable }),
+                Some(variable) => Some(GlobalMeaning::Class { class, variable }),
             },
         }
     }
 
     /// The meaning of N. of a class.
-    pub fn count(&self, name: &Name) -> Option<Meaning>
+    pub fn count(&self, name: &Name) -> Option<GlobalMeaning>
         ensures { result ≡ count_meaning self.now name.now }
     {
         match self.entities.classes.place(name) {
             None => None,
             Some(class) => match self.variables.place(&Spelling::derived(b'N', name)) {
                 None => None,
-                Some(variable) => Some(Meaning::Count { class, variable }),
+                Some(variable) => Some(GlobalMeaning::Count { class, variable }),
             },
         }
     }
 
     /// The meaning of the name of an attribute.
-    pub fn attribute(&self, name: &Name) -> Option<Meaning>
+    pub fn attribute(&self, name: &Name) -> Option<GlobalMeaning>
         ensures { result ≡ option_map meanings.Attribute (place_in self.now.attributes name.now) }
     {
-        self.entities.attributes.place(name).map(Meaning::Attribute)
+        self.entities
+            .attributes
+            .place(name)
+            .map(GlobalMeaning::Attribute)
     }
 
     /// The number of a set.
@@ -87,34 +90,34 @@ impl Numbers {
     }
 
     /// The meaning of the name of a global variable, unless it is an attribute.
-    pub fn variable(&self, name: &Name) -> Option<Meaning>
+    pub fn variable(&self, name: &Name) -> Option<GlobalMeaning>
         ensures { result ≡ variable_meaning self.now name.now }
     {
         match self.entities.attributes.place(name) {
             Some(_) => None,
             None => match self.variables.place(&Spelling::of_name(name)) {
                 None => None,
-                Some(variable) => Some(Meaning::Variable(variable)),
+                Some(variable) => Some(GlobalMeaning::Variable(variable)),
             },
         }
     }
 
     /// The meaning of the name of a statistic.
-    pub fn statistic(&self, name: &Name) -> Option<Meaning>
+    pub fn statistic(&self, name: &Name) -> Option<GlobalMeaning>
         ensures { result ≡ option_map meanings.Statistic (place_in self.now.statistics name.now) }
     {
         self.others
             .tellings
             .statistics
             .place(name)
-            .map(Meaning::Statistic)
+            .map(GlobalMeaning::Statistic)
     }
 
     /// The meaning of the name of a routine.
-    pub fn routine(&self, name: &Name) -> Option<Meaning>
+    pub fn routine(&self, name: &Name) -> Option<GlobalMeaning>
         ensures { result ≡ option_map meanings.Routine (place_in self.now.routines name.now) }
     {
-        self.others.routines.place(name).map(Meaning::Routine)
+        self.others.routines.place(name).map(GlobalMeaning::Routine)
     }
 }
 
@@ -139,7 +142,7 @@ fn others_of(alloc: Global, seed: Seed, sayings: &[Saying]) -> Result<Box<Others
 
 /// The lists of these sayings in which things are numbered.
 pub fn numbers_of(alloc: Global, seed: Seed, sayings: &[Saying]) -> Result<Numbers, AllocError>
-    ensures { IfOk result (λ n. n ≡ numbered sayings.now) }
+    ensures { IfOk result (λ n. n ≡ numbered_names sayings.now) }
 {
     let entities = Box::new(alloc, entities_of(alloc, seed, sayings)?)?;
     let (entities, others) = beside(entities, others_of(alloc, seed, sayings))?;

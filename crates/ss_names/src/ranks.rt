@@ -3,7 +3,7 @@
 ghost use Rattle.std.specs.Prelude.{◌≡◌, OnOk, IfOk};
 ghost use Rattle.std.specs.List.{fold};
 ghost use Rattle.ss_names_declarations.specs.Firsts.{value_for, with_first};
-ghost use Rattle.ss_names.specs.Variables.{declared_by, is_notice_kind, is_notice_class, notice, priority_by, ranks_among};
+ghost use Rattle.ss_names.specs.Variables.{declared_by, is_kind_of_notices, is_notice_class, notice_entry, priority_by, ranks_among};
 
 use crate::entry::Class;
 use crate::telling::{Telling, collect_firsts, extend_firsts};
@@ -13,8 +13,8 @@ use ss_tree::preamble::ClassKind;
 use std::alloc::{AllocError, Global};
 
 // Whether the entities of a kind are notices.
-fn is_notice_kind(kind: ClassKind) -> bool
-    ensures { result ≡ is_notice_kind kind }
+fn is_kind_of_notices(kind: ClassKind) -> bool
+    ensures { result ≡ is_kind_of_notices kind }
 {
     match kind {
         ClassKind::Permanent => false,
@@ -29,7 +29,7 @@ fn is_notice(classes: &Table<Name, Class>, name: &Name) -> bool
 {
     match classes.get(name).copied() {
         None => false,
-        Some(class) => is_notice_kind(class.kind),
+        Some(class) => is_kind_of_notices(class.kind),
     }
 }
 
@@ -39,7 +39,7 @@ fn insert_notice(
     classes: &Table<Name, Class>,
     name: &Name,
 ) -> Result<(), AllocError>
-    ensures { OnOk result (entries.new ≡ fold with_first entries.old (notice classes.now name.now)) }
+    ensures { OnOk result (entries.new ≡ fold with_first entries.old (notice_entry classes.now name.now)) }
 {
     if is_notice(classes, name) {
         insert_if(entries, *name, classes.place(name))

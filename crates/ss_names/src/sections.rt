@@ -5,7 +5,7 @@ ghost use Rattle.std.specs.List.{flat_map};
 ghost use Rattle.ss_names_declarations.specs.Firsts.{firsts};
 ghost use Rattle.ss_names.specs.Variables.{event_by, routine_by};
 
-use crate::entry::{Event, Routine};
+use crate::entry::{EventSection, RoutineSection};
 use crate::telling::{Telling, collect_firsts};
 use ss_base::Name;
 use ss_names_declarations::{Said, Saying, Seed, Table, insert_first};
@@ -15,7 +15,7 @@ use std::alloc::{AllocError, Global};
 struct Routines;
 
 impl Telling for Routines {
-    type Entry = Routine;
+    type Entry = RoutineSection;
 
     type Known = ();
 
@@ -23,7 +23,7 @@ impl Telling for Routines {
 
     // Adds a routine.
     fn note(
-        entries: &mut Table<Name, Routine>,
+        entries: &mut Table<Name, RoutineSection>,
         known: &(),
         saying: &Saying,
     ) -> Result<(), AllocError> {
@@ -34,7 +34,7 @@ impl Telling for Routines {
                 yielding,
             } => match &saying.name {
                 Some(name) => {
-                    let routine = Routine {
+                    let routine = RoutineSection {
                         section: *section,
                         given: *given,
                         yielding: *yielding,
@@ -53,7 +53,7 @@ pub fn routines_of(
     alloc: Global,
     seed: Seed,
     sayings: &[Saying],
-) -> Result<Table<Name, Routine>, AllocError>
+) -> Result<Table<Name, RoutineSection>, AllocError>
     ensures { IfOk result (λ entries. entries ≡ firsts (flat_map (routine_by) sayings.now)) }
 {
     collect_firsts::<Routines>(alloc, seed, &(), sayings)
@@ -63,7 +63,7 @@ pub fn routines_of(
 struct Events;
 
 impl Telling for Events {
-    type Entry = Event;
+    type Entry = EventSection;
 
     type Known = ();
 
@@ -71,7 +71,7 @@ impl Telling for Events {
 
     // Adds an EVENT section.
     fn note(
-        entries: &mut Table<Name, Event>,
+        entries: &mut Table<Name, EventSection>,
         known: &(),
         saying: &Saying,
     ) -> Result<(), AllocError> {
@@ -82,7 +82,7 @@ impl Telling for Events {
                 saving,
             } => match &saying.name {
                 Some(name) => {
-                    let event = Event {
+                    let event = EventSection {
                         section: *section,
                         given: *given,
                         saving: *saving,
@@ -101,7 +101,7 @@ pub fn events_of(
     alloc: Global,
     seed: Seed,
     sayings: &[Saying],
-) -> Result<Table<Name, Event>, AllocError>
+) -> Result<Table<Name, EventSection>, AllocError>
     ensures { IfOk result (λ entries. entries ≡ firsts (flat_map (event_by) sayings.now)) }
 {
     collect_firsts::<Events>(alloc, seed, &(), sayings)

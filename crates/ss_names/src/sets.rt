@@ -2,7 +2,7 @@
 
 ghost use Rattle.std.specs.Prelude.{◌≡◌, map, OnOk, IfOk};
 ghost use Rattle.std.specs.List.{flat_map, fold};
-ghost use Rattle.ss_names.specs.Entities.{classes as classes_said, member_by, ordering_by, orderings as orderings_said, owner_by, set_by, set_names as set_names_said, set_of, sets as sets_said};
+ghost use Rattle.ss_names.specs.Entities.{classes as classes_said, member_by, ordering_by, orderings as orderings_said, owner_declared, set_by, set_names as set_names_said, set_of, sets as sets_said};
 ghost use Rattle.ss_names_declarations.specs.Firsts.{each_once, firsts, with_name, with_name_if};
 
 use crate::entry::{Class, Ordering, Set};
@@ -19,7 +19,7 @@ impl Telling for Owners {
 
     type Known = Table<Name, Class>;
 
-    ghost entries_by = { λ classes. owner_by classes };
+    ghost entries_by = { λ classes. owner_declared classes };
 
     // Adds the owner of a set.
     fn note(
@@ -47,7 +47,7 @@ pub fn owners_of(
     classes: &Table<Name, Class>,
     sayings: &[Saying],
 ) -> Result<Table<Name, Owner>, AllocError>
-    ensures { IfOk result (λ entries. entries ≡ firsts (flat_map (owner_by classes.now) sayings.now)) }
+    ensures { IfOk result (λ entries. entries ≡ firsts (flat_map (owner_declared classes.now) sayings.now)) }
 {
     collect_firsts::<Owners>(alloc, classes.seed(), classes, sayings)
 }

@@ -3,9 +3,9 @@
 ghost use Rattle.std.specs.Prelude.{◌≡◌, OnOk, IfOk};
 ghost use Rattle.std.specs.List.{flat_map, fold};
 ghost use Rattle.ss_names_declarations.specs.Firsts.{firsts, with_first};
-ghost use Rattle.ss_names.specs.Statistics.{statistic_by, statistic_of, statistics, weighing_by, weighings};
+ghost use Rattle.ss_names.specs.Statistics.{statistic_by, statistic_entry, statistics, weighing_by, weighings};
 
-use crate::entry::Statistic;
+use crate::entry::StatisticEntry;
 use crate::making::beside;
 use crate::telling::{Telling, collect_firsts};
 use ss_base::Name;
@@ -52,15 +52,15 @@ pub fn weighings_of(
 
 // Adds a statistic, if its subject has a history.
 fn insert_statistic(
-    entries: &mut Table<Name, Statistic>,
+    entries: &mut Table<Name, StatisticEntry>,
     kind: StatisticKind,
     name: Name,
     history: Option<usize>,
 ) -> Result<(), AllocError>
-    ensures { OnOk result (entries.new ≡ fold with_first entries.old (statistic_of kind name history)) }
+    ensures { OnOk result (entries.new ≡ fold with_first entries.old (statistic_entry kind name history)) }
 {
     match history {
-        Some(history) => insert_first(entries, name, Statistic { history, kind }),
+        Some(history) => insert_first(entries, name, StatisticEntry { history, kind }),
         None => Ok(()),
     }
 }
@@ -69,7 +69,7 @@ fn insert_statistic(
 struct Statistics;
 
 impl Telling for Statistics {
-    type Entry = Statistic;
+    type Entry = StatisticEntry;
 
     type Known = Table<Name, Weighting>;
 
@@ -77,7 +77,7 @@ impl Telling for Statistics {
 
     // Adds a statistic.
     fn note(
-        entries: &mut Table<Name, Statistic>,
+        entries: &mut Table<Name, StatisticEntry>,
         weighings: &Table<Name, Weighting>,
         saying: &Saying,
     ) -> Result<(), AllocError> {
@@ -96,7 +96,7 @@ pub fn statistics_of(
     alloc: Global,
     weighings: &Table<Name, Weighting>,
     sayings: &[Saying],
-) -> Result<Table<Name, Statistic>, AllocError>
+) -> Result<Table<Name, StatisticEntry>, AllocError>
     ensures { IfOk result (λ entries. entries ≡ firsts (flat_map (statistic_by weighings.now) sayings.now)) }
 {
     collect_firsts::<Statistics>(alloc, weighings.seed(), weighings, sayings)
@@ -106,7 +106,7 @@ pub fn statistics_of(
 #[derive(Drop)]
 pub struct Tellings {
     pub weighings: Table<Name, Weighting>,
-    pub statistics: Table<Name, Statistic>,
+    pub statistics: Table<Name, StatisticEntry>,
 }
 
 /// The subjects and the statistics of these sayings.

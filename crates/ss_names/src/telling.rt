@@ -3,7 +3,7 @@
 ghost use Rattle.std.specs.Prelude.{◌≡◌, List, OnOk, IfOk};
 ghost use Rattle.std.specs.List.{flat_map, fold};
 ghost use Rattle.ss_names_declarations.specs.Firsts.{firsts, with_first};
-ghost use Rattle.ss_names_declarations.specs.Sayings.{NameBytes};
+ghost use Rattle.ss_tree.specs.Names.{NameBytes};
 ghost use Rattle.ss_names_declarations.specs.declared.saying.Saying.{Saying as SayingSeen};
 
 use ss_base::Name;

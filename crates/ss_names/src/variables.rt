@@ -7,7 +7,7 @@ ghost use Rattle.ss_names.specs.Variables.{class_variables, count_name, variable
 ghost use Rattle.ss_names.specs.declared.entry.VariableKind.TheVariants.{Defined, OfClass, CountOf};
 ghost use Rattle.ss_tree.specs.declared.preamble.Mode.TheVariants.{Integer};
 
-use crate::entry::{Attribute, Class, Variable, VariableKind};
+use crate::entry::{Attribute, Class, GlobalVariable, VariableKind};
 use ss_base::Name;
 use ss_names_declarations::{Said, Saying, Spelling, Table, has_entry, insert_spelled};
 use ss_tree::preamble::{ClassKind, Mode};
@@ -15,13 +15,13 @@ use std::alloc::{AllocError, Global};
 
 // Adds the variable of a class.
 fn insert_class(
-    entries: &mut Table<Spelling, Variable>,
+    entries: &mut Table<Spelling, GlobalVariable>,
     name: &Name,
     class: usize,
 ) -> Result<(), AllocError>
     ensures { OnOk result (entries.new ≡ with_first entries.old (name.now, record { kind = OfClass class; mode = Integer })) }
 {
-    let variable = Variable {
+    let variable = GlobalVariable {
         kind: VariableKind::OfClass(class),
         mode: Mode::Integer,
     };
@@ -30,13 +30,13 @@ fn insert_class(
 
 // Adds N. of a class.
 fn insert_count(
-    entries: &mut Table<Spelling, Variable>,
+    entries: &mut Table<Spelling, GlobalVariable>,
     name: &Name,
     class: usize,
 ) -> Result<(), AllocError>
     ensures { OnOk result (entries.new ≡ with_first entries.old (count_name name.now, record { kind = CountOf class; mode = Integer })) }
 {
-    let variable = Variable {
+    let variable = GlobalVariable {
         kind: VariableKind::CountOf(class),
         mode: Mode::Integer,
     };
@@ -45,7 +45,7 @@ fn insert_count(
 
 // Adds the variables of a class: that of its name, and N. of it if it is permanent.
 fn insert_class_variables(
-    entries: &mut Table<Spelling, Variable>,
+    entries: &mut Table<Spelling, GlobalVariable>,
     kind: ClassKind,
     name: &Name,
     class: Option<usize>,
@@ -67,14 +67,14 @@ fn insert_class_variables(
 
 // Adds the variable of a DEFINE, unless it is an attribute.
 fn insert_defined(
-    entries: &mut Table<Spelling, Variable>,
+    entries: &mut Table<Spelling, GlobalVariable>,
     attributes: &Table<Name, Attribute>,
     name: &Name,
     mode: Mode,
 ) -> Result<(), AllocError>
     ensures { OnOk result (entries.new ≡ fold with_first entries.old (if is_some (value_for attributes.now name.now) then [] else (name.now, record { kind = Defined; mode = mode }) ∷ [])) }
 {
-    let variable = Variable {
+    let variable = GlobalVariable {
         kind: VariableKind::Defined,
         mode,
     };
@@ -87,7 +87,7 @@ fn insert_defined(
 
 // Adds the variables that a saying declares.
 fn note_variable(
-    entries: &mut Table<Spelling, Variable>,
+    entries: &mut Table<Spelling, GlobalVariable>,
     classes: &Table<Name, Class>,
     attributes: &Table<Name, Attribute>,
     saying: &Saying,
@@ -113,7 +113,7 @@ pub fn variables_of(
     classes: &Table<Name, Class>,
     attributes: &Table<Name, Attribute>,
     sayings: &[Saying],
-) -> Result<Table<Spelling, Variable>, AllocError>
+) -> Result<Table<Spelling, GlobalVariable>, AllocError>
     ensures { IfOk result (λ entries. entries ≡ firsts (flat_map (variable_by classes.now attributes.now) sayings.now)) }
 {
     let mut entries = Table::new(alloc, classes.seed());

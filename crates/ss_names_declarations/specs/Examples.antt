@@ -11,7 +11,8 @@ use Rattle.ss_names_declarations.specs.declared.saying.SetRule.TheVariants as ru
 use Rattle.ss_names_declarations.specs.declared.saying.Said.{Said}
 use Rattle.ss_names_declarations.specs.declared.saying.Said.TheVariants as said
 use Rattle.ss_names_declarations.specs.declared.saying.Saying.{Saying}
-use Rattle.ss_names_declarations.specs.Sayings.{NameBytes, said_of, said_alone, sayings}
+use Rattle.ss_tree.specs.Names.{NameBytes}
+use Rattle.ss_names_declarations.specs.Sayings.{saying_of_name, said_alone, sayings}
 
 abbrev line : ℕ → Line
 line n = record { 0 = n }
@@ -21,7 +22,7 @@ key high name = record { high = high; name = name }
 
 -- a saying in this line, about a name
 abbrev says : ℕ → Said → NameBytes → Saying
-says n what name = said_of (line n) what name
+says n what name = saying_of_name (line n) what name
 
 -- a saying in this line that names nothing
 abbrev says_alone : ℕ → Said → Saying

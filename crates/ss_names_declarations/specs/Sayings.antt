@@ -1,6 +1,7 @@
 -- What a program declares: the list of its sayings, in the order of the text.
 use Rattle.std.specs.Prelude.{ℕ, ◌+◌, List, [], ◌∷◌, ◌++◌, length, map, Some, None}
 use Rattle.std.specs.List.{flat_map}
+use Rattle.ss_tree.specs.Names.{NameBytes}
 use Rattle.ss_base.specs.declared.line.Line.{Line}
 use Rattle.ss_tree.specs.declared.preamble.ClassKind.TheVariants as class_kinds
 use Rattle.ss_tree.specs.declared.preamble.Key.{Key}
@@ -13,13 +14,9 @@ use Rattle.ss_names_declarations.specs.declared.saying.Said.{Said}
 use Rattle.ss_names_declarations.specs.declared.saying.Said.TheVariants as said
 use Rattle.ss_names_declarations.specs.declared.saying.Saying.{Saying}
 
--- a name, as the list of its bytes, in capitals
-abbrev pub NameBytes : Type 0
-NameBytes = List ℕ
-
 -- a saying about a name
-abbrev pub said_of : Line → Said → NameBytes → Saying
-said_of line what name = record { line = line; said = what; name = Some name }
+abbrev pub saying_of_name : Line → Said → NameBytes → Saying
+saying_of_name line what name = record { line = line; said = what; name = Some name }
 
 -- a saying that names nothing
 abbrev pub said_alone : Line → Said → Saying
@@ -27,7 +24,7 @@ said_alone line what = record { line = line; said = what; name = None }
 
 -- a saying about each of several names
 abbrev pub said_of_all : Line → Said → List NameBytes → List Saying
-said_of_all line what names = map (said_of line what) names
+said_of_all line what names = map (saying_of_name line what) names
 
 -- ---- statements of the preamble
 
@@ -45,7 +42,7 @@ rule_of (ranked keys) = rules.Ranked
 
 -- a key of the DEFINE of this number
 abbrev pub rank_says : Line → ℕ → Key → Saying
-rank_says line number key = said_of line (said.RankKey number key.high) key.name
+rank_says line number key = saying_of_name line (said.RankKey number key.high) key.name
 
 -- the keys by which the sets of the DEFINE of this number are ranked
 abbrev pub order_says : Line → ℕ → OrderTree → List Saying
@@ -55,10 +52,10 @@ order_says line number (ranked keys) = map (rank_says line number) keys
 
 -- a key for the ties of a class
 abbrev pub tie_says : Line → NameBytes → Key → Saying
-tie_says line class key = said_of line (said.TieKey class key.high) key.name
+tie_says line class key = saying_of_name line (said.TieKey class key.high) key.name
 
 abbrev pub statistic_says : Line → Weighting → NameBytes → Statistic → Saying
-statistic_says line weighting subject s = said_of line (said.Statistic weighting s.kind subject) s.name
+statistic_says line weighting subject s = saying_of_name line (said.Statistic weighting s.kind subject) s.name
 
 -- the sayings of the statement of this number in the preamble
 abbrev pub preamble_says : ℕ → PreambleTree → List Saying
@@ -66,7 +63,7 @@ preamble_says number (permanent_entities line) = []
 preamble_says number (temporary_entities line) = []
 preamble_says number (event_notices line names) = said_of_all line (said.Class class_kinds.EventNotice) names
 preamble_says number (every line kind class clauses) =
-    said_of line (said.Class kind) class ∷ flat_map (clause_says line class) clauses
+    saying_of_name line (said.Class kind) class ∷ flat_map (clause_says line class) clauses
 preamble_says number (normally line mode) = said_alone line (said.Normally mode) ∷ []
 preamble_says number (system_owns line sets) = said_of_all line said.SystemSet sets
 preamble_says number (define_variables line names mode) = said_of_all line (said.Variable mode) names
@@ -74,9 +71,9 @@ preamble_says number (define_sets line names order) =
     said_of_all line (said.Discipline number (rule_of order)) names ++ order_says line number order
 preamble_says number (priority_order line classes) =
     said_alone line said.PriorityOrder ∷ said_of_all line said.Priority classes
-preamble_says number (break_ties line class keys) = said_of line said.Ties class ∷ map (tie_says line class) keys
+preamble_says number (break_ties line class keys) = saying_of_name line said.Ties class ∷ map (tie_says line class) keys
 preamble_says number (statistics line weighting found subject) =
-    map (statistic_says line weighting subject) found ++ said_of line (said.Subject weighting) subject ∷ []
+    map (statistic_says line weighting subject) found ++ saying_of_name line (said.Subject weighting) subject ∷ []
 
 -- the sayings of statements of a preamble, the first of which has this number
 abbrev pub preambles_say : ℕ → List PreambleTree → List Saying
@@ -89,10 +86,10 @@ preambles_say number (s ∷ ss) = preamble_says number s ++ preambles_say (numbe
 abbrev pub head_says : Line → ℕ → SectionKindTree → List Saying
 head_says line number main = said_alone line (said.Main number) ∷ []
 head_says line number (routine name given yielding) =
-    said_of line (said.Routine number (length given) (length yielding)) name
+    saying_of_name line (said.Routine number (length given) (length yielding)) name
     ∷ said_of_all line (said.Given number) given ++ said_of_all line (said.Yielding number) yielding
 head_says line number (event name given saving) =
-    said_of line (said.Event number (length given) saving) name ∷ said_of_all line (said.Given number) given
+    saying_of_name line (said.Event number (length given) saving) name ∷ said_of_all line (said.Given number) given
 
 -- the sayings of a DEFINE at the head of the section of this number
 abbrev pub definition_says : ℕ → DefinitionTree → List Saying

@@ -7,13 +7,13 @@ abbrev pub spelling_limit : ℕ
 spelling_limit = 34
 
 -- a spelling with zeros after it, as many as fill its room
-abbrev pub padded : List ℕ → List ℕ
-padded bytes = bytes ++ replicate (spelling_limit - length bytes) 0
+abbrev pub padded_spelling : List ℕ → List ℕ
+padded_spelling bytes = bytes ++ replicate (spelling_limit - length bytes) 0
 
 -- what is true of the bytes and the length of every spelling
-pub record IsRoom (room : List ℕ) (len : ℕ) : Type 0 where
+pub record IsSpellingRoom (room : List ℕ) (len : ℕ) : Type 0 where
   pub counted : length (take len room) ≡ len
-  pub zeros : padded (take len room) ≡ room
+  pub zeros : padded_spelling (take len room) ≡ room
 
 -- the spelling of these bytes, if they are few enough
 abbrev pub spelling_of : List ℕ → Option (List ℕ)

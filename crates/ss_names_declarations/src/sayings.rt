@@ -4,7 +4,7 @@ ghost use Rattle.std.specs.Prelude.{◌≡◌, [], ◌∷◌, ◌++◌, map, OnO
 ghost use Rattle.std.specs.List.{flat_map};
 ghost use Rattle.ss_tree.specs.View.{view_clause, view_order, view_preamble, view_definition, view_kind, view_section, view_program};
 ghost use Rattle.ss_names_declarations.specs.declared.saying.Said.TheVariants as said;
-ghost use Rattle.ss_names_declarations.specs.Sayings.{said_of, said_alone, said_of_all, clause_says, rule_of, rank_says, order_says, statistic_says, tie_says, preamble_says, preambles_say, head_says, definition_says, section_says, sections_say, sayings};
+ghost use Rattle.ss_names_declarations.specs.Sayings.{saying_of_name, said_alone, said_of_all, clause_says, rule_of, rank_says, order_says, statistic_says, tie_says, preamble_says, preambles_say, head_says, definition_says, section_says, sections_say, sayings};
 
 use crate::saying::{Said, Saying, SetRule};
 use ss_base::{Line, Name};
@@ -16,7 +16,7 @@ use std::alloc::{AllocError, Global};
 
 /// Adds a saying about a name.
 fn say(out: &mut Vec<Saying>, line: Line, said: Said, name: Name) -> Result<(), AllocError>
-    ensures { OnOk result (out.new.items ≡ out.old.items ++ said_of line said name ∷ []) }
+    ensures { OnOk result (out.new.items ≡ out.old.items ++ saying_of_name line said name ∷ []) }
 {
     let name = Some(name);
     out.push(Saying { line, said, name })?;

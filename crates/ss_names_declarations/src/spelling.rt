@@ -25,15 +25,15 @@ pub struct Spelling {
 
 impl Model for Spelling {
     ghost use Rattle.std.specs.Prelude.{List, ℕ, length, take};
-    ghost use Rattle.ss_names_declarations.specs.Spellings.{padded, IsRoom};
+    ghost use Rattle.ss_names_declarations.specs.Spellings.{padded_spelling, IsSpellingRoom};
 
     ghost Value = { List ℕ };
 
     ghost view = { λ s. take s.len s.room };
 
-    ghost invariant = { λ s. IsRoom s.room s.len };
+    ghost invariant = { λ s. IsSpellingRoom s.room s.len };
 
-    ghost inverse = { λ bytes. record { room = padded bytes; len = length bytes } };
+    ghost inverse = { λ bytes. record { room = padded_spelling bytes; len = length bytes } };
 
     ghost inverse_ok = { λ s h i. record { room = h.zeros i; len = h.counted i } };
 }

@@ -8,7 +8,8 @@ use Rattle.ss_tree.specs.Tree.{ClauseTree, has, owns, belongs_to, OrderTree, fif
 use Rattle.ss_names_declarations.specs.declared.saying.Said.{Said}
 use Rattle.ss_names_declarations.specs.declared.saying.Said.TheVariants as said
 use Rattle.ss_names_declarations.specs.declared.saying.Saying.{Saying}
-use Rattle.ss_names_declarations.specs.Sayings.{NameBytes, said_of, said_alone, said_of_all, clause_says, rule_of, rank_says, order_says, tie_says, statistic_says, preamble_says, preambles_say, head_says, definition_says, section_says, sections_say, sayings}
+use Rattle.ss_tree.specs.Names.{NameBytes}
+use Rattle.ss_names_declarations.specs.Sayings.{saying_of_name, said_alone, said_of_all, clause_says, rule_of, rank_says, order_says, tie_says, statistic_says, preamble_says, preambles_say, head_says, definition_says, section_says, sections_say, sayings}
 use Rattle.ss_names_laws.specs.Declarations.{Says, ClassesAreThere}
 use Rattle.ss_names_laws.proofs.Lists.{joined, each, all_of, images, pieces, in_left, in_right, at_item}
 use Rattle.ss_names_laws.proofs.Sayings.{saying_of}
@@ -63,7 +64,7 @@ in_parts xs ys h g = joined (λ (s : Saying). Belongs (xs ++ ys) s.said) xs ys
 
 -- a saying about each of these names
 of_all : (all : List Saying) (line : Line) (w : Said) (names : List NameBytes) → Belongs all w → AllBelong all (said_of_all line w names)
-of_all all line w names h = images (said_of line w) (λ (s : Saying). Belongs all s.said) names (all_of (λ name. Belongs all w) (λ name. h) names)
+of_all all line w names h = images (saying_of_name line w) (λ (s : Saying). Belongs all s.said) names (all_of (λ name. Belongs all w) (λ name. h) names)
 
 clause_belongs : (all : List Saying) (line : Line) (class : NameBytes) → IsThere all class → (c : ClauseTree) → AllBelong all (clause_says line class c)
 clause_belongs all line class h (has names) = of_all all line (said.Attribute class) names h
@@ -80,7 +81,7 @@ preamble_belongs number (permanent_entities line) = tt
 preamble_belongs number (temporary_entities line) = tt
 preamble_belongs number (event_notices line names) = of_all (said_of_all line (said.Class class_kinds.EventNotice) names) line (said.Class class_kinds.EventNotice) names tt
 preamble_belongs number (every line kind class clauses) =
-    let all = said_of line (said.Class kind) class ∷ flat_map (clause_says line class) clauses in
+    let all = saying_of_name line (said.Class kind) class ∷ flat_map (clause_says line class) clauses in
     (tt, pieces (clause_says line class) (λ (s : Saying). Belongs all s.said) clauses (all_of (λ c. AllBelong all (clause_says line class c)) (clause_belongs all line class (kind, inl (refl, refl))) clauses))
 preamble_belongs number (normally line mode) = (tt, tt)
 preamble_belongs number (system_owns line sets) = of_all (said_of_all line said.SystemSet sets) line said.SystemSet sets tt
@@ -92,11 +93,11 @@ preamble_belongs number (define_sets line names order) =
 preamble_belongs number (priority_order line classes) =
     (tt, of_all (said_alone line said.PriorityOrder ∷ said_of_all line said.Priority classes) line said.Priority classes tt)
 preamble_belongs number (break_ties line class keys) =
-    let all = said_of line said.Ties class ∷ map (tie_says line class) keys in
+    let all = saying_of_name line said.Ties class ∷ map (tie_says line class) keys in
     (tt, images (tie_says line class) (λ (s : Saying). Belongs all s.said) keys (all_of (λ k. Says all said.Ties class) (λ k. inl (refl, refl)) keys))
 preamble_belongs number (statistics line weighting found subject) =
     let first = map (statistic_says line weighting subject) found in
-    let last = said_of line (said.Subject weighting) subject ∷ [] in
+    let last = saying_of_name line (said.Subject weighting) subject ∷ [] in
     let there : Says (first ++ last) (said.Subject weighting) subject = in_right (λ (s : Saying). (s.said ≡ said.Subject weighting) × (s.name ≡ Some subject)) first last (inl (refl, refl)) in
     joined (λ (s : Saying). Belongs (first ++ last) s.said) first last
     (images (statistic_says line weighting subject) (λ (s : Saying). Belongs (first ++ last) s.said) found (all_of (λ k. Says (first ++ last) (said.Subject weighting) subject) (λ k. there) found)) (tt, tt)

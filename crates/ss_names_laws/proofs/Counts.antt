@@ -10,12 +10,12 @@ use Rattle.ss_tree.specs.declared.preamble.Mode.TheVariants as modes
 use Rattle.ss_names_declarations.specs.declared.saying.Said.{Said}
 use Rattle.ss_names_declarations.specs.declared.saying.Said.TheVariants as said
 use Rattle.ss_names_declarations.specs.declared.saying.Saying.{Saying}
-use Rattle.ss_names_declarations.specs.Sayings.{NameBytes}
+use Rattle.ss_tree.specs.Names.{NameBytes}
 use Rattle.ss_tables_rules.specs.declared.globals.Standing.TheVariants as standings
 use Rattle.ss_tables_rules.specs.Declarations.{Declaration, declaration, class_declares, named_declares, saying_declares, is_attribute}
 use Rattle.ss_names.specs.declared.entry.Attribute.{Attribute}
 use Rattle.ss_names.specs.declared.entry.Class.{Class}
-use Rattle.ss_names.specs.declared.entry.Variable.{Variable}
+use Rattle.ss_names.specs.declared.entry.GlobalVariable.{GlobalVariable}
 use Rattle.ss_names.specs.declared.entry.VariableKind.TheVariants.{Defined, OfClass, CountOf}
 use Rattle.ss_names.specs.Entities.{attributes, classes}
 use Rattle.ss_names_declarations.specs.Firsts.{entry_beside, place_in, value_for, with_first}
@@ -31,14 +31,14 @@ use Rattle.ss_names_laws.proofs.Variables.{variable_from, variables_once}
 
 -- ---- entries of different names are all first entries
 
-abbrev Differ : NameBytes × Variable → NameBytes × Variable → Type 0
+abbrev Differ : NameBytes × GlobalVariable → NameBytes × GlobalVariable → Type 0
 Differ a b = a.0 ≡ b.0 → ⊥
 
-no_entries_yet : (start : List (NameBytes × Variable)) (e : NameBytes × Variable) → Every (λ a. Differ a e) start → value_for start e.0 ≡ None
+no_entries_yet : (start : List (NameBytes × GlobalVariable)) (e : NameBytes × GlobalVariable) → Every (λ a. Differ a e) start → value_for start e.0 ≡ None
 no_entries_yet [] e h = refl
 no_entries_yet (a ∷ start) e h = no_some (value_for (a ∷ start) e.0) (λ v g. ⊎_elim (λ q. h.0 (sym q.0)) (λ q. let none = no_entries_yet start e h.1 in let x : None ≡ Some v = sym none ∙ q in absurd cc) (first_or_rest a.0 e.0 a.1 v start g))
 
-all_first : (start all : List (NameBytes × Variable)) → Pairwise Differ (start ++ all) → fold with_first start all ≡ start ++ all
+all_first : (start all : List (NameBytes × GlobalVariable)) → Pairwise Differ (start ++ all) → fold with_first start all ≡ start ++ all
 all_first start [] h = sym (append-nil start)
 all_first start (e ∷ all) h =
     let none = no_entries_yet start e (each (λ a. Every (Differ a) (e ∷ all)) (λ a. Differ a e) (λ a k. k.0) start (across Differ start (e ∷ all) h)) in
@@ -48,7 +48,7 @@ all_first start (e ∷ all) h =
 -- ---- a saying that gives an entry for a variable declares its name
 
 -- the name of an entry is declared as something other than a set
-abbrev IsPlain : List Declaration → NameBytes × Variable → Type 0
+abbrev IsPlain : List Declaration → NameBytes × GlobalVariable → Type 0
 IsPlain ds e = Somewhere (λ (d : Declaration). (d.name ≡ e.0) × (IsOfSet d.standing → ⊥)) ds
 
 class_plain : (line : Line) (kind : ClassKind) (name : NameBytes) (o : Option ℕ) → Every (IsPlain (class_declares line kind name)) (class_variables kind name o)
@@ -63,12 +63,12 @@ class_differ class_kinds.Permanent name (Some n) = ((λ e. not_derived name (sym
 class_differ class_kinds.Temporary name (Some n) = (tt, tt)
 class_differ class_kinds.EventNotice name (Some n) = (tt, tt)
 
-define_differ : (b : Bool) (name : NameBytes) (v : Variable) → Pairwise Differ (if b then [] else (name, v) ∷ [])
+define_differ : (b : Bool) (name : NameBytes) (v : GlobalVariable) → Pairwise Differ (if b then [] else (name, v) ∷ [])
 define_differ true name v = tt
 define_differ false name v = (tt, tt)
 
 own_differ : (cs : List (NameBytes × Class)) (owned : List (NameBytes × Attribute)) (w : Said) (o : Option NameBytes) → Pairwise Differ (variable_entries cs owned w o)
-own_differ cs owned (said.Variable mode) (Some name) = let v : Variable = record { kind = Defined; mode = mode } in define_differ (is_some (value_for owned name)) name v
+own_differ cs owned (said.Variable mode) (Some name) = let v : GlobalVariable = record { kind = Defined; mode = mode } in define_differ (is_some (value_for owned name)) name v
 own_differ cs owned (said.Class kind) (Some name) = class_differ kind name (place_in cs name)
 own_differ cs owned _ _ = tt
 
@@ -78,24 +78,24 @@ further : {A : Type 0} (xs ys : List A) (n : ℕ) → slice_get (xs ++ ys) (leng
 further [] ys n = ap (slice_get ys) (let e : 0 + n ≡ n = omega arith in e)
 further (x ∷ xs) ys n = ap (slice_get (x ∷ xs ++ ys)) (let e : length (x ∷ xs) + n ≡ suc (length xs + n) = omega arith in e) ∙ further xs ys n
 
-abbrev of_class : ℕ → Variable
+abbrev of_class : ℕ → GlobalVariable
 of_class class = record { kind = OfClass class; mode = modes.Integer }
 
-abbrev count_of : ℕ → Variable
+abbrev count_of : ℕ → GlobalVariable
 count_of class = record { kind = CountOf class; mode = modes.Integer }
 
 -- two entries are one after the other
-abbrev IsBefore : List (NameBytes × Variable) → NameBytes → ℕ → ℕ → Type 0
+abbrev IsBefore : List (NameBytes × GlobalVariable) → NameBytes → ℕ → ℕ → Type 0
 IsBefore es name class n = (slice_get es n ≡ Some (name, of_class class)) × (slice_get es (n + 1) ≡ Some (count_name name, count_of class))
 
 module _ (says : List Saying) (f : Facts says) where
-  abbrev entries_of : Saying → List (NameBytes × Variable)
+  abbrev entries_of : Saying → List (NameBytes × GlobalVariable)
   entries_of = variable_by (classes says) (attributes says)
 
   plain_entries : (s : Saying) (w : Said) (o : Option NameBytes) (line : Line) → Every (IsPlain (named_declares (is_attribute says) line w o)) (variable_entries (classes says) (attributes says) w o)
   plain_entries s (said.Variable mode) (Some name) line = by (value_for (attributes says) name) refl
     where
-      by : (a : Option Attribute) → value_for (attributes says) name ≡ a → Every (IsPlain (named_declares (is_attribute says) line (said.Variable mode) (Some name))) (if is_some a then [] else (name, let v : Variable = record { kind = Defined; mode = mode } in v) ∷ [])
+      by : (a : Option Attribute) → value_for (attributes says) name ≡ a → Every (IsPlain (named_declares (is_attribute says) line (said.Variable mode) (Some name))) (if is_some a then [] else (name, let v : GlobalVariable = record { kind = Defined; mode = mode } in v) ∷ [])
       by None e =
           let none : List Declaration = [] in
           (subst (λ b. Somewhere (λ (d : Declaration). (d.name ≡ name) × (IsOfSet d.standing → ⊥)) (if b then none else declaration line standings.Variable name ∷ none)) (sym (no_attribute says f name e)) (inl (refl, λ x. x)), tt)
@@ -136,8 +136,8 @@ module _ (says : List Saying) (f : Facts says) where
       let rest = both_there name class at xs h in
       (length (entries_of s) + rest.0, (further (entries_of s) (flat_map entries_of xs) rest.0 ∙ rest.1.0, ap (slice_get (entries_of s ++ flat_map entries_of xs)) (let e : length (entries_of s) + rest.0 + 1 ≡ length (entries_of s) + (rest.0 + 1) = omega arith in e) ∙ further (entries_of s) (flat_map entries_of xs) (rest.0 + 1) ∙ rest.1.1))
 
-  pub count_is_next : (n class : ℕ) (v : Variable) (c : Class) → slice_get (values_of (variables says)) n ≡ Some v → v.kind ≡ OfClass class → slice_get (values_of (classes says)) class ≡ Some c → c.kind ≡ class_kinds.Permanent →
-      (next : Variable) × (slice_get (values_of (variables says)) (n + 1) ≡ Some next) × (next.kind ≡ CountOf class)
+  pub count_is_next : (n class : ℕ) (v : GlobalVariable) (c : Class) → slice_get (values_of (variables says)) n ≡ Some v → v.kind ≡ OfClass class → slice_get (values_of (classes says)) class ≡ Some c → c.kind ≡ class_kinds.Permanent →
+      (next : GlobalVariable) × (slice_get (values_of (variables says)) (n + 1) ≡ Some next) × (next.kind ≡ CountOf class)
   count_is_next n class v c h of at kind =
       let e = entry_of_value (variables says) n v h in
       let s = variable_from says f e.0 v (value_from_place (variables says) n e.0 v (variables_once says f) e.1) in

@@ -5,7 +5,8 @@ use Rattle.ss_tree.specs.declared.preamble.ClassKind.{ClassKind}
 use Rattle.ss_tree.specs.Tree.{SectionTree, ProgramTree, main}
 use Rattle.ss_names_declarations.specs.declared.saying.Said.TheVariants as said
 use Rattle.ss_names_declarations.specs.declared.saying.Saying.{Saying}
-use Rattle.ss_names_declarations.specs.Sayings.{NameBytes, sayings}
+use Rattle.ss_tree.specs.Names.{NameBytes}
+use Rattle.ss_names_declarations.specs.Sayings.{sayings}
 use Rattle.ss_check_rules.specs.Uses.{is_main}
 use Rattle.ss_check_scopes.specs.Whole.{Whole}
 use Rattle.ss_tables_rules.specs.declared.topic.Topic.{Topic}
@@ -13,7 +14,7 @@ use Rattle.ss_tables_rules.specs.declared.topic.Topic.TheVariants as topics
 use Rattle.ss_tables_rules.specs.Declarations.{declarations}
 use Rattle.ss_tables_rules.specs.Missing.{missing}
 use Rattle.ss_tables_rules.specs.RealMode.{gives_mode}
-use Rattle.ss_tables_rules.specs.Topics.{Thing, thing_of, section_of, is_about, is_said_by, is_said, line_of}
+use Rattle.ss_tables_rules.specs.Topics.{Thing, thing_of, section_of, has_topic, is_said_by, is_said, line_of}
 use Rattle.ss_tables_rules.specs.Twice.{clashes, again, anything, sets_again, modes_again, statements_again, classes_again, locals_again, repeats, hides, hidings}
 use Rattle.ss_names_laws.specs.Lists.{Pairwise, Somewhere}
 use Rattle.ss_names_laws.specs.Uses.{KeepsUses}
@@ -106,16 +107,16 @@ module _ (says : List Saying) (sections : List SectionTree) (u : Unbroken says s
   -- a class of notices is a class
   notice_is_class : (thing : Thing) → Somewhere (IsOf topics.Notice thing) says → is_said topics.Class says thing ≡ true
   notice_is_class thing h =
-      by_any topics.Class thing (somewhere (IsOf topics.Notice thing) (IsOf topics.Class thing) (λ s k. (ap (is_about topics.Class) (of_notice s.said k.0), k.1)) says h)
+      by_any topics.Class thing (somewhere (IsOf topics.Notice thing) (IsOf topics.Class thing) (λ s k. (ap (has_topic topics.Class) (of_notice s.said k.0), k.1)) says h)
 
   both_classes : (missing topics.Priority topics.Notice says ≡ []) × (missing topics.Ties topics.Notice says ≡ [])
   both_classes = both_empty (missing topics.Priority topics.Notice says) (missing topics.Ties topics.Notice says) u.unknown_class
 
   -- the class that an EVENT section names
-  class_named : (t : Saying) → is_about topics.Event t.said ≡ true → (kind : ClassKind) (name : NameBytes) → t.name ≡ Some name → Says says (said.Class kind) name → is_said topics.Class says (thing_of t) ≡ true
+  class_named : (t : Saying) → has_topic topics.Event t.said ≡ true → (kind : ClassKind) (name : NameBytes) → t.name ≡ Some name → Says says (said.Class kind) name → is_said topics.Class says (thing_of t) ≡ true
   class_named t e kind name n h =
       by_any topics.Class (thing_of t) (somewhere (λ (s : Saying). (s.said ≡ said.Class kind) × (s.name ≡ Some name)) (IsOf topics.Class (thing_of t))
-      (λ s k. (ap (is_about topics.Class) k.0, λ i. (((ap section_of k.0) ∙ sym (of_event t.said e)) i, (k.1 ∙ sym n) i))) says h)
+      (λ s k. (ap (has_topic topics.Class) k.0, λ i. (((ap section_of k.0) ∙ sym (of_event t.said e)) i, (k.1 ∙ sym n) i))) says h)
 
   agree : NamesDeclaredOnce says
   agree = standings.names_declared_once says no_clash
@@ -135,7 +136,7 @@ module _ (says : List Saying) (sections : List SectionTree) (u : Unbroken says s
     subjects = once topics.Subject says u.tally_twice;
     mains = once topics.Main says not_again.mains;
     events = pairwise (Apart topics.Event (is_said topics.Class says))
-        (λ s t. is_about topics.Event s.said ≡ true → is_about topics.Event t.said ≡ true → thing_of s ≡ thing_of t → (kind : ClassKind) (name : NameBytes) → t.name ≡ Some name → Says says (said.Class kind) name → ⊥)
+        (λ s t. has_topic topics.Event s.said ≡ true → has_topic topics.Event t.said ≡ true → thing_of s ≡ thing_of t → (kind : ClassKind) (name : NameBytes) → t.name ≡ Some name → Says says (said.Class kind) name → ⊥)
         (λ s t f a b c kind name n h. f a b c (class_named t b kind name n h)) says (never_again topics.Event (is_said topics.Class says) says not_again.events);
     parameters = once topics.Parameter says not_again.parameters;
     locals = once topics.Local says not_again.locals;

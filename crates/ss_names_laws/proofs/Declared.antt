@@ -10,21 +10,23 @@ use Rattle.ss_names_declarations.specs.declared.saying.SetRule.{SetRule}
 use Rattle.ss_names_declarations.specs.declared.saying.Said.{Said}
 use Rattle.ss_names_declarations.specs.declared.saying.Said.TheVariants as said
 use Rattle.ss_names_declarations.specs.declared.saying.Saying.{Saying}
-use Rattle.ss_names_declarations.specs.Sayings.{NameBytes, sayings}
-use Rattle.ss_tables_rules.specs.declared.rule.Rule.{Rule}
-use Rattle.ss_tables_rules.specs.declared.rule.Rule.TheVariants as rules
-use Rattle.ss_tables_rules.specs.declared.rule.Broken.{Broken}
+use Rattle.ss_tree.specs.Names.{NameBytes}
+use Rattle.ss_names_declarations.specs.Sayings.{sayings}
+use Rattle.ss_tables_rules.specs.declared.rule.DeclarationRule.{DeclarationRule}
+use Rattle.ss_tables_rules.specs.declared.rule.DeclarationRule.TheVariants as rules
+use Rattle.ss_tables_rules.specs.declared.rule.BrokenDeclaration.{BrokenDeclaration}
 use Rattle.ss_tables_rules.specs.declared.topic.Topic.{Topic}
 use Rattle.ss_tables_rules.specs.declared.topic.Topic.TheVariants as topics
-use Rattle.ss_tables_rules.specs.Broken.{broken_by, in_order, broken_at, first_of, first_broken}
-use Rattle.ss_tables_rules.specs.Lines.{sooner, first_line, line_if, lines_where}
+use Rattle.ss_tables_rules.specs.Broken.{broken_by, in_order, broken_at, first_of_two, first_broken_rule}
+use Rattle.ss_base.specs.Lines.{line_if}
+use Rattle.ss_tables_rules.specs.Lines.{sooner, first_line, lines_where}
 use Rattle.ss_tables_rules.specs.Missing.{lacks, missing}
 use Rattle.ss_tables_rules.specs.RankKey.{is_foreign, defines, misranks, is_bad_rank, is_misranked}
 use Rattle.ss_tables_rules.specs.TieKey.{is_bad_tie, is_mistied}
 use Rattle.ss_names_declarations.specs.Firsts.{same_name}
-use Rattle.ss_tables_rules.specs.Topics.{global, thing_of, section_of, line_of, is_about, is_said, class_of}
+use Rattle.ss_tables_rules.specs.Topics.{global_thing, thing_of, section_of, line_of, has_topic, is_said, class_of}
 use Rattle.ss_names_laws.specs.Lists.{Somewhere}
-use Rattle.ss_names_laws.specs.Declarations.{KeepsDeclarations, Says, IsOwned, HasMembers, ThingsAreThere, RankKeysFit, TieKeysFit}
+use Rattle.ss_names_laws.specs.Declarations.{KeepsDeclarations, Says, HasOwner, HasMembers, ThingsAreThere, RankKeysFit, TieKeysFit}
 use Rattle.ss_names_laws.proofs.Lists.{Among, each, each_empty, both_empty, at_item, none_found, names_equal}
 use Rattle.ss_names_laws.proofs.Sayings.{IsOf, who_says, saying_of, notice_said, owner_said, member_said, set_said, attribute_class_said, member_class_said}
 
@@ -43,14 +45,14 @@ no_first : (lines : List Line) → first_line lines ≡ None → lines ≡ []
 no_first [] h = refl
 no_first (line ∷ lines) h = absurd (no_sooner line lines h)
 
-rule_unbroken : (rule : Rule) (o : Option Line) (rest : Option Broken) → first_of (broken_at rule o) rest ≡ None → (o ≡ None) × (rest ≡ None)
+rule_unbroken : (rule : DeclarationRule) (o : Option Line) (rest : Option BrokenDeclaration) → first_of_two (broken_at rule o) rest ≡ None → (o ≡ None) × (rest ≡ None)
 rule_unbroken rule None rest h = (refl, h)
 rule_unbroken rule (Some line) rest h = absurd cc
 
-none_broken : (says : List Saying) (sections : List SectionTree) (some : List Rule) → first_broken says sections some ≡ None → Every (λ rule. broken_by says sections rule ≡ []) some
+none_broken : (says : List Saying) (sections : List SectionTree) (some : List DeclarationRule) → first_broken_rule says sections some ≡ None → Every (λ rule. broken_by says sections rule ≡ []) some
 none_broken says sections [] h = tt
 none_broken says sections (rule ∷ some) h =
-    let parts = rule_unbroken rule (first_line (broken_by says sections rule)) (first_broken says sections some) h in
+    let parts = rule_unbroken rule (first_line (broken_by says sections rule)) (first_broken_rule says sections some) h in
     (no_first (broken_by says sections rule) parts.0, none_broken says sections some parts.1)
 
 -- the rules, none of which has a line
@@ -98,24 +100,24 @@ not_both true b h e = not-false b h
 not_both false b h e = absurd cc
 
 -- each thing with a saying of the one kind has one of the other
-pub needed : (topic other : Topic) (says : List Saying) → missing topic other says ≡ [] → (s : Saying) → Among says s → is_about topic s.said ≡ true → Somewhere (IsOf other (thing_of s)) says
+pub needed : (topic other : Topic) (says : List Saying) → missing topic other says ≡ [] → (s : Saying) → Among says s → has_topic topic s.said ≡ true → Somewhere (IsOf other (thing_of s)) says
 needed topic other says h s a e =
     let l : lacks topic other says s ≡ false = at_item (λ t. lacks topic other says t ≡ false) says s (none_where line_of (lacks topic other says) says h) a in
-    who_says other says (thing_of s) (not_both (is_about topic s.said) (is_said other says (thing_of s)) l e)
+    who_says other says (thing_of s) (not_both (has_topic topic s.said) (is_said other says (thing_of s)) l e)
 
 -- each name with a saying of the one kind has one of the other
-pub needed_of : (topic other : Topic) (says : List Saying) → missing topic other says ≡ [] → (what : Said) (name : NameBytes) → Says says what name → is_about topic what ≡ true → Somewhere (IsOf other (section_of what, Some name)) says
+pub needed_of : (topic other : Topic) (says : List Saying) → missing topic other says ≡ [] → (what : Said) (name : NameBytes) → Says says what name → has_topic topic what ≡ true → Somewhere (IsOf other (section_of what, Some name)) says
 needed_of topic other says h what name d e =
     let p = saying_of says what name d in
     let at : thing_of p.0 ≡ (section_of what, Some name) = λ i. (section_of (p.1.0 i), p.1.1 i) in
-    subst (λ t. Somewhere (IsOf other t) says) at (needed topic other says h p.0 p.2 (ap (is_about topic) p.1.0 ∙ e))
+    subst (λ t. Somewhere (IsOf other t) says) at (needed topic other says h p.0 p.2 (ap (has_topic topic) p.1.0 ∙ e))
 
 module _ (says : List Saying) (sections : List SectionTree) (u : Unbroken says sections) where
-  members_there : (set : NameBytes) → IsOwned says set → HasMembers says set
+  members_there : (set : NameBytes) → HasOwner says set → HasMembers says set
   members_there set (inl h) = member_said says set (needed_of topics.Owner topics.Member says u.no_member said.SystemSet set h refl)
   members_there set (inr h) = member_said says set (needed_of topics.Owner topics.Member says u.no_member (said.OwnedSet h.0) set h.1 refl)
 
-  owner_there : (set : NameBytes) → HasMembers says set → IsOwned says set
+  owner_there : (set : NameBytes) → HasMembers says set → HasOwner says set
   owner_there set h = owner_said says set (needed_of topics.Member topics.Owner says u.no_owner (said.MemberSet h.0) set h.1 refl)
 
   pub things_there : ThingsAreThere says
@@ -141,30 +143,30 @@ module _ (says : List Saying) (sections : List SectionTree) (u : Unbroken says s
 
   ranks_well : (statement : ℕ) (high : Bool) (rule : SetRule) (key set : NameBytes) →
       Says says (said.RankKey statement high) key → Says says (said.Discipline statement rule) set →
-      is_foreign (class_of topics.Attribute says (global key)) (class_of topics.Member says (global set)) ≡ false
+      is_foreign (class_of topics.Attribute says (global_thing key)) (class_of topics.Member says (global_thing set)) ≡ false
   ranks_well statement high rule key set h g =
       let k = saying_of says (said.RankKey statement high) key h in
       let d = saying_of says (said.Discipline statement rule) set g in
       let bad : is_misranked says k.0 ≡ false = at_item (λ s. is_misranked says s ≡ false) says k.0 (none_where line_of (is_misranked says) says u.rank_key) k.2 in
-      let plain : is_bad_rank says (said.RankKey statement high) (global key) ≡ false =
+      let plain : is_bad_rank says (said.RankKey statement high) (global_thing key) ≡ false =
       ap (λ (t : Said × Option NameBytes). is_bad_rank says t.0 (section_of t.0, t.1)) (λ i. (sym k.1.0 i, sym k.1.1 i)) ∙ bad in
-      let class = class_of topics.Attribute says (global key) in
+      let class = class_of topics.Attribute says (global_thing key) in
       let each_right = none_found (misranks says statement class) says plain in
       let one : misranks says statement class d.0 ≡ false = at_item (λ s. misranks says statement class s ≡ false) says d.0 each_right d.2 in
-      let seen : (defines statement (said.Discipline statement rule) && is_foreign class (class_of topics.Member says (global set))) ≡ false =
+      let seen : (defines statement (said.Discipline statement rule) && is_foreign class (class_of topics.Member says (global_thing set))) ≡ false =
       ap (λ (t : Said × Option NameBytes). defines statement t.0 && is_foreign class (class_of topics.Member says (section_of t.0, t.1))) (λ i. (sym d.1.0 i, sym d.1.1 i)) ∙ one in
-      ap (λ b. b && is_foreign class (class_of topics.Member says (global set))) (sym (eq-eqb statement statement refl)) ∙ seen
+      ap (λ b. b && is_foreign class (class_of topics.Member says (global_thing set))) (sym (eq-eqb statement statement refl)) ∙ seen
 
   pub rank_keys_fit : RankKeysFit says
   rank_keys_fit statement high rule key set h g =
       let members = member_class_said says set (things_there.members set (things_there.disciplines statement rule set g)) in
-      let own = own_key members.0 (class_of topics.Member says (global set)) (class_of topics.Attribute says (global key)) members.1 (ranks_well statement high rule key set h g) in
+      let own = own_key members.0 (class_of topics.Member says (global_thing set)) (class_of topics.Attribute says (global_thing key)) members.1 (ranks_well statement high rule key set h g) in
       (members.0, members.2, attribute_class_said says key members.0 own)
 
   pub tie_keys_fit : TieKeysFit says
   tie_keys_fit class key high h =
       let k = saying_of says (said.TieKey class high) key h in
       let bad : is_mistied says k.0 ≡ false = at_item (λ s. is_mistied says s ≡ false) says k.0 (none_where line_of (is_mistied says) says u.tie_key) k.2 in
-      let plain : is_bad_tie (said.TieKey class high) (class_of topics.Attribute says (global key)) ≡ false =
+      let plain : is_bad_tie (said.TieKey class high) (class_of topics.Attribute says (global_thing key)) ≡ false =
       ap (λ (t : Said × Option NameBytes). is_bad_tie t.0 (class_of topics.Attribute says (section_of t.0, t.1))) (λ i. (sym k.1.0 i, sym k.1.1 i)) ∙ bad in
-      attribute_class_said says key class (same_class class (class_of topics.Attribute says (global key)) plain)
+      attribute_class_said says key class (same_class class (class_of topics.Attribute says (global_thing key)) plain)

@@ -2,7 +2,7 @@
 use Rattle.std.proofs.Common.{◌≡◌, List, [], ◌∷◌, Option, Some, None, IfSome, refl}
 use Rattle.std.specs.Prelude.{option_map}
 use Rattle.std.specs.List.{AllByRecursion as Every, flat_map, fold}
-use Rattle.ss_names_declarations.specs.Sayings.{NameBytes}
+use Rattle.ss_tree.specs.Names.{NameBytes}
 use Rattle.ss_names_declarations.specs.Firsts.{entry_beside, entry_if, firsts, value_for, with_first}
 use Rattle.ss_names_declarations.proofs.Entries.{place_of_value}
 use Rattle.ss_names_laws.proofs.Steps.{every_append, every_at}

@@ -9,11 +9,11 @@ use Rattle.ss_tree.specs.declared.preamble.Mode.TheVariants as modes
 use Rattle.ss_tree.specs.declared.preamble.Weighting.{Weighting}
 use Rattle.ss_names_declarations.specs.declared.saying.Said.{Said}
 use Rattle.ss_names_declarations.specs.declared.saying.Said.TheVariants as said
-use Rattle.ss_names_declarations.specs.Sayings.{NameBytes}
+use Rattle.ss_tree.specs.Names.{NameBytes}
 use Rattle.ss_names.specs.declared.entry.Attribute.{Attribute}
 use Rattle.ss_names.specs.declared.entry.Class.{Class}
 use Rattle.ss_names.specs.declared.entry.Ordering.{Ordering}
-use Rattle.ss_names.specs.declared.entry.Variable.{Variable}
+use Rattle.ss_names.specs.declared.entry.GlobalVariable.{GlobalVariable}
 use Rattle.ss_names.specs.declared.entry.VariableKind.TheVariants.{Defined, OfClass, CountOf}
 use Rattle.ss_names.specs.Entities.{attribute_entries, class_entries, defined_entries, member_entries, ordering_entries}
 use Rattle.ss_names_declarations.specs.Firsts.{entry_if, place_in, same_name, value_for}
@@ -85,46 +85,46 @@ weighing_entry_from _ _ name weighting h = absurd cc
 -- ---- variables
 
 -- a DEFINE of a name that is no attribute
-abbrev pub FromDefine : List (NameBytes × Attribute) → Said → Option NameBytes → NameBytes → Variable → Type 0
+abbrev pub FromDefine : List (NameBytes × Attribute) → Said → Option NameBytes → NameBytes → GlobalVariable → Type 0
 FromDefine owned w o name v = (mode : Mode) × (w ≡ said.Variable mode) × (o ≡ Some name) × (value_for owned name ≡ None) × (v.kind ≡ Defined) × (v.mode ≡ mode)
 
 -- the variable of a class
-abbrev pub FromClass : List (NameBytes × Class) → Said → Option NameBytes → NameBytes → Variable → Type 0
+abbrev pub FromClass : List (NameBytes × Class) → Said → Option NameBytes → NameBytes → GlobalVariable → Type 0
 FromClass cs w o name v = (kind : ClassKind) × (class : ℕ) × (w ≡ said.Class kind) × (o ≡ Some name) × (place_in cs name ≡ Some class) × (v.kind ≡ OfClass class) × (v.mode ≡ modes.Integer)
 
 -- N. of a permanent class
-abbrev pub FromCount : List (NameBytes × Class) → Said → Option NameBytes → NameBytes → Variable → Type 0
+abbrev pub FromCount : List (NameBytes × Class) → Said → Option NameBytes → NameBytes → GlobalVariable → Type 0
 FromCount cs w o name v = (owner : NameBytes) × (class : ℕ) × (w ≡ said.Class class_kinds.Permanent) × (o ≡ Some owner) × (name ≡ count_name owner) × (place_in cs owner ≡ Some class) × (v.kind ≡ CountOf class) × (v.mode ≡ modes.Integer)
 
-none_owned : {A : Type 0} (o : Option A) (n name : NameBytes) (u v : Variable) → value_for (if is_some o then [] else (n, u) ∷ []) name ≡ Some v → (o ≡ None) × (name ≡ n) × (u ≡ v)
+none_owned : {A : Type 0} (o : Option A) (n name : NameBytes) (u v : GlobalVariable) → value_for (if is_some o then [] else (n, u) ∷ []) name ≡ Some v → (o ≡ None) × (name ≡ n) × (u ≡ v)
 none_owned None n name u v h = let e = only_entry n name u v h in (refl, e.0, e.1)
 none_owned (Some a) n name u v h = absurd cc
 
-class_variable_from : (kind : ClassKind) (n name : NameBytes) (o : Option ℕ) (v : Variable) → value_for (class_variables kind n o) name ≡ Some v →
+class_variable_from : (kind : ClassKind) (n name : NameBytes) (o : Option ℕ) (v : GlobalVariable) → value_for (class_variables kind n o) name ≡ Some v →
     ((class : ℕ) × (o ≡ Some class) × (name ≡ n) × (v.kind ≡ OfClass class) × (v.mode ≡ modes.Integer)) ⊎
     ((class : ℕ) × (o ≡ Some class) × (kind ≡ class_kinds.Permanent) × (name ≡ count_name n) × (v.kind ≡ CountOf class) × (v.mode ≡ modes.Integer))
 class_variable_from kind n name None v h = absurd cc
 class_variable_from class_kinds.Permanent n name (Some class) v h =
-    let u : Variable = record { kind = OfClass class; mode = modes.Integer } in
-    let k : Variable = record { kind = CountOf class; mode = modes.Integer } in
-    ⊎_elim (λ e. inl (class, refl, e.0, ap (λ (x : Variable). x.kind) (sym e.1), ap (λ (x : Variable). x.mode) (sym e.1)))
-    (λ g. let e = only_entry (count_name n) name k v g in inr (class, refl, refl, e.0, ap (λ (x : Variable). x.kind) (sym e.1), ap (λ (x : Variable). x.mode) (sym e.1)))
+    let u : GlobalVariable = record { kind = OfClass class; mode = modes.Integer } in
+    let k : GlobalVariable = record { kind = CountOf class; mode = modes.Integer } in
+    ⊎_elim (λ e. inl (class, refl, e.0, ap (λ (x : GlobalVariable). x.kind) (sym e.1), ap (λ (x : GlobalVariable). x.mode) (sym e.1)))
+    (λ g. let e = only_entry (count_name n) name k v g in inr (class, refl, refl, e.0, ap (λ (x : GlobalVariable). x.kind) (sym e.1), ap (λ (x : GlobalVariable). x.mode) (sym e.1)))
     (first_or_rest n name u v ((count_name n, k) ∷ []) h)
 class_variable_from class_kinds.Temporary n name (Some class) v h =
-    let u : Variable = record { kind = OfClass class; mode = modes.Integer } in
+    let u : GlobalVariable = record { kind = OfClass class; mode = modes.Integer } in
     let e = only_entry n name u v h in
-    inl (class, refl, e.0, ap (λ (x : Variable). x.kind) (sym e.1), ap (λ (x : Variable). x.mode) (sym e.1))
+    inl (class, refl, e.0, ap (λ (x : GlobalVariable). x.kind) (sym e.1), ap (λ (x : GlobalVariable). x.mode) (sym e.1))
 class_variable_from class_kinds.EventNotice n name (Some class) v h =
-    let u : Variable = record { kind = OfClass class; mode = modes.Integer } in
+    let u : GlobalVariable = record { kind = OfClass class; mode = modes.Integer } in
     let e = only_entry n name u v h in
-    inl (class, refl, e.0, ap (λ (x : Variable). x.kind) (sym e.1), ap (λ (x : Variable). x.mode) (sym e.1))
+    inl (class, refl, e.0, ap (λ (x : GlobalVariable). x.kind) (sym e.1), ap (λ (x : GlobalVariable). x.mode) (sym e.1))
 
-pub variable_entry_from : (cs : List (NameBytes × Class)) (owned : List (NameBytes × Attribute)) (w : Said) (o : Option NameBytes) (name : NameBytes) (v : Variable) → value_for (variable_entries cs owned w o) name ≡ Some v →
+pub variable_entry_from : (cs : List (NameBytes × Class)) (owned : List (NameBytes × Attribute)) (w : Said) (o : Option NameBytes) (name : NameBytes) (v : GlobalVariable) → value_for (variable_entries cs owned w o) name ≡ Some v →
     FromDefine owned w o name v ⊎ (FromClass cs w o name v ⊎ FromCount cs w o name v)
 variable_entry_from cs owned (said.Variable mode) (Some n) name v h =
-    let u : Variable = record { kind = Defined; mode = mode } in
+    let u : GlobalVariable = record { kind = Defined; mode = mode } in
     let e = none_owned (value_for owned n) n name u v h in
-    inl (mode, refl, ap Some (sym e.1), ap (value_for owned) e.1 ∙ e.0, ap (λ (x : Variable). x.kind) (sym e.2), ap (λ (x : Variable). x.mode) (sym e.2))
+    inl (mode, refl, ap Some (sym e.1), ap (value_for owned) e.1 ∙ e.0, ap (λ (x : GlobalVariable). x.kind) (sym e.2), ap (λ (x : GlobalVariable). x.mode) (sym e.2))
 variable_entry_from cs owned (said.Class kind) (Some n) name v h =
     inr (⊎_elim
     (λ e. inl (kind, e.0, refl, ap Some (sym e.2), ap (place_in cs) e.2 ∙ e.1, e.3, e.4))
@@ -133,14 +133,14 @@ variable_entry_from cs owned (said.Class kind) (Some n) name v h =
 variable_entry_from cs owned _ _ name v h = absurd cc
 
 -- the variable of a class has an entry
-pub class_variable_here : (kind : ClassKind) (name : NameBytes) (o : Option ℕ) (class : ℕ) → o ≡ Some class → (v : Variable) × (value_for (class_variables kind name o) name ≡ Some v)
+pub class_variable_here : (kind : ClassKind) (name : NameBytes) (o : Option ℕ) (class : ℕ) → o ≡ Some class → (v : GlobalVariable) × (value_for (class_variables kind name o) name ≡ Some v)
 class_variable_here kind name None class h = absurd cc
 class_variable_here class_kinds.Permanent name (Some c) class h =
-    let u : Variable = record { kind = OfClass c; mode = modes.Integer } in
-    let k : Variable = record { kind = CountOf c; mode = modes.Integer } in
+    let u : GlobalVariable = record { kind = OfClass c; mode = modes.Integer } in
+    let k : GlobalVariable = record { kind = CountOf c; mode = modes.Integer } in
     (u, first_entry name u ((count_name name, k) ∷ []))
-class_variable_here class_kinds.Temporary name (Some c) class h = let u : Variable = record { kind = OfClass c; mode = modes.Integer } in (u, first_entry name u [])
-class_variable_here class_kinds.EventNotice name (Some c) class h = let u : Variable = record { kind = OfClass c; mode = modes.Integer } in (u, first_entry name u [])
+class_variable_here class_kinds.Temporary name (Some c) class h = let u : GlobalVariable = record { kind = OfClass c; mode = modes.Integer } in (u, first_entry name u [])
+class_variable_here class_kinds.EventNotice name (Some c) class h = let u : GlobalVariable = record { kind = OfClass c; mode = modes.Integer } in (u, first_entry name u [])
 
 -- no name is one of its own derived names
 pub not_derived : (name : NameBytes) → count_name name ≡ name → ⊥

@@ -9,13 +9,14 @@ use Rattle.ss_tree.specs.Tree.{ProgramTree}
 use Rattle.ss_names_declarations.specs.declared.saying.Said.{Said}
 use Rattle.ss_names_declarations.specs.declared.saying.Said.TheVariants as said
 use Rattle.ss_names_declarations.specs.declared.saying.Saying.{Saying}
-use Rattle.ss_names_declarations.specs.Sayings.{NameBytes, sayings}
+use Rattle.ss_tree.specs.Names.{NameBytes}
+use Rattle.ss_names_declarations.specs.Sayings.{sayings}
 use Rattle.ss_tables_rules.specs.declared.topic.Topic.{Topic}
 use Rattle.ss_tables_rules.specs.declared.topic.Topic.TheVariants as topics
-use Rattle.ss_tables_rules.specs.Topics.{is_about}
+use Rattle.ss_tables_rules.specs.Topics.{has_topic}
 use Rattle.ss_names.specs.declared.entry.Attribute.{Attribute}
 use Rattle.ss_names.specs.declared.entry.Class.{Class}
-use Rattle.ss_names.specs.Entities.{attribute_after, attribute_by, attribute_classes, attribute_entries, attributes, attributes_after, class_by, class_entries, classes, defined_modes, mode_of, usual_mode}
+use Rattle.ss_names.specs.Entities.{attribute_after, attribute_by, attribute_classes, attribute_entries, attributes, attributes_after, class_by, class_entries, classes, defined_modes, defined_mode, usual_mode}
 use Rattle.ss_names_declarations.specs.Firsts.{place_in, same_name, value_for}
 use Rattle.ss_names_laws.specs.Declarations.{KeepsDeclarations, Says, NamesDeclaredOnce, KindsAgree, SaidOnce, ThingsAreThere, ClassesAreThere, RankKeysFit, TieKeysFit, NothingIsReal}
 use Rattle.ss_names_laws.proofs.Lists.{names_equal, pick, some_equal, somewhere}
@@ -55,7 +56,7 @@ SaysIt what name s = (s.said ≡ what) × (s.name ≡ Some name)
 
 -- two sayings on this topic are of two names
 abbrev pub Distinct : Topic → Saying → Saying → Type 0
-Distinct topic r s = is_about topic r.said ≡ true → is_about topic s.said ≡ true → (name : NameBytes) → r.name ≡ Some name → s.name ≡ Some name → ⊥
+Distinct topic r s = has_topic topic r.said ≡ true → has_topic topic s.said ≡ true → (name : NameBytes) → r.name ≡ Some name → s.name ≡ Some name → ⊥
 
 module _ (says : List Saying) (f : Facts says) where
   -- ---- classes
@@ -64,7 +65,7 @@ module _ (says : List Saying) (f : Facts says) where
   pub class_entry_there : (kind : ClassKind) (name : NameBytes) → Says says (said.Class kind) name → (c : Class) × (value_for (classes says) name ≡ Some c) × (c.kind ≡ kind)
   class_entry_there kind name h =
       let r = first_item_gives_value class_by name (SaysIt (said.Class kind) name) (Distinct topics.Class) (λ (c : Class). c.kind ≡ kind)
-      (λ x s q d. no_some (value_for (class_by x) name) (λ c e. let i = class_entry_from x.line x.said x.name name c e in d (ap (is_about topics.Class) i.0) (ap (is_about topics.Class) q.0) name i.1 q.1))
+      (λ x s q d. no_some (value_for (class_by x) name) (λ c e. let i = class_entry_from x.line x.said x.name name c e in d (ap (has_topic topics.Class) i.0) (ap (has_topic topics.Class) q.0) name i.1 q.1))
       (λ s q.
       let c : Class = record { kind = kind; line = s.line } in
       (c, ap (λ (t : Said × Option NameBytes). value_for (class_entries s.line t.0 t.1) name) (λ i. (q.0 i, q.1 i)) ∙ first_entry name c [], refl))
@@ -99,7 +100,7 @@ module _ (says : List Saying) (f : Facts says) where
       let owner = f.of_classes.attributes class name h in
       let at = class_place owner.0 class owner.1 in
       let r = first_item_gives_value (attribute_by (classes says)) name (SaysIt (said.Attribute class) name) (Distinct topics.Attribute) (λ n. place_in (classes says) class ≡ Some n)
-      (λ x s q d. no_some (value_for (attribute_by (classes says) x) name) (λ n e. let i = attribute_entry_from (classes says) x.said x.name name n e in d (ap (is_about topics.Attribute) i.1) (ap (is_about topics.Attribute) q.0) name i.2 q.1))
+      (λ x s q d. no_some (value_for (attribute_by (classes says) x) name) (λ n e. let i = attribute_entry_from (classes says) x.said x.name name n e in d (ap (has_topic topics.Attribute) i.1) (ap (has_topic topics.Attribute) q.0) name i.2 q.1))
       (λ s q. (at.0, ap (λ (t : Said × Option NameBytes). value_for (attribute_entries (classes says) t.0 t.1) name) (λ i. (q.0 i, q.1 i)) ∙ if_here name (place_in (classes says) class) at.0 at.1, at.1))
       says f.once.attributes h in
       (r.0, value_in_firsts (flat_map (attribute_by (classes says)) says) name ∙ r.1, r.2)
@@ -119,7 +120,7 @@ module _ (usual : Option Mode) (defined : List (NameBytes × Mode)) where
 
   -- the attribute of a name comes from its class
   Made : NameBytes → ℕ → Option Attribute → Type 0
-  Made name class o = (a : Attribute) × (o ≡ Some a) × (a.class ≡ class) × (a.mode ≡ mode_of usual defined name)
+  Made name class o = (a : Attribute) × (o ≡ Some a) × (a.class ≡ class) × (a.mode ≡ defined_mode usual defined name)
 
   attribute_value_made : (before es : List (NameBytes × ℕ)) (name : NameBytes) (class : ℕ) → value_for es name ≡ Some class → Made name class (value_for (attributes_after usual defined before es) name)
   unfolding Made
@@ -130,12 +131,12 @@ module _ (usual : Option Mode) (defined : List (NameBytes × Mode)) where
           Made name class (value_for (attributes_after usual defined before (e ∷ es)) name)
       by true is g later =
           let a = (attribute_after usual defined before e).1 in
-          (a, ap (λ b. cond b (Some a) (value_for (attributes_after usual defined (before ++ e ∷ []) es) name)) is, some_equal e.1 class g, ap (mode_of usual defined) (sym (names_equal name e.0 is)))
+          (a, ap (λ b. cond b (Some a) (value_for (attributes_after usual defined (before ++ e ∷ []) es) name)) is, some_equal e.1 class g, ap (defined_mode usual defined) (sym (names_equal name e.0 is)))
       by false is g later =
           let r = later g in
           (r.0, ap (λ b. cond b (Some (attribute_after usual defined before e).1) (value_for (attributes_after usual defined (before ++ e ∷ []) es) name)) is ∙ r.1, r.2, r.3)
 
-  pub attribute_made : (before es : List (NameBytes × ℕ)) (name : NameBytes) (class : ℕ) → value_for es name ≡ Some class → (a : Attribute) × (value_for (attributes_after usual defined before es) name ≡ Some a) × (a.class ≡ class) × (a.mode ≡ mode_of usual defined name)
+  pub attribute_made : (before es : List (NameBytes × ℕ)) (name : NameBytes) (class : ℕ) → value_for es name ≡ Some class → (a : Attribute) × (value_for (attributes_after usual defined before es) name ≡ Some a) × (a.class ≡ class) × (a.mode ≡ defined_mode usual defined name)
   unfolding Made
   attribute_made before es name class h = attribute_value_made before es name class h
 
@@ -155,7 +156,7 @@ module _ (says : List Saying) (f : Facts says) where
 
   -- an attribute that is declared is in the table
   pub attribute_there : (class name : NameBytes) → Says says (said.Attribute class) name →
-      (a : Attribute) × (value_for (attributes says) name ≡ Some a) × (place_in (classes says) class ≡ Some a.class) × (a.mode ≡ mode_of (usual_mode says) (defined_modes says) name)
+      (a : Attribute) × (value_for (attributes says) name ≡ Some a) × (place_in (classes says) class ≡ Some a.class) × (a.mode ≡ defined_mode (usual_mode says) (defined_modes says) name)
   attribute_there class name h =
       let c = attribute_class says f class name h in
       let a = attribute_made (usual_mode says) (defined_modes says) [] (attribute_classes says) name c.0 c.1 in
@@ -169,7 +170,7 @@ module _ (says : List Saying) (f : Facts says) where
 
   -- the attribute of this number
   pub attribute_at : (n : ℕ) (a : Attribute) → slice_get (values_of (attributes says)) n ≡ Some a →
-      (name : NameBytes) × (class : NameBytes) × Says says (said.Attribute class) name × (value_for (attributes says) name ≡ Some a) × (a.mode ≡ mode_of (usual_mode says) (defined_modes says) name)
+      (name : NameBytes) × (class : NameBytes) × Says says (said.Attribute class) name × (value_for (attributes says) name ≡ Some a) × (a.mode ≡ defined_mode (usual_mode says) (defined_modes says) name)
   attribute_at n a h =
       let e = entry_of_value (attributes says) n a h in
       let value = value_from_place (attributes says) n e.0 a attributes_once e.1 in

@@ -15,13 +15,14 @@ use Rattle.ss_names_uses.specs.Mentions.{mentions}
 use Rattle.ss_names_declarations.specs.declared.saying.Said.{Said}
 use Rattle.ss_names_declarations.specs.declared.saying.Said.TheVariants as said
 use Rattle.ss_names_declarations.specs.declared.saying.Saying.{Saying}
-use Rattle.ss_names_declarations.specs.Sayings.{NameBytes, section_says, preambles_say, sections_say, sayings}
+use Rattle.ss_tree.specs.Names.{NameBytes}
+use Rattle.ss_names_declarations.specs.Sayings.{section_says, preambles_say, sections_say, sayings}
 use Rattle.ss_tables_rules.specs.declared.globals.Standing.TheVariants as standings
 use Rattle.ss_tables_rules.specs.Declarations.{declarations, standing_of}
 use Rattle.ss_tables_rules.specs.RealMode.{is_variable_role, says_real}
 use Rattle.ss_names.specs.Entities.{usual_mode}
 use Rattle.ss_names_declarations.specs.Firsts.{value_for, same_name}
-use Rattle.ss_check_scopes.specs.Locals.{defined_in, all_defined, or_usual, declares, is_variable, is_local_at}
+use Rattle.ss_check_scopes.specs.Locals.{defined_in, all_defined, or_usual, declares_local, is_variable, is_local_at}
 use Rattle.ss_check_scopes.specs.Whole.{is_global, locals_of}
 use Rattle.ss_check_scopes.specs.WholeOf.{whole_of}
 use Rattle.ss_names_laws.specs.Lists.{Somewhere}
@@ -42,13 +43,13 @@ use Rattle.ss_names_laws.proofs.Wholes.{declared_means, set_declared}
 -- ---- one mention
 
 -- a local variable is declared, or is used without subscript and no global name is spelled so
-declared_or_used : (g : NameBytes → Bool) (m : Mention) (name : NameBytes) → is_local_at g m name ≡ true → (declares m.role ≡ true) ⊎ ((is_variable m.role ≡ true) × (m.subscripts ≡ 0) × (g name ≡ false))
+declared_or_used : (g : NameBytes → Bool) (m : Mention) (name : NameBytes) → is_local_at g m name ≡ true → (declares_local m.role ≡ true) ⊎ ((is_variable m.role ≡ true) × (m.subscripts ≡ 0) × (g name ≡ false))
 declared_or_used g m name h = ⊎_elim inl
     (λ e.
     let outer = and_parts (is_variable m.role && (m.subscripts == 0)) (not (g name)) e in
     let inner = and_parts (is_variable m.role) (m.subscripts == 0) outer.0 in
     inr (inner.0, eqb-true m.subscripts 0 inner.1, not-true (g name) outer.1))
-    (or_cases (declares m.role) (is_variable m.role && (m.subscripts == 0) && not (g name)) h)
+    (or_cases (declares_local m.role) (is_variable m.role && (m.subscripts == 0) && not (g name)) h)
 
 same_role : (role : Role) → is_variable role ≡ true → is_variable_role role ≡ true
 same_role roles.Value h = refl

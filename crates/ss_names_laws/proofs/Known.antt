@@ -4,11 +4,11 @@ use Rattle.std.specs.Prelude.{option_map, if◌then◌else◌}
 use Rattle.std.specs.Option.{option_or}
 use Rattle.std.specs.List.{fold, list_any, position_or_len}
 use Rattle.std.proofs.lemmas.Bool.{both_ways, or_cases, or_left, or_right}
-use Rattle.ss_names_declarations.specs.Sayings.{NameBytes}
+use Rattle.ss_tree.specs.Names.{NameBytes}
 use Rattle.ss_tables_rules.specs.declared.globals.Standing.{Standing}
 use Rattle.ss_tables_rules.specs.declared.globals.Standing.TheVariants as standings
-use Rattle.ss_names.specs.declared.meaning.Meaning.{Meaning}
-use Rattle.ss_names.specs.declared.meaning.Meaning.TheVariants as meanings
+use Rattle.ss_names.specs.declared.meaning.GlobalMeaning.{GlobalMeaning}
+use Rattle.ss_names.specs.declared.meaning.GlobalMeaning.TheVariants as meanings
 use Rattle.ss_names_declarations.specs.Firsts.{is_one_of, place_among, place_in, same_name, value_for, with_name}
 use Rattle.ss_names.specs.Meanings.{Numbered, class_meaning}
 use Rattle.ss_names_laws.specs.Lists.{Somewhere}
@@ -18,26 +18,26 @@ use Rattle.ss_names_laws.proofs.NameMeanings.{Fits, IsOther, mapped}
 
 -- ---- the kind of name that a meaning has
 
-abbrev pub kind_of_meaning : Meaning → Standing
+abbrev pub kind_of_meaning : GlobalMeaning → Standing
 kind_of_meaning (meanings.Variable n) = standings.Variable
 kind_of_meaning (meanings.Class class n) = standings.Class
 kind_of_meaning (meanings.Set n) = standings.Set
 kind_of_meaning (meanings.Derived d n) = standings.OfSet
 kind_of_meaning _ = standings.Other
 
-class_as : (a b : Option ℕ) (m : Meaning) → class_meaning meanings.Class a b ≡ Some m → standings.Class ≡ kind_of_meaning m
+class_as : (a b : Option ℕ) (m : GlobalMeaning) → class_meaning meanings.Class a b ≡ Some m → standings.Class ≡ kind_of_meaning m
 class_as (Some a) (Some b) m h = ap kind_of_meaning (some_equal (meanings.Class a b) m h)
 class_as (Some a) None m h = absurd cc
 class_as None b m h = absurd cc
 
-other_as : (t : Numbered) (name : NameBytes) (m : Meaning) → IsOther t name m → standings.Other ≡ kind_of_meaning m
+other_as : (t : Numbered) (name : NameBytes) (m : GlobalMeaning) → IsOther t name m → standings.Other ≡ kind_of_meaning m
 other_as t name (meanings.Attribute n) h = refl
 other_as t name (meanings.Count class n) h = refl
 other_as t name (meanings.Statistic n) h = refl
 other_as t name (meanings.Routine n) h = refl
 other_as t name _ h = absurd h
 
-pub fits_as : (t : Numbered) (standing : Standing) (name : NameBytes) (m : Meaning) → Fits t standing name m → standing ≡ kind_of_meaning m
+pub fits_as : (t : Numbered) (standing : Standing) (name : NameBytes) (m : GlobalMeaning) → Fits t standing name m → standing ≡ kind_of_meaning m
 fits_as t standings.Variable name m h = mapped meanings.Variable (λ x. standings.Variable ≡ kind_of_meaning x) (λ n. refl) (place_in t.variables name) m h
 fits_as t standings.Class name m h = class_as (place_in t.classes name) (place_in t.variables name) m h
 fits_as t standings.Set name m h = mapped meanings.Set (λ x. standings.Set ≡ kind_of_meaning x) (λ n. refl) (place_among t.set_names name) m h

@@ -14,14 +14,14 @@ use Rattle.ss_base.specs.Plain.{PlainClass, PlainLayout}
 use Rattle.ss_tree.specs.declared.preamble.Mode.{Mode as ModeWord}
 use Rattle.ss_names_declarations.specs.declared.saying.SetRule.{SetRule}
 use Rattle.ss_names_declarations.specs.declared.saying.SetRule.TheVariants as rules
-use Rattle.ss_names_declarations.specs.Sayings.{NameBytes}
+use Rattle.ss_tree.specs.Names.{NameBytes}
 use Rattle.ss_names.specs.declared.keys.RankedBy.{RankedBy}
 use Rattle.ss_names.specs.declared.keys.TiedBy.{TiedBy}
 use Rattle.ss_names.specs.declared.entry.Attribute.{Attribute}
 use Rattle.ss_names.specs.declared.entry.Ordering.{Ordering}
 use Rattle.ss_names.specs.declared.entry.Set.{Set}
-use Rattle.ss_names.specs.declared.meaning.Subject.{Subject as SubjectNumber}
-use Rattle.ss_names.specs.declared.meaning.Subject.TheVariants as subjects
+use Rattle.ss_names.specs.declared.meaning.SubjectNumber.{SubjectNumber}
+use Rattle.ss_names.specs.declared.meaning.SubjectNumber.TheVariants as subjects
 use Rattle.ss_names_declarations.specs.Firsts.{place_in, same_name, value_for}
 use Rattle.ss_names.specs.Table.{Table}
 use Rattle.ss_program.specs.declared.sections.Statistic.{Statistic}
@@ -33,7 +33,7 @@ use Rattle.ss_names_meaning.specs.Layouts.{attribute_named, class_laid, counted_
 use Rattle.ss_names_meaning.specs.Words.{class_kind, mode_given, weighting_of}
 use Rattle.ss_names_laws.specs.Subjects.{IsWhole}
 use Rattle.ss_names_laws.specs.Tables.{IsKeyOf, IsValueMode, KeepsTable}
-use Rattle.ss_names_laws.specs.ValidTables.{IsKept}
+use Rattle.ss_names_laws.specs.ValidTables.{IsValidTable}
 use Rattle.ss_names_laws.specs.LaidOut.{LaysOut}
 use Rattle.ss_names_declarations.proofs.Entries.{place_of_value, there, value_at}
 use Rattle.ss_names_laws.proofs.NamePlaces.{value_at_place}
@@ -77,7 +77,7 @@ module _ (t : Table) (is : IsTable t) (said : KeepsTable t) where
       let laid : PlainLayout = record { classes = cs.0; sets = ss.0 } in
       (laid, rw (cs.1, ss.1) (laid_so (is_layout laid) laid (make_a_layout t is said cs.0 ss.0 cs.1 ss.1)))
 
-module _ (t : Table) (is : IsTable t) (k : IsKept t) where
+module _ (t : Table) (is : IsTable t) (k : IsValidTable t) where
   -- ---- keys
 
   key_there : (class : ℕ) (high : Bool) (name : NameBytes) → IsKeyOf t class name → (key : RankKey) × (key_of t class high name ≡ Some key)

@@ -9,9 +9,9 @@ use Rattle.ss_names_uses.specs.declared.mention.Mentioned.{Mentioned}
 use Rattle.ss_names_uses.specs.declared.mention.Mentioned.TheVariants.{Name}
 use Rattle.ss_names_uses.specs.declared.mention.Mention.{Mention}
 use Rattle.ss_names_uses.specs.Mentions.{mentions}
-use Rattle.ss_names_declarations.specs.Sayings.{NameBytes}
+use Rattle.ss_tree.specs.Names.{NameBytes}
 use Rattle.ss_names_declarations.specs.Firsts.{same_name}
-use Rattle.ss_check_scopes.specs.Locals.{mode_of, moded, is_local_at, local_named, local_mentioned, locals}
+use Rattle.ss_check_scopes.specs.Locals.{mode_of_local, moded, is_local_at, local_named, local_mentioned, locals}
 use Rattle.ss_names_laws.proofs.Lists.{Among, in_one_of, names_equal, some_equal}
 use Rattle.ss_names_declarations.proofs.Entries.{value_in_firsts}
 
@@ -47,10 +47,10 @@ mentioned_there is_global (m ∷ ms) name h =
 
 -- a local variable is mentioned as one, and has the mode that the section gives its name
 pub local_from : (is_global : NameBytes → Bool) (usual : Option Mode) (s : SectionTree) (name : NameBytes) (mode : Option Mode) → lookup (same_name name) (locals is_global usual s) ≡ Some mode →
-    (m : Mention) × Among (mentions s) m × IsLocalIn is_global name m × (mode ≡ mode_of usual s.definitions name)
+    (m : Mention) × Among (mentions s) m × IsLocalIn is_global name m × (mode ≡ mode_of_local usual s.definitions name)
 local_from is_global usual s name mode h =
     let all = map (moded usual s.definitions) (flat_map (local_mentioned is_global) (mentions s)) in
     let looked_up : lookup (same_name name) all ≡ Some mode = sym (value_in_firsts all name) ∙ h in
-    let f = found_in (mode_of usual s.definitions) (flat_map (local_mentioned is_global) (mentions s)) name mode looked_up in
+    let f = found_in (mode_of_local usual s.definitions) (flat_map (local_mentioned is_global) (mentions s)) name mode looked_up in
     let m = mentioned_there is_global (mentions s) name f.0 in
     (m.0, m.1, m.2, f.1)

@@ -8,18 +8,18 @@ use Rattle.ss_names_declarations.specs.declared.saying.Saying.{Saying}
 use Rattle.ss_names_declarations.specs.Sayings.{said_alone, head_says, definition_says, section_says, preambles_say, sections_say, sayings}
 use Rattle.ss_check_rules.specs.Uses.{is_main}
 use Rattle.ss_tables_rules.specs.declared.topic.Topic.TheVariants as topics
-use Rattle.ss_tables_rules.specs.Topics.{is_about, thing_of}
+use Rattle.ss_tables_rules.specs.Topics.{has_topic, thing_of}
 use Rattle.ss_names_laws.specs.Lists.{Somewhere, Pairwise}
 use Rattle.ss_names_laws.specs.Declarations.{IsOnce}
 use Rattle.ss_names_laws.proofs.Lists.{left_of, right_of, each, across, right_pairs}
 
 -- the sayings of the sections after MAIN
-no_other : (number : ℕ) (ss : List SectionTree) → Every (λ (s : Saying). is_about topics.Main s.said ≡ true → (0, None) ≡ thing_of s → ⊥) (sections_say number ss) → Every (λ (s : SectionTree). is_main s.kind ≡ false) ss
+no_other : (number : ℕ) (ss : List SectionTree) → Every (λ (s : Saying). has_topic topics.Main s.said ≡ true → (0, None) ≡ thing_of s → ⊥) (sections_say number ss) → Every (λ (s : SectionTree). is_main s.kind ≡ false) ss
 no_other number [] h = tt
 no_other number (s ∷ ss) h = (not_main s.kind refl, no_other (number + 1) ss (right_of Silent (section_says number s) (sections_say (number + 1) ss) h))
   where
     Silent : Saying → Type 0
-    Silent x = is_about topics.Main x.said ≡ true → (0, None) ≡ thing_of x → ⊥
+    Silent x = has_topic topics.Main x.said ≡ true → (0, None) ≡ thing_of x → ⊥
 
     first : Every Silent (section_says number s)
     first = left_of Silent (section_says number s) (sections_say (number + 1) ss) h
@@ -40,7 +40,7 @@ HasOneMain ss =
 
 -- there are no two sayings of MAIN
 TwoMains : Saying → Saying → Type 0
-TwoMains s t = is_about topics.Main s.said ≡ true → is_about topics.Main t.said ≡ true → thing_of s ≡ thing_of t → ⊥
+TwoMains s t = has_topic topics.Main s.said ≡ true → has_topic topics.Main t.said ≡ true → thing_of s ≡ thing_of t → ⊥
 
 later_main : (s : SectionTree) (ss : List SectionTree) → is_main s.kind ≡ false → Somewhere IsMain (s ∷ ss) → Somewhere IsMain ss
 unfolding IsMain
@@ -62,7 +62,7 @@ by_kind number s ss main e h p later =
       ss,
       refl,
       e,
-      no_other (number + 1) ss (each (TwoMains (said_alone s.line (said.Main number))) (λ (x : Saying). is_about topics.Main x.said ≡ true → (0, None) ≡ thing_of x → ⊥) (λ x f a b. f refl a b) (sections_say (number + 1) ss) of_main.0),
+      no_other (number + 1) ss (each (TwoMains (said_alone s.line (said.Main number))) (λ (x : Saying). has_topic topics.Main x.said ≡ true → (0, None) ≡ thing_of x → ⊥) (λ x f a b. f refl a b) (sections_say (number + 1) ss) of_main.0),
     )
 by_kind number s ss (routine name given yielding) e h p later = past s ss (ap is_main e) (later (later_main s ss (ap is_main e) h))
 by_kind number s ss (event name given saving) e h p later = past s ss (ap is_main e) (later (later_main s ss (ap is_main e) h))

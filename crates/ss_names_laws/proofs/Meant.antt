@@ -13,24 +13,24 @@ use Rattle.ss_tree.specs.declared.preamble.Weighting.{Weighting}
 use Rattle.ss_names_declarations.specs.declared.saying.Said.{Said}
 use Rattle.ss_names_declarations.specs.declared.saying.Said.TheVariants as said
 use Rattle.ss_names_declarations.specs.declared.saying.Saying.{Saying}
-use Rattle.ss_names_declarations.specs.Sayings.{NameBytes}
+use Rattle.ss_tree.specs.Names.{NameBytes}
 use Rattle.ss_tables_rules.specs.declared.topic.Topic.TheVariants as topics
 use Rattle.ss_tables_rules.specs.declared.globals.Standing.{Standing}
 use Rattle.ss_tables_rules.specs.declared.globals.Standing.TheVariants as standings
 use Rattle.ss_tables_rules.specs.Declarations.{Declaration, declaration, class_declares, set_declares, named_declares, saying_declares, is_attribute, declarations, declares, standing_declared, standing_of}
-use Rattle.ss_tables_rules.specs.Topics.{global, is_about, is_said_by, section_of}
+use Rattle.ss_tables_rules.specs.Topics.{global_thing, has_topic, is_said_by, section_of}
 use Rattle.ss_names.specs.declared.entry.Attribute.{Attribute}
-use Rattle.ss_names.specs.declared.meaning.Meaning.{Meaning}
-use Rattle.ss_names.specs.declared.meaning.Meaning.TheVariants as meanings
-use Rattle.ss_names.specs.declared.entry.Routine.{Routine}
-use Rattle.ss_names.specs.declared.entry.Statistic.{Statistic}
-use Rattle.ss_names.specs.declared.entry.Variable.{Variable}
+use Rattle.ss_names.specs.declared.meaning.GlobalMeaning.{GlobalMeaning}
+use Rattle.ss_names.specs.declared.meaning.GlobalMeaning.TheVariants as meanings
+use Rattle.ss_names.specs.declared.entry.RoutineSection.{RoutineSection}
+use Rattle.ss_names.specs.declared.entry.StatisticEntry.{StatisticEntry}
+use Rattle.ss_names.specs.declared.entry.GlobalVariable.{GlobalVariable}
 use Rattle.ss_names.specs.declared.entry.VariableKind.TheVariants.{Defined, OfClass, CountOf}
 use Rattle.ss_names.specs.Entities.{attributes, classes, set_by, set_names, declared_sets}
 use Rattle.ss_names_declarations.specs.Firsts.{entry_if, place_among, place_in, value_for}
-use Rattle.ss_names.specs.Meanings.{numbered, set_meanings, class_meaning, class_name_meaning, count_meaning, meaning_entries, meaning_by, meanings_in}
-use Rattle.ss_names.specs.Statistics.{statistic_by, statistic_of, statistic_entries, statistics, weighing_by, weighing_entries, weighings}
-use Rattle.ss_names.specs.Variables.{class_variables, count_name, routine_by, routine_entries, routines, variable_by, variable_entries, variables}
+use Rattle.ss_names.specs.Meanings.{numbered_names, set_meanings, class_meaning, class_name_meaning, count_meaning, meaning_entries, meaning_by, meanings_in}
+use Rattle.ss_names.specs.Statistics.{statistic_by, statistic_entry, statistic_entries, statistics, weighing_by, weighing_entries, weighings}
+use Rattle.ss_names.specs.Variables.{class_variables, count_name, routine_by, routine_sections, routines, variable_by, variable_entries, variables}
 use Rattle.ss_names_laws.specs.Declarations.{Says}
 use Rattle.ss_names_laws.proofs.Lists.{Among, any_there, at_item, found_first, holds_among, in_left, in_one_of, in_right, names_equal, somewhere}
 use Rattle.ss_names_laws.proofs.Sayings.{by_said, says_so}
@@ -53,9 +53,9 @@ module _ (says : List Saying) (f : Facts says) where
       in_sets (y ∷ xs) x (inr b) g = in_right (λ m. m ≡ name) (set_by y) (flat_map set_by xs) (in_sets xs x b g)
 
   -- a variable that a class or a DEFINE declares has a place
-  variable_place : (what : Said) (owner name : NameBytes) → Says says what owner → (v : Variable) × (value_for (variable_entries (classes says) (attributes says) what (Some owner)) name ≡ Some v) → (k : ℕ) × (place_in (variables says) name ≡ Some k)
+  variable_place : (what : Said) (owner name : NameBytes) → Says says what owner → (v : GlobalVariable) × (value_for (variable_entries (classes says) (attributes says) what (Some owner)) name ≡ Some v) → (k : ℕ) × (place_in (variables says) name ≡ Some k)
   variable_place what owner name h t =
-      let r = item_gives_value (variable_by (classes says) (attributes says)) name says (somewhere (SaysIt what owner) (λ s. (v : Variable) × (value_for (variable_by (classes says) (attributes says) s) name ≡ Some v))
+      let r = item_gives_value (variable_by (classes says) (attributes says)) name says (somewhere (SaysIt what owner) (λ s. (v : GlobalVariable) × (value_for (variable_by (classes says) (attributes says) s) name ≡ Some v))
       (λ s q. (t.0, ap (λ (x : Said × Option NameBytes). value_for (variable_entries (classes says) (attributes says) x.0 x.1) name) (λ i. (q.0 i, q.1 i)) ∙ t.1)) says h) in
       placed (variables says) name (r.0, value_in_firsts (flat_map (variable_by (classes says) (attributes says)) says) name ∙ r.1)
 
@@ -65,39 +65,39 @@ module _ (says : List Saying) (f : Facts says) where
       (λ s q. (weighting, ap (λ (x : Said × Option NameBytes). value_for (weighing_entries x.0 x.1) subject) (λ i. (q.0 i, q.1 i)) ∙ first_entry subject weighting [])) says h) in
       placed (weighings says) subject (r.0, value_in_firsts (flat_map weighing_by says) subject ∙ r.1)
 
-  statistic_here : (kind : StatisticKind) (name : NameBytes) (o : Option ℕ) (k : ℕ) → o ≡ Some k → (v : Statistic) × (value_for (statistic_of kind name o) name ≡ Some v)
+  statistic_here : (kind : StatisticKind) (name : NameBytes) (o : Option ℕ) (k : ℕ) → o ≡ Some k → (v : StatisticEntry) × (value_for (statistic_entry kind name o) name ≡ Some v)
   statistic_here kind name None k h = absurd cc
-  statistic_here kind name (Some n) k h = let v : Statistic = record { history = n; kind = kind } in (v, first_entry name v [])
+  statistic_here kind name (Some n) k h = let v : StatisticEntry = record { history = n; kind = kind } in (v, first_entry name v [])
 
   statistic_place : (weighting : Weighting) (kind : StatisticKind) (subject name : NameBytes) → Says says (said.Statistic weighting kind subject) name → (k : ℕ) × (place_in (statistics says) name ≡ Some k)
   statistic_place weighting kind subject name h =
       let w = weighing_place weighting subject (f.of_classes.subjects weighting kind subject name h) in
       let t = statistic_here kind name (place_in (weighings says) subject) w.0 w.1 in
-      let r = item_gives_value (statistic_by (weighings says)) name says (somewhere (SaysIt (said.Statistic weighting kind subject) name) (λ s. (v : Statistic) × (value_for (statistic_by (weighings says) s) name ≡ Some v))
+      let r = item_gives_value (statistic_by (weighings says)) name says (somewhere (SaysIt (said.Statistic weighting kind subject) name) (λ s. (v : StatisticEntry) × (value_for (statistic_by (weighings says) s) name ≡ Some v))
       (λ s q. (t.0, ap (λ (x : Said × Option NameBytes). value_for (statistic_entries (weighings says) x.0 x.1) name) (λ i. (q.0 i, q.1 i)) ∙ t.1)) says h) in
       placed (statistics says) name (r.0, value_in_firsts (flat_map (statistic_by (weighings says)) says) name ∙ r.1)
 
   routine_place : (section given yielding : ℕ) (name : NameBytes) → Says says (said.Routine section given yielding) name → (k : ℕ) × (place_in (routines says) name ≡ Some k)
   routine_place section given yielding name h =
-      let v : Routine = record { section = section; given = given; yielding = yielding } in
-      let r = item_gives_value routine_by name says (somewhere (SaysIt (said.Routine section given yielding) name) (λ s. (u : Routine) × (value_for (routine_by s) name ≡ Some u))
-      (λ s q. (v, ap (λ (x : Said × Option NameBytes). value_for (routine_entries x.0 x.1) name) (λ i. (q.0 i, q.1 i)) ∙ first_entry name v [])) says h) in
+      let v : RoutineSection = record { section = section; given = given; yielding = yielding } in
+      let r = item_gives_value routine_by name says (somewhere (SaysIt (said.Routine section given yielding) name) (λ s. (u : RoutineSection) × (value_for (routine_by s) name ≡ Some u))
+      (λ s q. (v, ap (λ (x : Said × Option NameBytes). value_for (routine_sections x.0 x.1) name) (λ i. (q.0 i, q.1 i)) ∙ first_entry name v [])) says h) in
       placed (routines says) name (r.0, value_in_firsts (flat_map routine_by says) name ∙ r.1)
 
   -- ---- statement by statement
 
   -- each name that a saying declares has a meaning
   HasMeaning : Said → Option NameBytes → Declaration → Type 0
-  HasMeaning w o d = (m : Meaning) × (value_for (meaning_entries (numbered says) w o) d.name ≡ Some m)
+  HasMeaning w o d = (m : GlobalMeaning) × (value_for (meaning_entries (numbered_names says) w o) d.name ≡ Some m)
 
-  two_placed : (of : ℕ → ℕ → Meaning) (a b : Option ℕ) (n k : ℕ) → a ≡ Some n → b ≡ Some k → class_meaning of a b ≡ Some (of n k)
+  two_placed : (of : ℕ → ℕ → GlobalMeaning) (a b : Option ℕ) (n k : ℕ) → a ≡ Some n → b ≡ Some k → class_meaning of a b ≡ Some (of n k)
   two_placed of a b n k e g = λ i. class_meaning of (e i) (g i)
 
-  count_here : (name : NameBytes) (o : Option ℕ) (n : ℕ) → o ≡ Some n → (v : Variable) × (value_for (class_variables class_kinds.Permanent name o) (count_name name) ≡ Some v)
+  count_here : (name : NameBytes) (o : Option ℕ) (n : ℕ) → o ≡ Some n → (v : GlobalVariable) × (value_for (class_variables class_kinds.Permanent name o) (count_name name) ≡ Some v)
   count_here name None n h = absurd cc
   count_here name (Some c) n h =
-      let u : Variable = record { kind = OfClass c; mode = modes.Integer } in
-      let k : Variable = record { kind = CountOf c; mode = modes.Integer } in
+      let u : GlobalVariable = record { kind = OfClass c; mode = modes.Integer } in
+      let k : GlobalVariable = record { kind = CountOf c; mode = modes.Integer } in
       key_there ((name, u) ∷ (count_name name, k) ∷ []) (count_name name) (inr (inl refl))
 
   class_has_meaning : (line : Line) (kind : ClassKind) (name : NameBytes) → Says says (said.Class kind) name → Every (HasMeaning (said.Class kind) (Some name)) (class_declares line kind name)
@@ -106,25 +106,25 @@ module _ (says : List Saying) (f : Facts says) where
       let c = class_place says f class_kinds.Permanent name h in
       let v = variable_place (said.Class class_kinds.Permanent) name name h (class_variable_here class_kinds.Permanent name (place_in (classes says) name) c.0 c.1) in
       let k = variable_place (said.Class class_kinds.Permanent) name (count_name name) h (count_here name (place_in (classes says) name) c.0 c.1) in
-      let first = entry_if name (class_name_meaning (numbered says) name) in
-      let second = entry_if (count_name name) (count_meaning (numbered says) name) in (
-        in_either first second name (meanings.Class c.0 v.0) (inl (if_here name (class_name_meaning (numbered says) name) (meanings.Class c.0 v.0) (two_placed meanings.Class (place_in (classes says) name) (place_in (variables says) name) c.0 v.0 c.1 v.1))),
+      let first = entry_if name (class_name_meaning (numbered_names says) name) in
+      let second = entry_if (count_name name) (count_meaning (numbered_names says) name) in (
+        in_either first second name (meanings.Class c.0 v.0) (inl (if_here name (class_name_meaning (numbered_names says) name) (meanings.Class c.0 v.0) (two_placed meanings.Class (place_in (classes says) name) (place_in (variables says) name) c.0 v.0 c.1 v.1))),
         (
           in_either first second (count_name name) (meanings.Count c.0 k.0)
-              (inr (if_here (count_name name) (count_meaning (numbered says) name) (meanings.Count c.0 k.0) (two_placed meanings.Count (place_in (classes says) name) (place_in (variables says) (count_name name)) c.0 k.0 c.1 k.1))),
+              (inr (if_here (count_name name) (count_meaning (numbered_names says) name) (meanings.Count c.0 k.0) (two_placed meanings.Count (place_in (classes says) name) (place_in (variables says) (count_name name)) c.0 k.0 c.1 k.1))),
           tt,
         ),
       )
   class_has_meaning line class_kinds.Temporary name h =
       let c = class_place says f class_kinds.Temporary name h in
       let v = variable_place (said.Class class_kinds.Temporary) name name h (class_variable_here class_kinds.Temporary name (place_in (classes says) name) c.0 c.1) in
-      ((meanings.Class c.0 v.0, if_here name (class_name_meaning (numbered says) name) (meanings.Class c.0 v.0) (two_placed meanings.Class (place_in (classes says) name) (place_in (variables says) name) c.0 v.0 c.1 v.1)), tt)
+      ((meanings.Class c.0 v.0, if_here name (class_name_meaning (numbered_names says) name) (meanings.Class c.0 v.0) (two_placed meanings.Class (place_in (classes says) name) (place_in (variables says) name) c.0 v.0 c.1 v.1)), tt)
   class_has_meaning line class_kinds.EventNotice name h =
       let c = class_place says f class_kinds.EventNotice name h in
       let v = variable_place (said.Class class_kinds.EventNotice) name name h (class_variable_here class_kinds.EventNotice name (place_in (classes says) name) c.0 c.1) in
-      ((meanings.Class c.0 v.0, if_here name (class_name_meaning (numbered says) name) (meanings.Class c.0 v.0) (two_placed meanings.Class (place_in (classes says) name) (place_in (variables says) name) c.0 v.0 c.1 v.1)), tt)
+      ((meanings.Class c.0 v.0, if_here name (class_name_meaning (numbered_names says) name) (meanings.Class c.0 v.0) (two_placed meanings.Class (place_in (classes says) name) (place_in (variables says) name) c.0 v.0 c.1 v.1)), tt)
 
-  set_has_meaning : (line : Line) (name : NameBytes) (o : Option ℕ) (k : ℕ) → o ≡ Some k → Every (λ (d : Declaration). (m : Meaning) × (value_for (set_meanings name o) d.name ≡ Some m)) (set_declares line name)
+  set_has_meaning : (line : Line) (name : NameBytes) (o : Option ℕ) (k : ℕ) → o ≡ Some k → Every (λ (d : Declaration). (m : GlobalMeaning) × (value_for (set_meanings name o) d.name ≡ Some m)) (set_declares line name)
   set_has_meaning line name None k h = absurd cc
   set_has_meaning line name (Some n) k h =
       let es = set_meanings name (Some n) in (
@@ -147,10 +147,10 @@ module _ (says : List Saying) (f : Facts says) where
   variable_has_meaning line mode name h true e = tt
   variable_has_meaning line mode name h false e =
       let none : value_for (attributes says) name ≡ None = no_some (value_for (attributes says) name) (λ a g. let c = attribute_declared says f name a g in both_ways (is_attribute says name) e (is_one c.0 c.1)) in
-      let no_entries : List (NameBytes × Variable) = [] in
-      let v : Variable = record { kind = Defined; mode = mode } in
+      let no_entries : List (NameBytes × GlobalVariable) = [] in
+      let v : GlobalVariable = record { kind = Defined; mode = mode } in
       let k = variable_place (said.Variable mode) name name h (v, ap (λ (o : Option Attribute). value_for (if is_some o then no_entries else (name, v) ∷ no_entries) name) none ∙ first_entry name v []) in
-      let no_meaning : Option Meaning = None in (
+      let no_meaning : Option GlobalMeaning = None in (
         (
           meanings.Variable k.0,
           if_here name (if is_some (place_in (attributes says) name) then no_meaning else option_map meanings.Variable (place_in (variables says) name)) (meanings.Variable k.0)
@@ -160,8 +160,8 @@ module _ (says : List Saying) (f : Facts says) where
       )
     where
       is_one : (class : NameBytes) → Says says (said.Attribute class) name → is_attribute says name ≡ true
-      is_one class g = any_there (is_said_by topics.Attribute (global name)) says (somewhere (SaysIt (said.Attribute class) name) (λ s. is_said_by topics.Attribute (global name) s ≡ true)
-          (λ s q. by_said topics.Attribute (global name) s (ap (is_about topics.Attribute) q.0, λ i. (section_of (q.0 i), q.1 i))) says g)
+      is_one class g = any_there (is_said_by topics.Attribute (global_thing name)) says (somewhere (SaysIt (said.Attribute class) name) (λ s. is_said_by topics.Attribute (global_thing name) s ≡ true)
+          (λ s q. by_said topics.Attribute (global_thing name) s (ap (has_topic topics.Attribute) q.0, λ i. (section_of (q.0 i), q.1 i))) says g)
 
   declared_has_meaning : (s : Saying) → Among says s → (w : Said) (o : Option NameBytes) → s.said ≡ w → s.name ≡ o → Every (HasMeaning w o) (named_declares (is_attribute says) s.line w o)
   unfolding HasMeaning
@@ -190,17 +190,17 @@ module _ (says : List Saying) (f : Facts says) where
   declared_there (x ∷ xs) d h =
       ⊎_elim (λ g. (x, inl refl, g)) (λ g. let r = declared_there xs d g in (r.0, inr r.1, r.2)) (in_one_of (λ y. y ≡ d) (saying_declares (is_attribute says) x) (flat_map (saying_declares (is_attribute says)) xs) h)
 
-  pub name_known : (name : NameBytes) (standing : Standing) → standing_of (declarations says) name ≡ Some standing → (m : Meaning) × (value_for (meanings_in (numbered says) says) name ≡ Some m)
+  pub name_known : (name : NameBytes) (standing : Standing) → standing_of (declarations says) name ≡ Some standing → (m : GlobalMeaning) × (value_for (meanings_in (numbered_names says) says) name ≡ Some m)
   unfolding HasMeaning
   name_known name standing h = by (find (declares name) (declarations says)) refl h
     where
-      by : (o : Option Declaration) → find (declares name) (declarations says) ≡ o → standing_declared o ≡ Some standing → (m : Meaning) × (value_for (meanings_in (numbered says) says) name ≡ Some m)
+      by : (o : Option Declaration) → find (declares name) (declarations says) ≡ o → standing_declared o ≡ Some standing → (m : GlobalMeaning) × (value_for (meanings_in (numbered_names says) says) name ≡ Some m)
       by None e g = absurd cc
       by (Some d) e g =
           let first = found_first (declares name) (declarations says) d e in
           let s = declared_there says d first.1 in
           let t = at_item (HasMeaning s.0.said s.0.name) (saying_declares (is_attribute says) s.0) d (declared_has_meaning s.0 s.1 s.0.said s.0.name refl refl) s.2 in
           let named : d.name ≡ name = sym (names_equal name d.name first.0) in
-          let r = item_gives_value (meaning_by (numbered says)) name says
-          (holds_among (λ x. (m : Meaning) × (value_for (meaning_by (numbered says) x) name ≡ Some m)) says s.0 s.1 (t.0, ap (value_for (meaning_by (numbered says) s.0)) (sym named) ∙ t.1)) in
-          (r.0, value_in_firsts (flat_map (meaning_by (numbered says)) says) name ∙ r.1)
+          let r = item_gives_value (meaning_by (numbered_names says)) name says
+          (holds_among (λ x. (m : GlobalMeaning) × (value_for (meaning_by (numbered_names says) x) name ≡ Some m)) says s.0 s.1 (t.0, ap (value_for (meaning_by (numbered_names says) s.0)) (sym named) ∙ t.1)) in
+          (r.0, value_in_firsts (flat_map (meaning_by (numbered_names says)) says) name ∙ r.1)

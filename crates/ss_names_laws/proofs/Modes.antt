@@ -11,10 +11,11 @@ use Rattle.ss_tree.specs.Tree.{SectionTree, PreambleTree, ProgramTree}
 use Rattle.ss_names_declarations.specs.declared.saying.Said.{Said}
 use Rattle.ss_names_declarations.specs.declared.saying.Said.TheVariants as said
 use Rattle.ss_names_declarations.specs.declared.saying.Saying.{Saying}
-use Rattle.ss_names_declarations.specs.Sayings.{NameBytes, sayings}
+use Rattle.ss_tree.specs.Names.{NameBytes}
+use Rattle.ss_names_declarations.specs.Sayings.{sayings}
 use Rattle.ss_tables_rules.specs.declared.topic.Topic.TheVariants as topics
 use Rattle.ss_tables_rules.specs.RealMode.{gives_mode}
-use Rattle.ss_tables_rules.specs.Topics.{thing_of, section_of, is_about}
+use Rattle.ss_tables_rules.specs.Topics.{thing_of, section_of, has_topic}
 use Rattle.ss_names.specs.declared.entry.Attribute.{Attribute}
 use Rattle.ss_names.specs.Entities.{attributes, defined_by, defined_modes, defined_entries, mode_by_normally, usual_mode}
 use Rattle.ss_names_declarations.specs.Firsts.{value_for}
@@ -38,11 +39,11 @@ normal_mode (said.Normally modes.Integer) h = (modes.Integer, refl, inl refl)
 normal_mode (said.Normally modes.Alpha) h = (modes.Alpha, refl, inr refl)
 normal_mode _ h = absurd cc
 
-no_normal : (w : Said) → is_about topics.Normally w ≡ false → mode_by_normally w ≡ None
+no_normal : (w : Said) → has_topic topics.Normally w ≡ false → mode_by_normally w ≡ None
 no_normal (said.Normally mode) h = absurd cc
 no_normal _ h = refl
 
-nameless : (w : Said) (o : Option NameBytes) → is_about topics.Normally w ≡ true → Well (λ n. Unit) (λ k. Unit) w o → (section_of w ≡ 0) × (o ≡ None)
+nameless : (w : Said) (o : Option NameBytes) → has_topic topics.Normally w ≡ true → Well (λ n. Unit) (λ k. Unit) w o → (section_of w ≡ 0) × (o ≡ None)
 nameless (said.Normally mode) o h k = (refl, k)
 nameless _ o h k = absurd cc
 
@@ -55,13 +56,13 @@ usual_given (s ∷ ss) well once (inr h) = ⊎_elim
     (λ e.
     let t = pick (λ (x : Saying). gives_mode x.said ≡ true) ss h in
     let m = normal_mode t.0.said t.1 in
-    let about : is_about topics.Normally t.0.said ≡ true = ap (is_about topics.Normally) m.1 in
+    let about : has_topic topics.Normally t.0.said ≡ true = ap (has_topic topics.Normally) m.1 in
     let first = nameless s.said s.name e well.0 in
     let second = nameless t.0.said t.0.name about (at_item (λ (x : Saying). Well (λ n. Unit) (λ k. Unit) x.said x.name) ss t.0 well.1 t.2) in
     let same : thing_of s ≡ thing_of t.0 = λ i. ((first.0 ∙ sym second.0) i, (first.1 ∙ sym second.1) i) in
-    absurd (at_item (λ x. is_about topics.Normally s.said ≡ true → is_about topics.Normally x.said ≡ true → thing_of s ≡ thing_of x → ⊥) ss t.0 once.0 t.2 e about same))
+    absurd (at_item (λ x. has_topic topics.Normally s.said ≡ true → has_topic topics.Normally x.said ≡ true → thing_of s ≡ thing_of x → ⊥) ss t.0 once.0 t.2 e about same))
     (λ e. subst IsValueMode (sym (ap (λ o. option_or o (usual_mode ss)) (no_normal s.said e))) (usual_given ss well.1 once.1 h))
-    (cases_Bool (is_about topics.Normally s.said))
+    (cases_Bool (has_topic topics.Normally s.said))
 
 pub usual_of : (p : ProgramTree) → Facts (sayings p) → Somewhere (λ (s : Saying). gives_mode s.said ≡ true) (sayings p) → IsValueMode (usual_mode (sayings p))
 usual_of p f h = usual_given (sayings p) (program_well (λ n. Unit) (λ k. Unit) p (all_of (SubjectWell (λ n. Unit) (λ k. Unit)) no_subject p.preamble) (λ k. tt)) f.once.normally h

@@ -9,13 +9,14 @@ use Rattle.ss_tree.specs.declared.preamble.ClassKind.TheVariants as class_kinds
 use Rattle.ss_names_declarations.specs.declared.saying.Said.{Said}
 use Rattle.ss_names_declarations.specs.declared.saying.Said.TheVariants as said
 use Rattle.ss_names_declarations.specs.declared.saying.Saying.{Saying}
-use Rattle.ss_names_declarations.specs.Sayings.{NameBytes}
+use Rattle.ss_tree.specs.Names.{NameBytes}
 use Rattle.ss_tables_rules.specs.declared.topic.Topic.{Topic}
 use Rattle.ss_tables_rules.specs.declared.topic.Topic.TheVariants as topics
 use Rattle.ss_tables_rules.specs.declared.globals.Standing.TheVariants as standings
 use Rattle.ss_tables_rules.specs.Declarations.{Declaration, declaration, class_declares, said_declares, named_declares, saying_declares, is_attribute}
-use Rattle.ss_tables_rules.specs.Lines.{line_if, lines_after}
-use Rattle.ss_tables_rules.specs.Topics.{Thing, global, thing_of, section_of, line_of, is_about, is_said_by, is_said}
+use Rattle.ss_base.specs.Lines.{line_if}
+use Rattle.ss_tables_rules.specs.Lines.{lines_after}
+use Rattle.ss_tables_rules.specs.Topics.{Thing, global_thing, thing_of, section_of, line_of, has_topic, is_said_by, is_said}
 use Rattle.ss_tables_rules.specs.Twice.{is_again, again, anything}
 use Rattle.ss_names_laws.specs.Lists.{Pairwise}
 use Rattle.ss_names_laws.specs.Declarations.{NamesDeclaredOnce, Agree, IsOnce, IsOnceOf}
@@ -50,27 +51,27 @@ pairs_after P R f before (x ∷ xs) h =
 
 -- two sayings on this topic are of two things, unless the thing doesn't count
 abbrev pub Apart : Topic → (Thing → Bool) → Saying → Saying → Type 0
-Apart topic counts s t = is_about topic s.said ≡ true → is_about topic t.said ≡ true → thing_of s ≡ thing_of t → counts (thing_of t) ≡ true → ⊥
+Apart topic counts s t = has_topic topic s.said ≡ true → has_topic topic t.said ≡ true → thing_of s ≡ thing_of t → counts (thing_of t) ≡ true → ⊥
 
 apart : (topic : Topic) (counts : Thing → Bool) (before : List Saying) (t : Saying) → is_again topic counts before t ≡ false → Every (λ s. Apart topic counts s t) before
 apart topic counts before t h = each_item (λ s. Apart topic counts s t) before (λ s a e f same c.
     let it = by_said topic (thing_of t) s (e, same) in
     let here : is_said topic before (thing_of t) ≡ true = any_there (is_said_by topic (thing_of t)) before (holds_among (λ x. is_said_by topic (thing_of t) x ≡ true) before s a it) in
     both_ways (is_again topic counts before t) h
-    (and_from (is_about topic t.said) (counts (thing_of t) && is_said topic before (thing_of t)) f (and_from (counts (thing_of t)) (is_said topic before (thing_of t)) c here)))
+    (and_from (has_topic topic t.said) (counts (thing_of t) && is_said topic before (thing_of t)) f (and_from (counts (thing_of t)) (is_said topic before (thing_of t)) c here)))
 
 pub never_again : (topic : Topic) (counts : Thing → Bool) (says : List Saying) → again topic counts says ≡ [] → Pairwise (Apart topic counts) says
 never_again topic counts says h =
     (pairs_after (λ b t. is_again topic counts b t ≡ false) (Apart topic counts) (apart topic counts) [] says (none_after line_of (is_again topic counts) [] says h)).1
 
 pub once : (topic : Topic) (says : List Saying) → again topic anything says ≡ [] → IsOnce topic says
-once topic says h = pairwise (Apart topic anything) (λ s t. is_about topic s.said ≡ true → is_about topic t.said ≡ true → thing_of s ≡ thing_of t → ⊥) (λ s t f a b c. f a b c refl) says (never_again topic anything says h)
+once topic says h = pairwise (Apart topic anything) (λ s t. has_topic topic s.said ≡ true → has_topic topic t.said ≡ true → thing_of s ≡ thing_of t → ⊥) (λ s t f a b c. f a b c refl) says (never_again topic anything says h)
 
 -- all things of this topic count
-pub once_of : (topic : Topic) (counts : Thing → Bool) (says : List Saying) → ((t : Saying) → Among says t → is_about topic t.said ≡ true → counts (thing_of t) ≡ true) → again topic counts says ≡ [] → IsOnce topic says
+pub once_of : (topic : Topic) (counts : Thing → Bool) (says : List Saying) → ((t : Saying) → Among says t → has_topic topic t.said ≡ true → counts (thing_of t) ≡ true) → again topic counts says ≡ [] → IsOnce topic says
 once_of topic counts says f h =
-    pairwise_of (λ t. is_about topic t.said ≡ true → counts (thing_of t) ≡ true) (Apart topic counts) (λ s t. is_about topic s.said ≡ true → is_about topic t.said ≡ true → thing_of s ≡ thing_of t → ⊥)
-    (λ s t p q g a b c. g a b c (q b)) says (each_item (λ t. is_about topic t.said ≡ true → counts (thing_of t) ≡ true) says f) (never_again topic counts says h)
+    pairwise_of (λ t. has_topic topic t.said ≡ true → counts (thing_of t) ≡ true) (Apart topic counts) (λ s t. has_topic topic s.said ≡ true → has_topic topic t.said ≡ true → thing_of s ≡ thing_of t → ⊥)
+    (λ s t p q g a b c. g a b c (q b)) says (each_item (λ t. has_topic topic t.said ≡ true → counts (thing_of t) ≡ true) says f) (never_again topic counts says h)
 
 -- ---- declarations of two sayings
 
@@ -96,7 +97,7 @@ module _ (says : List Saying) (agree : NamesDeclaredOnce says) where
   class_first line class_kinds.Temporary name = ([], refl)
   class_first line class_kinds.EventNotice name = ([], refl)
 
-  class_clash : (s t : Saying) → TheyAgree s t → is_about topics.Class s.said ≡ true → is_about topics.Class t.said ≡ true → (name : NameBytes) → s.name ≡ Some name → t.name ≡ Some name → ⊥
+  class_clash : (s t : Saying) → TheyAgree s t → has_topic topics.Class s.said ≡ true → has_topic topics.Class t.said ≡ true → (name : NameBytes) → s.name ≡ Some name → t.name ≡ Some name → ⊥
   unfolding TheyAgree
   class_clash s t h a b name n m =
       let k = of_class s.said a in
@@ -106,7 +107,7 @@ module _ (says : List Saying) (agree : NamesDeclaredOnce says) where
       (clash (declaration s.line standings.Class name) (declaration t.line standings.Class name) first.0 second.0 (saying_declares (is_attribute says) s) (saying_declares (is_attribute says) t)
       (declares_so s (said.Class k.0) name k.1 n ∙ first.1) (declares_so t (said.Class l.0) name l.1 m ∙ second.1) h refl).1
 
-  attribute_clash : (s t : Saying) → TheyAgree s t → is_about topics.Attribute s.said ≡ true → is_about topics.Attribute t.said ≡ true → (name : NameBytes) → s.name ≡ Some name → t.name ≡ Some name → ⊥
+  attribute_clash : (s t : Saying) → TheyAgree s t → has_topic topics.Attribute s.said ≡ true → has_topic topics.Attribute t.said ≡ true → (name : NameBytes) → s.name ≡ Some name → t.name ≡ Some name → ⊥
   unfolding TheyAgree
   attribute_clash s t h a b name n m =
       let k = of_attribute s.said a in
@@ -115,12 +116,12 @@ module _ (says : List Saying) (agree : NamesDeclaredOnce says) where
       (declares_so s (said.Attribute k.0) name k.1 n) (declares_so t (said.Attribute l.0) name l.1 m) h refl).1
 
   -- a DEFINE of a name that is no attribute
-  plain_variable : (s : Saying) (name : NameBytes) → is_about topics.Variable s.said ≡ true → s.name ≡ Some name → is_attribute says name ≡ false → saying_declares (is_attribute says) s ≡ declaration s.line standings.Variable name ∷ []
+  plain_variable : (s : Saying) (name : NameBytes) → has_topic topics.Variable s.said ≡ true → s.name ≡ Some name → is_attribute says name ≡ false → saying_declares (is_attribute says) s ≡ declaration s.line standings.Variable name ∷ []
   plain_variable s name a n e =
       let k = of_variable s.said a in
       declares_so s (said.Variable k.0) name k.1 n ∙ ap (λ b. let none : List Declaration = [] in if b then none else declaration s.line standings.Variable name ∷ []) e
 
-  variable_clash : (s t : Saying) → TheyAgree s t → Apart topics.Variable (is_said topics.Attribute says) s t → is_about topics.Variable s.said ≡ true → is_about topics.Variable t.said ≡ true → (name : NameBytes) → s.name ≡ Some name → t.name ≡ Some name → ⊥
+  variable_clash : (s t : Saying) → TheyAgree s t → Apart topics.Variable (is_said topics.Attribute says) s t → has_topic topics.Variable s.said ≡ true → has_topic topics.Variable t.said ≡ true → (name : NameBytes) → s.name ≡ Some name → t.name ≡ Some name → ⊥
   unfolding TheyAgree
   variable_clash s t h g a b name n m = ⊎_elim
       (λ e. g a b (thing s name a n ∙ sym (thing t name b m)) (ap (is_said topics.Attribute says) (thing t name b m) ∙ e))
@@ -128,16 +129,16 @@ module _ (says : List Saying) (agree : NamesDeclaredOnce says) where
       (plain_variable s name a n e) (plain_variable t name b m e) h refl).1)
       (cases_Bool (is_attribute says name))
     where
-      thing : (x : Saying) (called : NameBytes) → is_about topics.Variable x.said ≡ true → x.name ≡ Some called → thing_of x ≡ global called
+      thing : (x : Saying) (called : NameBytes) → has_topic topics.Variable x.said ≡ true → x.name ≡ Some called → thing_of x ≡ global_thing called
       thing x called c l = let k = of_variable x.said c in λ i. (section_of (k.1 i), l i)
 
   pub classes_once : IsOnceOf topics.Class says
-  classes_once = pairwise TheyAgree (λ s t. is_about topics.Class s.said ≡ true → is_about topics.Class t.said ≡ true → (name : NameBytes) → s.name ≡ Some name → t.name ≡ Some name → ⊥) class_clash says they_agree
+  classes_once = pairwise TheyAgree (λ s t. has_topic topics.Class s.said ≡ true → has_topic topics.Class t.said ≡ true → (name : NameBytes) → s.name ≡ Some name → t.name ≡ Some name → ⊥) class_clash says they_agree
 
   pub attributes_once : IsOnceOf topics.Attribute says
-  attributes_once = pairwise TheyAgree (λ s t. is_about topics.Attribute s.said ≡ true → is_about topics.Attribute t.said ≡ true → (name : NameBytes) → s.name ≡ Some name → t.name ≡ Some name → ⊥) attribute_clash says they_agree
+  attributes_once = pairwise TheyAgree (λ s t. has_topic topics.Attribute s.said ≡ true → has_topic topics.Attribute t.said ≡ true → (name : NameBytes) → s.name ≡ Some name → t.name ≡ Some name → ⊥) attribute_clash says they_agree
 
   pub variables_once : again topics.Variable (is_said topics.Attribute says) says ≡ [] → IsOnceOf topics.Variable says
   variables_once h =
-      pairwise_both TheyAgree (Apart topics.Variable (is_said topics.Attribute says)) (λ s t. is_about topics.Variable s.said ≡ true → is_about topics.Variable t.said ≡ true → (name : NameBytes) → s.name ≡ Some name → t.name ≡ Some name → ⊥)
+      pairwise_both TheyAgree (Apart topics.Variable (is_said topics.Attribute says)) (λ s t. has_topic topics.Variable s.said ≡ true → has_topic topics.Variable t.said ≡ true → (name : NameBytes) → s.name ≡ Some name → t.name ≡ Some name → ⊥)
       variable_clash says they_agree (never_again topics.Variable (is_said topics.Attribute says) says h)

@@ -11,13 +11,14 @@ use Rattle.ss_names_uses.specs.declared.mention.Role.{Role}
 use Rattle.ss_names_uses.specs.declared.mention.Role.TheVariants as roles
 use Rattle.ss_names_uses.specs.declared.mention.Mentioned.TheVariants.{Name}
 use Rattle.ss_names_uses.specs.declared.mention.Mention.{Mention}
-use Rattle.ss_names_uses.specs.Mentions.{plain, in_kind, in_definition, in_definitions, in_body, mentions}
+use Rattle.ss_names_uses.specs.Mentions.{plain_mention, in_kind, in_definition, in_definitions, in_body, mentions}
 use Rattle.ss_names_declarations.specs.declared.saying.Said.{Said}
 use Rattle.ss_names_declarations.specs.declared.saying.Said.TheVariants as said
 use Rattle.ss_names_declarations.specs.declared.saying.Saying.{Saying}
-use Rattle.ss_names_declarations.specs.Sayings.{NameBytes, said_of_all, head_says, definition_says, section_says, preambles_say, sections_say, sayings}
+use Rattle.ss_tree.specs.Names.{NameBytes}
+use Rattle.ss_names_declarations.specs.Sayings.{said_of_all, head_says, definition_says, section_says, preambles_say, sections_say, sayings}
 use Rattle.ss_names_declarations.specs.Firsts.{same_name, value_for}
-use Rattle.ss_check_scopes.specs.Locals.{defined_in, all_defined, declares}
+use Rattle.ss_check_scopes.specs.Locals.{defined_in, all_defined, declares_local}
 use Rattle.ss_names_laws.specs.Lists.{Somewhere}
 use Rattle.ss_names_laws.specs.Declarations.{Says}
 use Rattle.ss_names_laws.proofs.Lists.{Among, all_of, at_item, in_left, in_one_of, in_right, pick, some_equal, somewhere}
@@ -29,7 +30,7 @@ use Rattle.ss_names_laws.proofs.Walks.{body_silent}
 
 -- ---- images of names
 
-image_from : (line : Line) (role : Role) (names : List NameBytes) (m : Mention) → Among (map (plain line role) names) m → (n : NameBytes) × Among names n × (plain line role n ≡ m)
+image_from : (line : Line) (role : Role) (names : List NameBytes) (m : Mention) → Among (map (plain_mention line role) names) m → (n : NameBytes) × Among names n × (plain_mention line role n ≡ m)
 image_from line role [] m h = absurd h
 image_from line role (n ∷ names) m (inl e) = (n, inl refl, e)
 image_from line role (n ∷ names) m (inr h) = let r = image_from line role names m h in (r.0, inr r.1, r.2)
@@ -43,7 +44,7 @@ same_mentioned : (a b : NameBytes) → Name a ≡ Name b → a ≡ b
 same_mentioned a b h = cc
 
 -- the name of such a mention is among the names
-named_among : (line : Line) (role : Role) (names : List NameBytes) (m : Mention) (name : NameBytes) → Among (map (plain line role) names) m → m.what ≡ Name name → Among names name
+named_among : (line : Line) (role : Role) (names : List NameBytes) (m : Mention) (name : NameBytes) → Among (map (plain_mention line role) names) m → m.what ≡ Name name → Among names name
 named_among line role names m name h e =
     let i = image_from line role names m h in
     subst (Among names) (same_mentioned i.0 name (ap (λ (x : Mention). x.what) i.2 ∙ e)) i.1
@@ -59,15 +60,15 @@ Declares k s name =
 in_head : (k : ℕ) (s : SectionTree) (w : Said) (name : NameBytes) → Somewhere (SaysIt w name) (head_says s.line k s.kind) → Somewhere (SaysIt w name) (section_says k s)
 in_head k s w name h = in_left (SaysIt w name) (head_says s.line k s.kind) (flat_map (definition_says k) s.definitions) h
 
-of_kind : (k : ℕ) (line : Line) (kind : SectionKindTree) (m : Mention) (name : NameBytes) → Among (in_kind line kind) m → declares m.role ≡ true → m.what ≡ Name name →
+of_kind : (k : ℕ) (line : Line) (kind : SectionKindTree) (m : Mention) (name : NameBytes) → Among (in_kind line kind) m → declares_local m.role ≡ true → m.what ≡ Name name →
     Somewhere (SaysIt (said.Given k) name) (head_says line k kind) ⊎ Somewhere (SaysIt (said.Yielding k) name) (head_says line k kind)
 of_kind k line main m name h d e = absurd h
 of_kind k line (routine n given yielding) m name h d e =
     ⊎_elim
     (λ g. inl (inr (in_left (SaysIt (said.Given k) name) (said_of_all line (said.Given k) given) (said_of_all line (said.Yielding k) yielding) (says_among line (said.Given k) given name (named_among line roles.Given given m name g e)))))
     (λ g. inr (inr (in_right (SaysIt (said.Yielding k) name) (said_of_all line (said.Given k) given) (said_of_all line (said.Yielding k) yielding) (says_among line (said.Yielding k) yielding name (named_among line roles.Yielding yielding m name g e)))))
-    (in_one_of (λ x. x ≡ m) (map (plain line roles.Given) given) (map (plain line roles.Yielding) yielding) h)
-of_kind k line (event n given saving) m name (inl q) d e = absurd (both_ways (declares m.role) (ap (λ (x : Mention). declares x.role) (sym q)) d)
+    (in_one_of (λ x. x ≡ m) (map (plain_mention line roles.Given) given) (map (plain_mention line roles.Yielding) yielding) h)
+of_kind k line (event n given saving) m name (inl q) d e = absurd (both_ways (declares_local m.role) (ap (λ (x : Mention). declares_local x.role) (sym q)) d)
 of_kind k line (event n given saving) m name (inr h) d e = inl (inr (says_among line (said.Given k) given name (named_among line roles.Given given m name h e)))
 
 definition_of : (ds : List DefinitionTree) (m : Mention) → Among (in_definitions ds) m → (d : DefinitionTree) × Among ds d × Among (in_definition d) m
@@ -84,8 +85,8 @@ says_define k (x ∷ ds) d name (inr h) a = in_right (SaysIt (said.Local k d.mod
 pub says_local : (k : ℕ) (s : SectionTree) (d : DefinitionTree) (name : NameBytes) → Among s.definitions d → Among d.names name → Somewhere (SaysIt (said.Local k d.mode) name) (section_says k s)
 says_local k s d name h a = in_right (SaysIt (said.Local k d.mode) name) (head_says s.line k s.kind) (flat_map (definition_says k) s.definitions) (says_define k s.definitions d name h a)
 
-pub declared_here : (k : ℕ) (s : SectionTree) (m : Mention) (name : NameBytes) → Among (mentions s) m → declares m.role ≡ true → m.what ≡ Name name → Declares k s name
-declared_here k s m name h d e = ⊎_elim of_front (λ g. absurd (both_ways (declares m.role) (at_item (λ (x : Mention). declares x.role ≡ false) (in_body s.body) m (body_silent s.body) g) d))
+pub declared_here : (k : ℕ) (s : SectionTree) (m : Mention) (name : NameBytes) → Among (mentions s) m → declares_local m.role ≡ true → m.what ≡ Name name → Declares k s name
+declared_here k s m name h d e = ⊎_elim of_front (λ g. absurd (both_ways (declares_local m.role) (at_item (λ (x : Mention). declares_local x.role ≡ false) (in_body s.body) m (body_silent s.body) g) d))
     (in_one_of (λ x. x ≡ m) (in_kind s.line s.kind ++ in_definitions s.definitions) (in_body s.body) h)
   where
     of_front : Among (in_kind s.line s.kind ++ in_definitions s.definitions) m → Declares k s name

@@ -10,19 +10,19 @@ use Rattle.ss_base.specs.declared.layout.Owner.TheVariants as owners
 use Rattle.ss_names_declarations.specs.declared.saying.Said.{Said}
 use Rattle.ss_names_declarations.specs.declared.saying.Said.TheVariants as said
 use Rattle.ss_names_declarations.specs.declared.saying.Saying.{Saying}
-use Rattle.ss_names_declarations.specs.Sayings.{NameBytes}
+use Rattle.ss_tree.specs.Names.{NameBytes}
 use Rattle.ss_tables_rules.specs.declared.topic.Topic.TheVariants as topics
-use Rattle.ss_tables_rules.specs.Topics.{is_about, section_of, thing_of}
+use Rattle.ss_tables_rules.specs.Topics.{has_topic, section_of, thing_of}
 use Rattle.ss_names.specs.declared.keys.RankedBy.{RankedBy}
 use Rattle.ss_names.specs.declared.keys.TiedBy.{TiedBy}
 use Rattle.ss_names.specs.declared.entry.Ordering.{Ordering}
 use Rattle.ss_names.specs.declared.entry.Set.{Set}
-use Rattle.ss_names.specs.Entities.{attributes, classes, member_by, member_entries, ordering_by, orderings, owner_by, owner_entries, set_by, set_members, set_names, set_of, set_owners, declared_sets, sets}
+use Rattle.ss_names.specs.Entities.{attributes, classes, member_by, member_entries, ordering_by, orderings, owner_declared, owner_entries, set_by, set_members, set_names, set_of, set_owners, declared_sets, sets}
 use Rattle.ss_names_declarations.specs.Firsts.{is_one_of, place_in, same_name, value_for, with_name}
 use Rattle.ss_names.specs.Keys.{rank_by, rank_keys, declared_rank_keys, tie_by, tie_keys, declared_tie_keys}
 use Rattle.ss_names.specs.Table.{declared}
 use Rattle.ss_names_laws.specs.Lists.{Somewhere}
-use Rattle.ss_names_laws.specs.Declarations.{Says, IsOwned, HasMembers}
+use Rattle.ss_names_laws.specs.Declarations.{Says, HasOwner, HasMembers}
 use Rattle.ss_names_laws.proofs.Lists.{Among, each_item, joined, names_equal, pick, pieces, some_equal, somewhere}
 use Rattle.ss_names_laws.proofs.Sayings.{says_so}
 use Rattle.ss_names_laws.specs.Tables.{IsKeyOf}
@@ -61,12 +61,12 @@ module _ (says : List Saying) (f : Facts says) where
   -- ---- names of sets
 
   IsSet : NameBytes → Type 0
-  IsSet name = IsOwned says name × HasMembers says name
+  IsSet name = HasOwner says name × HasMembers says name
 
   set_from : (s : Saying) → Among says s → (w : Said) (o : Option NameBytes) → s.said ≡ w → s.name ≡ o → Every IsSet (declared_sets w o)
   unfolding IsSet
-  set_from s a said.SystemSet (Some name) e n = let own : IsOwned says name = inl (says_so says s said.SystemSet name a e n) in ((own, f.things.members name own), tt)
-  set_from s a (said.OwnedSet class) (Some name) e n = let own : IsOwned says name = inr (class, says_so says s (said.OwnedSet class) name a e n) in ((own, f.things.members name own), tt)
+  set_from s a said.SystemSet (Some name) e n = let own : HasOwner says name = inl (says_so says s said.SystemSet name a e n) in ((own, f.things.members name own), tt)
+  set_from s a (said.OwnedSet class) (Some name) e n = let own : HasOwner says name = inr (class, says_so says s (said.OwnedSet class) name a e n) in ((own, f.things.members name own), tt)
   set_from s a (said.MemberSet class) (Some name) e n = let has : HasMembers says name = (class, says_so says s (said.MemberSet class) name a e n) in ((f.things.owners name has, has), tt)
   set_from s a _ _ e n = tt
 
@@ -82,19 +82,19 @@ module _ (says : List Saying) (f : Facts says) where
       by None e g = absurd cc
       by (Some name) e g = (name, e, some_equal (set_of (set_owners says) (set_members says) (orderings says) name) s g)
 
-  owned_and_belonged : (n : ℕ) (name : NameBytes) → slice_get (set_names says) n ≡ Some name → IsOwned says name × HasMembers says name
+  owned_and_belonged : (n : ℕ) (name : NameBytes) → slice_get (set_names says) n ≡ Some name → HasOwner says name × HasMembers says name
   unfolding IsSet
   owned_and_belonged n name h = at_place IsSet (set_names says) n name all_sets h
 
   -- ---- owners
 
-  owner_entry_there : (name : NameBytes) → IsOwned says name → Somewhere (λ s. (o : Owner) × (value_for (owner_by (classes says) s) name ≡ Some o)) says
-  owner_entry_there name (inl h) = somewhere (SaysIt said.SystemSet name) (λ s. (o : Owner) × (value_for (owner_by (classes says) s) name ≡ Some o))
+  owner_entry_there : (name : NameBytes) → HasOwner says name → Somewhere (λ s. (o : Owner) × (value_for (owner_declared (classes says) s) name ≡ Some o)) says
+  owner_entry_there name (inl h) = somewhere (SaysIt said.SystemSet name) (λ s. (o : Owner) × (value_for (owner_declared (classes says) s) name ≡ Some o))
       (λ s q. (owners.System, ap (λ (t : Said × Option NameBytes). value_for (owner_entries (classes says) t.0 t.1) name) (λ i. (q.0 i, q.1 i)) ∙ first_entry name owners.System [])) says h
   owner_entry_there name (inr h) =
       let kind = f.of_classes.owners h.0 name h.1 in
       let at = class_place says f kind.0 h.0 kind.1 in
-      somewhere (SaysIt (said.OwnedSet h.0) name) (λ s. (o : Owner) × (value_for (owner_by (classes says) s) name ≡ Some o))
+      somewhere (SaysIt (said.OwnedSet h.0) name) (λ s. (o : Owner) × (value_for (owner_declared (classes says) s) name ≡ Some o))
       (λ s q. (
         owners.Class at.0,
         ap (λ (t : Said × Option NameBytes). value_for (owner_entries (classes says) t.0 t.1) name) (λ i. (q.0 i, q.1 i)) ∙
@@ -104,8 +104,8 @@ module _ (says : List Saying) (f : Facts says) where
   pub has_owner : (n : ℕ) (s : Set) → slice_get (sets says) n ≡ Some s → (owner : Owner) × (s.owner ≡ Some owner)
   has_owner n s h =
       let at = set_at n s h in
-      let t = item_gives_value (owner_by (classes says)) at.0 says (owner_entry_there at.0 (owned_and_belonged n at.0 at.1).0) in
-      (t.0, ap (λ (x : Set). x.owner) (sym at.2) ∙ value_in_firsts (flat_map (owner_by (classes says)) says) at.0 ∙ t.1)
+      let t = item_gives_value (owner_declared (classes says)) at.0 says (owner_entry_there at.0 (owned_and_belonged n at.0 at.1).0) in
+      (t.0, ap (λ (x : Set). x.owner) (sym at.2) ∙ value_in_firsts (flat_map (owner_declared (classes says)) says) at.0 ∙ t.1)
 
   -- ---- members
 
@@ -114,11 +114,11 @@ module _ (says : List Saying) (f : Facts says) where
       let kind = f.of_classes.members class name h in
       let at = class_place says f kind.0 class kind.1 in
       let r = first_item_gives_value (member_by (classes says)) name (SaysIt (said.MemberSet class) name)
-      (λ r s. is_about topics.Member r.said ≡ true → is_about topics.Member s.said ≡ true → thing_of r ≡ thing_of s → ⊥) (λ k. place_in (classes says) class ≡ Some k)
+      (λ r s. has_topic topics.Member r.said ≡ true → has_topic topics.Member s.said ≡ true → thing_of r ≡ thing_of s → ⊥) (λ k. place_in (classes says) class ≡ Some k)
       (λ x s q d. no_some (value_for (member_by (classes says) x) name) (λ k e.
       let i = member_entry_from (classes says) x.said x.name name k e in
       let same : thing_of x ≡ thing_of s = λ j. ((ap section_of i.1 ∙ sym (ap section_of q.0)) j, (i.2 ∙ sym q.1) j) in
-      d (ap (is_about topics.Member) i.1) (ap (is_about topics.Member) q.0) same))
+      d (ap (has_topic topics.Member) i.1) (ap (has_topic topics.Member) q.0) same))
       (λ s q. (at.0, ap (λ (t : Said × Option NameBytes). value_for (member_entries (classes says) t.0 t.1) name) (λ i. (q.0 i, q.1 i)) ∙ if_here name (place_in (classes says) class) at.0 at.1, at.1))
       says f.once.members h in
       (r.0, value_in_firsts (flat_map (member_by (classes says)) says) name ∙ r.1, r.2)

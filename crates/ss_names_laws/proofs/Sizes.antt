@@ -13,13 +13,14 @@ use Rattle.ss_base.specs.declared.line.Line.{Line}
 use Rattle.ss_names_declarations.specs.declared.saying.Said.{Said}
 use Rattle.ss_names_declarations.specs.declared.saying.Said.TheVariants as said
 use Rattle.ss_names_declarations.specs.declared.saying.Saying.{Saying}
-use Rattle.ss_names_declarations.specs.Sayings.{NameBytes}
+use Rattle.ss_tree.specs.Names.{NameBytes}
 use Rattle.ss_tables_rules.specs.declared.topic.Topic.TheVariants as topics
-use Rattle.ss_tables_rules.specs.Lines.{line_if, lines_after}
-use Rattle.ss_tables_rules.specs.TooMany.{attribute_class, is_class, is_new_set, is_of, sets as new_sets}
-use Rattle.ss_tables_rules.specs.Topics.{is_about, is_said, line_of, section_of, thing_of}
+use Rattle.ss_base.specs.Lines.{line_if}
+use Rattle.ss_tables_rules.specs.Lines.{lines_after}
+use Rattle.ss_tables_rules.specs.TooMany.{attribute_class, is_class, is_new_set, is_attribute_of, lines_of_sets as new_sets}
+use Rattle.ss_tables_rules.specs.Topics.{has_topic, is_said, line_of, section_of, thing_of}
 use Rattle.ss_names.specs.declared.entry.Class.{Class}
-use Rattle.ss_names.specs.Entities.{attribute_by, attribute_classes, attribute_entries, class_by, class_entries, classes, fields, fields_among, orderings, set_by, set_members, set_names, set_of, set_owners, declared_sets, sets}
+use Rattle.ss_names.specs.Entities.{attribute_by, attribute_classes, attribute_entries, class_by, class_entries, classes, fields, attributes_of_class, orderings, set_by, set_members, set_names, set_of, set_owners, declared_sets, sets}
 use Rattle.ss_names_declarations.specs.Firsts.{each_once, entry_beside, entry_if, firsts, is_one_of, place_in, same_name, value_for, with_first, with_name}
 use Rattle.ss_names_laws.specs.Declarations.{FewEnough}
 use Rattle.ss_names_laws.proofs.Lists.{Among, in_left, in_right, pick, same_as_itself, some_equal}
@@ -72,7 +73,7 @@ module _ {V : Type 0} (g : NameBytes × V → ℕ) where
 
 -- ---- classes
 
-class_counts : (line : Line) (w : Said) (o : Option NameBytes) → sum_of (λ (e : NameBytes × Class). 1) (class_entries line w o) ≤ cond (is_about topics.Class w) 1 0
+class_counts : (line : Line) (w : Said) (o : Option NameBytes) → sum_of (λ (e : NameBytes × Class). 1) (class_entries line w o) ≤ cond (has_topic topics.Class w) 1 0
 class_counts line (said.Class kind) (Some name) = omega arith
 class_counts line _ _ = omega arith
 
@@ -118,23 +119,23 @@ module _ (cs : List (NameBytes × Class)) (n : ℕ) (class : NameBytes) (same : 
   attribute_counts (said.Attribute c) (Some name) = entry_counts c name (place_in cs c) refl
   attribute_counts _ _ = omega arith
 
-among_few : (says : List Saying) → FewEnough says → (n : ℕ) → n < length (classes says) → length (fields_among (attribute_classes says) n) ≤ 64
+among_few : (says : List Saying) → FewEnough says → (n : ℕ) → n < length (classes says) → length (attributes_of_class (attribute_classes says) n) ≤ 64
 among_few says few n lt =
     let e = there (classes says) n lt in
     let same : (c : NameBytes) → place_in (classes says) c ≡ Some n → c ≡ e.0.0 =
     λ c h. let t = value_by_place (classes says) c n h in ap (λ (x : NameBytes × Class). x.0) (some_equal (c, t.0) e.0 (sym t.2 ∙ e.1)) in
     let all = flat_map (attribute_by (classes says)) says in
     let here : NameBytes × ℕ → ℕ = λ x. cond (nat_eq x.1 n) 1 0 in
-    let a : length (fields_among (attribute_classes says) n) ≡ sum_of here (attribute_classes says) = kept_counts (λ x. nat_eq x.1 n) (attribute_classes says) in
+    let a : length (attributes_of_class (attribute_classes says) n) ≡ sum_of here (attribute_classes says) = kept_counts (λ x. nat_eq x.1 n) (attribute_classes says) in
     let b : sum_of here (attribute_classes says) ≤ sum_of here all = firsts_less here all in
-    let c : sum_of here all ≤ sum_of (λ s. cond (is_of e.0.0 s) 1 0) says = sum_flat here (λ s. cond (is_of e.0.0 s) 1 0) (attribute_by (classes says)) (λ s. attribute_counts (classes says) n e.0.0 same s.said s.name) says in
-    let d : count_by (is_of e.0.0) says ≡ sum_of (λ s. cond (is_of e.0.0 s) 1 0) says = counted (is_of e.0.0) says in
-    let f : count_by (is_of e.0.0) says ≤ 64 = few.attributes e.0.0 in
+    let c : sum_of here all ≤ sum_of (λ s. cond (is_attribute_of e.0.0 s) 1 0) says = sum_flat here (λ s. cond (is_attribute_of e.0.0 s) 1 0) (attribute_by (classes says)) (λ s. attribute_counts (classes says) n e.0.0 same s.said s.name) says in
+    let d : count_by (is_attribute_of e.0.0) says ≡ sum_of (λ s. cond (is_attribute_of e.0.0 s) 1 0) says = counted (is_attribute_of e.0.0) says in
+    let f : count_by (is_attribute_of e.0.0) says ≤ 64 = few.attributes e.0.0 in
     omega (arith, a, b, c, d, f)
 
 pub field_limit : (says : List Saying) → FewEnough says → (n : ℕ) → n < length (classes says) → length (get_or (fields says) n []) ≤ 64
 field_limit says few n lt =
-    subst (λ names. length names ≤ 64) (sym (get_or-map-range_with_len (fields_among (attribute_classes says)) 0 (length (classes says)) n n [] lt (omega arith))) (among_few says few n lt)
+    subst (λ names. length names ≤ 64) (sym (get_or-map-range_with_len (attributes_of_class (attribute_classes says)) 0 (length (classes says)) n n [] lt (omega arith))) (among_few says few n lt)
 
 -- ---- sets
 
@@ -149,7 +150,7 @@ among_names before name h =
     let s = pick (IsOf topics.Set (0, Some name)) before (who_says topics.Set before (0, Some name) h) in
     folded_one [] (flat_map set_by before) name (inr (in_sets name before s.0 s.2 (in_declared s.0.said s.0.name s.1.0 (ap (λ (t : ℕ × Option NameBytes). t.1) s.1.1))))
   where
-    in_declared : (w : Said) (o : Option NameBytes) → is_about topics.Set w ≡ true → o ≡ Some name → Among (declared_sets w o) name
+    in_declared : (w : Said) (o : Option NameBytes) → has_topic topics.Set w ≡ true → o ≡ Some name → Among (declared_sets w o) name
     in_declared said.SystemSet (Some n) e g = inl (some_equal n name g)
     in_declared (said.OwnedSet class) (Some n) e g = inl (some_equal n name g)
     in_declared (said.MemberSet class) (Some n) e g = inl (some_equal n name g)
@@ -166,7 +167,7 @@ module _ (names : List NameBytes) (line : Line) where
       by false = let e = length-append names (name ∷ []) in omega (arith, e)
 
 one_more : (before : List Saying) (line : Line) (w : Said) (o : Option NameBytes) →
-    length (fold with_name (each_once (flat_map set_by before)) (declared_sets w o)) ≤ length (each_once (flat_map set_by before)) + length (line_if (is_about topics.Set w && not (is_said topics.Set before (section_of w, o))) line)
+    length (fold with_name (each_once (flat_map set_by before)) (declared_sets w o)) ≤ length (each_once (flat_map set_by before)) + length (line_if (has_topic topics.Set w && not (is_said topics.Set before (section_of w, o))) line)
 one_more before line said.SystemSet (Some name) = more_by (each_once (flat_map set_by before)) line name (is_said topics.Set before (0, Some name)) (among_names before name)
 one_more before line (said.OwnedSet class) (Some name) = more_by (each_once (flat_map set_by before)) line name (is_said topics.Set before (0, Some name)) (among_names before name)
 one_more before line (said.MemberSet class) (Some name) = more_by (each_once (flat_map set_by before)) line name (is_said topics.Set before (0, Some name)) (among_names before name)

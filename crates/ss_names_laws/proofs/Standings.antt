@@ -6,12 +6,12 @@ use Rattle.std.specs.List.{AllByRecursion as Every, find}
 use Rattle.ss_names_declarations.specs.declared.saying.Said.{Said}
 use Rattle.ss_names_declarations.specs.declared.saying.Said.TheVariants as said
 use Rattle.ss_names_declarations.specs.declared.saying.Saying.{Saying}
-use Rattle.ss_names_declarations.specs.Sayings.{NameBytes}
+use Rattle.ss_tree.specs.Names.{NameBytes}
 use Rattle.ss_tables_rules.specs.declared.topic.Topic.TheVariants as topics
 use Rattle.ss_tables_rules.specs.declared.globals.Standing.{Standing}
 use Rattle.ss_tables_rules.specs.declared.globals.Standing.TheVariants as standings
 use Rattle.ss_tables_rules.specs.Declarations.{Declaration, declarations, declares, standing_declared, standing_of}
-use Rattle.ss_tables_rules.specs.Topics.{is_about}
+use Rattle.ss_tables_rules.specs.Topics.{has_topic}
 use Rattle.ss_tables_rules.specs.Twice.{is_another, is_clash, declared_at, clashes, may_hide, may_be_hidden, hides}
 use Rattle.ss_names_laws.specs.Declarations.{IsOfSet, Agree, NamesDeclaredOnce, KindsAgree, MayBeHidden, HidesLittle, LocalsHideLittle}
 use Rattle.ss_names_laws.proofs.Lists.{each, joined, same_as_itself}
@@ -89,7 +89,7 @@ may_be (Some standings.Variable) h = tt
 may_be (Some standings.Class) h = tt
 may_be (Some _) h = absurd cc
 
-hides_little : (ds : List Declaration) (w : Said) (o : Option NameBytes) → ((is_about topics.Parameter w || is_about topics.Local w) && not (may_be_hidden ds o)) ≡ false → HidesLittle ds w o
+hides_little : (ds : List Declaration) (w : Said) (o : Option NameBytes) → ((has_topic topics.Parameter w || has_topic topics.Local w) && not (may_be_hidden ds o)) ≡ false → HidesLittle ds w o
 hides_little ds (said.Given section) (Some name) h = may_be (standing_of ds name) h
 hides_little ds (said.Yielding section) (Some name) h = may_be (standing_of ds name) h
 hides_little ds (said.Local section mode) (Some name) h = may_be (standing_of ds name) h

@@ -7,7 +7,8 @@ use Rattle.ss_tree.specs.Tree.{ClauseTree, has, owns, belongs_to, OrderTree, fif
 use Rattle.ss_names_declarations.specs.declared.saying.Said.{Said}
 use Rattle.ss_names_declarations.specs.declared.saying.Said.TheVariants as said
 use Rattle.ss_names_declarations.specs.declared.saying.Saying.{Saying}
-use Rattle.ss_names_declarations.specs.Sayings.{NameBytes, said_of, said_of_all, clause_says, rule_of, rank_says, order_says, tie_says, statistic_says, preamble_says, preambles_say, head_says, definition_says, section_says, sections_say, sayings}
+use Rattle.ss_tree.specs.Names.{NameBytes}
+use Rattle.ss_names_declarations.specs.Sayings.{saying_of_name, said_of_all, clause_says, rule_of, rank_says, order_says, tie_says, statistic_says, preamble_says, preambles_say, head_says, definition_says, section_says, sections_say, sayings}
 use Rattle.ss_names_laws.proofs.Lists.{joined, all_of, images, pieces}
 
 module _ (T : NameBytes → Type 0) (L : ℕ → Type 0) where
@@ -27,7 +28,7 @@ module _ (T : NameBytes → Type 0) (L : ℕ → Type 0) where
   SubjectWell _ = Unit
 
   of_all : (line : Line) (w : Said) (names : List NameBytes) → ((name : NameBytes) → Well w (Some name)) → AllWell (said_of_all line w names)
-  of_all line w names h = images (said_of line w) (λ (s : Saying). Well s.said s.name) names (all_of (λ name. Well w (Some name)) h names)
+  of_all line w names h = images (saying_of_name line w) (λ (s : Saying). Well s.said s.name) names (all_of (λ name. Well w (Some name)) h names)
 
   clause_well : (line : Line) (class : NameBytes) (c : ClauseTree) → AllWell (clause_says line class c)
   clause_well line class (has names) = of_all line (said.Attribute class) names (λ n. tt)
@@ -54,7 +55,7 @@ module _ (T : NameBytes → Type 0) (L : ℕ → Type 0) where
   preamble_well number (priority_order line classes) h = (tt, of_all line said.Priority classes (λ n. tt))
   preamble_well number (break_ties line class keys) h = (tt, images (tie_says line class) (λ (s : Saying). Well s.said s.name) keys (all_of (λ k. Unit) (λ k. tt) keys))
   preamble_well number (statistics line weighting found subject) h =
-      joined (λ (s : Saying). Well s.said s.name) (map (statistic_says line weighting subject) found) (said_of line (said.Subject weighting) subject ∷ [])
+      joined (λ (s : Saying). Well s.said s.name) (map (statistic_says line weighting subject) found) (saying_of_name line (said.Subject weighting) subject ∷ [])
       (images (statistic_says line weighting subject) (λ (s : Saying). Well s.said s.name) found (all_of (λ k. Unit) (λ k. tt) found)) (h, tt)
 
   pub preambles_well : (number : ℕ) (ss : List PreambleTree) → Every SubjectWell ss → AllWell (preambles_say number ss)

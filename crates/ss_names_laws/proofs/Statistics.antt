@@ -2,7 +2,7 @@
 use Rattle.std.proofs.Common.{Option, Some, None}
 use Rattle.ss_tree.specs.declared.preamble.StatisticKind.{StatisticKind}
 use Rattle.ss_tree.specs.declared.preamble.StatisticKind.TheVariants as kinds
-use Rattle.ss_names.specs.declared.entry.Statistic.{Statistic}
+use Rattle.ss_names.specs.declared.entry.StatisticEntry.{StatisticEntry}
 use Rattle.ss_names.specs.Table.{Table}
 use Rattle.ss_check_scopes.specs.declared.known.Holder.{Holder}
 use Rattle.ss_check_scopes.specs.declared.known.Holder.TheVariants.{Program}
@@ -19,6 +19,6 @@ module _ (P : Known → Type 0) (value : (holder : Holder) → P (knowns.Statist
   by_kind holder kinds.Minimum = value holder
 
   -- a property of values and of MEANs is one of each statistic
-  pub of_statistic : (t : Table) (o : Option Statistic) → P (statistic_meaning t o)
+  pub of_statistic : (t : Table) (o : Option StatisticEntry) → P (statistic_meaning t o)
   of_statistic t None = value Program
   of_statistic t (Some s) = by_kind (statistic_holder t s) s.kind

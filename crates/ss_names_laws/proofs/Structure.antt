@@ -19,21 +19,21 @@ use Rattle.ss_tree.specs.declared.preamble.Weighting.{Weighting}
 use Rattle.ss_names_declarations.specs.declared.saying.Said.{Said}
 use Rattle.ss_names_declarations.specs.declared.saying.Said.TheVariants as said
 use Rattle.ss_names_declarations.specs.declared.saying.Saying.{Saying}
-use Rattle.ss_names_declarations.specs.Sayings.{NameBytes}
+use Rattle.ss_tree.specs.Names.{NameBytes}
 use Rattle.ss_names.specs.declared.entry.Attribute.{Attribute}
 use Rattle.ss_names.specs.declared.entry.Class.{Class}
-use Rattle.ss_names.specs.declared.meaning.Meaning.{Meaning}
-use Rattle.ss_names.specs.declared.meaning.Meaning.TheVariants as meanings
-use Rattle.ss_names.specs.declared.entry.Routine.{Routine}
+use Rattle.ss_names.specs.declared.meaning.GlobalMeaning.{GlobalMeaning}
+use Rattle.ss_names.specs.declared.meaning.GlobalMeaning.TheVariants as meanings
+use Rattle.ss_names.specs.declared.entry.RoutineSection.{RoutineSection}
 use Rattle.ss_names.specs.declared.entry.Set.{Set}
-use Rattle.ss_names.specs.declared.entry.Statistic.{Statistic}
-use Rattle.ss_names.specs.declared.entry.Variable.{Variable}
+use Rattle.ss_names.specs.declared.entry.StatisticEntry.{StatisticEntry}
+use Rattle.ss_names.specs.declared.entry.GlobalVariable.{GlobalVariable}
 use Rattle.ss_names.specs.declared.entry.VariableKind.{VariableKind}
 use Rattle.ss_names.specs.declared.entry.VariableKind.TheVariants.{Defined, OfClass, CountOf}
-use Rattle.ss_names.specs.Entities.{attribute_after, attribute_by, attribute_classes, attribute_entries, attributes, attributes_after, classes, defined_modes, fields, fields_among, member_by, member_entries, orderings, owner_by, owner_entries, set_members, set_names, set_of, set_owners, sets, usual_mode}
+use Rattle.ss_names.specs.Entities.{attribute_after, attribute_by, attribute_classes, attribute_entries, attributes, attributes_after, classes, defined_modes, fields, attributes_of_class, member_by, member_entries, orderings, owner_declared, owner_entries, set_members, set_names, set_of, set_owners, sets, usual_mode}
 use Rattle.ss_names_declarations.specs.Firsts.{entry_if, place_among, place_in, same_name, value_for}
-use Rattle.ss_names.specs.Meanings.{class_meaning, class_meanings, class_name_meaning, count_meaning, meaning_by, meaning_entries, numbered, set_meanings}
-use Rattle.ss_names.specs.Statistics.{statistic_by, statistic_of, statistic_entries, weighings}
+use Rattle.ss_names.specs.Meanings.{class_meaning, class_meanings, class_name_meaning, count_meaning, meaning_by, meaning_entries, numbered_names, set_meanings}
+use Rattle.ss_names.specs.Statistics.{statistic_by, statistic_entry, statistic_entries, weighings}
 use Rattle.ss_names.specs.Histories.{history_of}
 use Rattle.ss_names.specs.Table.{Table, declared}
 use Rattle.ss_names.specs.Variables.{class_variables, count_name, variable_by, variable_entries, variables}
@@ -62,21 +62,21 @@ placed_in es name i h = subst (λ n. i < n) (keys_length es) (placed (keys_of es
 -- ---- meanings of names
 
 -- the numbers in the meaning of a name are those of something of that name in the table
-abbrev pub IsNumbered : Table → NameBytes → Meaning → Type 0
-IsNumbered t name (meanings.Variable n) = (v : Variable) × (slice_get t.variables n ≡ Some (name, v))
-IsNumbered t name (meanings.Class class n) = (c : Class) × (v : Variable) × (slice_get t.classes class ≡ Some (name, c)) × (slice_get t.variables n ≡ Some (name, v))
-IsNumbered t name (meanings.Count class n) = (v : Variable) × (slice_get t.variables n ≡ Some (name, v))
+abbrev pub IsNumbered : Table → NameBytes → GlobalMeaning → Type 0
+IsNumbered t name (meanings.Variable n) = (v : GlobalVariable) × (slice_get t.variables n ≡ Some (name, v))
+IsNumbered t name (meanings.Class class n) = (c : Class) × (v : GlobalVariable) × (slice_get t.classes class ≡ Some (name, c)) × (slice_get t.variables n ≡ Some (name, v))
+IsNumbered t name (meanings.Count class n) = (v : GlobalVariable) × (slice_get t.variables n ≡ Some (name, v))
 IsNumbered t name (meanings.Attribute n) = (a : Attribute) × (slice_get t.attributes n ≡ Some (name, a))
 IsNumbered t name (meanings.Set n) = (s : Set) × (slice_get t.sets n ≡ Some s)
 IsNumbered t name (meanings.Derived d n) = (s : Set) × (slice_get t.sets n ≡ Some s)
-IsNumbered t name (meanings.Statistic n) = (x : Statistic) × (slice_get t.statistics n ≡ Some (name, x))
-IsNumbered t name (meanings.Routine n) = (r : Routine) × (slice_get t.routines n ≡ Some (name, r))
+IsNumbered t name (meanings.Statistic n) = (x : StatisticEntry) × (slice_get t.statistics n ≡ Some (name, x))
+IsNumbered t name (meanings.Routine n) = (r : RoutineSection) × (slice_get t.routines n ≡ Some (name, r))
 
 module _ (says : List Saying) where
-  abbrev Numbered : NameBytes → Meaning → Type 0
+  abbrev Numbered : NameBytes → GlobalMeaning → Type 0
   Numbered = IsNumbered (declared says)
 
-  abbrev AllNumbered : List (NameBytes × Meaning) → Type 0
+  abbrev AllNumbered : List (NameBytes × GlobalMeaning) → Type 0
   AllNumbered = Entries Numbered
 
   class_numbered : (name : NameBytes) (class variable : Option ℕ) → class ≡ place_in (declared says).classes name → variable ≡ place_in (declared says).variables name → IfSome (class_meaning meanings.Class class variable) (Numbered name)
@@ -94,14 +94,14 @@ module _ (says : List Saying) where
       let v = value_by_place (declared says).variables (count_name name) variable (sym k) in
       (v.0, v.2)
 
-  one_class : (name : NameBytes) → AllNumbered (entry_if name (class_name_meaning (numbered says) name))
-  one_class name = entry Numbered name (class_name_meaning (numbered says) name) (class_numbered name (place_in (declared says).classes name) (place_in (declared says).variables name) refl refl)
+  one_class : (name : NameBytes) → AllNumbered (entry_if name (class_name_meaning (numbered_names says) name))
+  one_class name = entry Numbered name (class_name_meaning (numbered_names says) name) (class_numbered name (place_in (declared says).classes name) (place_in (declared says).variables name) refl refl)
 
-  classes_numbered : (kind : ClassKind) (name : NameBytes) → AllNumbered (class_meanings (numbered says) kind name)
+  classes_numbered : (kind : ClassKind) (name : NameBytes) → AllNumbered (class_meanings (numbered_names says) kind name)
   classes_numbered class_kinds.Permanent name =
-      every_append (λ e. Numbered e.0 e.1) (entry_if name (class_name_meaning (numbered says) name)) (entry_if (count_name name) (count_meaning (numbered says) name))
+      every_append (λ e. Numbered e.0 e.1) (entry_if name (class_name_meaning (numbered_names says) name)) (entry_if (count_name name) (count_meaning (numbered_names says) name))
       (one_class name)
-      (entry Numbered (count_name name) (count_meaning (numbered says) name) (count_numbered name (place_in (declared says).classes name) (place_in (declared says).variables (count_name name)) refl))
+      (entry Numbered (count_name name) (count_meaning (numbered_names says) name) (count_numbered name (place_in (declared says).classes name) (place_in (declared says).variables (count_name name)) refl))
   classes_numbered class_kinds.Temporary name = one_class name
   classes_numbered class_kinds.EventNotice name = one_class name
 
@@ -117,11 +117,11 @@ module _ (says : List Saying) where
       let s = set_there name set (sym h) in
       (s, (s, (s, (s, (s, (s, (s, tt)))))))
 
-  unless : (name : NameBytes) (b : Bool) (o : Option Meaning) → IfSome o (Numbered name) → IfSome (if b then None else o) (Numbered name)
+  unless : (name : NameBytes) (b : Bool) (o : Option GlobalMeaning) → IfSome o (Numbered name) → IfSome (if b then None else o) (Numbered name)
   unless name true o h = tt
   unless name false o h = h
 
-  names_said : (what : Said) (name : Option NameBytes) → AllNumbered (meaning_entries (numbered says) what name)
+  names_said : (what : Said) (name : Option NameBytes) → AllNumbered (meaning_entries (numbered_names says) what name)
   names_said (said.Class kind) (Some name) = classes_numbered kind name
   names_said (said.Attribute class) (Some name) =
       entry Numbered name (option_map meanings.Attribute (place_in (declared says).attributes name))
@@ -141,25 +141,25 @@ module _ (says : List Saying) where
       (mapped (Numbered name) meanings.Routine (place_in (declared says).routines name) (λ i h. let f = value_by_place (declared says).routines name i h in (f.0, f.2)))
   names_said _ _ = tt
 
-  names_numbered : (name : NameBytes) (m : Meaning) → value_for (declared says).names name ≡ Some m → Numbered name m
+  names_numbered : (name : NameBytes) (m : GlobalMeaning) → value_for (declared says).names name ≡ Some m → Numbered name m
   names_numbered name m h =
-      entry_holds Numbered (declared says).names name m (first_entries Numbered (meaning_by (numbered says)) says (λ (s : Saying). names_said s.said s.name)) h
+      entry_holds Numbered (declared says).names name m (first_entries Numbered (meaning_by (numbered_names says)) says (λ (s : Saying). names_said s.said s.name)) h
 
 -- ---- statistics
 
-histories_below : (count : ℕ) (kind : StatisticKind) (name : NameBytes) (history : Option ℕ) → IfSome history (λ i. i < count) → Entries (λ n (s : Statistic). s.history < count) (statistic_of kind name history)
+histories_below : (count : ℕ) (kind : StatisticKind) (name : NameBytes) (history : Option ℕ) → IfSome history (λ i. i < count) → Entries (λ n (s : StatisticEntry). s.history < count) (statistic_entry kind name history)
 histories_below count kind name None h = tt
 histories_below count kind name (Some history) h = (h, tt)
 
-statistic_said : (says : List Saying) (what : Said) (name : Option NameBytes) → Entries (λ n (s : Statistic). s.history < length (weighings says)) (statistic_entries (weighings says) what name)
+statistic_said : (says : List Saying) (what : Said) (name : Option NameBytes) → Entries (λ n (s : StatisticEntry). s.history < length (weighings says)) (statistic_entries (weighings says) what name)
 statistic_said says (said.Statistic weighting kind subject) (Some name) =
     histories_below (length (weighings says)) kind name (place_in (weighings says) subject) (if_some (place_in (weighings says) subject) (λ i. i < length (weighings says)) (placed_in (weighings says) subject))
 statistic_said says _ _ = tt
 
-statistics_kept : (says : List Saying) (n : ℕ) (name : NameBytes) (s : Statistic) → slice_get (declared says).statistics n ≡ Some (name, s) → s.history < length (declared says).histories
+statistics_kept : (says : List Saying) (n : ℕ) (name : NameBytes) (s : StatisticEntry) → slice_get (declared says).statistics n ≡ Some (name, s) → s.history < length (declared says).histories
 statistics_kept says n name s h =
-    let all = first_entries (λ n (s : Statistic). s.history < length (weighings says)) (statistic_by (weighings says)) says (λ (x : Saying). statistic_said says x.said x.name) in
-    let one : s.history < length (weighings says) = every_at (λ (e : NameBytes × Statistic). e.1.history < length (weighings says)) (declared says).statistics n (name, s) all h in
+    let all = first_entries (λ n (s : StatisticEntry). s.history < length (weighings says)) (statistic_by (weighings says)) says (λ (x : Saying). statistic_said says x.said x.name) in
+    let one : s.history < length (weighings says) = every_at (λ (e : NameBytes × StatisticEntry). e.1.history < length (weighings says)) (declared says).statistics n (name, s) all h in
     omega (arith, one, length-map (weighings says) (history_of (declared says).names))
 
 -- ---- attributes
@@ -176,18 +176,18 @@ pub same_number : (n : ℕ) → nat_eq n n ≡ true
 same_number n = elim (eqb_tells n n) [ inl h ↦ h.0 | inr h ↦ absurd (h.1 refl) ]
 
 -- an attribute comes after those of its class before it
-field_here : (before es : List (NameBytes × ℕ)) (e : NameBytes × ℕ) → slice_get (fields_among (before ++ e ∷ es) e.1) (length (fields_among before e.1)) ≡ Some e.0
+field_here : (before es : List (NameBytes × ℕ)) (e : NameBytes × ℕ) → slice_get (attributes_of_class (before ++ e ∷ es) e.1) (length (attributes_of_class before e.1)) ≡ Some e.0
 field_here before es e =
     let test : NameBytes × ℕ → Bool = λ f. nat_eq f.1 e.1 in
-    let split : fields_among (before ++ e ∷ es) e.1 ≡ fields_among before e.1 ++ fields_among (e ∷ es) e.1 =
+    let split : attributes_of_class (before ++ e ∷ es) e.1 ≡ attributes_of_class before e.1 ++ attributes_of_class (e ∷ es) e.1 =
     ap keys_of (filter-append test before (e ∷ es)) ∙ keys_append (filter test before) (filter test (e ∷ es)) in
-    let first : fields_among (e ∷ es) e.1 ≡ e.0 ∷ fields_among es e.1 =
+    let first : attributes_of_class (e ∷ es) e.1 ≡ e.0 ∷ attributes_of_class es e.1 =
     ap (λ b. keys_of (cond b (e ∷ filter test es) (filter test es))) (same_number e.1) in
-    ap (λ l. slice_get l (length (fields_among before e.1))) (split ∙ ap (λ l. fields_among before e.1 ++ l) first) ∙ seam (fields_among before e.1) (fields_among es e.1) e.0
+    ap (λ l. slice_get l (length (attributes_of_class before e.1))) (split ∙ ap (λ l. attributes_of_class before e.1 ++ l) first) ∙ seam (attributes_of_class before e.1) (attributes_of_class es e.1) e.0
 
 -- an attribute, as a field of its class
 abbrev FieldFits : (all es : List (NameBytes × ℕ)) → ℕ → NameBytes × Attribute → Type 0
-FieldFits all es n f = (slice_get (fields_among all f.1.class) f.1.field ≡ Some f.0) × (slice_get es n ≡ Some (f.0, f.1.class))
+FieldFits all es n f = (slice_get (attributes_of_class all f.1.class) f.1.field ≡ Some f.0) × (slice_get es n ≡ Some (f.0, f.1.class))
 
 field_after : (usual : Option Mode) (defined : List (NameBytes × Mode)) (before es : List (NameBytes × ℕ)) (n : ℕ) (f : NameBytes × Attribute) →
     slice_get (attributes_after usual defined before es) n ≡ Some f → FieldFits (before ++ es) es n f
@@ -196,7 +196,7 @@ field_after usual defined before (e ∷ es) zero f h =
     subst (FieldFits (before ++ e ∷ es) (e ∷ es) 0) (same_Some (attribute_after usual defined before e) f h) (field_here before es e, refl)
 field_after usual defined before (e ∷ es) (suc n) f h =
     let further = field_after usual defined (before ++ e ∷ []) es n f h in
-    (subst (λ all. slice_get (fields_among all f.1.class) f.1.field ≡ Some f.0) (append_assoc before (e ∷ []) es) further.0, further.1)
+    (subst (λ all. slice_get (attributes_of_class all f.1.class) f.1.field ≡ Some f.0) (append_assoc before (e ∷ []) es) further.0, further.1)
 
 keys_after : (usual : Option Mode) (defined : List (NameBytes × Mode)) (before es : List (NameBytes × ℕ)) → keys_of (attributes_after usual defined before es) ≡ keys_of es
 keys_after usual defined before [] = refl
@@ -231,17 +231,17 @@ IsClassMode Defined m = Unit {0}
 IsClassMode (OfClass class) m = m ≡ mode_words.Integer
 IsClassMode (CountOf class) m = m ≡ mode_words.Integer
 
-variables_of_class : (kind : ClassKind) (name : NameBytes) (class : Option ℕ) → Entries (λ n (v : Variable). IsClassMode v.kind v.mode) (class_variables kind name class)
+variables_of_class : (kind : ClassKind) (name : NameBytes) (class : Option ℕ) → Entries (λ n (v : GlobalVariable). IsClassMode v.kind v.mode) (class_variables kind name class)
 variables_of_class class_kinds.Permanent name (Some class) = (refl, (refl, tt))
 variables_of_class class_kinds.Temporary name (Some class) = (refl, tt)
 variables_of_class class_kinds.EventNotice name (Some class) = (refl, tt)
 variables_of_class kind name None = tt
 
-defined_unless : (b : Bool) (name : NameBytes) (mode : Mode) → Entries (λ n (v : Variable). IsClassMode v.kind v.mode) (if b then [] else (name, record { kind = Defined; mode = mode }) ∷ [])
+defined_unless : (b : Bool) (name : NameBytes) (mode : Mode) → Entries (λ n (v : GlobalVariable). IsClassMode v.kind v.mode) (if b then [] else (name, record { kind = Defined; mode = mode }) ∷ [])
 defined_unless true name mode = tt
 defined_unless false name mode = (tt, tt)
 
-variable_said : (cs : List (NameBytes × Class)) (own : List (NameBytes × Attribute)) (what : Said) (name : Option NameBytes) → Entries (λ n (v : Variable). IsClassMode v.kind v.mode) (variable_entries cs own what name)
+variable_said : (cs : List (NameBytes × Class)) (own : List (NameBytes × Attribute)) (what : Said) (name : Option NameBytes) → Entries (λ n (v : GlobalVariable). IsClassMode v.kind v.mode) (variable_entries cs own what name)
 variable_said cs own (said.Variable mode) (Some name) = defined_unless (is_some (value_for own name)) name mode
 variable_said cs own (said.Class kind) (Some name) = variables_of_class kind name (place_in cs name)
 variable_said cs own _ _ = tt
@@ -250,15 +250,15 @@ variable_said cs own _ _ = tt
 
 -- what is true of the table of every program
 pub record IsTable (t : Table) : Type 0 where
-  pub names : (name : NameBytes) (m : Meaning) → value_for t.names name ≡ Some m → IsNumbered t name m
+  pub names : (name : NameBytes) (m : GlobalMeaning) → value_for t.names name ≡ Some m → IsNumbered t name m
   pub attributes : (n : ℕ) (name : NameBytes) (a : Attribute) → slice_get t.attributes n ≡ Some (name, a) → value_for t.attributes name ≡ Some a
   pub fields : (n : ℕ) (name : NameBytes) (a : Attribute) → slice_get t.attributes n ≡ Some (name, a) → (a.class < length t.classes) × (slice_get (get_or t.fields a.class []) a.field ≡ Some name)
   pub rows : (class : ℕ) → class < length t.classes → Every (λ name. (a : Attribute) × (value_for t.attributes name ≡ Some a)) (get_or t.fields class [])
   pub owners : (n : ℕ) (s : Set) (class : ℕ) → slice_get t.sets n ≡ Some s → s.owner ≡ Some (owners.Class class) → class < length t.classes
   pub members : (n : ℕ) (s : Set) (class : ℕ) → slice_get t.sets n ≡ Some s → s.member ≡ Some class → class < length t.classes
-  pub class_modes : (n : ℕ) (name : NameBytes) (v : Variable) → slice_get t.variables n ≡ Some (name, v) → IsClassMode v.kind v.mode
+  pub class_modes : (n : ℕ) (name : NameBytes) (v : GlobalVariable) → slice_get t.variables n ≡ Some (name, v) → IsClassMode v.kind v.mode
   pub histories : (n : ℕ) (name : NameBytes) (weighting : Weighting) → slice_get t.weighings n ≡ Some (name, weighting) → slice_get t.histories n ≡ Some (history_of t.names (name, weighting))
-  pub statistics : (n : ℕ) (name : NameBytes) (s : Statistic) → slice_get t.statistics n ≡ Some (name, s) → s.history < length t.histories
+  pub statistics : (n : ℕ) (name : NameBytes) (s : StatisticEntry) → slice_get t.statistics n ≡ Some (name, s) → s.history < length t.histories
 
 module _ (says : List Saying) where
   abbrev owned : List (NameBytes × ℕ)
@@ -270,8 +270,8 @@ module _ (says : List Saying) where
   attribute_value_there : (n : ℕ) (name : NameBytes) (a : Attribute) → slice_get (attributes says) n ≡ Some (name, a) → value_for (attributes says) name ≡ Some a
   attribute_value_there n name a h = value_from_place (attributes says) n name a attributes_once h
 
-  row_of : (class : ℕ) → class < length (classes says) → get_or (fields says) class [] ≡ fields_among owned class
-  row_of class lt = get_or-map-range_with_len (fields_among owned) 0 (length (classes says)) class class [] lt (omega arith)
+  row_of : (class : ℕ) → class < length (classes says) → get_or (fields says) class [] ≡ attributes_of_class owned class
+  row_of class lt = get_or-map-range_with_len (attributes_of_class owned) 0 (length (classes says)) class class [] lt (omega arith)
 
   field_there : (n : ℕ) (name : NameBytes) (a : Attribute) → slice_get (attributes says) n ≡ Some (name, a) → (a.class < length (classes says)) × (slice_get (get_or (fields says) a.class []) a.field ≡ Some name)
   field_there n name a h =
@@ -306,7 +306,7 @@ module _ (says : List Saying) where
   owners_there n s class h e =
       let named = set_named n s h in
       let value : value_for (set_owners says) named.0 ≡ Some (owners.Class class) = ap (λ (x : Set). x.owner) named.1 ∙ e in
-      let all = first_entries (λ k (o : Owner). (c : ℕ) → o ≡ owners.Class c → c < length (classes says)) (owner_by (classes says)) says (λ (x : Saying). owner_said (classes says) x.said x.name) in
+      let all = first_entries (λ k (o : Owner). (c : ℕ) → o ≡ owners.Class c → c < length (classes says)) (owner_declared (classes says)) says (λ (x : Saying). owner_said (classes says) x.said x.name) in
       entry_holds (λ k (o : Owner). (c : ℕ) → o ≡ owners.Class c → c < length (classes says)) (set_owners says) named.0 (owners.Class class) all value class refl
 
   members_there : (n : ℕ) (s : Set) (class : ℕ) → slice_get (sets says) n ≡ Some s → s.member ≡ Some class → class < length (classes says)
@@ -316,10 +316,10 @@ module _ (says : List Saying) where
       let all = first_entries (λ k c. c < length (classes says)) (member_by (classes says)) says (λ (x : Saying). member_said (classes says) x.said x.name) in
       entry_holds (λ k c. c < length (classes says)) (set_members says) named.0 class all value
 
-  class_modes_are : (n : ℕ) (name : NameBytes) (v : Variable) → slice_get (variables says) n ≡ Some (name, v) → IsClassMode v.kind v.mode
+  class_modes_are : (n : ℕ) (name : NameBytes) (v : GlobalVariable) → slice_get (variables says) n ≡ Some (name, v) → IsClassMode v.kind v.mode
   class_modes_are n name v h =
-      let all = first_entries (λ k (x : Variable). IsClassMode x.kind x.mode) (variable_by (classes says) (attributes says)) says (λ (x : Saying). variable_said (classes says) (attributes says) x.said x.name) in
-      every_at (λ (e : NameBytes × Variable). IsClassMode e.1.kind e.1.mode) (variables says) n (name, v) all h
+      let all = first_entries (λ k (x : GlobalVariable). IsClassMode x.kind x.mode) (variable_by (classes says) (attributes says)) says (λ (x : Saying). variable_said (classes says) (attributes says) x.said x.name) in
+      every_at (λ (e : NameBytes × GlobalVariable). IsClassMode e.1.kind e.1.mode) (variables says) n (name, v) all h
 
   histories_are : (n : ℕ) (name : NameBytes) (weighting : Weighting) → slice_get (weighings says) n ≡ Some (name, weighting) → slice_get (declared says).histories n ≡ Some (history_of (declared says).names (name, weighting))
   histories_are n name weighting h =

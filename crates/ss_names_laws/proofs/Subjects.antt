@@ -14,7 +14,8 @@ use Rattle.ss_tree.specs.Tree.{PreambleTree, ProgramTree}
 use Rattle.ss_tree.specs.Tree as trees
 use Rattle.ss_names_declarations.specs.declared.saying.Said.{Said}
 use Rattle.ss_names_declarations.specs.declared.saying.Saying.{Saying}
-use Rattle.ss_names_declarations.specs.Sayings.{NameBytes, sayings}
+use Rattle.ss_tree.specs.Names.{NameBytes}
+use Rattle.ss_names_declarations.specs.Sayings.{sayings}
 use Rattle.ss_tables_rules.specs.declared.globals.Standing.{Standing}
 use Rattle.ss_tables_rules.specs.declared.globals.Standing.TheVariants as standings
 use Rattle.ss_names.specs.declared.entry.Attribute.{Attribute}
@@ -22,30 +23,30 @@ use Rattle.ss_names.specs.declared.entry.Class.{Class}
 use Rattle.ss_names.specs.declared.meaning.Derived.{Derived}
 use Rattle.ss_names.specs.declared.meaning.Derived.TheVariants as deriveds
 use Rattle.ss_names.specs.declared.meaning.History.{History}
-use Rattle.ss_names.specs.declared.meaning.Meaning.{Meaning}
-use Rattle.ss_names.specs.declared.meaning.Meaning.TheVariants as meanings
-use Rattle.ss_names.specs.declared.meaning.Subject.{Subject}
-use Rattle.ss_names.specs.declared.meaning.Subject.TheVariants as subjects
-use Rattle.ss_names.specs.declared.entry.Variable.{Variable}
+use Rattle.ss_names.specs.declared.meaning.GlobalMeaning.{GlobalMeaning}
+use Rattle.ss_names.specs.declared.meaning.GlobalMeaning.TheVariants as meanings
+use Rattle.ss_names.specs.declared.meaning.SubjectNumber.{SubjectNumber}
+use Rattle.ss_names.specs.declared.meaning.SubjectNumber.TheVariants as subjects
+use Rattle.ss_names.specs.declared.entry.GlobalVariable.{GlobalVariable}
 use Rattle.ss_names.specs.declared.entry.VariableKind.{VariableKind}
 use Rattle.ss_names.specs.declared.entry.VariableKind.TheVariants.{Defined, OfClass, CountOf}
 use Rattle.ss_names.specs.Entities.{set_of, set_owners, set_members, orderings}
 use Rattle.ss_names_declarations.specs.Firsts.{place_among, place_in, same_name, value_for}
-use Rattle.ss_names.specs.Meanings.{class_meaning, numbered}
+use Rattle.ss_names.specs.Meanings.{class_meaning, numbered_names}
 use Rattle.ss_names.specs.Statistics.{weighing_by, weighings}
-use Rattle.ss_names.specs.Histories.{history_of, subject_of}
+use Rattle.ss_names.specs.Histories.{history_of, subject_of_name}
 use Rattle.ss_names.specs.Table.{table}
 use Rattle.ss_check_scopes.specs.declared.known.Known.{Known}
 use Rattle.ss_check_scopes.specs.declared.known.Known.TheVariants as knowns
 use Rattle.ss_check_scopes.specs.Meanings.{value_mode}
-use Rattle.ss_check_scopes.specs.WholeOf.{attribute_meaning, attribute_of_class, class_meaning as known_class, derived_meaning, set_holder, statistic_meaning, meaning_by, meaning_of, variable_meaning, whole_of}
-use Rattle.ss_check_rules.specs.Modes.{mode_of}
+use Rattle.ss_check_scopes.specs.WholeOf.{attribute_meaning, attribute_of_class, known_of_class as known_class, derived_meaning, set_holder, statistic_meaning, known_of_entry, meaning_of, known_of_variable, whole_of}
+use Rattle.ss_check_rules.specs.Modes.{mode_of_known}
 use Rattle.ss_check_rules.specs.Unknown.{may_be_watched}
 use Rattle.ss_names_laws.specs.Declarations.{KeepsDeclarations}
 use Rattle.ss_names_laws.specs.Uses.{KeepsUses, SubjectFits}
 use Rattle.ss_names_laws.proofs.Lists.{at_item, each, pick, some_equal}
 use Rattle.ss_names_laws.proofs.Uses.{subjects_fit}
-use Rattle.ss_names_laws.specs.Tables.{IsValueMode, standing_of}
+use Rattle.ss_names_laws.specs.Tables.{IsValueMode, meaning_of_variable}
 use Rattle.ss_names_laws.specs.Subjects.{IsWhole}
 use Rattle.ss_names_declarations.proofs.Entries.{firsts_once, there, value_by_place, value_in_firsts, value_from_place, value_at}
 use Rattle.ss_names_laws.proofs.EntriesOfName.{value_from_item}
@@ -58,7 +59,7 @@ use Rattle.ss_names_laws.proofs.EntriesOfSaying.{weighing_entry_from}
 
 -- a name that may have a history, and is a whole number
 abbrev IsSubject : ProgramTree → NameBytes → Type 0
-IsSubject p name = (meant : Known) × ((whole_of p).meanings name ≡ Some meant) × (may_be_watched meant ≡ true) × (mode_of meant ≡ Some values.Integer)
+IsSubject p name = (meant : Known) × ((whole_of p).meanings name ≡ Some meant) × (may_be_watched meant ≡ true) × (mode_of_known meant ≡ Some values.Integer)
 
 subject_well : (p : ProgramTree) (s : PreambleTree) → SubjectFits (whole_of p) s → SubjectWell (IsSubject p) (λ k. Unit) s
 subject_well p (trees.statistics line weighting value subject) h = h
@@ -75,7 +76,7 @@ whole_word mode h g = some_equal mode modes.Integer (whole_mode (Some mode) h g)
 
 -- ---- the meaning of a name
 
-defined_kind : (n : ℕ) (kind : VariableKind) → standing_of n kind ≡ meanings.Variable n → kind ≡ Defined
+defined_kind : (n : ℕ) (kind : VariableKind) → meaning_of_variable n kind ≡ meanings.Variable n → kind ≡ Defined
 defined_kind n Defined h = refl
 defined_kind n (OfClass class) h = absurd cc
 defined_kind n (CountOf class) h = absurd cc
@@ -104,7 +105,7 @@ no_class (Some c) meant e g = has_no_history meant (knowns.Class c.kind) e refl 
 
 module _ (p : ProgramTree) (h : KeepsDeclarations p) where
   -- the place of the variable that a name means
-  variable_place : (name : NameBytes) (k : ℕ) (standing : Standing) → Fits (numbered (sayings p)) standing name (meanings.Variable k) → place_in (table p).variables name ≡ Some k
+  variable_place : (name : NameBytes) (k : ℕ) (standing : Standing) → Fits (numbered_names (sayings p)) standing name (meanings.Variable k) → place_in (table p).variables name ≡ Some k
   variable_place name k standings.Variable e = placed_variable (place_in (table p).variables name) k e
   variable_place name k standings.Class e = absurd (no_variable (place_in (table p).classes name) (place_in (table p).variables name) k e)
   variable_place name k standings.Set e = absurd (no_set (place_among (table p).set_names name) e)
@@ -116,7 +117,7 @@ module _ (p : ProgramTree) (h : KeepsDeclarations p) where
   variable_place name k standings.Other e = absurd e
 
   -- the place of the set that has this derived name
-  set_place : (name : NameBytes) (d : Derived) (k : ℕ) (standing : Standing) → Fits (numbered (sayings p)) standing name (meanings.Derived d k) → (set : NameBytes) × (place_among (table p).set_names set ≡ Some k)
+  set_place : (name : NameBytes) (d : Derived) (k : ℕ) (standing : Standing) → Fits (numbered_names (sayings p)) standing name (meanings.Derived d k) → (set : NameBytes) × (place_among (table p).set_names set ≡ Some k)
   set_place name d k standings.Variable e = absurd (no_derived_variable (place_in (table p).variables name) e)
     where
       no_derived_variable : (o : Option ℕ) → option_map meanings.Variable o ≡ Some (meanings.Derived d k) → ⊥
@@ -136,8 +137,8 @@ module _ (p : ProgramTree) (h : KeepsDeclarations p) where
 
   -- ---- each kind of subject
 
-  of_variable : (name : NameBytes) (k : ℕ) (o : Option Variable) (meant : Known) → value_for (table p).names name ≡ Some (meanings.Variable k) → slice_get (values_of (table p).variables) k ≡ o →
-      variable_meaning o ≡ Some meant → mode_of meant ≡ Some values.Integer → IsWhole (table p) (subjects.Variable k)
+  of_variable : (name : NameBytes) (k : ℕ) (o : Option GlobalVariable) (meant : Known) → value_for (table p).names name ≡ Some (meanings.Variable k) → slice_get (values_of (table p).variables) k ≡ o →
+      known_of_variable o ≡ Some meant → mode_of_known meant ≡ Some values.Integer → IsWhole (table p) (subjects.Variable k)
   of_variable name k None meant t at e m = absurd cc
   of_variable name k (Some v) meant t at e m =
       let kept = tables_are_kept p h in
@@ -145,16 +146,16 @@ module _ (p : ProgramTree) (h : KeepsDeclarations p) where
       let place = variable_place name k f.0 f.2 in
       let value = value_by_place (table p).variables name k place in
       let same : value.0 ≡ v = some_equal value.0 v (sym (value_at (table p).variables k name value.0 value.2) ∙ at) in
-      let same_meaning : standing_of k value.0.kind ≡ meanings.Variable k = some_equal (standing_of k value.0.kind) (meanings.Variable k) (sym (kept.variable_names k name value.0 value.2) ∙ t) in
-      let mode : value_mode (Some v.mode) ≡ values.Integer = some_equal (value_mode (Some v.mode)) values.Integer (ap mode_of (some_equal (knowns.Variable (value_mode (Some v.mode))) meant e) ∙ m) in
-      (v, at, ap (λ (x : Variable). x.kind) (sym same) ∙ defined_kind k value.0.kind same_meaning, whole_word v.mode (kept.variable_modes k v at) mode)
+      let same_meaning : meaning_of_variable k value.0.kind ≡ meanings.Variable k = some_equal (meaning_of_variable k value.0.kind) (meanings.Variable k) (sym (kept.variable_names k name value.0 value.2) ∙ t) in
+      let mode : value_mode (Some v.mode) ≡ values.Integer = some_equal (value_mode (Some v.mode)) values.Integer (ap mode_of_known (some_equal (knowns.Variable (value_mode (Some v.mode))) meant e) ∙ m) in
+      (v, at, ap (λ (x : GlobalVariable). x.kind) (sym same) ∙ defined_kind k value.0.kind same_meaning, whole_word v.mode (kept.variable_modes k v at) mode)
 
-  class_attribute : (mode : Option Mode) (o : Option NameBytes) (meant : Known) → attribute_of_class mode o ≡ Some meant → mode_of meant ≡ Some values.Integer → value_mode mode ≡ values.Integer
+  class_attribute : (mode : Option Mode) (o : Option NameBytes) (meant : Known) → attribute_of_class mode o ≡ Some meant → mode_of_known meant ≡ Some values.Integer → value_mode mode ≡ values.Integer
   class_attribute mode None meant e m = absurd cc
   class_attribute mode (Some class) meant e m =
-      some_equal (value_mode mode) values.Integer (ap mode_of (some_equal (knowns.Attribute class (value_mode mode)) meant e) ∙ m)
+      some_equal (value_mode mode) values.Integer (ap mode_of_known (some_equal (knowns.Attribute class (value_mode mode)) meant e) ∙ m)
 
-  of_attribute : (k : ℕ) (o : Option Attribute) (meant : Known) → slice_get (values_of (table p).attributes) k ≡ o → attribute_meaning (table p) o ≡ Some meant → mode_of meant ≡ Some values.Integer → IsWhole (table p) (subjects.Attribute k)
+  of_attribute : (k : ℕ) (o : Option Attribute) (meant : Known) → slice_get (values_of (table p).attributes) k ≡ o → attribute_meaning (table p) o ≡ Some meant → mode_of_known meant ≡ Some values.Integer → IsWhole (table p) (subjects.Attribute k)
   of_attribute k None meant at e m = absurd cc
   of_attribute k (Some a) meant at e m =
       (a, at, whole_mode a.mode ((tables_are_kept p h).attribute_modes k a at) (class_attribute a.mode (slice_get (keys_of (table p).classes) a.class) meant e m))
@@ -168,8 +169,8 @@ module _ (p : ProgramTree) (h : KeepsDeclarations p) where
       let made = set_of (set_owners (sayings p)) (set_members (sayings p)) (orderings (sayings p)) in
       (made named.0, slice_get-map made (table p).set_names k ∙ ap (option_map made) named.1)
 
-  of_meaning : (name : NameBytes) (m : Meaning) (meant : Known) → value_for (table p).names name ≡ Some m → meaning_by (table p) m ≡ Some meant → may_be_watched meant ≡ true → mode_of meant ≡ Some values.Integer →
-      (subject : Subject) × (subject_of (Some m) ≡ Some subject) × IsWhole (table p) subject
+  of_meaning : (name : NameBytes) (m : GlobalMeaning) (meant : Known) → value_for (table p).names name ≡ Some m → known_of_entry (table p) m ≡ Some meant → may_be_watched meant ≡ true → mode_of_known meant ≡ Some values.Integer →
+      (subject : SubjectNumber) × (subject_of_name (Some m) ≡ Some subject) × IsWhole (table p) subject
   of_meaning name (meanings.Variable k) meant t e may mode = (subjects.Variable k, refl, of_variable name k (slice_get (values_of (table p).variables) k) meant t refl e mode)
   of_meaning name (meanings.Attribute k) meant t e may mode = (subjects.Attribute k, refl, of_attribute k (slice_get (values_of (table p).attributes) k) meant refl e mode)
   of_meaning name (meanings.Derived deriveds.MemberCount k) meant t e may mode = (subjects.MemberCount k, refl, of_set name k t)
@@ -182,18 +183,18 @@ module _ (p : ProgramTree) (h : KeepsDeclarations p) where
       absurd (has_no_history meant (statistic_meaning (table p) o) e (of_statistic (λ known. may_be_watched known ≡ false) (λ holder. refl) (λ holder. refl) (table p) o) may)
   of_meaning name (meanings.Routine s) meant t e may mode = absurd (has_no_history meant knowns.Routine e refl may)
 
-  of_known : (name : NameBytes) (o : Option Meaning) (meant : Known) → value_for (table p).names name ≡ o → meaning_of (table p) o ≡ Some meant → may_be_watched meant ≡ true → mode_of meant ≡ Some values.Integer →
-      (subject : Subject) × (subject_of o ≡ Some subject) × IsWhole (table p) subject
+  of_known : (name : NameBytes) (o : Option GlobalMeaning) (meant : Known) → value_for (table p).names name ≡ o → meaning_of (table p) o ≡ Some meant → may_be_watched meant ≡ true → mode_of_known meant ≡ Some values.Integer →
+      (subject : SubjectNumber) × (subject_of_name o ≡ Some subject) × IsWhole (table p) subject
   of_known name None meant t e may mode = absurd cc
   of_known name (Some m) meant t e may mode = of_meaning name m meant t e may mode
 
   -- ---- histories
 
   pub subjects_are_whole : KeepsUses (whole_of p) p → (n : ℕ) (history : History) → slice_get (table p).histories n ≡ Some history →
-      (subject : Subject) × (history.subject ≡ Some subject) × IsWhole (table p) subject
+      (subject : SubjectNumber) × (history.subject ≡ Some subject) × IsWhole (table p) subject
   subjects_are_whole uses n history at = by (slice_get (weighings (sayings p)) n) refl (sym (slice_get-map (history_of (table p).names) (weighings (sayings p)) n) ∙ at)
     where
-      by : (o : Option (NameBytes × Weighting)) → slice_get (weighings (sayings p)) n ≡ o → option_map (history_of (table p).names) o ≡ Some history → (subject : Subject) × (history.subject ≡ Some subject) × IsWhole (table p) subject
+      by : (o : Option (NameBytes × Weighting)) → slice_get (weighings (sayings p)) n ≡ o → option_map (history_of (table p).names) o ≡ Some history → (subject : SubjectNumber) × (history.subject ≡ Some subject) × IsWhole (table p) subject
       by None e g = absurd cc
       by (Some w) e g =
           let value = value_from_place (weighings (sayings p)) n w.0 w.1 (firsts_once (flat_map weighing_by (sayings p))) e in

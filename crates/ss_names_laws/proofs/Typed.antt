@@ -18,15 +18,15 @@ use Rattle.ss_base.specs.Plain.{PlainClass, PlainLayout}
 use Rattle.ss_tree.specs.declared.preamble.Mode.TheVariants as mode_words
 use Rattle.ss_names_declarations.specs.declared.saying.SetRule.{SetRule}
 use Rattle.ss_names_declarations.specs.declared.saying.SetRule.TheVariants as rules
-use Rattle.ss_names_declarations.specs.Sayings.{NameBytes}
+use Rattle.ss_tree.specs.Names.{NameBytes}
 use Rattle.ss_names.specs.declared.entry.Attribute.{Attribute}
 use Rattle.ss_names.specs.declared.entry.Class.{Class}
 use Rattle.ss_names.specs.declared.meaning.History.{History}
 use Rattle.ss_names.specs.declared.entry.Ordering.{Ordering}
 use Rattle.ss_names.specs.declared.entry.Set.{Set}
-use Rattle.ss_names.specs.declared.meaning.Subject.{Subject as SubjectNumber}
-use Rattle.ss_names.specs.declared.meaning.Subject.TheVariants as subjects
-use Rattle.ss_names.specs.declared.entry.Variable.{Variable as VariableSaid}
+use Rattle.ss_names.specs.declared.meaning.SubjectNumber.{SubjectNumber}
+use Rattle.ss_names.specs.declared.meaning.SubjectNumber.TheVariants as subjects
+use Rattle.ss_names.specs.declared.entry.GlobalVariable.{GlobalVariable as VariableSaid}
 use Rattle.ss_names.specs.declared.entry.VariableKind.{VariableKind}
 use Rattle.ss_names.specs.declared.entry.VariableKind.TheVariants as kinds
 use Rattle.ss_names_declarations.specs.Firsts.{same_name, value_for}
@@ -42,7 +42,7 @@ use Rattle.ss_names_meaning.specs.Answers.{◌>>=◌, each, upto, where_holds}
 use Rattle.ss_names_meaning.specs.Layouts.{attribute_named, class_laid, counted_kind, counted_variable, discipline, discipline_ordered, discipline_ruled, field_mode, global_mode, key_of, rank_keys, ranked_by, set_laid, statistic_kept, subject_of, tie_keys, tied_by}
 use Rattle.ss_names_meaning.specs.Words.{class_kind, mode_given, mode_said, weighting_of}
 use Rattle.ss_names_laws.specs.Subjects.{IsWhole}
-use Rattle.ss_names_laws.specs.ValidTables.{IsKept}
+use Rattle.ss_names_laws.specs.ValidTables.{IsValidTable}
 use Rattle.ss_names_laws.specs.LaidOut.{AreWellTyped, HasTables}
 use Rattle.ss_names_declarations.proofs.Entries.{entry_of_value, place_of_value, there, value_at}
 use Rattle.ss_names_laws.proofs.NamePlaces.{value_at_place}
@@ -53,7 +53,7 @@ use Rattle.ss_names_laws.proofs.Structure.{IsClassMode, IsTable}
 numbers_same : (a b : ℕ) → (a == b) ≡ true → a ≡ b
 numbers_same a b h = grind (arith, nat_tests, h)
 
-module _ (t : Table) (is : IsTable t) (k : IsKept t) (p : Program) (h : HasTables t p) where
+module _ (t : Table) (is : IsTable t) (k : IsValidTable t) (p : Program) (h : HasTables t p) where
   -- ---- classes and sets
 
   pub record Layout : Type 0 where

@@ -10,7 +10,8 @@ use Rattle.ss_tree.specs.declared.preamble.ClassKind.TheVariants as class_kinds
 use Rattle.ss_tree.specs.Tree.{PreambleTree, event_notices, every, statistics, SectionKindTree, main, routine, event, SectionTree, ProgramTree}
 use Rattle.ss_names_uses.specs.declared.mention.Mention.{Mention}
 use Rattle.ss_names_uses.specs.Mentions as mentioned
-use Rattle.ss_names_uses.specs.Mentions.{NameBytes, mentions}
+use Rattle.ss_tree.specs.Names.{NameBytes}
+use Rattle.ss_names_uses.specs.Mentions.{mentions}
 use Rattle.ss_names_uses.specs.declared.demand.Aspect.{Aspect}
 use Rattle.ss_names_uses.specs.declared.demand.Aspect.TheVariants as aspects
 use Rattle.ss_names_uses.specs.declared.demand.Demand.{Demand}
@@ -26,17 +27,18 @@ use Rattle.ss_check_rules.specs.declared.rule.Rule.TheVariants as rules
 use Rattle.ss_check_rules.specs.declared.rule.Broken.{Broken}
 use Rattle.ss_check_rules.specs.Arguments.{argument_count, is_other, is_more, is_miscounted, counts_differ, miscounts}
 use Rattle.ss_check_rules.specs.Events.{is_main_section, has_main, event_named, event_in, event_names, lacks_event, eventless, declares_eventless, is_start}
-use Rattle.ss_check_rules.specs.Lines.{line_if, first_of, mention_line, mention_lines, demand_line, demand_lines}
-use Rattle.ss_check_rules.specs.Modes.{mixes, misplaces, breaks_modes, differ, known_mode, mode_of, text_subjects}
-use Rattle.ss_check_rules.specs.Refusal.{in_preamble, mention_breaks, demand_breaks, in_section, in_program, lines, rules_in_order, or_next, first_broken}
-use Rattle.ss_check_rules.specs.Unknown.{is_unknown, is_notice, if_known, may_be_watched, unknown_subjects}
+use Rattle.ss_base.specs.Lines.{line_if}
+use Rattle.ss_check_rules.specs.Lines.{first_of_lines, mention_line, mention_lines, demand_line, demand_lines}
+use Rattle.ss_check_rules.specs.Modes.{mixes, misplaces, breaks_modes, differ, known_mode, mode_of_known, text_subjects}
+use Rattle.ss_check_rules.specs.Refusal.{in_preamble, mention_breaks, demand_breaks, in_section, in_program, breaking_lines, rules_in_order, or_next, first_broken}
+use Rattle.ss_check_rules.specs.Unknown.{is_unknown, is_known_notice, if_known, may_be_watched, unknown_subjects}
 use Rattle.ss_check_rules.specs.Subscripts.{has_wrong_subscripts}
 use Rattle.ss_check_rules.specs.Targets.{is_not_assignable}
 use Rattle.ss_check_rules.specs.Fields.{misfits}
 use Rattle.ss_check_rules.specs.Uses.{uses_of, is_main}
 use Rattle.ss_names_laws.specs.Lists.{Somewhere}
 use Rattle.ss_names_laws.specs.Rules.{KeptMention, KeptDemand, KeptMentions, KeptDemands}
-use Rattle.ss_names_laws.specs.Uses.{KeepsUses, KeptSection, IsEventOf, notices_in, CountFits, IsCounted, CountKept, EventFits, SubjectFits}
+use Rattle.ss_names_laws.specs.Uses.{KeepsUses, KeptSection, IsEventSectionOf, notices_in, CountFits, IsCounted, CountKept, EventFits, SubjectFits}
 use Rattle.ss_names_laws.proofs.Lists.{left_of, each, each_of_two, each_of_three, some_equal, each_image, both_empty, each_empty, pieces, somewhere, found, any_of_both, only_one, names_equal}
 
 -- ---- no line
@@ -45,7 +47,7 @@ pub no_line : (broken : Bool) (line : Line) → line_if broken line ≡ [] → b
 no_line true line h = absurd cc
 no_line false line h = refl
 
-no_first : (rule : Rule) (found : List Line) (rest : Option Broken) → or_next rule (first_of found) rest ≡ None → (found ≡ []) × (rest ≡ None)
+no_first : (rule : Rule) (found : List Line) (rest : Option Broken) → or_next rule (first_of_lines found) rest ≡ None → (found ≡ []) × (rest ≡ None)
 no_first rule [] rest h = (refl, h)
 no_first rule (line ∷ found) rest h = absurd cc
 
@@ -78,7 +80,7 @@ module _ (w : Whole) (p : ProgramTree) where
     preamble : Every (λ s. in_preamble rule w lacks s ≡ []) p.preamble
     sections : Every (λ s. in_section rule w (uses_of w s) ≡ []) p.sections
 
-  unbroken : (rule : Rule) → lines w p rule ≡ [] → Unbroken rule
+  unbroken : (rule : Rule) → breaking_lines w p rule ≡ [] → Unbroken rule
   unbroken rule h =
       let whole = in_program rule p.sections in
       let preambles = flat_map (in_preamble rule w lacks) p.preamble in
@@ -105,7 +107,7 @@ module _ (w : Whole) (p : ProgramTree) where
 
   all_unbroken : KeepsUses w p → AllUnbroken
   all_unbroken h =
-      let all = none_broken (lines w p) rules_in_order h in
+      let all = none_broken (breaking_lines w p) rules_in_order h in
       record {
         no_main = unbroken rules.NoMain all.0;
         no_event = unbroken rules.NoEventRoutine all.1.0;
@@ -183,7 +185,7 @@ main_is_there w p h =
 -- ---- event routines
 
 -- a name among those of the EVENT sections is the name of one
-named_section : (class : NameBytes) (ss : List SectionTree) → list_any (same_name class) (event_names ss) ≡ true → Somewhere (IsEventOf class) ss
+named_section : (class : NameBytes) (ss : List SectionTree) → list_any (same_name class) (event_names ss) ≡ true → Somewhere (IsEventSectionOf class) ss
 named_section class [] h = absurd cc
 named_section class (s ∷ ss) h =
     ⊎_elim (λ e. inl (event_at s e)) (λ e. inr (named_section class ss e))
@@ -194,21 +196,21 @@ named_section class (s ∷ ss) h =
     kind_at (routine name given yielding) e = absurd cc
     kind_at (event name given saving) e = (given, saving, ap (λ n. event n given saving) (sym (names_equal class name (only_one (same_name class name) e))))
 
-    event_at : (t : SectionTree) → list_any (same_name class) (event_in t) ≡ true → IsEventOf class t
+    event_at : (t : SectionTree) → list_any (same_name class) (event_in t) ≡ true → IsEventSectionOf class t
     event_at t e = kind_at t.kind e
 
-with_event : (ss : List SectionTree) (line : Line) (class : NameBytes) → eventless line (lacks_event (event_names ss)) class ≡ [] → Somewhere (IsEventOf class) ss
+with_event : (ss : List SectionTree) (line : Line) (class : NameBytes) → eventless line (lacks_event (event_names ss)) class ≡ [] → Somewhere (IsEventSectionOf class) ss
 with_event ss line class h = named_section class ss (not-false (list_any (same_name class) (event_names ss)) (no_line (lacks_event (event_names ss) class) line h))
 
-declared_with_events : (ss : List SectionTree) (s : PreambleTree) → declares_eventless (lacks_event (event_names ss)) s ≡ [] → Every (λ class. Somewhere (IsEventOf class) ss) (notices_in s)
-declared_with_events ss (event_notices line names) h = each (λ class. eventless line (lacks_event (event_names ss)) class ≡ []) (λ class. Somewhere (IsEventOf class) ss) (with_event ss line) names (each_empty (eventless line (lacks_event (event_names ss))) names h)
+declared_with_events : (ss : List SectionTree) (s : PreambleTree) → declares_eventless (lacks_event (event_names ss)) s ≡ [] → Every (λ class. Somewhere (IsEventSectionOf class) ss) (notices_in s)
+declared_with_events ss (event_notices line names) h = each (λ class. eventless line (lacks_event (event_names ss)) class ≡ []) (λ class. Somewhere (IsEventSectionOf class) ss) (with_event ss line) names (each_empty (eventless line (lacks_event (event_names ss))) names h)
 declared_with_events ss (every line class_kinds.EventNotice class clauses) h = (with_event ss line class h, tt)
 declared_with_events ss _ h = tt
 
-pub notices_have_events : (w : Whole) (p : ProgramTree) → KeepsUses w p → Every (λ class. Somewhere (IsEventOf class) p.sections) (flat_map notices_in p.preamble)
+pub notices_have_events : (w : Whole) (p : ProgramTree) → KeepsUses w p → Every (λ class. Somewhere (IsEventSectionOf class) p.sections) (flat_map notices_in p.preamble)
 notices_have_events w p h =
-    pieces notices_in (λ class. Somewhere (IsEventOf class) p.sections) p.preamble
-    (each (λ s. declares_eventless (lacks_event (event_names p.sections)) s ≡ []) (λ s. Every (λ class. Somewhere (IsEventOf class) p.sections) (notices_in s))
+    pieces notices_in (λ class. Somewhere (IsEventSectionOf class) p.sections) p.preamble
+    (each (λ s. declares_eventless (lacks_event (event_names p.sections)) s ≡ []) (λ s. Every (λ class. Somewhere (IsEventSectionOf class) p.sections) (notices_in s))
     (declared_with_events p.sections) p.preamble (all_unbroken w p h).no_event.preamble)
 
 -- ---- counts of arguments
@@ -246,7 +248,7 @@ counts_fit w p h =
 
 -- ---- EVENT sections
 
-notice_known : (o : Option Known) → not (if_known is_notice o) ≡ false → o ≡ Some (meanings.Class class_kinds.EventNotice)
+notice_known : (o : Option Known) → not (if_known is_known_notice o) ≡ false → o ≡ Some (meanings.Class class_kinds.EventNotice)
 notice_known None h = absurd cc
 notice_known (Some (meanings.Class class_kinds.EventNotice)) h = refl
 notice_known (Some _) h = absurd cc
@@ -271,7 +273,7 @@ events_fit w p h =
 -- ---- statistics
 
 subject_has_number : (o : Option Known) → not (if_known may_be_watched o) ≡ false → differ (known_mode o) (Some modes.Integer) ≡ false →
-    (meant : Known) × (o ≡ Some meant) × (may_be_watched meant ≡ true) × (mode_of meant ≡ Some modes.Integer)
+    (meant : Known) × (o ≡ Some meant) × (may_be_watched meant ≡ true) × (mode_of_known meant ≡ Some modes.Integer)
 subject_has_number None h g = absurd cc
 subject_has_number (Some (meanings.Variable modes.Integer)) h g = (meanings.Variable modes.Integer, refl, refl, refl)
 subject_has_number (Some (meanings.Attribute class modes.Integer)) h g = (meanings.Attribute class modes.Integer, refl, refl, refl)

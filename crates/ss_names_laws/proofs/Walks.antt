@@ -5,13 +5,13 @@ use Rattle.ss_base.specs.declared.line.Line.{Line}
 use Rattle.ss_tree.specs.Tree.{ExpressionTree, number, text, named, call, parenthesised, product, signed, sum, ExpressionRow, no_expression, and_expression, TermRow, no_term, and_term, NamedTree, TestTree, compare, empty, member, data_ended, ConditionTree, PhraseTree, GuardTree, StartTree, from_end, from_member, after_member, HeadTree, over_range, over_members, over_class, LoopHeadTree, for_head, guarded, PositionTree, by_discipline, at_first, at_last, before, after, WhenTree, at_time, in_units, now, StatementTree, let_statement, add_statement, subtract_statement, call_statement, return_statement, stop_statement, read_statement, start_simulation, if_statement, loop_statement, find_statement, find_if_statement, create_statement, create_every, destroy_statement, file_statement, remove_end, remove_statement, schedule_new, schedule_statement, cancel_statement, reset_statement, print_statement, skip_statement, StatementRow, no_statement, and_statement}
 use Rattle.ss_names_uses.specs.declared.mention.Role.TheVariants as roles
 use Rattle.ss_names_uses.specs.declared.mention.Mention.{Mention}
-use Rattle.ss_names_uses.specs.Mentions.{plain, in_expression, in_expressions, in_terms, in_all, in_named, in_all_named, in_option, in_test, in_condition, in_start, in_phrases, in_head, in_loop_head, in_position, in_when, in_new, in_old, in_itself, in_inner, in_row, in_statement, in_body}
-use Rattle.ss_check_scopes.specs.Locals.{declares}
+use Rattle.ss_names_uses.specs.Mentions.{plain_mention, in_expression, in_expressions, in_terms, in_all, in_named, in_all_named, in_option, in_test, in_condition, in_start, in_phrases, in_head, in_loop_head, in_position, in_when, in_new, in_old, in_itself, in_inner, in_row, in_statement, in_body}
+use Rattle.ss_check_scopes.specs.Locals.{declares_local}
 use Rattle.ss_names_laws.proofs.Lists.{all_of, images, joined, pieces}
 
 -- a mention declares no local variable
 abbrev pub Silent : Mention → Type 0
-Silent m = declares m.role ≡ false
+Silent m = declares_local m.role ≡ false
 
 both : (ms ns : List Mention) → Every Silent ms → Every Silent ns → Every Silent (ms ++ ns)
 both ms ns h g = joined Silent ms ns h g
@@ -82,7 +82,7 @@ module _ (line : Line) where
   head (over_members variable set begin reverse ps) =
       (refl, both (in_named line roles.Set set ++ in_start line begin) (in_phrases line ps) (both (in_named line roles.Set set) (in_start line begin) (set_of set) (start begin)) (phrases ps))
   head (over_class class called ps) =
-      (refl, both (in_option (λ name. plain line roles.LoopVariable name ∷ []) called) (in_phrases line ps) (option_of (λ name. plain line roles.LoopVariable name ∷ []) called (λ name. (refl, tt))) (phrases ps))
+      (refl, both (in_option (λ name. plain_mention line roles.LoopVariable name ∷ []) called) (in_phrases line ps) (option_of (λ name. plain_mention line roles.LoopVariable name ∷ []) called (λ name. (refl, tt))) (phrases ps))
 
   loop_head : (h : LoopHeadTree) → Every Silent (in_loop_head line h)
   loop_head (for_head h) = head h
@@ -114,7 +114,7 @@ itself (loop_statement line h body) = loop_head line h
 itself (find_statement line h) = head line h
 itself (find_if_statement line h outcome first second) = head line h
 itself (create_statement line class called) = (refl, option_of (in_named line roles.Target) called (target line))
-itself (create_every line classes) = images (plain line roles.CreateEvery) Silent classes (all_of (λ c. Silent (plain line roles.CreateEvery c)) (λ c. refl) classes)
+itself (create_every line classes) = images (plain_mention line roles.CreateEvery) Silent classes (all_of (λ c. Silent (plain_mention line roles.CreateEvery c)) (λ c. refl) classes)
 itself (destroy_statement line class called) = (refl, option_of (in_expression line) called (expression line))
 itself (file_statement line x at set) =
     both (in_expression line x ++ in_position line at) (in_named line roles.Set set) (both (in_expression line x) (in_position line at) (expression line x) (position line at)) (set_of line set)

@@ -14,17 +14,18 @@ use Rattle.ss_names_declarations.specs.declared.saying.SetRule.{SetRule}
 use Rattle.ss_names_declarations.specs.declared.saying.Said.{Said}
 use Rattle.ss_names_declarations.specs.declared.saying.Said.TheVariants as said
 use Rattle.ss_names_declarations.specs.declared.saying.Saying.{Saying}
-use Rattle.ss_names_declarations.specs.Sayings.{NameBytes, sayings}
+use Rattle.ss_tree.specs.Names.{NameBytes}
+use Rattle.ss_names_declarations.specs.Sayings.{sayings}
 use Rattle.ss_check_rules.specs.Uses.{is_main}
 use Rattle.ss_tables_rules.specs.declared.topic.Topic.{Topic}
 use Rattle.ss_tables_rules.specs.declared.topic.Topic.TheVariants as topics
 use Rattle.ss_tables_rules.specs.declared.globals.Standing.{Standing}
 use Rattle.ss_tables_rules.specs.declared.globals.Standing.TheVariants as standings
-use Rattle.ss_tables_rules.specs.Broken.{refusal}
+use Rattle.ss_tables_rules.specs.Broken.{refusal_of_declarations}
 use Rattle.ss_tables_rules.specs.Declarations.{Declaration, declarations, standing_of}
 use Rattle.ss_tables_rules.specs.RealMode.{gives_mode, says_real, is_variable_role}
-use Rattle.ss_tables_rules.specs.TooMany.{is_class, is_of, sets}
-use Rattle.ss_tables_rules.specs.Topics.{is_about, thing_of}
+use Rattle.ss_tables_rules.specs.TooMany.{is_class, is_attribute_of, lines_of_sets}
+use Rattle.ss_tables_rules.specs.Topics.{has_topic, thing_of}
 use Rattle.ss_check_scopes.specs.Signatures.{given_to, yielded_by}
 use Rattle.ss_check_scopes.specs.Whole.{Whole}
 use Rattle.ss_names_laws.specs.Lists.{Somewhere, Pairwise}
@@ -32,7 +33,7 @@ use Rattle.ss_names_laws.specs.Uses.{KeepsUses}
 
 -- no rule on declarations is broken
 abbrev pub KeepsDeclarations : ProgramTree → Type 0
-KeepsDeclarations p = refusal p ≡ None
+KeepsDeclarations p = refusal_of_declarations p ≡ None
 
 -- a fact on the sayings of every program that breaks no rule on declarations
 abbrev pub WhereKept : (List Saying → Type 0) → Type 0
@@ -65,11 +66,11 @@ KindsAgree says = Every (λ (d : Declaration). standing_of (declarations says) d
 
 -- two sayings on this topic are of two things
 abbrev pub IsOnce : Topic → List Saying → Type 0
-IsOnce topic says = Pairwise (λ s t. is_about topic s.said ≡ true → is_about topic t.said ≡ true → thing_of s ≡ thing_of t → ⊥) says
+IsOnce topic says = Pairwise (λ s t. has_topic topic s.said ≡ true → has_topic topic t.said ≡ true → thing_of s ≡ thing_of t → ⊥) says
 
 -- two sayings on this topic are of two names
 abbrev pub IsOnceOf : Topic → List Saying → Type 0
-IsOnceOf topic says = Pairwise (λ s t. is_about topic s.said ≡ true → is_about topic t.said ≡ true → (name : NameBytes) → s.name ≡ Some name → t.name ≡ Some name → ⊥) says
+IsOnceOf topic says = Pairwise (λ s t. has_topic topic s.said ≡ true → has_topic topic t.said ≡ true → (name : NameBytes) → s.name ≡ Some name → t.name ≡ Some name → ⊥) says
 
 -- what is declared once for a name, or once in the program
 pub record SaidOnce (says : List Saying) : Type 0 where
@@ -88,7 +89,7 @@ pub record SaidOnce (says : List Saying) : Type 0 where
   pub subjects : IsOnce topics.Subject says
   pub mains : IsOnce topics.Main says
   -- each class has at most one EVENT section
-  pub events : Pairwise (λ s t. is_about topics.Event s.said ≡ true → is_about topics.Event t.said ≡ true → thing_of s ≡ thing_of t → (kind : ClassKind) (name : NameBytes) → t.name ≡ Some name → Says says (said.Class kind) name → ⊥) says
+  pub events : Pairwise (λ s t. has_topic topics.Event s.said ≡ true → has_topic topics.Event t.said ≡ true → thing_of s ≡ thing_of t → (kind : ClassKind) (name : NameBytes) → t.name ≡ Some name → Says says (said.Class kind) name → ⊥) says
   pub parameters : IsOnce topics.Parameter says
   pub locals : IsOnce topics.Local says
 
@@ -155,8 +156,8 @@ ModesAreGiven =
 
 -- ---- 53 to 56: classes and sets
 
-abbrev pub IsOwned : List Saying → NameBytes → Type 0
-IsOwned says set = Says says said.SystemSet set ⊎ ((class : NameBytes) × Says says (said.OwnedSet class) set)
+abbrev pub HasOwner : List Saying → NameBytes → Type 0
+HasOwner says set = Says says said.SystemSet set ⊎ ((class : NameBytes) × Says says (said.OwnedSet class) set)
 
 abbrev pub HasMembers : List Saying → NameBytes → Type 0
 HasMembers says set = (class : NameBytes) × Says says (said.MemberSet class) set
@@ -167,9 +168,9 @@ pub record ThingsAreThere (says : List Saying) : Type 0 where
   pub priorities : (name : NameBytes) → Says says said.Priority name → Says says (said.Class class_kinds.EventNotice) name
   pub ties : (name : NameBytes) → Says says said.Ties name → Says says (said.Class class_kinds.EventNotice) name
   -- a DEFINE as a set names one; each set has an owner and a class of members
-  pub disciplines : (statement : ℕ) (rule : SetRule) (set : NameBytes) → Says says (said.Discipline statement rule) set → IsOwned says set
-  pub owners : (set : NameBytes) → HasMembers says set → IsOwned says set
-  pub members : (set : NameBytes) → IsOwned says set → HasMembers says set
+  pub disciplines : (statement : ℕ) (rule : SetRule) (set : NameBytes) → Says says (said.Discipline statement rule) set → HasOwner says set
+  pub owners : (set : NameBytes) → HasMembers says set → HasOwner says set
+  pub members : (set : NameBytes) → HasOwner says set → HasMembers says set
 
 -- each class that has attributes, owns sets or has members of sets is declared, by the form of the statements
 pub record ClassesAreThere (says : List Saying) : Type 0 where
@@ -201,5 +202,5 @@ TieKeysFit says = (class key : NameBytes) (high : Bool) → Says says (said.TieK
 -- at most 64 classes, at most 64 sets (each has one line where it is named first), at most 64 attributes of a class
 pub record FewEnough (says : List Saying) : Type 0 where
   pub classes : count_by is_class says ≤ 64
-  pub sets : length (sets says) ≤ 64
-  pub attributes : (class : NameBytes) → count_by (is_of class) says ≤ 64
+  pub sets : length (lines_of_sets says) ≤ 64
+  pub attributes : (class : NameBytes) → count_by (is_attribute_of class) says ≤ 64

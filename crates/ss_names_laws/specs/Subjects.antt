@@ -6,9 +6,9 @@ use Rattle.ss_tree.specs.Tree.{ProgramTree}
 use Rattle.ss_names.specs.declared.entry.Attribute.{Attribute}
 use Rattle.ss_names.specs.declared.meaning.History.{History}
 use Rattle.ss_names.specs.declared.entry.Set.{Set}
-use Rattle.ss_names.specs.declared.meaning.Subject.{Subject}
-use Rattle.ss_names.specs.declared.meaning.Subject.TheVariants as subjects
-use Rattle.ss_names.specs.declared.entry.Variable.{Variable}
+use Rattle.ss_names.specs.declared.meaning.SubjectNumber.{SubjectNumber}
+use Rattle.ss_names.specs.declared.meaning.SubjectNumber.TheVariants as subjects
+use Rattle.ss_names.specs.declared.entry.GlobalVariable.{GlobalVariable}
 use Rattle.ss_names.specs.declared.entry.VariableKind.TheVariants.{Defined}
 use Rattle.ss_names.specs.Table.{Table, table}
 use Rattle.ss_check_scopes.specs.WholeOf.{whole_of}
@@ -16,8 +16,8 @@ use Rattle.ss_names_laws.specs.Declarations.{KeepsDeclarations}
 use Rattle.ss_names_laws.specs.Uses.{KeepsUses}
 
 -- a subject that has a history is a whole number
-abbrev pub IsWhole : Table → Subject → Type 0
-IsWhole t (subjects.Variable n) = (v : Variable) × (slice_get (values_of t.variables) n ≡ Some v) × (v.kind ≡ Defined) × (v.mode ≡ modes.Integer)
+abbrev pub IsWhole : Table → SubjectNumber → Type 0
+IsWhole t (subjects.Variable n) = (v : GlobalVariable) × (slice_get (values_of t.variables) n ≡ Some v) × (v.kind ≡ Defined) × (v.mode ≡ modes.Integer)
 IsWhole t (subjects.Attribute n) = (a : Attribute) × (slice_get (values_of t.attributes) n ≡ Some a) × (a.mode ≡ Some modes.Integer)
 IsWhole t (subjects.MemberCount n) = (s : Set) × (slice_get t.sets n ≡ Some s)
 
@@ -25,4 +25,4 @@ IsWhole t (subjects.MemberCount n) = (s : Set) × (slice_get t.sets n ≡ Some s
 abbrev pub SubjectsAreWhole : Type 0
 SubjectsAreWhole =
     (p : ProgramTree) → KeepsDeclarations p → KeepsUses (whole_of p) p → (n : ℕ) (h : History) → slice_get (table p).histories n ≡ Some h →
-    (subject : Subject) × (h.subject ≡ Some subject) × IsWhole (table p) subject
+    (subject : SubjectNumber) × (h.subject ≡ Some subject) × IsWhole (table p) subject

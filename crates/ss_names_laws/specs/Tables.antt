@@ -8,16 +8,16 @@ use Rattle.ss_tree.specs.declared.preamble.Mode.{Mode}
 use Rattle.ss_tree.specs.declared.preamble.Mode.TheVariants as modes
 use Rattle.ss_tree.specs.Tree.{ProgramTree}
 use Rattle.ss_names_declarations.specs.declared.saying.SetRule.TheVariants.{Ranked}
-use Rattle.ss_names_declarations.specs.Sayings.{NameBytes}
+use Rattle.ss_tree.specs.Names.{NameBytes}
 use Rattle.ss_names.specs.declared.keys.RankedBy.{RankedBy}
 use Rattle.ss_names.specs.declared.keys.TiedBy.{TiedBy}
 use Rattle.ss_names.specs.declared.entry.Attribute.{Attribute}
 use Rattle.ss_names.specs.declared.entry.Class.{Class}
-use Rattle.ss_names.specs.declared.meaning.Meaning.{Meaning}
-use Rattle.ss_names.specs.declared.meaning.Meaning.TheVariants as meanings
+use Rattle.ss_names.specs.declared.meaning.GlobalMeaning.{GlobalMeaning}
+use Rattle.ss_names.specs.declared.meaning.GlobalMeaning.TheVariants as meanings
 use Rattle.ss_names.specs.declared.entry.Ordering.{Ordering}
 use Rattle.ss_names.specs.declared.entry.Set.{Set}
-use Rattle.ss_names.specs.declared.entry.Variable.{Variable}
+use Rattle.ss_names.specs.declared.entry.GlobalVariable.{GlobalVariable}
 use Rattle.ss_names.specs.declared.entry.VariableKind.{VariableKind}
 use Rattle.ss_names.specs.declared.entry.VariableKind.TheVariants.{Defined, OfClass, CountOf}
 use Rattle.ss_names_declarations.specs.Firsts.{place_in, same_name, value_for}
@@ -29,10 +29,10 @@ abbrev pub IsValueMode : Option Mode → Type 0
 IsValueMode mode = (mode ≡ Some modes.Integer) ⊎ (mode ≡ Some modes.Alpha)
 
 -- the meaning of the name of a global variable
-abbrev pub standing_of : (number : ℕ) → VariableKind → Meaning
-standing_of n Defined = meanings.Variable n
-standing_of n (OfClass class) = meanings.Class class n
-standing_of n (CountOf class) = meanings.Count class n
+abbrev pub meaning_of_variable : (number : ℕ) → VariableKind → GlobalMeaning
+meaning_of_variable n Defined = meanings.Variable n
+meaning_of_variable n (OfClass class) = meanings.Class class n
+meaning_of_variable n (CountOf class) = meanings.Count class n
 
 -- an attribute of the class of this number
 abbrev pub IsKeyOf : Table → (class : ℕ) → NameBytes → Type 0
@@ -46,14 +46,14 @@ pub record KeepsTable (t : Table) : Type 0 where
   pub few_fields : (class : ℕ) → class < length t.classes → length (get_or t.fields class []) ≤ 64
   -- attributes and global variables have modes, none of which is REAL
   pub attribute_modes : (n : ℕ) (a : Attribute) → slice_get (values_of t.attributes) n ≡ Some a → IsValueMode a.mode
-  pub variable_modes : (n : ℕ) (v : Variable) → slice_get (values_of t.variables) n ≡ Some v → IsValueMode (Some v.mode)
+  pub variable_modes : (n : ℕ) (v : GlobalVariable) → slice_get (values_of t.variables) n ≡ Some v → IsValueMode (Some v.mode)
   -- the name of a class means the class, and the name of a global variable means what the variable is
   pub class_names : (n : ℕ) (name : NameBytes) → slice_get (keys_of t.classes) n ≡ Some name → (variable : ℕ) × (value_for t.names name ≡ Some (meanings.Class n variable))
-  pub variable_names : (n : ℕ) (name : NameBytes) (v : Variable) → slice_get t.variables n ≡ Some (name, v) → value_for t.names name ≡ Some (standing_of n v.kind)
+  pub variable_names : (n : ℕ) (name : NameBytes) (v : GlobalVariable) → slice_get t.variables n ≡ Some (name, v) → value_for t.names name ≡ Some (meaning_of_variable n v.kind)
   -- a class that has an N. as a variable is permanent
-  pub counts : (n : ℕ) (v : Variable) (class : ℕ) → slice_get (values_of t.variables) n ≡ Some v → v.kind ≡ CountOf class → (c : Class) × (slice_get (values_of t.classes) class ≡ Some c) × (c.kind ≡ Permanent)
+  pub counts : (n : ℕ) (v : GlobalVariable) (class : ℕ) → slice_get (values_of t.variables) n ≡ Some v → v.kind ≡ CountOf class → (c : Class) × (slice_get (values_of t.classes) class ≡ Some c) × (c.kind ≡ Permanent)
   -- N. of a permanent class is the variable after that of the class
-  pub counts_follow : (n class : ℕ) (v : Variable) (c : Class) → slice_get (values_of t.variables) n ≡ Some v → v.kind ≡ OfClass class → slice_get (values_of t.classes) class ≡ Some c → c.kind ≡ Permanent → (next : Variable) × (slice_get (values_of t.variables) (n + 1) ≡ Some next) × (next.kind ≡ CountOf class)
+  pub counts_follow : (n class : ℕ) (v : GlobalVariable) (c : Class) → slice_get (values_of t.variables) n ≡ Some v → v.kind ≡ OfClass class → slice_get (values_of t.classes) class ≡ Some c → c.kind ≡ Permanent → (next : GlobalVariable) × (slice_get (values_of t.variables) (n + 1) ≡ Some next) × (next.kind ≡ CountOf class)
   -- a set has an owner, and a class of members
   pub owners : (n : ℕ) (s : Set) → slice_get t.sets n ≡ Some s → (owner : Owner) × (s.owner ≡ Some owner)
   pub members : (n : ℕ) (s : Set) → slice_get t.sets n ≡ Some s → (class : ℕ) × (s.member ≡ Some class)

@@ -7,7 +7,8 @@ use Rattle.ss_tree.specs.declared.preamble.ClassKind.{ClassKind}
 use Rattle.ss_tree.specs.declared.preamble.ClassKind.TheVariants as class_kinds
 use Rattle.ss_tree.specs.Tree.{PreambleTree, event_notices, every, statistics, SectionKindTree, main, routine, event, SectionTree, ProgramTree}
 use Rattle.ss_names_uses.specs.declared.mention.Mention.{Mention}
-use Rattle.ss_names_uses.specs.Mentions.{NameBytes, mentions}
+use Rattle.ss_tree.specs.Names.{NameBytes}
+use Rattle.ss_names_uses.specs.Mentions.{mentions}
 use Rattle.ss_names_uses.specs.declared.demand.Aspect.{Aspect}
 use Rattle.ss_names_uses.specs.declared.demand.Aspect.TheVariants as aspects
 use Rattle.ss_names_uses.specs.declared.demand.Demand.{Demand}
@@ -17,8 +18,8 @@ use Rattle.ss_check_scopes.specs.declared.known.Known.TheVariants as meanings
 use Rattle.ss_check_scopes.specs.Whole.{Whole, locals_of}
 use Rattle.ss_check_rules.specs.Arguments.{argument_count}
 use Rattle.ss_check_rules.specs.Events.{is_start}
-use Rattle.ss_check_rules.specs.Modes.{mode_of}
-use Rattle.ss_check_rules.specs.Refusal.{refusal}
+use Rattle.ss_check_rules.specs.Modes.{mode_of_known}
+use Rattle.ss_check_rules.specs.Refusal.{refusal_of_uses}
 use Rattle.ss_check_rules.specs.Unknown.{may_be_watched}
 use Rattle.ss_check_rules.specs.Uses.{is_main}
 use Rattle.ss_names_laws.specs.Lists.{Somewhere}
@@ -26,7 +27,7 @@ use Rattle.ss_names_laws.specs.Rules.{KeptMentions, KeptDemands}
 
 -- no rule on uses is broken
 abbrev pub KeepsUses : Whole → ProgramTree → Type 0
-KeepsUses w p = refusal w p ≡ None
+KeepsUses w p = refusal_of_uses w p ≡ None
 
 -- ---- sections
 
@@ -58,14 +59,14 @@ notices_in (every line kind class clauses) = notice_named kind class
 notices_in _ = []
 
 -- the EVENT section of this name
-abbrev pub IsEventOf : NameBytes → SectionTree → Type 0
-IsEventOf class s = (given : List NameBytes) × (saving : Bool) × (s.kind ≡ event class given saving)
+abbrev pub IsEventSectionOf : NameBytes → SectionTree → Type 0
+IsEventSectionOf class s = (given : List NameBytes) × (saving : Bool) × (s.kind ≡ event class given saving)
 
 -- each class of notices has an EVENT section
 abbrev pub NoticesHaveEvents : Type 0
 NoticesHaveEvents =
     (w : Whole) (p : ProgramTree) → KeepsUses w p →
-    Every (λ class. Somewhere (IsEventOf class) p.sections) (flat_map notices_in p.preamble)
+    Every (λ class. Somewhere (IsEventSectionOf class) p.sections) (flat_map notices_in p.preamble)
 
 -- ---- counts of arguments
 
@@ -104,7 +105,7 @@ EventsFit = (w : Whole) (p : ProgramTree) → KeepsUses w p → Every (λ (s : S
 -- the subject of a TALLY or an ACCUMULATE is a variable, an attribute or N. of a set, and a whole number
 abbrev pub SubjectFits : Whole → PreambleTree → Type 0
 SubjectFits w (statistics line weighting found subject) =
-    (meant : Known) × (w.meanings subject ≡ Some meant) × (may_be_watched meant ≡ true) × (mode_of meant ≡ Some modes.Integer)
+    (meant : Known) × (w.meanings subject ≡ Some meant) × (may_be_watched meant ≡ true) × (mode_of_known meant ≡ Some modes.Integer)
 SubjectFits w _ = Unit
 
 abbrev pub SubjectsFit : Type 0

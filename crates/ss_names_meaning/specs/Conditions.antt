@@ -10,19 +10,19 @@ use Rattle.ss_names_meaning.specs.Answers.{◌>>=◌, each}
 use Rattle.ss_names_meaning.specs.Contexts.{Context}
 use Rattle.ss_names_meaning.specs.Expressions.{expression, set_named}
 
-abbrev pub relation_of : RelationWord → Relation
-relation_of words.Equal = Equal
-relation_of words.NotEqual = NotEqual
-relation_of words.Less = Less
-relation_of words.Greater = Greater
-relation_of words.LessOrEqual = LessOrEqual
-relation_of words.GreaterOrEqual = GreaterOrEqual
+abbrev pub resolved_relation : RelationWord → Relation
+resolved_relation words.Equal = Equal
+resolved_relation words.NotEqual = NotEqual
+resolved_relation words.Less = Less
+resolved_relation words.Greater = Greater
+resolved_relation words.LessOrEqual = LessOrEqual
+resolved_relation words.GreaterOrEqual = GreaterOrEqual
 
 unfoldable pub one_test : Context → TestTree → Option Test
 one_test c (compare left relation right) = do
   x ← expression c left
   y ← expression c right
-  Some (Compare (relation_of relation) x y)
+  Some (Compare (resolved_relation relation) x y)
 one_test c (empty set negated) = do
   s ← set_named c set
   Some (Empty negated s.0 s.1)

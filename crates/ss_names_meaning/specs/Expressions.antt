@@ -21,14 +21,14 @@ use Rattle.ss_names_meaning.specs.Contexts.{Context}
 
 -- ---- words
 
-abbrev pub sign_of : SignWord → Sign
-sign_of signs.Plus = Plus
-sign_of signs.Minus = Minus
+abbrev pub resolved_sign : SignWord → Sign
+resolved_sign signs.Plus = Plus
+resolved_sign signs.Minus = Minus
 
 -- the operator before a further term of a sum
-abbrev pub operator_of : SignWord → Operator
-operator_of signs.Plus = Add
-operator_of signs.Minus = Subtract
+abbrev pub resolved_operator : SignWord → Operator
+resolved_operator signs.Plus = Add
+resolved_operator signs.Minus = Subtract
 
 -- ---- names by what they mean
 
@@ -38,48 +38,48 @@ entity_of implied None = Fetch implied
 entity_of implied (Some e) = e
 
 -- something that takes no subscript
-abbrev pub plain : {A : Type 0} → Option Expression → A → Option A
-plain None x = Some x
-plain (Some e) x = None
+abbrev pub without_subscript : {A : Type 0} → Option Expression → A → Option A
+without_subscript None x = Some x
+without_subscript (Some e) x = None
 
 -- TIME.A, which takes a subscript
-abbrev pub time_of : Option Expression → Option Expression
-time_of None = None
-time_of (Some e) = Some (TimeOf e)
+abbrev pub resolved_time : Option Expression → Option Expression
+resolved_time None = None
+resolved_time (Some e) = Some (TimeOf e)
 
 -- the value of what is named, with the subscript if there is one
-abbrev pub value_of : Meaning → Option Expression → Option Expression
-value_of (meanings.Variable x mode) e = plain e (Fetch x)
-value_of (meanings.Count n) e = plain e (Fetch (Global n.variable))
-value_of (meanings.Attribute class field mode implied) e = Some (Attribute class field (entity_of implied e))
-value_of (meanings.OfSystemSet query set) e = plain e (OfSystemSet query set)
-value_of (meanings.OfSet query set implied) e = Some (OfSet query set (entity_of implied e))
-value_of (meanings.OfMember query set implied) e = Some (OfMember query set (entity_of implied e))
-value_of (meanings.Figure fold statistic) e = plain e (Figure fold statistic)
-value_of (meanings.FigureOf fold statistic implied) e = Some (FigureOf fold statistic (entity_of implied e))
-value_of meanings.Clock e = plain e Clock
-value_of meanings.NoticeTime e = time_of e
+abbrev pub resolved_value : Meaning → Option Expression → Option Expression
+resolved_value (meanings.Variable x mode) e = without_subscript e (Fetch x)
+resolved_value (meanings.Count n) e = without_subscript e (Fetch (Global n.variable))
+resolved_value (meanings.Attribute class field mode implied) e = Some (Attribute class field (entity_of implied e))
+resolved_value (meanings.OfSystemSet query set) e = without_subscript e (OfSystemSet query set)
+resolved_value (meanings.OfSet query set implied) e = Some (OfSet query set (entity_of implied e))
+resolved_value (meanings.OfMember query set implied) e = Some (OfMember query set (entity_of implied e))
+resolved_value (meanings.Figure fold statistic) e = without_subscript e (Figure fold statistic)
+resolved_value (meanings.FigureOf fold statistic implied) e = Some (FigureOf fold statistic (entity_of implied e))
+resolved_value meanings.Clock e = without_subscript e Clock
+resolved_value meanings.NoticeTime e = resolved_time e
 -- a mean is no value
-value_of (meanings.Mean statistic) e = None
-value_of (meanings.MeanOf statistic implied) e = None
+resolved_value (meanings.Mean statistic) e = None
+resolved_value (meanings.MeanOf statistic implied) e = None
 
 -- what PRINT shows of a name, with the subscript if there is one
-abbrev pub item_of : Meaning → Option Expression → Option Item
-item_of (meanings.Mean statistic) e = plain e (AMean statistic)
-item_of (meanings.MeanOf statistic implied) e = Some (AMeanOf statistic (entity_of implied e))
-item_of meaning e = option_map AValue (value_of meaning e)
+abbrev pub resolved_item : Meaning → Option Expression → Option Item
+resolved_item (meanings.Mean statistic) e = without_subscript e (AMean statistic)
+resolved_item (meanings.MeanOf statistic implied) e = Some (AMeanOf statistic (entity_of implied e))
+resolved_item meaning e = option_map AValue (resolved_value meaning e)
 
 -- a target: a variable, an attribute or N. of a class
 abbrev pub place_of : Meaning → Option Expression → Option Place
-place_of (meanings.Variable x mode) e = plain e (ToVariable x)
-place_of (meanings.Count n) e = plain e (ToCount n)
+place_of (meanings.Variable x mode) e = without_subscript e (ToVariable x)
+place_of (meanings.Count n) e = without_subscript e (ToCount n)
 place_of (meanings.Attribute class field mode implied) e = Some (ToAttribute class field (entity_of implied e))
 place_of _ e = None
 
 -- a set and its owner
-abbrev pub owned_by : SetMeant → Option Expression → Option (ℕ × SetOwner)
-owned_by (OfSystem set) e = plain e (set, TheSystem)
-owned_by (OfEntity set implied) e = Some (set, Entity (entity_of implied e))
+abbrev pub resolved_set : SetMeant → Option Expression → Option (ℕ × SetOwner)
+resolved_set (OfSystem set) e = without_subscript e (set, TheSystem)
+resolved_set (OfEntity set implied) e = Some (set, Entity (entity_of implied e))
 
 -- ---- expressions
 
@@ -92,7 +92,7 @@ module _ (c : Context) where
     expression (named designator subscripts) = do
       e ← subscript subscripts
       meaning ← c.meaning designator
-      value_of meaning e
+      resolved_value meaning e
     expression (call Abs arguments) = do
       e ← one arguments
       Some (Absolute e)
@@ -114,7 +114,7 @@ module _ (c : Context) where
       factors left further
     expression (signed sign term) = do
       e ← expression term
-      Some (Signed (sign_of sign) e)
+      Some (Signed (resolved_sign sign) e)
     expression (sum first further) = do
       left ← expression first
       terms left further
@@ -152,7 +152,7 @@ module _ (c : Context) where
     terms left no_term = Some left
     terms left (and_term sign e es) = do
       x ← expression e
-      terms (Calculate (operator_of sign) left x) es
+      terms (Calculate (resolved_operator sign) left x) es
 
   -- an item of PRINT: a mean if one is named alone, in any parentheses, and else a value
   abbrev pub item : ExpressionTree → Option Item
@@ -160,7 +160,7 @@ module _ (c : Context) where
   item (named designator subscripts) = do
     e ← subscript subscripts
     meaning ← c.meaning designator
-    item_of meaning e
+    resolved_item meaning e
   item e = option_map AValue (expression e)
 
   -- a target
@@ -175,4 +175,4 @@ module _ (c : Context) where
   set_named n = do
     e ← subscript n.subscripts
     set ← c.set n.designator
-    owned_by set e
+    resolved_set set e

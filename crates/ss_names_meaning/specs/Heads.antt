@@ -6,7 +6,7 @@ use Rattle.ss_tree.specs.declared.head.PhraseKind.TheVariants as phrase_words
 use Rattle.ss_tree.specs.declared.head.GuardKind.{GuardKind as GuardWord}
 use Rattle.ss_tree.specs.declared.head.GuardKind.TheVariants as guard_words
 use Rattle.ss_tree.specs.Tree.{PhraseTree, GuardTree, StartTree, from_end, from_member, after_member, HeadTree, over_range, over_members, over_class}
-use Rattle.ss_names_declarations.specs.Sayings.{NameBytes}
+use Rattle.ss_tree.specs.Names.{NameBytes}
 use Rattle.ss_program.specs.declared.expression.Variable.{Variable}
 use Rattle.ss_program.specs.declared.head.PhraseKind.{PhraseKind}
 use Rattle.ss_program.specs.declared.head.PhraseKind.TheVariants as phrase_kinds
@@ -34,8 +34,8 @@ guard_kind_of guard_words.Until = guard_kinds.Until
 
 -- ---- conditions of loops
 
-abbrev pub phrase : Context → PhraseTree → Option Phrase
-phrase c p = do
+abbrev pub resolved_phrase : Context → PhraseTree → Option Phrase
+resolved_phrase c p = do
   tests ← condition c p.condition
   Some (record { kind = phrase_kind_of p.kind; condition = tests })
 
@@ -47,7 +47,7 @@ guard c g = do
 -- the phrases of a FOR
 abbrev pub phrases_of : HeadTree → List PhraseTree
 phrases_of (over_range variable from to step phrases) = phrases
-phrases_of (over_members variable set start reverse phrases) = phrases
+phrases_of (over_members variable set resolved_start reverse phrases) = phrases
 phrases_of (over_class class called phrases) = phrases
 
 -- ---- what a FOR goes over
@@ -62,12 +62,12 @@ loop_variable c name = do
   meaning ← c.meaning (Name name)
   if_variable meaning
 
-abbrev pub start : Context → StartTree → Option Start
-start c from_end = Some AtEnd
-start c (from_member e) = do
+abbrev pub resolved_start : Context → StartTree → Option Start
+resolved_start c from_end = Some AtEnd
+resolved_start c (from_member e) = do
   x ← expression c e
   Some (From x)
-start c (after_member e) = do
+resolved_start c (after_member e) = do
   x ← expression c e
   Some (After x)
 
@@ -87,7 +87,7 @@ head c (over_range variable from to step phrases) = do
 head c (over_members variable set from reverse phrases) = do
   v ← loop_variable c variable
   s ← set_named c set
-  x ← start c from
+  x ← resolved_start c from
   Some (Members v s.0 s.1 x reverse)
 head c (over_class name called phrases) = do
   class ← permanent_class c name

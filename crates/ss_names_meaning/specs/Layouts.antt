@@ -11,13 +11,13 @@ use Rattle.ss_base.specs.Layout.{layout_of}
 use Rattle.ss_base.specs.Plain.{PlainClass, PlainLayout}
 use Rattle.ss_names_declarations.specs.declared.saying.SetRule.{SetRule}
 use Rattle.ss_names_declarations.specs.declared.saying.SetRule.TheVariants as rules
-use Rattle.ss_names_declarations.specs.Sayings.{NameBytes}
+use Rattle.ss_tree.specs.Names.{NameBytes}
 use Rattle.ss_names.specs.declared.keys.RankedBy.{RankedBy}
 use Rattle.ss_names.specs.declared.keys.TiedBy.{TiedBy}
 use Rattle.ss_names.specs.declared.entry.Attribute.{Attribute}
 use Rattle.ss_names.specs.declared.entry.Ordering.{Ordering}
-use Rattle.ss_names.specs.declared.meaning.Subject.{Subject as SubjectNumber}
-use Rattle.ss_names.specs.declared.meaning.Subject.TheVariants as subjects
+use Rattle.ss_names.specs.declared.meaning.SubjectNumber.{SubjectNumber}
+use Rattle.ss_names.specs.declared.meaning.SubjectNumber.TheVariants as subjects
 use Rattle.ss_names.specs.declared.entry.VariableKind.{VariableKind}
 use Rattle.ss_names.specs.declared.entry.VariableKind.TheVariants.{Defined, OfClass, CountOf}
 use Rattle.ss_names_declarations.specs.Firsts.{place_in, same_name}
@@ -153,14 +153,14 @@ module _ (t : Table) where
 -- ---- all of it
 
 -- the layout, with disciplines, globals, counts and statistics
-pub record Laid : Type 0 where
+pub record ResolvedLayout : Type 0 where
   pub layout : PlainLayout
   pub disciplines : List Discipline
   pub globals : List Mode
   pub counts : List Counted
   pub statistics : List Statistic
 
-abbrev pub laid_out : Table → Option Laid
+abbrev pub laid_out : Table → Option ResolvedLayout
 laid_out t = do
   laid ← layout t
   ordered ← disciplines t

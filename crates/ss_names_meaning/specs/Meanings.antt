@@ -6,19 +6,19 @@ use Rattle.ss_base.specs.declared.layout.Owner.{Owner}
 use Rattle.ss_base.specs.declared.layout.Owner.TheVariants as owners
 use Rattle.ss_tree.specs.declared.expression.Designator.{Designator}
 use Rattle.ss_tree.specs.declared.expression.Designator.TheVariants.{Name, TimeV, TimeA}
-use Rattle.ss_names_declarations.specs.Sayings.{NameBytes}
+use Rattle.ss_tree.specs.Names.{NameBytes}
 use Rattle.ss_names.specs.declared.meaning.Derived.{Derived}
 use Rattle.ss_names.specs.declared.meaning.Derived.TheVariants as derived
-use Rattle.ss_names.specs.declared.meaning.Meaning.{Meaning as Global}
-use Rattle.ss_names.specs.declared.meaning.Meaning.TheVariants as globals
+use Rattle.ss_names.specs.declared.meaning.GlobalMeaning.{GlobalMeaning as Global}
+use Rattle.ss_names.specs.declared.meaning.GlobalMeaning.TheVariants as globals
 use Rattle.ss_names.specs.declared.entry.Set.{Set}
-use Rattle.ss_names.specs.declared.meaning.Subject.{Subject}
-use Rattle.ss_names.specs.declared.meaning.Subject.TheVariants as subjects
+use Rattle.ss_names.specs.declared.meaning.SubjectNumber.{SubjectNumber}
+use Rattle.ss_names.specs.declared.meaning.SubjectNumber.TheVariants as subjects
 use Rattle.ss_names.specs.declared.entry.VariableKind.{VariableKind}
 use Rattle.ss_names.specs.declared.entry.VariableKind.TheVariants.{CountOf}
 use Rattle.ss_names_declarations.specs.Firsts.{place_in, value_for, same_name}
 use Rattle.ss_names.specs.Table.{Table}
-use Rattle.ss_check_scopes.specs.Locals.{Moded, number_of}
+use Rattle.ss_check_scopes.specs.Locals.{Moded, number_of_local}
 use Rattle.ss_program.specs.declared.expression.Fold.{Fold}
 use Rattle.ss_program.specs.declared.expression.MemberQuery.{MemberQuery}
 use Rattle.ss_program.specs.declared.expression.MemberQuery.TheVariants.{Predecessor, Successor, Membership}
@@ -60,7 +60,7 @@ module _ (locals : Moded) where
   hidden_by None global = variables.Global global
 
   abbrev pub variable_of : NameBytes → ℕ → Variable
-  variable_of name global = hidden_by (number_of locals name) global
+  variable_of name global = hidden_by (number_of_local locals name) global
 
   abbrev pub variable_of_class : NameBytes → Global → Option Variable
   variable_of_class name (globals.Class class variable) = Some (variable_of name variable)
@@ -163,7 +163,7 @@ module _ (t : Table) (locals : Moded) where
     Some (figure_of_each fold history implied)
 
   -- a statistic of its subject
-  abbrev pub figure : Option Fold → ℕ → Subject → Option Meaning
+  abbrev pub figure : Option Fold → ℕ → SubjectNumber → Option Meaning
   figure fold history (subjects.Variable n) = Some (figure_alone fold history)
   figure fold history (subjects.Attribute n) = do
     known ← slice_get (values_of t.attributes) n
@@ -200,7 +200,7 @@ module _ (t : Table) (locals : Moded) where
 
   -- a local variable hides the meaning of its name in the whole program
   abbrev pub meaning_of : Designator → Option Meaning
-  meaning_of (Name name) = meaning_or (number_of locals name) name
+  meaning_of (Name name) = meaning_or (number_of_local locals name) name
   meaning_of TimeV = Some meanings.Clock
   meaning_of TimeA = Some meanings.NoticeTime
 

@@ -6,17 +6,17 @@ use Rattle.ss_base.specs.declared.layout.Mode.{Mode}
 use Rattle.ss_base.specs.declared.layout.RankKey.{RankKey}
 use Rattle.ss_base.specs.declared.line.Line.{Line}
 use Rattle.ss_tree.specs.Tree.{SectionKindTree, main, routine, event, SectionTree, statement_row}
-use Rattle.ss_names_declarations.specs.Sayings.{NameBytes}
-use Rattle.ss_names.specs.declared.entry.Event.{Event as EventSection}
-use Rattle.ss_names.specs.declared.meaning.Meaning.{Meaning as Global}
-use Rattle.ss_names.specs.declared.meaning.Meaning.TheVariants as globals
+use Rattle.ss_tree.specs.Names.{NameBytes}
+use Rattle.ss_names.specs.declared.entry.EventSection.{EventSection}
+use Rattle.ss_names.specs.declared.meaning.GlobalMeaning.{GlobalMeaning as Global}
+use Rattle.ss_names.specs.declared.meaning.GlobalMeaning.TheVariants as globals
 use Rattle.ss_names_declarations.specs.Firsts.{place_in, value_for, same_name}
 use Rattle.ss_names.specs.Table.{Table}
 use Rattle.ss_check_scopes.specs.Locals.{Moded}
 use Rattle.ss_check_scopes.specs.Whole.{Whole, locals_of}
 use Rattle.ss_program.specs.Program.{Block, Routine, Event, Program}
 use Rattle.ss_names_meaning.specs.Answers.{◌>>=◌, each, upto, where_holds}
-use Rattle.ss_names_meaning.specs.Layouts.{Laid, laid_out, tie_keys}
+use Rattle.ss_names_meaning.specs.Layouts.{ResolvedLayout, laid_out, tie_keys}
 use Rattle.ss_names_meaning.specs.Meanings.{context_in}
 use Rattle.ss_names_meaning.specs.Words.{mode_given}
 use Rattle.ss_names_meaning.specs.Statements.{statements}
@@ -102,8 +102,8 @@ saved t name true = do
   class_variable global
 
 -- the event routine of a class that is given so many values
-abbrev pub event_of : ℕ → List RankKey → ℕ → Option ℕ → Parts → Event
-event_of class keys given variable parts = record {
+abbrev pub event_of_class : ℕ → List RankKey → ℕ → Option ℕ → Parts → Event
+event_of_class class keys given variable parts = record {
   class = class;
   ties = keys;
   line = parts.line;
@@ -121,7 +121,7 @@ class_event_from t section class name known = do
   keys ← tie_keys t class name
   variable ← saved t name known.saving
   parts ← section known.section
-  Some (event_of class keys given variable parts)
+  Some (event_of_class class keys given variable parts)
 
 abbrev pub class_event : Table → Whole → List SectionTree → ℕ → NameBytes → EventSection → Option Event
 class_event t w sections class name known = class_event_from t (parts_at t w sections) class name known
@@ -153,23 +153,23 @@ is_main_kind main = true
 is_main_kind (routine name given yielding) = false
 is_main_kind (event name given saving) = false
 
-abbrev pub is_main : SectionTree → Bool
-is_main s = is_main_kind s.kind
+abbrev pub has_main_kind : SectionTree → Bool
+has_main_kind s = is_main_kind s.kind
 
 -- MAIN, the first if there are several
 abbrev pub main_parts : Table → Whole → List SectionTree → Option Parts
 main_parts t w sections = do
-  s ← find is_main sections
+  s ← find has_main_kind sections
   parts_of t w s
 
 -- MAIN, by a function that resolves each section
 abbrev pub main_from : (ℕ → Option Parts) → List SectionTree → Option Parts
 main_from section sections = do
-  n ← position is_main sections
+  n ← position has_main_kind sections
   section n
 
 -- the program with this layout, by a function that resolves each section, and MAIN
-abbrev pub put_together : Table → Laid → (ℕ → Option Parts) → Option Parts → Option Program
+abbrev pub put_together : Table → ResolvedLayout → (ℕ → Option Parts) → Option Parts → Option Program
 put_together t laid section of_main = do
   routines ← each (routine_from t section) (upto (length t.routines))
   events ← each (event_from t section) (upto (length t.ranks))

@@ -8,7 +8,7 @@ use Rattle.ss_tree.specs.declared.statement.SetEnd.TheVariants as end_words
 use Rattle.ss_tree.specs.declared.statement.FindOutcome.{FindOutcome}
 use Rattle.ss_tree.specs.declared.statement.FindOutcome.TheVariants as outcomes
 use Rattle.ss_tree.specs.Tree.{ConditionTree, ExpressionTree, NamedTree, HeadTree, LoopHeadTree, for_head, guarded, PositionTree, by_discipline, at_first, at_last, before, after, WhenTree, at_time, in_units, now, StatementTree, let_statement, add_statement, subtract_statement, call_statement, return_statement, stop_statement, read_statement, start_simulation, if_statement, loop_statement, find_statement, find_if_statement, create_statement, create_every, destroy_statement, file_statement, remove_end, remove_statement, schedule_new, schedule_statement, cancel_statement, reset_statement, print_statement, skip_statement, StatementRow, no_statement, and_statement}
-use Rattle.ss_names_declarations.specs.Sayings.{NameBytes}
+use Rattle.ss_tree.specs.Names.{NameBytes}
 use Rattle.ss_program.specs.declared.expression.Variable.{Variable}
 use Rattle.ss_program.specs.declared.expression.Variable.TheVariants.{Global, Local}
 use Rattle.ss_program.specs.declared.expression.Sign.TheVariants.{Plus, Minus}
@@ -21,31 +21,31 @@ use Rattle.ss_names_meaning.specs.declared.meaning.Meaning.TheVariants as meanin
 use Rattle.ss_names_meaning.specs.declared.meaning.RoutineMeant.{RoutineMeant}
 use Rattle.ss_names_meaning.specs.Answers.{◌>>=◌, each, where_holds}
 use Rattle.ss_names_meaning.specs.Contexts.{Context, single_class, notice_class, counted}
-use Rattle.ss_names_meaning.specs.Expressions.{entity_of, plain, expression, item, subscript, target, set_named}
+use Rattle.ss_names_meaning.specs.Expressions.{entity_of, without_subscript, expression, item, subscript, target, set_named}
 use Rattle.ss_names_meaning.specs.Conditions.{condition}
-use Rattle.ss_names_meaning.specs.Heads.{phrase, guard, phrases_of, head}
+use Rattle.ss_names_meaning.specs.Heads.{resolved_phrase, guard, phrases_of, head}
 
 -- ---- words
 
-abbrev pub end_of : SetEnd → End
-end_of end_words.First = ends.First
-end_of end_words.Last = ends.Last
+abbrev pub resolved_end : SetEnd → End
+resolved_end end_words.First = ends.First
+resolved_end end_words.Last = ends.Last
 
 -- ---- targets
 
 -- the mode of a target
-abbrev pub mode_of : Meaning → Option Mode
-mode_of (meanings.Variable x mode) = mode
-mode_of (meanings.Attribute class field mode implied) = mode
-mode_of (meanings.Count n) = Some Integer
-mode_of _ = None
+abbrev pub mode_of_target : Meaning → Option Mode
+mode_of_target (meanings.Variable x mode) = mode
+mode_of_target (meanings.Attribute class field mode implied) = mode
+mode_of_target (meanings.Count n) = Some Integer
+mode_of_target _ = None
 
 -- the variable or attribute that READ reads into, with its mode
 abbrev pub reader : Context → NamedTree → Option Target
 reader c n = do
   place ← target c n
   meaning ← c.meaning n.designator
-  mode ← mode_of meaning
+  mode ← mode_of_target meaning
   Some (record { place = place; mode = mode })
 
 -- the target of the number of a new entity: the one after CALLED, or else the variable of the class
@@ -62,9 +62,9 @@ entity_called c variable (Some e) = expression c e
 
 -- the owner of the statistic that RESET starts afresh: None for a global variable and for N. of THE SYSTEM's set
 abbrev pub owner_of_statistic : Meaning → Option Expression → Option (Option Expression)
-owner_of_statistic (meanings.Variable (Global n) mode) e = plain e None
+owner_of_statistic (meanings.Variable (Global n) mode) e = without_subscript e None
 owner_of_statistic (meanings.Attribute class field mode implied) e = Some (Some (entity_of implied e))
-owner_of_statistic (meanings.OfSystemSet query set) e = plain e None
+owner_of_statistic (meanings.OfSystemSet query set) e = without_subscript e None
 owner_of_statistic (meanings.OfSet query set implied) e = Some (Some (entity_of implied e))
 owner_of_statistic _ e = None
 
@@ -104,7 +104,7 @@ when c now = Some Now
 abbrev pub find : Line → Context → HeadTree → Block → Block → Option Statement
 find line c over found none = do
   h ← head c over
-  phrases ← each (phrase c) (phrases_of over)
+  phrases ← each (resolved_phrase c) (phrases_of over)
   Some (Find line h phrases found none)
 
 -- a FIND, by which of its two lists of statements comes first: that for a case that was found, or that for none
@@ -116,13 +116,13 @@ find_by outcomes.None line c over first second = find line c over second first
 abbrev pub for_over : Line → Context → HeadTree → Block → Option Statement
 for_over line c over body = do
   h ← head c over
-  phrases ← each (phrase c) (phrases_of over)
+  phrases ← each (resolved_phrase c) (phrases_of over)
   Some (For line h phrases body)
 
 -- a loop with its body
-abbrev pub loop : Line → Context → LoopHeadTree → Block → Option Statement
-loop line c (for_head over) body = for_over line c over body
-loop line c (guarded guards) body = do
+abbrev pub resolved_loop : Line → Context → LoopHeadTree → Block → Option Statement
+resolved_loop line c (for_head over) body = for_over line c over body
+resolved_loop line c (guarded guards) body = do
   gs ← each (guard c) guards
   Some (Loop line gs body)
 
@@ -179,7 +179,7 @@ module _ (c : Context) where
       if_over line c test a b
     statement (loop_statement line over row) = do
       body ← statements row
-      loop line c over body
+      resolved_loop line c over body
     statement (find_statement line over) = find line c over Done Done
     statement (find_if_statement line over outcome first second) = do
       a ← statements first
@@ -204,7 +204,7 @@ module _ (c : Context) where
     statement (remove_end line end n m) = do
       place ← target c n
       set ← set_named c m
-      Some (RemoveEnd line (end_of end) set.0 place set.1)
+      Some (RemoveEnd line (resolved_end end) set.0 place set.1)
     statement (remove_statement line e n) = do
       x ← expression c e
       set ← set_named c n

@@ -1,8 +1,8 @@
 -- What the table gives as plain data, wherever it is in memory.
 use Rattle.ss_names_meaning.specs.declared.laid.Laid.{Laid as LaidValue}
-use Rattle.ss_names_meaning.specs.Layouts.{Laid}
+use Rattle.ss_names_meaning.specs.Layouts.{ResolvedLayout}
 
-abbrev pub view_laid : LaidValue → Laid
+abbrev pub view_laid : LaidValue → ResolvedLayout
 view_laid l = record {
   layout = l.layout;
   disciplines = l.disciplines.items;

@@ -8,14 +8,14 @@ use crate::meaning::Meaning;
 use crate::variables::class_variable;
 use crate::words::mode_given;
 use ss_base::Owner;
-use ss_check_scopes::Locals;
+use ss_check_scopes::LocalModes;
 use ss_names::{Derived, Names, Set};
 use ss_program::expression::{MemberQuery, SetQuery};
 
 // An attribute.
 pub(crate) fn attribute(
     names: &Names,
-    locals: &Locals,
+    locals: &LocalModes,
     number: usize,
 ) -> Result<Meaning, ResolveError>
     ensures { Gives (λ x. x) result (attribute names.now locals.now number) }
@@ -35,7 +35,7 @@ pub(crate) fn attribute(
 // F., L. or N. of the set of an owner.
 fn of_owner(
     names: &Names,
-    locals: &Locals,
+    locals: &LocalModes,
     query: SetQuery,
     set: usize,
     owner: Owner,
@@ -58,7 +58,7 @@ fn of_owner(
 // F., L. or N. of a set.
 fn of_set(
     names: &Names,
-    locals: &Locals,
+    locals: &LocalModes,
     query: SetQuery,
     number: usize,
     set: Set,
@@ -74,7 +74,7 @@ fn of_set(
 // P., S. or M. of a set.
 fn of_member(
     names: &Names,
-    locals: &Locals,
+    locals: &LocalModes,
     query: MemberQuery,
     number: usize,
     set: Set,
@@ -97,7 +97,7 @@ fn of_member(
 // The meaning of a derived name, by its set.
 fn asked(
     names: &Names,
-    locals: &Locals,
+    locals: &LocalModes,
     derived: Derived,
     number: usize,
     set: Set,
@@ -117,7 +117,7 @@ fn asked(
 // A derived name of the set of this number.
 pub(crate) fn derived_name(
     names: &Names,
-    locals: &Locals,
+    locals: &LocalModes,
     derived: Derived,
     number: usize,
 ) -> Result<Meaning, ResolveError>

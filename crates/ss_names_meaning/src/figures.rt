@@ -9,8 +9,8 @@ use crate::meaning::Meaning;
 use crate::variables::class_variable;
 use crate::words::fold_of;
 use ss_base::{Name, Owner};
-use ss_check_scopes::Locals;
-use ss_names::{Names, Subject};
+use ss_check_scopes::LocalModes;
+use ss_names::{Names, SubjectNumber};
 use ss_program::expression::{Fold, Variable};
 use ss_tree::expression::Designator;
 
@@ -41,7 +41,7 @@ fn figure_of_each(fold: Option<Fold>, statistic: usize, implied: Variable) -> Me
 // A statistic of N. of the set of an owner.
 fn figure_owned(
     names: &Names,
-    locals: &Locals,
+    locals: &LocalModes,
     fold: Option<Fold>,
     history: usize,
     owner: Owner,
@@ -60,23 +60,23 @@ fn figure_owned(
 // A statistic of its subject.
 fn figure(
     names: &Names,
-    locals: &Locals,
+    locals: &LocalModes,
     fold: Option<Fold>,
     history: usize,
-    subject: Subject,
+    subject: SubjectNumber,
 ) -> Result<Meaning, ResolveError>
     ensures { Gives (λ x. x) result (figure names.now locals.now fold history subject) }
 {
     match subject {
-        Subject::Variable(_) => Ok(figure_alone(fold, history)),
-        Subject::Attribute(number) => {
+        SubjectNumber::Variable(_) => Ok(figure_alone(fold, history)),
+        SubjectNumber::Attribute(number) => {
             let Some(known) = names.attribute(number) else {
                 return Err(ResolveError::Unresolved);
             };
             let implied = class_variable(names, locals, known.class)?;
             Ok(figure_of_each(fold, history, implied))
         }
-        Subject::MemberCount(number) => {
+        SubjectNumber::MemberCount(number) => {
             let Some(set) = names.set(number) else {
                 return Err(ResolveError::Unresolved);
             };
@@ -91,7 +91,7 @@ fn figure(
 // The statistic of this number.
 pub(crate) fn statistic(
     names: &Names,
-    locals: &Locals,
+    locals: &LocalModes,
     number: usize,
 ) -> Result<Meaning, ResolveError>
     ensures { Gives (λ x. x) result (statistic names.now locals.now number) }

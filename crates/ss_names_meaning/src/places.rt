@@ -9,14 +9,14 @@ use crate::meaning::{ClassMeant, RoutineMeant, SetMeant};
 use crate::variables::{class_variable, variable_of};
 use crate::words::class_kind;
 use ss_base::{Name, Owner};
-use ss_check_scopes::Locals;
-use ss_names::{Meaning as Global, Names, VariableKind};
+use ss_check_scopes::LocalModes;
+use ss_names::{GlobalMeaning as Global, Names, VariableKind};
 use ss_tree::expression::Designator;
 
 // A set of an owner.
 fn set_owned(
     names: &Names,
-    locals: &Locals,
+    locals: &LocalModes,
     set: usize,
     owner: Owner,
 ) -> Result<SetMeant, ResolveError>
@@ -32,7 +32,7 @@ fn set_owned(
 }
 
 // A set.
-fn global_set(names: &Names, locals: &Locals, global: Global) -> Result<SetMeant, ResolveError>
+fn global_set(names: &Names, locals: &LocalModes, global: Global) -> Result<SetMeant, ResolveError>
     ensures { Gives (λ x. x) result (global_set names.now locals.now global) }
 {
     match global {
@@ -52,7 +52,7 @@ fn global_set(names: &Names, locals: &Locals, global: Global) -> Result<SetMeant
 // The set that a name means.
 pub(crate) fn set_of_name(
     names: &Names,
-    locals: &Locals,
+    locals: &LocalModes,
     name: Name,
 ) -> Result<SetMeant, ResolveError>
     ensures { Gives (λ x. x) result (set_of names.now locals.now (Designator.Name name)) }
@@ -91,7 +91,7 @@ fn count_of_class(names: &Names, class: usize, variable: usize) -> Option<usize>
 // A class.
 fn global_class(
     names: &Names,
-    locals: &Locals,
+    locals: &LocalModes,
     name: Name,
     global: Global,
 ) -> Result<ClassMeant, ResolveError>
@@ -119,7 +119,7 @@ fn global_class(
 // The class that a name means.
 pub(crate) fn class_of(
     names: &Names,
-    locals: &Locals,
+    locals: &LocalModes,
     name: Name,
 ) -> Result<ClassMeant, ResolveError>
     ensures { Gives (λ x. x) result (class_of names.now locals.now name) }

@@ -9,7 +9,7 @@ use crate::places::{class_of, routine_of, set_of_name};
 use crate::scope::Scope;
 use crate::values::name_meaning;
 use ss_base::Name;
-use ss_check_scopes::Locals;
+use ss_check_scopes::LocalModes;
 use ss_names::Names;
 use ss_tree::expression::Designator;
 
@@ -20,7 +20,7 @@ pub struct SectionScope<'a> {
     /// The table of the program.
     pub names: &'a Names,
     /// The local variables of the section.
-    pub locals: &'a Locals,
+    pub locals: &'a LocalModes,
 }
 
 impl<'a> Scope for SectionScope<'a> {

@@ -6,7 +6,7 @@ ghost use Rattle.ss_names_meaning.specs.Layouts.{statistic_kept, subject_of};
 
 use crate::error::ResolveError;
 use crate::words::weighting_of;
-use ss_names::{Names, Subject as SubjectNumber};
+use ss_names::{Names, SubjectNumber};
 use ss_program::sections::{Statistic, Subject};
 use std::alloc::Global;
 

@@ -9,14 +9,18 @@ use crate::figures::statistic;
 use crate::meaning::Meaning;
 use crate::variables::{global_variable, local_meaning};
 use ss_base::{Mode, Name};
-use ss_check_scopes::Locals;
-use ss_names::{Meaning as Global, Names};
+use ss_check_scopes::LocalModes;
+use ss_names::{GlobalMeaning as Global, Names};
 use ss_program::expression::Variable;
 use ss_program::statement::Counted;
 use ss_tree::expression::Designator;
 
 // A global or derived name as a value or a target.
-fn global_meaning(names: &Names, locals: &Locals, global: Global) -> Result<Meaning, ResolveError>
+fn global_meaning(
+    names: &Names,
+    locals: &LocalModes,
+    global: Global,
+) -> Result<Meaning, ResolveError>
     ensures { Gives (λ x. x) result (global_meaning names.now locals.now global) }
 {
     match global {
@@ -43,7 +47,7 @@ fn global_meaning(names: &Names, locals: &Locals, global: Global) -> Result<Mean
 // A name as a value or a target. A local variable hides the meaning of its name in the whole program.
 pub(crate) fn name_meaning(
     names: &Names,
-    locals: &Locals,
+    locals: &LocalModes,
     name: Name,
 ) -> Result<Meaning, ResolveError>
     ensures { Gives (λ x. x) result (meaning_of names.now locals.now (Designator.Name name)) }

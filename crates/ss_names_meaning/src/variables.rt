@@ -8,12 +8,12 @@ use crate::error::ResolveError;
 use crate::meaning::Meaning;
 use crate::words::{mode_given, mode_said};
 use ss_base::Name;
-use ss_check_scopes::Locals;
-use ss_names::{Meaning as Global, Names};
+use ss_check_scopes::LocalModes;
+use ss_names::{GlobalMeaning as Global, Names};
 use ss_program::expression::Variable;
 
 // The variable of a name: the local one if there is one, which hides the global one.
-pub(crate) fn variable_of(locals: &Locals, name: Name, global: usize) -> Variable
+pub(crate) fn variable_of(locals: &LocalModes, name: Name, global: usize) -> Variable
     ensures { result ≡ variable_of locals.now name global }
 {
     match locals.number(name) {
@@ -23,7 +23,11 @@ pub(crate) fn variable_of(locals: &Locals, name: Name, global: usize) -> Variabl
 }
 
 // The variable that the name of a class means.
-fn variable_of_class(locals: &Locals, name: Name, global: Global) -> Result<Variable, ResolveError>
+fn variable_of_class(
+    locals: &LocalModes,
+    name: Name,
+    global: Global,
+) -> Result<Variable, ResolveError>
     ensures { Gives (λ x. x) result (variable_of_class locals.now name global) }
 {
     match global {
@@ -38,7 +42,7 @@ fn variable_of_class(locals: &Locals, name: Name, global: Global) -> Result<Vari
 // The variable of a class, which has the entity if none is named.
 pub(crate) fn class_variable(
     names: &Names,
-    locals: &Locals,
+    locals: &LocalModes,
     class: usize,
 ) -> Result<Variable, ResolveError>
     ensures { Gives (λ x. x) result (class_variable names.now locals.now class) }
@@ -67,7 +71,7 @@ pub(crate) fn global_variable(names: &Names, number: usize) -> Result<Meaning, R
 
 // A local variable and its mode.
 pub(crate) fn local_meaning(
-    locals: &Locals,
+    locals: &LocalModes,
     number: usize,
     name: Name,
 ) -> Result<Meaning, ResolveError>

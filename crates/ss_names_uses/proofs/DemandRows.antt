@@ -22,18 +22,18 @@ use Rattle.ss_tree.specs.Views.{view_named_made, view_call_made, view_product_ma
 use Rattle.ss_names_uses.specs.declared.demand.Aspect.TheVariants.{Integer, Count, ArgumentCount}
 use Rattle.ss_names_uses.specs.declared.demand.Demand.{Demand}
 use Rattle.ss_names_uses.specs.declared.demand.Noted.{Noted}
-use Rattle.ss_names_uses.specs.Demands.{row_length, demand, a_number, designated, mode_of, implied, in_expression, in_number, in_numbers, in_terms, in_term, in_all_numbers, in_named, in_itself, in_inner, in_row, in_statement, in_body, in_places, valued, in_item}
-use Rattle.ss_names_uses.specs.Noted.{asked, in_asked, of_place, noted_demands}
+use Rattle.ss_names_uses.specs.Demands.{row_length, demand, a_number, designated, mode_of_expression, implied, in_expression, in_number, in_numbers, in_terms, in_term, in_all_numbers, in_named, in_itself, in_inner, in_row, in_statement, in_body, in_places, value_demand, in_item}
+use Rattle.ss_names_uses.specs.Noted.{number_if_asked, in_asked, of_place, noted_demands}
 
 -- ---- rows
 
 in_number_row : (line : Line) (es : List ExpressionTree) → in_numbers line (expression_row es) ≡ in_all_numbers line es
 in_number_row line [] = refl
-in_number_row line (e ∷ es) = ap (λ ds. a_number line (mode_of e) ∷ in_expression line e ++ ds) (in_number_row line es)
+in_number_row line (e ∷ es) = ap (λ ds. a_number line (mode_of_expression e) ∷ in_expression line e ++ ds) (in_number_row line es)
 
 in_term_row : (line : Line) (ts : List (Sign × ExpressionTree)) → in_terms line (term_row ts) ≡ flat_map (in_term line) ts
 in_term_row line [] = refl
-in_term_row line (t ∷ ts) = ap (λ ds. a_number line (mode_of t.1) ∷ in_expression line t.1 ++ ds) (in_term_row line ts)
+in_term_row line (t ∷ ts) = ap (λ ds. a_number line (mode_of_expression t.1) ∷ in_expression line t.1 ++ ds) (in_term_row line ts)
 
 row_counted : (es : List Expression) → row_length (expression_row (map view_expression es)) ≡ length es
 row_counted [] = refl
@@ -49,8 +49,8 @@ in_named_listed line n =
 
 pub in_named_made : (b : Bool) (line : Line) (n : Named) → in_asked b line (view_expression (variants.Named n)) ≡ of_place b line n.designator (length n.subscripts.items) ++ in_all_numbers line (map view_expression n.subscripts.items)
 in_named_made b line n =
-    let first = asked b line (designated n.designator) in
-    let own = valued line n.designator in
+    let first = number_if_asked b line (designated n.designator) in
+    let own = value_demand line n.designator in
     let entity = implied line n.designator (length n.subscripts.items) in
     let further = in_all_numbers line (map view_expression n.subscripts.items) in
     ap (in_asked b line) (view_named_made n) ∙
@@ -59,21 +59,21 @@ in_named_made b line n =
     sym (append_assoc first (own ++ entity) further) ∙
     ap (λ ds. ds ++ further) (sym (append_assoc first own entity))
 
-pub in_call_made : (b : Bool) (line : Line) (f : Function) (v : Vec Expression) → in_asked b line (view_expression (variants.Call f v)) ≡ asked b line Integer ++ (demand line (Count (length v.items)) (ArgumentCount f) ∷ in_all_numbers line (map view_expression v.items))
+pub in_call_made : (b : Bool) (line : Line) (f : Function) (v : Vec Expression) → in_asked b line (view_expression (variants.Call f v)) ≡ number_if_asked b line Integer ++ (demand line (Count (length v.items)) (ArgumentCount f) ∷ in_all_numbers line (map view_expression v.items))
 in_call_made b line f v =
     ap (in_asked b line) (view_call_made f v) ∙
-    ap (λ (k : ℕ). asked b line Integer ++ (demand line (Count k) (ArgumentCount f) ∷ in_numbers line (expression_row (map view_expression v.items)))) (row_counted v.items) ∙
-    ap (λ ds. asked b line Integer ++ (demand line (Count (length v.items)) (ArgumentCount f) ∷ ds)) (in_number_row line (map view_expression v.items))
+    ap (λ (k : ℕ). number_if_asked b line Integer ++ (demand line (Count k) (ArgumentCount f) ∷ in_numbers line (expression_row (map view_expression v.items)))) (row_counted v.items) ∙
+    ap (λ ds. number_if_asked b line Integer ++ (demand line (Count (length v.items)) (ArgumentCount f) ∷ ds)) (in_number_row line (map view_expression v.items))
 
-pub in_product_made : (b : Bool) (line : Line) (e : Box Expression) (v : Vec Expression) → in_asked b line (view_expression (variants.Product e v)) ≡ asked b line Integer ++ (in_number line (view_expression e.value) ++ in_all_numbers line (map view_expression v.items))
+pub in_product_made : (b : Bool) (line : Line) (e : Box Expression) (v : Vec Expression) → in_asked b line (view_expression (variants.Product e v)) ≡ number_if_asked b line Integer ++ (in_number line (view_expression e.value) ++ in_all_numbers line (map view_expression v.items))
 in_product_made b line e v =
     ap (in_asked b line) (view_product_made e v) ∙
-    ap (λ ds. asked b line Integer ++ (in_number line (view_expression e.value) ++ ds)) (in_number_row line (map view_expression v.items))
+    ap (λ ds. number_if_asked b line Integer ++ (in_number line (view_expression e.value) ++ ds)) (in_number_row line (map view_expression v.items))
 
-pub in_sum_made : (b : Bool) (line : Line) (e : Box Expression) (v : Vec Term) → in_asked b line (view_expression (variants.Sum e v)) ≡ asked b line Integer ++ (in_number line (view_expression e.value) ++ flat_map (in_term line) (map view_term v.items))
+pub in_sum_made : (b : Bool) (line : Line) (e : Box Expression) (v : Vec Term) → in_asked b line (view_expression (variants.Sum e v)) ≡ number_if_asked b line Integer ++ (in_number line (view_expression e.value) ++ flat_map (in_term line) (map view_term v.items))
 in_sum_made b line e v =
     ap (in_asked b line) (view_sum_made e v) ∙
-    ap (λ ds. asked b line Integer ++ (in_number line (view_expression e.value) ++ ds)) (in_term_row line (map view_term v.items))
+    ap (λ ds. number_if_asked b line Integer ++ (in_number line (view_expression e.value) ++ ds)) (in_term_row line (map view_term v.items))
 
 -- ---- items
 

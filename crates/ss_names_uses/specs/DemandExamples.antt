@@ -10,7 +10,8 @@ use Rattle.ss_picture.specs.Pictures.{picture_fields}
 use Rattle.ss_names_uses.specs.declared.demand.Aspect.{Aspect}
 use Rattle.ss_names_uses.specs.declared.demand.Aspect.TheVariants.{Integer, Alpha, Named, Implied, Given, Yielded, Attribute, Count, ArgumentCount, GivenCount, YieldedCount, AttributeCount, Fits, Value, Mean}
 use Rattle.ss_names_uses.specs.declared.demand.Demand.{Demand}
-use Rattle.ss_names_uses.specs.Demands.{NameBytes, demand, a_number, in_statement, demands}
+use Rattle.ss_tree.specs.Names.{NameBytes}
+use Rattle.ss_names_uses.specs.Demands.{demand, a_number, in_statement, demands}
 
 abbrev line : ℕ → Line
 line n = record { 0 = n }

@@ -1,6 +1,7 @@
 -- The demands of a section on the modes and counts of its values, in the order of the text.
 use Rattle.std.specs.Prelude.{ℕ, zero, suc, ◌+◌, ◌==◌, nat_le, true, false, List, [], ◌∷◌, ◌++◌, length, slice_get, Option, Some, None}
 use Rattle.std.specs.List.{flat_map}
+use Rattle.ss_tree.specs.Names.{NameBytes}
 use Rattle.ss_base.specs.declared.line.Line.{Line}
 use Rattle.ss_tree.specs.declared.expression.Sign.{Sign}
 use Rattle.ss_tree.specs.declared.expression.Designator.{Designator}
@@ -13,10 +14,6 @@ use Rattle.ss_names_uses.specs.declared.handed.Receiver.TheVariants as receivers
 use Rattle.ss_names_uses.specs.declared.demand.Aspect.{Aspect}
 use Rattle.ss_names_uses.specs.declared.demand.Aspect.TheVariants.{Integer, Alpha, Named, Implied, Given, Yielded, Attribute, Count, ArgumentCount, GivenCount, YieldedCount, AttributeCount, Fits, Value, Mean}
 use Rattle.ss_names_uses.specs.declared.demand.Demand.{Demand}
-
--- a name, as the list of its bytes, in capitals
-abbrev pub NameBytes : Type 0
-NameBytes = List ℕ
 
 -- ---- single demands
 
@@ -41,15 +38,15 @@ designated designators.TimeV = Integer
 designated designators.TimeA = Integer
 
 -- the mode of an expression; a text in parentheses is still a text
-abbrev pub mode_of : ExpressionTree → Aspect
-mode_of (number z) = Integer
-mode_of (text t) = Alpha
-mode_of (named designator subscripts) = designated designator
-mode_of (call function arguments) = Integer
-mode_of (parenthesised e) = mode_of e
-mode_of (product e further) = Integer
-mode_of (signed sign e) = Integer
-mode_of (sum e further) = Integer
+abbrev pub mode_of_expression : ExpressionTree → Aspect
+mode_of_expression (number z) = Integer
+mode_of_expression (text t) = Alpha
+mode_of_expression (named designator subscripts) = designated designator
+mode_of_expression (call function arguments) = Integer
+mode_of_expression (parenthesised e) = mode_of_expression e
+mode_of_expression (product e further) = Integer
+mode_of_expression (signed sign e) = Integer
+mode_of_expression (sum e further) = Integer
 
 -- a name without subscript may be of an entity: then the variable of its class has the entity, and is to be a number
 abbrev pub implied : Line → Designator → ℕ → List Demand
@@ -57,9 +54,9 @@ implied line (designators.Name name) zero = a_number line (Implied name) ∷ []
 implied line _ _ = []
 
 -- a name in the place of a value is to mean a value; a MEAN is none
-abbrev pub valued : Line → Designator → List Demand
-valued line (designators.Name name) = demand line (Value name) (Fits true) ∷ []
-valued line _ = []
+abbrev pub value_demand : Line → Designator → List Demand
+value_demand line (designators.Name name) = demand line (Value name) (Fits true) ∷ []
+value_demand line _ = []
 
 abbrev mutual
   -- the demands of an expression in a statement of this line, from left to right: subscripts, the arguments of
@@ -68,25 +65,25 @@ abbrev mutual
   in_expression line (number z) = []
   in_expression line (text t) = []
   in_expression line (named designator subscripts) =
-      valued line designator ++ implied line designator (row_length subscripts) ++ in_numbers line subscripts
+      value_demand line designator ++ implied line designator (row_length subscripts) ++ in_numbers line subscripts
   in_expression line (call function arguments) = demand line (Count (row_length arguments)) (ArgumentCount function) ∷ in_numbers line arguments
   in_expression line (parenthesised e) = in_expression line e
-  in_expression line (product e further) = a_number line (mode_of e) ∷ in_expression line e ++ in_numbers line further
-  in_expression line (signed sign e) = a_number line (mode_of e) ∷ in_expression line e
-  in_expression line (sum e further) = a_number line (mode_of e) ∷ in_expression line e ++ in_terms line further
+  in_expression line (product e further) = a_number line (mode_of_expression e) ∷ in_expression line e ++ in_numbers line further
+  in_expression line (signed sign e) = a_number line (mode_of_expression e) ∷ in_expression line e
+  in_expression line (sum e further) = a_number line (mode_of_expression e) ∷ in_expression line e ++ in_terms line further
 
   -- expressions that are to be numbers
   pub in_numbers : Line → ExpressionRow → List Demand
   in_numbers line no_expression = []
-  in_numbers line (and_expression e es) = a_number line (mode_of e) ∷ in_expression line e ++ in_numbers line es
+  in_numbers line (and_expression e es) = a_number line (mode_of_expression e) ∷ in_expression line e ++ in_numbers line es
 
   pub in_terms : Line → TermRow → List Demand
   in_terms line no_term = []
-  in_terms line (and_term sign e es) = a_number line (mode_of e) ∷ in_expression line e ++ in_terms line es
+  in_terms line (and_term sign e es) = a_number line (mode_of_expression e) ∷ in_expression line e ++ in_terms line es
 
 -- an expression that is to be a number
 abbrev pub in_number : Line → ExpressionTree → List Demand
-in_number line e = a_number line (mode_of e) ∷ in_expression line e
+in_number line e = a_number line (mode_of_expression e) ∷ in_expression line e
 
 abbrev pub in_all_numbers : Line → List ExpressionTree → List Demand
 in_all_numbers line es = flat_map (in_number line) es
@@ -125,11 +122,11 @@ received (receivers.Attributes class) place = Attribute class place
 
 -- a value has the mode of the parameter or the attribute in its place
 abbrev pub handed : Line → Receiver → ℕ → ExpressionTree → List Demand
-handed line by place e = demand line (mode_of e) (received by place) ∷ in_expression line e
+handed line by place e = demand line (mode_of_expression e) (received by place) ∷ in_expression line e
 
 -- a target has the mode of what a routine yields in this place
-abbrev pub taken : Line → Receiver → ℕ → NamedTree → List Demand
-taken line by place n = demand line (target_mode n) (received by place) ∷ in_named line n
+abbrev pub yield_demands : Line → Receiver → ℕ → NamedTree → List Demand
+yield_demands line by place n = demand line (target_mode n) (received by place) ∷ in_named line n
 
 -- a parameter of an EVENT section has the mode of the attribute in its place
 abbrev pub parameter : Line → Receiver → ℕ → NameBytes → List Demand
@@ -143,7 +140,7 @@ in_places of place (x ∷ xs) = of place x ++ in_places of (place + 1) xs
 -- ---- conditions and the heads of loops
 
 abbrev pub in_test : Line → TestTree → List Demand
-in_test line (compare left relation right) = demand line (mode_of left) (mode_of right) ∷ in_expression line left ++ in_expression line right
+in_test line (compare left relation right) = demand line (mode_of_expression left) (mode_of_expression right) ∷ in_expression line left ++ in_expression line right
 in_test line (empty set negated) = in_named line set
 in_test line (member x set negated) = in_number line x ++ in_named line set
 in_test line (data_ended negated) = []
@@ -242,15 +239,15 @@ mean_designated (designators.Name name) = Mean name
 mean_designated _ = Fits false
 
 -- whether an item is a MEAN: a name that means one, in any parentheses
-abbrev pub mean_of : ExpressionTree → Aspect
-mean_of (named designator subscripts) = mean_designated designator
-mean_of (parenthesised e) = mean_of e
-mean_of _ = Fits false
+abbrev pub mean_aspect : ExpressionTree → Aspect
+mean_aspect (named designator subscripts) = mean_designated designator
+mean_aspect (parenthesised e) = mean_aspect e
+mean_aspect _ = Fits false
 
 -- a field of so many decimals with an item: a field with decimals has at most 9 of them, and its item is a MEAN
 abbrev pub with_decimals : Line → ExpressionTree → ℕ → List Demand
 with_decimals line e zero = []
-with_decimals line e (suc more) = demand line (Fits (nat_le (suc more) 9)) (Fits true) ∷ demand line (mean_of e) (Fits true) ∷ []
+with_decimals line e (suc more) = demand line (Fits (nat_le (suc more) 9)) (Fits true) ∷ demand line (mean_aspect e) (Fits true) ∷ []
 
 abbrev pub in_field : Line → ExpressionTree → Field → List Demand
 in_field line e field = with_decimals line e field.decimals
@@ -260,18 +257,18 @@ abbrev pub in_field_at : Line → List Field → ℕ → ExpressionTree → List
 in_field_at line fields place e = in_option (in_field line e) (slice_get fields place)
 
 -- the fields of pictures, from the left, one picture after another
-abbrev pub fields_of : List (List ℕ) → List Field
-fields_of pictures = flat_map picture_fields pictures
+abbrev pub fields_of_pictures : List (List ℕ) → List Field
+fields_of_pictures pictures = flat_map picture_fields pictures
 
 -- the values that are given to a routine, and the targets of those that it yields
 abbrev pub in_call : Line → NameBytes → List ExpressionTree → List NamedTree → List Demand
 in_call line name given yielding =
     demand line (Count (length given)) (GivenCount name) ∷ demand line (Count (length yielding)) (YieldedCount name) ∷
-    in_places (handed line (receivers.Given name)) 0 given ++ in_places (taken line (receivers.Yielding name)) 0 yielding
+    in_places (handed line (receivers.Given name)) 0 given ++ in_places (yield_demands line (receivers.Yielding name)) 0 yielding
 
 -- a target and the value that it takes
 abbrev pub in_let : Line → NamedTree → ExpressionTree → List Demand
-in_let line place e = demand line (target_mode place) (mode_of e) ∷ in_named line place ++ in_expression line e
+in_let line place e = demand line (target_mode place) (mode_of_expression e) ∷ in_named line place ++ in_expression line e
 
 -- as many items as there are fields, and each item with the field in its place
 abbrev pub in_fields : Line → List ExpressionTree → List Field → List Demand
@@ -279,7 +276,7 @@ in_fields line items fields =
     demand line (Fits (length items == length fields)) (Fits true) ∷ in_places (in_field_at line fields) 0 items ++ in_items line items
 
 abbrev pub in_print : Line → List ExpressionTree → List (List ℕ) → List Demand
-in_print line items pictures = in_fields line items (fields_of pictures)
+in_print line items pictures = in_fields line items (fields_of_pictures pictures)
 
 -- the demands of a statement, without those of the statements in it: of an IF its condition, of a loop its head
 abbrev pub in_itself : StatementTree → List Demand

@@ -13,7 +13,8 @@ use Rattle.ss_names_uses.specs.declared.mention.Role.TheVariants.{Value, Target,
 use Rattle.ss_names_uses.specs.declared.mention.Mentioned.{Mentioned}
 use Rattle.ss_names_uses.specs.declared.mention.Mentioned.TheVariants.{Name, TimeV, TimeA, Simulation}
 use Rattle.ss_names_uses.specs.declared.mention.Mention.{Mention}
-use Rattle.ss_names_uses.specs.Mentions.{NameBytes, in_statement, mentions}
+use Rattle.ss_tree.specs.Names.{NameBytes}
+use Rattle.ss_names_uses.specs.Mentions.{in_statement, mentions}
 
 abbrev line : ℕ → Line
 line n = record { 0 = n }

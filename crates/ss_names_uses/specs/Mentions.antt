@@ -1,6 +1,7 @@
 -- The mentions of a section, in the order of the text.
 use Rattle.std.specs.Prelude.{ℕ, zero, suc, Bool, true, false, not, is_some, List, [], ◌∷◌, ◌++◌, map, Option, Some, None}
 use Rattle.std.specs.List.{flat_map}
+use Rattle.ss_tree.specs.Names.{NameBytes}
 use Rattle.ss_base.specs.declared.line.Line.{Line}
 use Rattle.ss_tree.specs.declared.expression.Sign.{Sign}
 use Rattle.ss_tree.specs.declared.expression.Designator.{Designator}
@@ -11,10 +12,6 @@ use Rattle.ss_names_uses.specs.declared.mention.Role.TheVariants.{Value, Target,
 use Rattle.ss_names_uses.specs.declared.mention.Mentioned.{Mentioned}
 use Rattle.ss_names_uses.specs.declared.mention.Mentioned.TheVariants.{Name, TimeV, TimeA, Simulation}
 use Rattle.ss_names_uses.specs.declared.mention.Mention.{Mention}
-
--- a name, as the list of its bytes, in capitals
-abbrev pub NameBytes : Type 0
-NameBytes = List ℕ
 
 -- ---- single mentions
 
@@ -38,12 +35,12 @@ abbrev pub class_named : Line → Role → Bool → NameBytes → Mention
 class_named line role is_called name = record { line = line; role = role; what = Name name; subscripts = 0; implied = not is_called }
 
 -- a name that needs no subscript and implies no entity
-abbrev pub plain : Line → Role → NameBytes → Mention
-plain line role name = record { line = line; role = role; what = Name name; subscripts = 0; implied = false }
+abbrev pub plain_mention : Line → Role → NameBytes → Mention
+plain_mention line role name = record { line = line; role = role; what = Name name; subscripts = 0; implied = false }
 
 -- START SIMULATION
-abbrev pub started : Line → Mention
-started line = record { line = line; role = Start; what = Simulation; subscripts = 0; implied = false }
+abbrev pub start_mention : Line → Mention
+start_mention line = record { line = line; role = Start; what = Simulation; subscripts = 0; implied = false }
 
 -- ---- expressions
 
@@ -119,12 +116,12 @@ in_guards line guards = flat_map (λ guard. in_condition line guard.condition) g
 -- the mentions of the head of a FOR of this line
 abbrev pub in_head : Line → HeadTree → List Mention
 in_head line (over_range variable from to step phrases) =
-    plain line LoopVariable variable ∷ in_expression line from ++ in_expression line to ++ in_option (in_expression line) step ++
+    plain_mention line LoopVariable variable ∷ in_expression line from ++ in_expression line to ++ in_option (in_expression line) step ++
     in_phrases line phrases
 in_head line (over_members variable set start reverse phrases) =
-    plain line LoopVariable variable ∷ in_named line Set set ++ in_start line start ++ in_phrases line phrases
+    plain_mention line LoopVariable variable ∷ in_named line Set set ++ in_start line start ++ in_phrases line phrases
 in_head line (over_class class called phrases) =
-    class_named line ForEach (is_some called) class ∷ in_option (λ name. plain line LoopVariable name ∷ []) called ++
+    class_named line ForEach (is_some called) class ∷ in_option (λ name. plain_mention line LoopVariable name ∷ []) called ++
     in_phrases line phrases
 
 -- the mentions of the head of a loop of this line
@@ -157,7 +154,7 @@ in_old line role class called = class_named line role (is_some called) class ∷
 -- the mentions of a statement on entities, sets or notices
 abbrev pub in_entity_statement : StatementTree → List Mention
 in_entity_statement (create_statement line class called) = in_new line Create class called
-in_entity_statement (create_every line classes) = map (plain line CreateEvery) classes
+in_entity_statement (create_every line classes) = map (plain_mention line CreateEvery) classes
 in_entity_statement (destroy_statement line class called) = in_old line Destroy class called
 in_entity_statement (file_statement line x position set) = in_expression line x ++ in_position line position ++ in_named line Set set
 in_entity_statement (remove_end line end place set) = in_named line Target place ++ in_named line Set set
@@ -174,11 +171,11 @@ abbrev pub in_itself : StatementTree → List Mention
 in_itself (let_statement line place e) = in_named line Target place ++ in_expression line e
 in_itself (add_statement line e place) = in_expression line e ++ in_named line Target place
 in_itself (subtract_statement line e place) = in_expression line e ++ in_named line Target place
-in_itself (call_statement line name given yielding) = plain line Call name ∷ in_all line given ++ in_all_named line Target yielding
+in_itself (call_statement line name given yielding) = plain_mention line Call name ∷ in_all line given ++ in_all_named line Target yielding
 in_itself (return_statement line) = []
 in_itself (stop_statement line) = []
 in_itself (read_statement line targets) = in_all_named line Target targets
-in_itself (start_simulation line) = started line ∷ []
+in_itself (start_simulation line) = start_mention line ∷ []
 in_itself (if_statement line condition first second) = in_condition line condition
 in_itself (loop_statement line head body) = in_loop_head line head
 in_itself (find_statement line head) = in_head line head
@@ -206,43 +203,43 @@ abbrev pub in_statement : StatementTree → List Mention
 in_statement s = in_itself s ++ in_inner s
 
 -- the line of a statement
-abbrev pub line_of : StatementTree → Line
-line_of (let_statement line place e) = line
-line_of (add_statement line e place) = line
-line_of (subtract_statement line e place) = line
-line_of (call_statement line name given yielding) = line
-line_of (return_statement line) = line
-line_of (stop_statement line) = line
-line_of (read_statement line targets) = line
-line_of (start_simulation line) = line
-line_of (if_statement line condition first second) = line
-line_of (loop_statement line head body) = line
-line_of (find_statement line head) = line
-line_of (find_if_statement line head outcome first second) = line
-line_of (create_statement line class called) = line
-line_of (create_every line classes) = line
-line_of (destroy_statement line class called) = line
-line_of (file_statement line x position set) = line
-line_of (remove_end line end place set) = line
-line_of (remove_statement line x set) = line
-line_of (schedule_new line class called given when) = line
-line_of (schedule_statement line class called given when) = line
-line_of (cancel_statement line class called) = line
-line_of (reset_statement line targets) = line
-line_of (print_statement line items pictures) = line
-line_of (skip_statement line count) = line
+abbrev pub line_of_statement : StatementTree → Line
+line_of_statement (let_statement line place e) = line
+line_of_statement (add_statement line e place) = line
+line_of_statement (subtract_statement line e place) = line
+line_of_statement (call_statement line name given yielding) = line
+line_of_statement (return_statement line) = line
+line_of_statement (stop_statement line) = line
+line_of_statement (read_statement line targets) = line
+line_of_statement (start_simulation line) = line
+line_of_statement (if_statement line condition first second) = line
+line_of_statement (loop_statement line head body) = line
+line_of_statement (find_statement line head) = line
+line_of_statement (find_if_statement line head outcome first second) = line
+line_of_statement (create_statement line class called) = line
+line_of_statement (create_every line classes) = line
+line_of_statement (destroy_statement line class called) = line
+line_of_statement (file_statement line x position set) = line
+line_of_statement (remove_end line end place set) = line
+line_of_statement (remove_statement line x set) = line
+line_of_statement (schedule_new line class called given when) = line
+line_of_statement (schedule_statement line class called given when) = line
+line_of_statement (cancel_statement line class called) = line
+line_of_statement (reset_statement line targets) = line
+line_of_statement (print_statement line items pictures) = line
+line_of_statement (skip_statement line count) = line
 
 -- ---- sections
 
 -- the class of an EVENT section, and the parameters of a section
 abbrev pub in_kind : Line → SectionKindTree → List Mention
 in_kind line main = []
-in_kind line (routine name given yielding) = map (plain line Given) given ++ map (plain line Yielding) yielding
-in_kind line (event name given saving) = plain line Event name ∷ map (plain line Given) given
+in_kind line (routine name given yielding) = map (plain_mention line Given) given ++ map (plain_mention line Yielding) yielding
+in_kind line (event name given saving) = plain_mention line Event name ∷ map (plain_mention line Given) given
 
 -- the names that a local DEFINE gives a mode
 abbrev pub in_definition : DefinitionTree → List Mention
-in_definition d = map (plain d.line (Define d.mode)) d.names
+in_definition d = map (plain_mention d.line (Define d.mode)) d.names
 
 abbrev pub in_definitions : List DefinitionTree → List Mention
 in_definitions definitions = flat_map in_definition definitions

@@ -6,7 +6,9 @@ ghost use Rattle.ss_tree.specs.View.{view_condition, view_test};
 ghost use Rattle.ss_names_uses.specs.Demands.{in_condition, in_test};
 
 use crate::demand::Demands;
-use crate::expression_demands::{mode_of, note_expression, note_named, note_number, note_of_mode};
+use crate::expression_demands::{
+    mode_of_expression, note_expression, note_named, note_number, note_of_mode,
+};
 use ss_base::Line;
 use ss_tree::condition::{Condition, Test};
 use std::alloc::AllocError;
@@ -17,7 +19,7 @@ fn note_test(into: &mut Demands, line: Line, test: &Test) -> Result<(), AllocErr
 {
     match test {
         Test::Compare { left, right, .. } => {
-            note_of_mode(into, line, left, mode_of(right))?;
+            note_of_mode(into, line, left, mode_of_expression(right))?;
             note_expression(into, line, right)
         }
         Test::Empty { set, .. } => note_named(into, line, set),

@@ -4,8 +4,8 @@ ghost use Rattle.std.specs.Prelude.{◌≡◌, ◌++◌, ◌∷◌, [], map, IfO
 ghost use Rattle.std.specs.List.{flat_map};
 ghost use Rattle.ss_tree.specs.View.{view_expression, view_named, view_option, view_term};
 ghost use Rattle.ss_tree.specs.declared.expression.Designator.TheVariants as designators;
-ghost use Rattle.ss_names_uses.specs.Demands.{demand, designated, implied, in_all_named, in_all_numbers, in_expression, in_named, in_number, in_number_target, in_option, in_term, mode_of, target_mode};
-ghost use Rattle.ss_names_uses.specs.Noted.{asked, in_asked, of_place};
+ghost use Rattle.ss_names_uses.specs.Demands.{demand, designated, implied, in_all_named, in_all_numbers, in_expression, in_named, in_number, in_number_target, in_option, in_term, mode_of_expression, target_mode};
+ghost use Rattle.ss_names_uses.specs.Noted.{number_if_asked, in_asked, of_place};
 
 use crate::demand::{Aspect, Demands, Noted};
 use ss_base::{Line, Name};
@@ -31,13 +31,13 @@ pub(crate) fn target_mode(target: &Named) -> Aspect
 
 // The mode of an expression.
 #[tactic(auto, unfolding(ss_tree::specs::View::view_expression))]
-pub(crate) fn mode_of(expression: &Expression) -> Aspect
-    ensures { result ≡ mode_of (view_expression expression.now) }
+pub(crate) fn mode_of_expression(expression: &Expression) -> Aspect
+    ensures { result ≡ mode_of_expression (view_expression expression.now) }
 {
     match expression {
         Expression::Text(_) => Aspect::Alpha,
         Expression::Named(named) => designated(named.designator),
-        Expression::Parenthesised(inner) => mode_of(inner),
+        Expression::Parenthesised(inner) => mode_of_expression(inner),
         Expression::Number(_)
         | Expression::Call { .. }
         | Expression::Product { .. }
@@ -69,7 +69,7 @@ fn note_asked(
     as_number: bool,
     mode: Aspect,
 ) -> Result<(), AllocError>
-    ensures { IfOk result (λ _. into.new ≡ into.old ++ asked as_number line mode) }
+    ensures { IfOk result (λ _. into.new ≡ into.old ++ number_if_asked as_number line mode) }
 {
     if as_number {
         note(into, line, mode, Aspect::Integer)
@@ -237,12 +237,12 @@ pub(crate) fn note_of_mode(
     expression: &Expression,
     wanted: Aspect,
 ) -> Result<(), AllocError>
-    ensures { IfOk result (λ _. into.new ≡ into.old ++ demand line (mode_of (view_expression expression.now)) wanted ∷ in_expression line (view_expression expression.now)) }
+    ensures { IfOk result (λ _. into.new ≡ into.old ++ demand line (mode_of_expression (view_expression expression.now)) wanted ∷ in_expression line (view_expression expression.now)) }
 {
     match wanted {
         Aspect::Integer => note_number(into, line, expression),
         _ => {
-            note(into, line, mode_of(expression), wanted)?;
+            note(into, line, mode_of_expression(expression), wanted)?;
             note_expression(into, line, expression)
         }
     }

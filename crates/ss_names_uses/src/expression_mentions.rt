@@ -3,7 +3,7 @@
 ghost use Rattle.std.specs.Prelude.{◌≡◌, ◌++◌, ◌∷◌, [], map, IfOk};
 ghost use Rattle.std.specs.List.{flat_map};
 ghost use Rattle.ss_tree.specs.View.{view_expression, view_named, view_option, view_term};
-ghost use Rattle.ss_names_uses.specs.Mentions.{class_named, in_all, in_all_named, in_expression, in_named, in_option, in_term, is_bare, mentioned, place, plain};
+ghost use Rattle.ss_names_uses.specs.Mentions.{class_named, in_all, in_all_named, in_expression, in_named, in_option, in_term, is_bare, mentioned, place, plain_mention};
 
 use crate::mention::{Mention, Mentioned, Role};
 use ss_base::{Line, Name};
@@ -79,7 +79,7 @@ pub(crate) fn note_plain(
     role: Role,
     name: Name,
 ) -> Result<(), AllocError>
-    ensures { IfOk result (λ _. into.new.items ≡ into.old.items ++ plain line role name ∷ []) }
+    ensures { IfOk result (λ _. into.new.items ≡ into.old.items ++ plain_mention line role name ∷ []) }
 {
     into.push(Mention {
         line,
@@ -98,7 +98,7 @@ pub(crate) fn note_all_plain(
     role: Role,
     names: &[Name],
 ) -> Result<(), AllocError>
-    ensures { IfOk result (λ _. into.new.items ≡ into.old.items ++ map (plain line role) names.now) }
+    ensures { IfOk result (λ _. into.new.items ≡ into.old.items ++ map (plain_mention line role) names.now) }
 {
     for name in names {
         note_plain(into, line, role, *name)?;

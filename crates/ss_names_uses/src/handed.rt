@@ -2,7 +2,7 @@
 
 ghost use Rattle.std.specs.Prelude.{◌≡◌, ◌++◌, map, IfOk};
 ghost use Rattle.ss_tree.specs.View.{view_expression, view_named};
-ghost use Rattle.ss_names_uses.specs.Demands.{handed, in_places, parameter, received, taken};
+ghost use Rattle.ss_names_uses.specs.Demands.{handed, in_places, parameter, received, yield_demands};
 
 use crate::demand::{Aspect, Demands};
 use crate::expression_demands::{note, note_named, note_of_mode, target_mode};
@@ -77,7 +77,7 @@ fn note_target(
     place: usize,
     target: &Named,
 ) -> Result<(), AllocError>
-    ensures { IfOk result (λ _. into.new ≡ into.old ++ taken line by.now place (view_named target.now)) }
+    ensures { IfOk result (λ _. into.new ≡ into.old ++ yield_demands line by.now place (view_named target.now)) }
 {
     note(into, line, target_mode(target), received(by, place))?;
     note_named(into, line, target)
@@ -90,7 +90,7 @@ pub(crate) fn note_taken(
     by: &Receiver,
     targets: &[Named],
 ) -> Result<(), AllocError>
-    ensures { IfOk result (λ _. into.new ≡ into.old ++ in_places (taken line by.now) 0 (map view_named targets.now)) }
+    ensures { IfOk result (λ _. into.new ≡ into.old ++ in_places (yield_demands line by.now) 0 (map view_named targets.now)) }
 {
     for (place, target) in targets.iter().enumerate() {
         note_target(into, line, by, place, target)?;

@@ -2,7 +2,7 @@
 
 ghost use Rattle.std.specs.Prelude.{◌≡◌};
 ghost use Rattle.ss_tree.specs.View.{view_statement};
-ghost use Rattle.ss_names_uses.specs.Mentions.{line_of};
+ghost use Rattle.ss_names_uses.specs.Mentions.{line_of_statement};
 
 use ss_base::Line;
 use ss_tree::statement::Statement;
@@ -10,7 +10,7 @@ use ss_tree::statement::Statement;
 /// The line of the first word of a statement.
 #[tactic(auto, unfolding(ss_tree::specs::View::view_statement))]
 pub fn line_of_statement(statement: &Statement) -> Line
-    ensures { result ≡ line_of (view_statement statement.now) }
+    ensures { result ≡ line_of_statement (view_statement statement.now) }
 {
     match statement {
         Statement::Let { line, .. }

@@ -3,7 +3,7 @@
 ghost use Rattle.std.specs.Prelude.{◌≡◌, ◌++◌, map, slice_get, IfOk};
 ghost use Rattle.ss_tree.specs.View.{view_expression};
 ghost use Rattle.ss_picture.specs.Pictures.{picture_fields};
-ghost use Rattle.ss_names_uses.specs.Demands.{fields_of, in_field, in_field_at, in_fields, in_item, in_items, in_places, in_print, mean_designated, mean_of};
+ghost use Rattle.ss_names_uses.specs.Demands.{fields_of_pictures, in_field, in_field_at, in_fields, in_item, in_items, in_places, in_print, mean_designated, mean_aspect};
 
 use crate::demand::{Aspect, Demands};
 use crate::expression_demands::{note, note_expression, note_named};
@@ -21,8 +21,8 @@ fn add_fields(alloc: Global, into: &mut Vec<Field>, picture: &PictureLine) -> Re
 }
 
 // The fields of some pictures, from the left, one picture after another.
-fn fields_of(alloc: Global, pictures: &[PictureLine]) -> Result<Vec<Field>, AllocError>
-    ensures { IfOk result (λ fields. fields.items ≡ fields_of pictures.now) }
+fn fields_of_pictures(alloc: Global, pictures: &[PictureLine]) -> Result<Vec<Field>, AllocError>
+    ensures { IfOk result (λ fields. fields.items ≡ fields_of_pictures pictures.now) }
 {
     let mut fields = Vec::new(alloc);
     for picture in pictures {
@@ -43,12 +43,12 @@ fn mean_designated(designator: Designator) -> Aspect
 
 // Whether an item is a MEAN.
 #[tactic(auto, unfolding(ss_tree::specs::View::view_expression))]
-fn mean_of(item: &Expression) -> Aspect
-    ensures { result ≡ mean_of (view_expression item.now) }
+fn mean_aspect(item: &Expression) -> Aspect
+    ensures { result ≡ mean_aspect (view_expression item.now) }
 {
     match item {
         Expression::Named(named) => mean_designated(named.designator),
-        Expression::Parenthesised(inner) => mean_of(inner),
+        Expression::Parenthesised(inner) => mean_aspect(inner),
         Expression::Number(_)
         | Expression::Text(_)
         | Expression::Call { .. }
@@ -76,7 +76,7 @@ fn note_field(
         Aspect::Fits(field.decimals <= 9),
         Aspect::Fits(true),
     )?;
-    note(into, line, mean_of(item), Aspect::Fits(true))
+    note(into, line, mean_aspect(item), Aspect::Fits(true))
 }
 
 // The field in a place, if there is one.
@@ -169,6 +169,6 @@ pub(crate) fn note_print(
 ) -> Result<(), AllocError>
     ensures { IfOk result (λ _. into.new ≡ into.old ++ in_print line (map view_expression items.now) pictures.now) }
 {
-    let fields = fields_of(alloc, pictures)?;
+    let fields = fields_of_pictures(alloc, pictures)?;
     note_fields(into, line, items, &fields)
 }

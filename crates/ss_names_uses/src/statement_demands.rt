@@ -7,8 +7,8 @@ ghost use Rattle.ss_names_uses.specs.Demands.{in_body, in_call, in_entity_statem
 use crate::condition_demands::note_condition;
 use crate::demand::{Aspect, Demands};
 use crate::expression_demands::{
-    mode_of, note, note_all_named, note_expression, note_named, note_number, note_number_target,
-    target_mode,
+    mode_of_expression, note, note_all_named, note_expression, note_named, note_number,
+    note_number_target, target_mode,
 };
 use crate::handed::{Receiver, note_handed, note_taken};
 use crate::head_demands::{note_head, note_loop_head};
@@ -181,7 +181,7 @@ fn note_let(
 ) -> Result<(), AllocError>
     ensures { IfOk result (λ _. into.new ≡ into.old ++ in_let line (view_named target.now) (view_expression value.now)) }
 {
-    note(into, line, target_mode(target), mode_of(value))?;
+    note(into, line, target_mode(target), mode_of_expression(value))?;
     note_named(into, line, target)?;
     note_expression(into, line, value)
 }

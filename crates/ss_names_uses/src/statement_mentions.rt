@@ -2,7 +2,7 @@
 
 ghost use Rattle.std.specs.Prelude.{◌≡◌, ◌++◌, ◌∷◌, [], map, IfOk};
 ghost use Rattle.ss_tree.specs.View.{view_expression, view_named, view_option, view_position, view_statement, view_when};
-ghost use Rattle.ss_names_uses.specs.Mentions.{in_body, in_entity_statement, in_inner, in_itself, in_new, in_old, in_position, in_when, started};
+ghost use Rattle.ss_names_uses.specs.Mentions.{in_body, in_entity_statement, in_inner, in_itself, in_new, in_old, in_position, in_when, start_mention};
 
 use crate::condition_mentions::note_condition;
 use crate::expression_mentions::{
@@ -18,7 +18,7 @@ use std::alloc::AllocError;
 
 // Adds the mention of START SIMULATION.
 fn note_started(into: &mut Vec<Mention>, line: Line) -> Result<(), AllocError>
-    ensures { IfOk result (λ _. into.new.items ≡ into.old.items ++ started line ∷ []) }
+    ensures { IfOk result (λ _. into.new.items ≡ into.old.items ++ start_mention line ∷ []) }
 {
     into.push(Mention {
         line,

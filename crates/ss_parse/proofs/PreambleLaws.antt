@@ -17,14 +17,14 @@ use Rattle.ss_tree.specs.declared.preamble.StatisticKind.{StatisticKind}
 use Rattle.ss_tree.specs.declared.preamble.Statistic.{Statistic}
 use Rattle.ss_tree.specs.declared.preamble.PreambleStatement.{PreambleStatement}
 use Rattle.ss_tree.specs.Tree.{ClauseTree, has, owns, belongs_to, OrderTree, fifo, lifo, ranked, PreambleTree, permanent_entities, temporary_entities, event_notices, every, normally, system_owns, define_variables, define_sets, priority_order, break_ties, statistics}
-use Rattle.ss_parse_expressions.specs.declared.failure.Fault.{Fault}
+use Rattle.ss_parse_expressions.specs.declared.failure.ParseFault.{ParseFault}
 use Rattle.ss_parse_expressions.specs.declared.failure.Failure.{Failure}
 use Rattle.ss_parse_expressions.specs.declared.failure.Failure.TheVariants as failures
-use Rattle.ss_parse_expressions.specs.declared.classes.Class.TheVariants as alike
+use Rattle.ss_parse_expressions.specs.declared.classes.WordClass.TheVariants as alike
 use Rattle.ss_parse_expressions.specs.Openers.{openers}
-use Rattle.ss_parse_expressions.specs.Shapes.{Shape, ◌▷◌, nothing, never, either, provided, separator, Word_is, Name_is, Word_for, at, first_line, listed}
+use Rattle.ss_parse_expressions.specs.Shapes.{Shape, ◌▷◌, nothing, never, either_shape, provided, separator, Word_is, Name_is, Word_for, at, first_token_line, separated_list}
 use Rattle.ss_parse_expressions.specs.Words.{has_word, Item_is, perhaps_listed}
-use Rattle.ss_parse_expressions.specs.Reading.{Reader, ◌>>=◌, Fails, word, is, begins, begins_by, expect, in_table, taken, name_of, following, closed, apply, comma, skip_separator, begins_more, list_of}
+use Rattle.ss_parse_expressions.specs.Reading.{Reader, ◌>>=◌, FailsReading, word, is, begins, begins_by, expect, in_table, taken, name_in_token, after_dropped, closed, apply, comma, skip_separator, begins_more, list_of}
 use Rattle.ss_parse_expressions.specs.ReadWords.{fail, begins_class, begins_noisy, among, begins_among, begins_name, begins_item, items}
 use Rattle.ss_parse_expressions.proofs.Tools.{bind_ok, which, chosen, carry, or_false, ok_or_err}
 use Rattle.ss_parse_expressions.proofs.Marks.{token, token_less, no_skip, begins_table}
@@ -35,7 +35,7 @@ use Rattle.ss_parse_expressions.proofs.Rows.{first_and_reads, list_reads, separa
 use Rattle.ss_parse_expressions.proofs.WordLaws.{word_in_reads, optional_class_reads, done_reads, fail_reads, noisy_mark_reads, noisy_begins, noisy_less, name_reads, name_begins, name_no_and, name_less, names_reads, items_reads, perhaps_listed_reads, either_reads, item_made, no_word}
 use Rattle.ss_parse_statements.specs.SpelledStatements.{noisy}
 use Rattle.ss_parse.specs.SpelledPreambles.{Key_is, Keys_are, Statistic_is, Clause_is, Clauses_are, Order_is, article, preamble_line, weighting_word, preamble_first, Preamble_rest, Preamble_from, group_after, Preambles_are, Whole_preamble}
-use Rattle.ss_parse_expressions.specs.WordTables.{mode_of, rank_of, statistic_of}
+use Rattle.ss_parse_expressions.specs.WordTables.{mode_of_word, rank_of, statistic_of}
 use Rattle.ss_parse.specs.ReadPreambles.{key_tree, key, then_rank, then_key, keys, statistic_tree, statistic_kind, statistic, found, clause, clause_word, begins_clause, clauses, ranking, order, permanent_at, temporary_at, notices_at, every_at, normally_at, system_at, define_end, define_at, priority_at, break_at, statistics_at, preamble_at, preamble_word, begins_preamble, preamble_in, preamble_row, preambles, whole_preamble}
 use Rattle.ss_parse_statements.proofs.FirstWords.{Form, plain_form, by_word_reads, first_less}
 
@@ -81,7 +81,7 @@ rank_reads_word words.Minimum mode e = refl
 rank_reads_word words.Mean mode e = refl
 rank_reads_word _ mode e = absurd cc
 
-mode_no_article : (w : Word) (mode : Mode) → mode_of w ≡ Some mode → has_word alike.Article w ≡ false
+mode_no_article : (w : Word) (mode : Mode) → mode_of_word w ≡ Some mode → has_word alike.Article w ≡ false
 mode_no_article words.Integer mode e = refl
 mode_no_article words.Alpha mode e = refl
 mode_no_article words.Real mode e = refl
@@ -189,7 +189,7 @@ module _ (k : ℕ) where
   statistic_less : (ts : List Token) (x : Statistic) (rest : List Token) → Statistic_is x ts rest → length rest < length ts
   statistic_less ts x rest s = omega (arith, name_less ts x.name s.0 s.1, (marked_reads (word words.As) (optional_reads (word_in_reads k statistic_of) (word words.The) (λ x ts rest s. ap (begins (word words.The)) s.2.2 ∙ rank_reads_word s.0 x s.1))).shorter s.0 x.kind rest s.2)
 
-  found_reads : Reads k found found (listed Statistic_is) (λ ts. begins_more begins_name ts || (continues_never ts || continues_never ts))
+  found_reads : Reads k found found (separated_list Statistic_is) (λ ts. begins_more begins_name ts || (continues_never ts || continues_never ts))
   found_reads = list_reads statistic_reads begins_name statistic_begins name_no_and statistic_less (λ span line ts. refl) (λ span line ts. refl)
 
   -- ---- clauses
@@ -198,13 +198,13 @@ module _ (k : ℕ) where
   continues_items ts = begins_more begins_item ts || (continues_never ts || continues_never ts)
 
   abbrev Belongs_parts : List (List ℕ) → Shape
-  Belongs_parts ns = Word_is words.May ▷ Word_is words.Belong ▷ Word_is words.To ▷ listed Item_is ns
+  Belongs_parts ns = Word_is words.May ▷ Word_is words.Belong ▷ Word_is words.To ▷ separated_list Item_is ns
 
-  belongs_reads : Reads k (apply belongs_to (following (expect (word words.May)) (following (expect (word words.Belong)) (following (expect (word words.To)) items)))) (apply belongs_to (following (expect (word words.May)) (following (expect (word words.Belong)) (following (expect (word words.To)) items)))) (Made belongs_to Belongs_parts) continues_items
+  belongs_reads : Reads k (apply belongs_to (after_dropped (expect (word words.May)) (after_dropped (expect (word words.Belong)) (after_dropped (expect (word words.To)) items)))) (apply belongs_to (after_dropped (expect (word words.May)) (after_dropped (expect (word words.Belong)) (after_dropped (expect (word words.To)) items)))) (Made belongs_to Belongs_parts) continues_items
   belongs_reads = made_reads (marked_reads (word words.May) (marked_reads (word words.Belong) (marked_reads (word words.To) (items_reads k)))) belongs_to
 
   abbrev Owns_or_belongs : ClauseTree → Shape
-  Owns_or_belongs x = either (Made owns (λ ns. Word_is words.Owns ▷ listed Item_is ns) x) (Made belongs_to Belongs_parts x)
+  Owns_or_belongs x = either_shape (Made owns (λ ns. Word_is words.Owns ▷ separated_list Item_is ns) x) (Made belongs_to Belongs_parts x)
 
   clause_reads : Reads k clause clause Clause_is continues_items
   unfolding clause
@@ -217,12 +217,12 @@ module _ (k : ℕ) where
       late x ts rest (inl (ns, is, (a, (span, line, e), s))) stop = ap (begins (word words.Has)) e
       late x ts rest (inr (ns, is, (a, (span, line, e), s))) stop = ap (begins (word words.Has)) e
 
-      to : (x : ClauseTree) (ts rest : List Token) → either (Made has (λ ns. Word_is words.Has ▷ listed Item_is ns) x) (Owns_or_belongs x) ts rest → Clause_is x ts rest
+      to : (x : ClauseTree) (ts rest : List Token) → either_shape (Made has (λ ns. Word_is words.Has ▷ separated_list Item_is ns) x) (Owns_or_belongs x) ts rest → Clause_is x ts rest
       to x ts rest (inl (ns, is, s)) = subst (λ x. Clause_is x ts rest) is s
       to x ts rest (inr (inl (ns, is, s))) = subst (λ x. Clause_is x ts rest) is s
       to x ts rest (inr (inr (ns, is, s))) = subst (λ x. Clause_is x ts rest) is s
 
-      from : (x : ClauseTree) (ts rest : List Token) → Clause_is x ts rest → either (Made has (λ ns. Word_is words.Has ▷ listed Item_is ns) x) (Owns_or_belongs x) ts rest
+      from : (x : ClauseTree) (ts rest : List Token) → Clause_is x ts rest → either_shape (Made has (λ ns. Word_is words.Has ▷ separated_list Item_is ns) x) (Owns_or_belongs x) ts rest
       from (has ns) ts rest s = inl (ns, refl, s)
       from (owns ns) ts rest s = inr (inl (ns, refl, s))
       from (belongs_to ns) ts rest s = inr (inr (ns, refl, s))
@@ -259,24 +259,24 @@ module _ (k : ℕ) where
           let p : has_word alike.Article w ≡ false = (clause_no_item w held).0 in
           rw (e, g, f, p) refl
 
-  clause_list_reads : Reads k (list_of begins_clause clause) (list_of begins_clause clause) (listed Clause_is) (λ ts. begins_more begins_clause ts || (continues_items ts || continues_items ts))
+  clause_list_reads : Reads k (list_of begins_clause clause) (list_of begins_clause clause) (separated_list Clause_is) (λ ts. begins_more begins_clause ts || (continues_items ts || continues_items ts))
   clause_list_reads = first_and_reads clause_reads (separated_item clause_reads begins_clause clause_begins clause_no_and) (λ ts x rest s. let no = clause_stops ts x rest s in (no, no)) clause_less
 
   clauses_reads : Reads k clauses clauses Clauses_are continues_preamble
   clauses_reads = fewer_reads (maybe_list_reads (item_of begins_clause clause_list_reads clauses_begin less) to from (λ ts. refl)) continues_preamble stops
     where
-      clauses_begin : (ts : List Token) (xs : List ClauseTree) (rest : List Token) → listed Clause_is xs ts rest → begins_clause ts ≡ true
+      clauses_begin : (ts : List Token) (xs : List ClauseTree) (rest : List Token) → separated_list Clause_is xs ts rest → begins_clause ts ≡ true
       clauses_begin ts [] rest s = absurd s
       clauses_begin ts (x ∷ xs) rest s = clause_begins ts x s.0 s.1
 
-      less : (ts : List Token) (xs : List ClauseTree) (rest : List Token) → listed Clause_is xs ts rest → length rest < length ts
+      less : (ts : List Token) (xs : List ClauseTree) (rest : List Token) → separated_list Clause_is xs ts rest → length rest < length ts
       less ts xs rest s = rows_laws.first_less clause_reads (separated_item clause_reads begins_clause clause_begins clause_no_and) (λ ts x rest s. let no = clause_stops ts x rest s in (no, no)) clause_less ts xs rest s
 
-      to : (xs : List ClauseTree) (ts rest : List Token) → listed Clause_is xs ts rest → Clauses_are xs ts rest
+      to : (xs : List ClauseTree) (ts rest : List Token) → separated_list Clause_is xs ts rest → Clauses_are xs ts rest
       to [] ts rest s = absurd s
       to (x ∷ xs) ts rest s = s
 
-      from : (xs : List ClauseTree) (ts rest : List Token) → Clauses_are xs ts rest → ((xs ≡ []) × (ts ≡ rest)) ⊎ listed Clause_is xs ts rest
+      from : (xs : List ClauseTree) (ts rest : List Token) → Clauses_are xs ts rest → ((xs ≡ []) × (ts ≡ rest)) ⊎ separated_list Clause_is xs ts rest
       from [] ts rest s = inl (refl, s)
       from (x ∷ xs) ts rest s = inr s
 
@@ -307,7 +307,7 @@ module _ (k : ℕ) where
   Ranked_parts ks = Word_is words.Ranked ▷ Word_is words.By ▷ Keys_are ks
 
   abbrev Ranking_is : OrderTree → Shape
-  Ranking_is x = either (Made ranked Ranked_parts x) (provided (fifo ≡ x) nothing)
+  Ranking_is x = either_shape (Made ranked Ranked_parts x) (provided (fifo ≡ x) nothing)
 
   ranking_reads : Reads k ranking ranking Ranking_is continues_preamble
   ranking_reads = either_reads (item_made (word words.Ranked) (marked_reads (word words.By) keys_reads) ranked) (done_reads k fifo) continues_preamble (λ ts stop. (stop, refl)) (λ x ts rest s stop. ap (begins (word words.Ranked)) s.1 ∙ over words.Ranked refl rest stop)
@@ -316,10 +316,10 @@ module _ (k : ℕ) where
   Set_parts x = Word_is words.Set ▷ Ranking_is x
 
   abbrev Lifo_parts : OrderTree → Shape
-  Lifo_parts x = either (Made (λ (u : Unit {0}). lifo) (λ (u : Unit {0}). Word_is words.Lifo ▷ Word_is words.Set) x) (Set_parts x)
+  Lifo_parts x = either_shape (Made (λ (u : Unit {0}). lifo) (λ (u : Unit {0}). Word_is words.Lifo ▷ Word_is words.Set) x) (Set_parts x)
 
   abbrev Fifo_parts : OrderTree → Shape
-  Fifo_parts x = either (Made (λ (u : Unit {0}). fifo) (λ (u : Unit {0}). Word_is words.Fifo ▷ Word_is words.Set) x) (Lifo_parts x)
+  Fifo_parts x = either_shape (Made (λ (u : Unit {0}). fifo) (λ (u : Unit {0}). Word_is words.Fifo ▷ Word_is words.Set) x) (Lifo_parts x)
 
   order_reads : Reads k order order Order_is continues_preamble
   unfolding order
@@ -344,11 +344,11 @@ module _ (k : ℕ) where
       from lifo ts rest s = inr (inl (tt, refl, s))
       from (ranked ks) ts rest (a, s, t) = inr (inr (a, s, inl (ks, refl, t)))
 
-  order_no_mode : (x : OrderTree) (ts rest : List Token) → Order_is x ts rest → (begins_by (in_table mode_of) ts ≡ false) × (begins_class alike.Article ts ≡ false)
-  order_no_mode fifo ts rest (a, inl e, (span, line, f)) = (ap (begins_by (in_table mode_of)) (e ∙ f), ap (begins_class alike.Article) (e ∙ f))
-  order_no_mode fifo ts rest (a, inr (span, line, f), s) = (ap (begins_by (in_table mode_of)) f, ap (begins_class alike.Article) f)
-  order_no_mode lifo ts rest (a, (span, line, f), s) = (ap (begins_by (in_table mode_of)) f, ap (begins_class alike.Article) f)
-  order_no_mode (ranked ks) ts rest (a, (span, line, f), s) = (ap (begins_by (in_table mode_of)) f, ap (begins_class alike.Article) f)
+  order_no_mode : (x : OrderTree) (ts rest : List Token) → Order_is x ts rest → (begins_by (in_table mode_of_word) ts ≡ false) × (begins_class alike.Article ts ≡ false)
+  order_no_mode fifo ts rest (a, inl e, (span, line, f)) = (ap (begins_by (in_table mode_of_word)) (e ∙ f), ap (begins_class alike.Article) (e ∙ f))
+  order_no_mode fifo ts rest (a, inr (span, line, f), s) = (ap (begins_by (in_table mode_of_word)) f, ap (begins_class alike.Article) f)
+  order_no_mode lifo ts rest (a, (span, line, f), s) = (ap (begins_by (in_table mode_of_word)) f, ap (begins_class alike.Article) f)
+  order_no_mode (ranked ks) ts rest (a, (span, line, f), s) = (ap (begins_by (in_table mode_of_word)) f, ap (begins_class alike.Article) f)
 
   -- ---- statements, after their first word
 
@@ -392,12 +392,12 @@ module _ (k : ℕ) where
       from _ u w at ts rest s = absurd cc
 
   abbrev normally_parts : Mode → Shape
-  normally_parts mode = noisy words.Mode ▷ Word_is words.Is ▷ Word_for mode_of mode
+  normally_parts mode = noisy words.Mode ▷ Word_is words.Is ▷ Word_for mode_of_word mode
 
   normally_form : (group : Option ClassKind) (line : Line) → Reads k (normally_at line) (normally_at line) (Pre_is group line words.Normally) continues_preamble
   unfolding normally_at
   normally_form group line =
-      made_form {P = normally_parts} (following_reads (noisy_mark_reads k (word words.Mode) refl) (marked_reads (word words.Is) (word_in_reads k mode_of)) (λ x ts rest s stop. refl)) (normally line) group line words.Normally refl
+      made_form {P = normally_parts} (following_reads (noisy_mark_reads k (word words.Mode) refl) (marked_reads (word words.Is) (word_in_reads k mode_of_word)) (λ x ts rest s stop. refl)) (normally line) group line words.Normally refl
       (λ p. (refl, refl)) (λ p ts rest s. s) from (λ ts stop. refl)
     where
       from : (x : PreambleTree) → is_statistics x ≡ false → preamble_first x ≡ words.Normally → preamble_line x ≡ line → (ts rest : List Token) → Preamble_rest group x ts rest → Made (normally line) normally_parts x ts rest
@@ -405,7 +405,7 @@ module _ (k : ℕ) where
       from _ u w at ts rest s = absurd cc
 
   abbrev system_parts : List (List ℕ) → Shape
-  system_parts ns = Word_is words.System ▷ Word_is words.Owns ▷ listed Item_is ns
+  system_parts ns = Word_is words.System ▷ Word_is words.Owns ▷ separated_list Item_is ns
 
   system_form : (group : Option ClassKind) (line : Line) → Reads k (system_at line) (system_at line) (Pre_is group line words.The) continues_preamble
   unfolding system_at
@@ -418,7 +418,7 @@ module _ (k : ℕ) where
       from _ u w at ts rest s = absurd cc
 
   abbrev priority_parts : List (List ℕ) → Shape
-  priority_parts ns = Word_is words.Order ▷ Word_is words.Is ▷ listed Name_is ns
+  priority_parts ns = Word_is words.Order ▷ Word_is words.Is ▷ separated_list Name_is ns
 
   priority_form : (group : Option ClassKind) (line : Line) → Reads k (priority_at line) (priority_at line) (Pre_is group line words.Priority) continues_preamble
   unfolding priority_at
@@ -464,26 +464,26 @@ module _ (k : ℕ) where
 
   -- DEFINE
   abbrev Mode_end : Line → List (List ℕ) → PreambleTree → Shape
-  Mode_end line ns = Made (define_variables line ns) (λ mode. Word_for mode_of mode ▷ Word_is words.Variable)
+  Mode_end line ns = Made (define_variables line ns) (λ mode. Word_for mode_of_word mode ▷ Word_is words.Variable)
 
   abbrev Order_end : Line → List (List ℕ) → PreambleTree → Shape
   Order_end line ns = Made (define_sets line ns) Order_is
 
-  mode_item : (line : Line) (ns : List (List ℕ)) → Item k (begins_by (in_table mode_of)) (apply (define_variables line ns) (closed (taken (in_table mode_of)) (expect (word words.Variable)))) (apply (define_variables line ns) (closed (taken (in_table mode_of)) (expect (word words.Variable)))) (Mode_end line ns) continues_never
+  mode_item : (line : Line) (ns : List (List ℕ)) → Item k (begins_by (in_table mode_of_word)) (apply (define_variables line ns) (closed (taken (in_table mode_of_word)) (expect (word words.Variable)))) (apply (define_variables line ns) (closed (taken (in_table mode_of_word)) (expect (word words.Variable)))) (Mode_end line ns) continues_never
   mode_item line ns =
-      item_of (begins_by (in_table mode_of)) (made_reads (closed_reads (word_in_reads k mode_of) (expect_reads k (word words.Variable)) (λ ts rest s stop. refl)) (define_variables line ns))
-      (λ ts x rest s. begins_table (in_table mode_of) ts s.2.0 s.0 (kinds.Word s.2.1.0, s.2.1.1, s.2.1.2))
+      item_of (begins_by (in_table mode_of_word)) (made_reads (closed_reads (word_in_reads k mode_of_word) (expect_reads k (word words.Variable)) (λ ts rest s stop. refl)) (define_variables line ns))
+      (λ ts x rest s. begins_table (in_table mode_of_word) ts s.2.0 s.0 (kinds.Word s.2.1.0, s.2.1.1, s.2.1.2))
       (λ ts x rest s. omega (arith, token_less (kinds.Word s.2.1.0) ts s.2.0 s.2.1.2, token_less (kinds.Word words.Variable) s.2.0 rest s.2.2))
 
-  end_reads : (line : Line) (ns : List (List ℕ)) → Reads k (define_end line ns) (define_end line ns) (λ x. either (Mode_end line ns x) (Order_end line ns x)) continues_preamble
+  end_reads : (line : Line) (ns : List (List ℕ)) → Reads k (define_end line ns) (define_end line ns) (λ x. either_shape (Mode_end line ns x) (Order_end line ns x)) continues_preamble
   end_reads line ns = either_reads (mode_item line ns) (made_reads order_reads (define_sets line ns)) continues_preamble (λ ts stop. (refl, stop)) (λ x ts rest s stop. (order_no_mode s.0 ts rest s.2).0)
 
-  end_no_article : (line : Line) (ns : List (List ℕ)) (x : PreambleTree) (ts rest : List Token) → either (Mode_end line ns x) (Order_end line ns x) ts rest → begins_class alike.Article ts ≡ false
+  end_no_article : (line : Line) (ns : List (List ℕ)) (x : PreambleTree) (ts rest : List Token) → either_shape (Mode_end line ns x) (Order_end line ns x) ts rest → begins_class alike.Article ts ≡ false
   end_no_article line ns x ts rest (inl (mode, is, (a, (w, means, (span, l, e)), s))) = ap (begins_class alike.Article) e ∙ mode_no_article w mode means
   end_no_article line ns x ts rest (inr (o, is, s)) = (order_no_mode o ts rest s).1
 
   abbrev Define_parts : Line → PreambleTree → Shape
-  Define_parts line x ts rest = (ns : List (List ℕ)) × ((listed Name_is ns ▷ Word_is words.As) ▷ (article ▷ either (Mode_end line ns x) (Order_end line ns x))) ts rest
+  Define_parts line x ts rest = (ns : List (List ℕ)) × ((separated_list Name_is ns ▷ Word_is words.As) ▷ (article ▷ either_shape (Mode_end line ns x) (Order_end line ns x))) ts rest
 
   define_form : (group : Option ClassKind) (line : Line) → Reads k (define_at line) (define_at line) (Pre_is group line words.Define) continues_preamble
   unfolding define_at
@@ -502,7 +502,7 @@ module _ (k : ℕ) where
 
   -- TALLY and ACCUMULATE
   abbrev Statistics_parts : List Statistic × List ℕ → Shape
-  Statistics_parts p = listed Statistic_is p.0 ▷ Word_is words.Of ▷ Name_is p.1
+  Statistics_parts p = separated_list Statistic_is p.0 ▷ Word_is words.Of ▷ Name_is p.1
 
   statistics_form : (group : Option ClassKind) (line : Line) (weighting : Weighting) (w : Word) → weighting_word weighting ≡ w → statistics_word w ≡ true → ((v : Weighting) → weighting_word v ≡ w → weighting ≡ v) → Reads k (statistics_at line weighting) (statistics_at line weighting) (Pre_is group line w) continues_preamble
   unfolding statistics_at
@@ -554,7 +554,7 @@ module _ (k : ℕ) where
   form_to : (group : Option ClassKind) (x : PreambleTree) (w : Word) (span : Span) (line : Line) (ts rest : List Token) → Pre_is group line w x ts rest → Preamble_from group x (token (kinds.Word w) span line ∷ ts) rest
   form_to group x w span line ts rest (at, is, s) = (sym at, (ts, subst (λ (v : Word). Word_is v (token (kinds.Word w) span line ∷ ts) ts) (sym is) (span, line, refl), s))
 
-  form_from : (group : Option ClassKind) (x : PreambleTree) (ts rest : List Token) → Preamble_from group x ts rest → (w : Word) × (r : List Token) × (Word_is w ts r) × Pre_is group (first_line ts) w x r rest
+  form_from : (group : Option ClassKind) (x : PreambleTree) (ts rest : List Token) → Preamble_from group x ts rest → (w : Word) × (r : List Token) × (Word_is w ts r) × Pre_is group (first_token_line ts) w x r rest
   form_from group x ts rest (at, (r, w, s)) = (preamble_first x, r, w, (sym at, refl, s))
 
   preamble_reads : (group : Option ClassKind) → Reads k (preamble_in group) (preamble_in group) (Preamble_from group) continues_preamble
@@ -689,7 +689,7 @@ preambles_more group (t ∷ ts) rest x started e =
     let same = row_enough 0 (length ts) (length rest) (group_after group x) rest (omega arith) (omega arith) in
     rw (started, e, same) refl
 
-pub preambles_fail : (group : Option ClassKind) (ts : List Token) (f : Fault) → begins_preamble ts ≡ true → preamble_in group ts ≡ Err f → preambles group ts ≡ Err f
+pub preambles_fail : (group : Option ClassKind) (ts : List Token) (f : ParseFault) → begins_preamble ts ≡ true → preamble_in group ts ≡ Err f → preambles group ts ≡ Err f
 unfolding preambles
 preambles_fail group [] f started e = absurd cc
 preambles_fail group (t ∷ ts) f started e = rw (started, e) refl
@@ -703,44 +703,44 @@ preambles_done group (t ∷ ts) e = rw e refl
 pub preamble_shrinks : (group : Option ClassKind) (ts : List Token) (x : PreambleTree) (rest : List Token) → preamble_in group ts ≡ Ok (x, rest) → length rest < length ts
 preamble_shrinks group ts x rest e = preamble_less 0 group ts x rest ((preamble_reads 0 group).sound ts x rest e)
 
-pub preamble_grows : (view : PreambleStatement → PreambleTree) (old new : List PreambleStatement) (x : PreambleStatement) (group group' : Option ClassKind) (ts rest : List Token) (total : Result (List PreambleTree × List Token) Fault) → new ≡ old ++ x ∷ [] → begins_preamble ts ≡ true → preamble_in group ts ≡ Ok (view x, rest) → group' ≡ group_after group (view x) → with_front (map view old) (preambles group ts) ≡ total → with_front (map view new) (preambles group' rest) ≡ total
+pub preamble_grows : (view : PreambleStatement → PreambleTree) (old new : List PreambleStatement) (x : PreambleStatement) (group group' : Option ClassKind) (ts rest : List Token) (total : Result (List PreambleTree × List Token) ParseFault) → new ≡ old ++ x ∷ [] → begins_preamble ts ≡ true → preamble_in group ts ≡ Ok (view x, rest) → group' ≡ group_after group (view x) → with_front (map view old) (preambles group ts) ≡ total → with_front (map view new) (preambles group' rest) ≡ total
 preamble_grows view old new x group group' ts rest total pushed started e goes so_far =
     let all : map view new ≡ map view old ++ view x ∷ [] = rw pushed (map_push view old x) in
     rw (all, goes) (with_front_more (map view old) (view x) (preambles (group_after group (view x)) rest)) ∙ ap (with_front (map view old)) (sym (preambles_more group ts rest (view x) started e)) ∙ so_far
 
-pub preamble_ends : (view : PreambleStatement → PreambleTree) (read : List PreambleStatement) (group : Option ClassKind) (ts : List Token) (total : Result (List PreambleTree × List Token) Fault) → begins_preamble ts ≡ false → with_front (map view read) (preambles group ts) ≡ total → total ≡ Ok (map view read, ts)
+pub preamble_ends : (view : PreambleStatement → PreambleTree) (read : List PreambleStatement) (group : Option ClassKind) (ts : List Token) (total : Result (List PreambleTree × List Token) ParseFault) → begins_preamble ts ≡ false → with_front (map view read) (preambles group ts) ≡ total → total ≡ Ok (map view read, ts)
 preamble_ends view read group ts total over so_far = sym so_far ∙ ap (with_front (map view read)) (preambles_done group ts over) ∙ ap (λ (ys : List PreambleTree). Ok (ys, ts)) (append-nil (map view read))
 
-pub preamble_breaks : (view : PreambleStatement → PreambleTree) (read : List PreambleStatement) (group : Option ClassKind) (ts : List Token) (e : Failure) (total : Result (List PreambleTree × List Token) Fault) → begins_preamble ts ≡ true → Fails e (preamble_in group ts) → with_front (map view read) (preambles group ts) ≡ total → Fails e total
+pub preamble_breaks : (view : PreambleStatement → PreambleTree) (read : List PreambleStatement) (group : Option ClassKind) (ts : List Token) (e : Failure) (total : Result (List PreambleTree × List Token) ParseFault) → begins_preamble ts ≡ true → FailsReading e (preamble_in group ts) → with_front (map view read) (preambles group ts) ≡ total → FailsReading e total
 preamble_breaks view read group ts failures.Memory total started f so_far = tt
 preamble_breaks view read group ts (failures.Refused f left) total started e so_far = sym so_far ∙ ap (with_front (map view read)) (preambles_fail group ts f started e)
 
 -- a key after THEN BY, part by part
-pub then_key_read : (ts a b : List Token) (high : Bool) (n : List ℕ) → then_rank ts ≡ Ok (high, a) → taken name_of a ≡ Ok (n, drop 1 a) → b ≡ drop 1 a → then_key ts ≡ Ok (record { high = high; name = n }, b)
+pub then_key_read : (ts a b : List Token) (high : Bool) (n : List ℕ) → then_rank ts ≡ Ok (high, a) → taken name_in_token a ≡ Ok (n, drop 1 a) → b ≡ drop 1 a → then_key ts ≡ Ok (record { high = high; name = n }, b)
 unfolding then_key
 then_key_read ts a b high n e f g = rw (e, f, g) refl
 
-pub then_key_no_rank : (ts : List Token) (e : Failure) → Fails e (then_rank ts) → Fails e (then_key ts)
+pub then_key_no_rank : (ts : List Token) (e : Failure) → FailsReading e (then_rank ts) → FailsReading e (then_key ts)
 unfolding then_key
 then_key_no_rank ts failures.Memory f = tt
 then_key_no_rank ts (failures.Refused d left) f = rw f refl
 
-pub then_key_no_name : (ts a : List Token) (high : Bool) (e : Failure) → then_rank ts ≡ Ok (high, a) → Fails e (taken name_of a) → Fails e (then_key ts)
+pub then_key_no_name : (ts a : List Token) (high : Bool) (e : Failure) → then_rank ts ≡ Ok (high, a) → FailsReading e (taken name_in_token a) → FailsReading e (then_key ts)
 unfolding then_key
 then_key_no_name ts a high failures.Memory r f = tt
 then_key_no_name ts a high (failures.Refused d left) r f = rw (r, f) refl
 
 -- a statistic, part by part
-pub statistic_read : (ts a b rest : List Token) (n : List ℕ) (kind : StatisticKind) → a ≡ ts → taken name_of a ≡ Ok (n, drop 1 a) → b ≡ drop 1 a → statistic_kind b ≡ Ok (kind, rest) → statistic ts ≡ Ok (record { name = n; kind = kind }, rest)
+pub statistic_read : (ts a b rest : List Token) (n : List ℕ) (kind : StatisticKind) → a ≡ ts → taken name_in_token a ≡ Ok (n, drop 1 a) → b ≡ drop 1 a → statistic_kind b ≡ Ok (kind, rest) → statistic ts ≡ Ok (record { name = n; kind = kind }, rest)
 unfolding statistic
 statistic_read ts a b rest n kind same e f g = rw (sym same, e, sym f, g) refl
 
-pub statistic_no_name : (ts a : List Token) (e : Failure) → a ≡ ts → Fails e (taken name_of a) → Fails e (statistic ts)
+pub statistic_no_name : (ts a : List Token) (e : Failure) → a ≡ ts → FailsReading e (taken name_in_token a) → FailsReading e (statistic ts)
 unfolding statistic
 statistic_no_name ts a failures.Memory same f = tt
 statistic_no_name ts a (failures.Refused d left) same f = rw (sym same, f) refl
 
-pub statistic_no_kind : (ts a b : List Token) (n : List ℕ) (e : Failure) → a ≡ ts → taken name_of a ≡ Ok (n, drop 1 a) → b ≡ drop 1 a → Fails e (statistic_kind b) → Fails e (statistic ts)
+pub statistic_no_kind : (ts a b : List Token) (n : List ℕ) (e : Failure) → a ≡ ts → taken name_in_token a ≡ Ok (n, drop 1 a) → b ≡ drop 1 a → FailsReading e (statistic_kind b) → FailsReading e (statistic ts)
 unfolding statistic
 statistic_no_kind ts a b n failures.Memory same e f g = tt
 statistic_no_kind ts a b n (failures.Refused d left) same e f g = rw (sym same, e, sym f, g) refl

@@ -9,10 +9,10 @@ use Rattle.ss_lex.specs.declared.token.TokenKind.TheVariants as kinds
 use Rattle.ss_lex.specs.declared.token.Token.{Token}
 use Rattle.ss_tree.specs.declared.preamble.Mode.{Mode}
 use Rattle.ss_tree.specs.Tree.{StatementTree, DefinitionTree, SectionKindTree, main, routine, event, SectionTree}
-use Rattle.ss_parse_expressions.specs.declared.classes.Class.TheVariants as classes
-use Rattle.ss_parse_expressions.specs.Shapes.{Shape, ◌▷◌, nothing, optional, provided, noise, Word_is, Name_is, at, first_line, each, flagged}
+use Rattle.ss_parse_expressions.specs.declared.classes.WordClass.TheVariants as classes
+use Rattle.ss_parse_expressions.specs.Shapes.{Shape, ◌▷◌, nothing, optional, provided, noise, Word_is, Name_is, at, first_token_line, each, flagged}
 use Rattle.ss_parse_expressions.specs.Words.{has_word, One_of, perhaps_listed}
-use Rattle.ss_parse_expressions.specs.Reading.{word, is, begins, expect, following, maybe_list, rows, begins_more}
+use Rattle.ss_parse_expressions.specs.Reading.{word, is, begins, expect, after_dropped, maybe_list, rows, begins_more}
 use Rattle.ss_parse_expressions.specs.ReadWords.{fail, begins_class, begins_among, begins_name, names}
 use Rattle.ss_parse_expressions.proofs.Tools.{or_false}
 use Rattle.ss_parse_expressions.proofs.Marks.{token, mark_begins, token_less}
@@ -20,11 +20,11 @@ use Rattle.ss_parse_expressions.proofs.ReaderLaws.{Reads, Item, continues_never,
 use Rattle.ss_parse_expressions.proofs.Rows.{rows_reads, Loop, loop_of}
 use Rattle.ss_parse_expressions.proofs.WordLaws.{word_in_reads, optional_class_reads, done_reads, fail_reads, name_reads, names_reads, perhaps_listed_reads, no_word}
 use Rattle.ss_parse.specs.SpelledPreambles.{Variables_are}
-use Rattle.ss_parse_expressions.specs.WordTables.{mode_of}
+use Rattle.ss_parse_expressions.specs.WordTables.{mode_of_word}
 use Rattle.ss_parse.specs.SpelledPrograms.{section_word, Saving_words, Kind_rest, Definition_is, Section_is, Program_is}
 use Rattle.ss_parse_statements.specs.ReadStatements.{form_word}
 use Rattle.ss_parse.proofs.PreambleLaws.{whole_preamble_reads}
-use Rattle.ss_parse.specs.ReadPrograms.{section_words, begins_section, saving, routine_kind, event_kind, kind_at, variables, definition_tree, definition_at, definition, definitions, body_in, section_tree, section_at, section_in, program_tree, program_in}
+use Rattle.ss_parse.specs.ReadPrograms.{section_words, begins_section, saving, routine_kind, event_kind, kind_after, variables, definition_tree, definition_at, definition, definitions, body_in, section_tree, section_at, section_in, program_tree, program_in}
 use Rattle.ss_parse_statements.proofs.FirstWords.{Form, plain_form, by_word_reads, first_less}
 use Rattle.ss_parse_statements.proofs.StatementLaws.{false_past_comma, In_statement, all_statements_reads}
 
@@ -58,14 +58,14 @@ kind_names w held ts stop =
     let b : begins_more begins_name ts ≡ false = (or_false (begins_among kind_more ts) (begins_more begins_name ts) stop).1 in
     rw (a, b) refl
 
-mode_no_article : (w : Word) (mode : Mode) → mode_of w ≡ Some mode → has_word classes.Article w ≡ false
+mode_no_article : (w : Word) (mode : Mode) → mode_of_word w ≡ Some mode → has_word classes.Article w ≡ false
 mode_no_article words.Integer mode e = refl
 mode_no_article words.Alpha mode e = refl
 mode_no_article words.Real mode e = refl
 mode_no_article _ mode e = absurd cc
 
 module _ (k : ℕ) where
-  names_after : (w : Word) → Reads k (maybe_list (begins (word w)) (following (expect (word w)) names)) (maybe_list (begins (word w)) (following (expect (word w)) names)) (perhaps_listed (Word_is w) Name_is) (continues_listed w)
+  names_after : (w : Word) → Reads k (maybe_list (begins (word w)) (after_dropped (expect (word w)) names)) (maybe_list (begins (word w)) (after_dropped (expect (word w)) names)) (perhaps_listed (Word_is w) Name_is) (continues_listed w)
   names_after w = perhaps_listed_reads (item_marked (word w) (names_reads k))
 
   yielding_stops : (ys : List (List ℕ)) (ts rest : List Token) → perhaps_listed (Word_is words.Yielding) Name_is ys ts rest → continues_kind rest ≡ false → continues_listed words.Given ts ≡ false
@@ -100,7 +100,7 @@ module _ (k : ℕ) where
   no_kind : (w : Word) → section_words w ≡ false → Reads k fail fail (Kind_is w) continues_kind
   no_kind w other = fewer_reads (reshaped_reads (fail_reads k) (Kind_is w) (λ x ts rest s. absurd s) (λ x ts rest s. absurd (let a = section_known x in let b : section_words (section_word x) ≡ section_words w = ap section_words s.0 in cc))) continues_kind (λ ts stop. refl)
 
-  kind_reads : (w : Word) → Reads k (kind_at w) (kind_at w) (Kind_is w) continues_kind
+  kind_reads : (w : Word) → Reads k (kind_after w) (kind_after w) (Kind_is w) continues_kind
   kind_reads words.Main = fewer_reads (reshaped_reads (done_reads k main) (Kind_is words.Main) (λ x ts rest s. subst (λ x. Kind_is words.Main x ts rest) s.0 (refl, s.1)) from) continues_kind (λ ts stop. refl)
     where
       from : (x : SectionKindTree) (ts rest : List Token) → Kind_is words.Main x ts rest → provided (main ≡ x) nothing ts rest
@@ -125,7 +125,7 @@ module _ (k : ℕ) where
 
   pub variables_reads : Reads k variables variables Variables_are continues_never
   unfolding variables
-  variables_reads = seq_reads (names_reads k) (marked_reads (word words.As) (optional_class_reads (closed_reads (word_in_reads k mode_of) (expect_reads k (word words.Variable)) (λ ts rest s stop. refl)) classes.Article (λ mode ts rest s. ap (begins_class classes.Article) s.1.2.2 ∙ mode_no_article s.1.0 mode s.1.1))) (λ mode ts rest s stop. ap (λ (r : List Token). begins_more begins_name r || (continues_never r || continues_never r)) s.1.2)
+  variables_reads = seq_reads (names_reads k) (marked_reads (word words.As) (optional_class_reads (closed_reads (word_in_reads k mode_of_word) (expect_reads k (word words.Variable)) (λ ts rest s stop. refl)) classes.Article (λ mode ts rest s. ap (begins_class classes.Article) s.1.2.2 ∙ mode_no_article s.1.0 mode s.1.1))) (λ mode ts rest s stop. ap (λ (r : List Token). begins_more begins_name r || (continues_never r || continues_never r)) s.1.2)
 
   definition_at_reads : (line : Line) → Reads k (definition_at line) (definition_at line) (Made (definition_tree line) (λ p. Word_is words.Define ▷ Variables_are p)) continues_never
   unfolding definition_at
@@ -208,7 +208,7 @@ module _ (n m : ℕ) (le : n ≤ m) where
   section_to : (x : SectionTree) (w : Word) (span : Span) (line : Line) (ts rest : List Token) → Sections_by line w x ts rest → In_section x (token (kinds.Word w) span line ∷ ts) rest
   section_to x w span line ts rest (at, is, s) = (sym at, (ts, subst (λ (v : Word). Word_is v (token (kinds.Word w) span line ∷ ts) ts) (sym is) (span, line, refl), s))
 
-  section_from : (x : SectionTree) (ts rest : List Token) → In_section x ts rest → (w : Word) × (r : List Token) × (Word_is w ts r) × Sections_by (first_line ts) w x r rest
+  section_from : (x : SectionTree) (ts rest : List Token) → In_section x ts rest → (w : Word) × (r : List Token) × (Word_is w ts r) × Sections_by (first_token_line ts) w x r rest
   section_from x ts rest (at, (r, w, s)) = (section_word x.kind, r, w, (sym at, refl, s))
 
   section_reads : Reads n (section_in n) (section_in m) In_section continues_never

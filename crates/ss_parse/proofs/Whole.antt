@@ -1,8 +1,8 @@
 -- Whole token lists: what is promised of parsing follows from the laws of reading.
 use Rattle.std.proofs.Common.{◌≡◌, ℕ, suc, ◌<◌, ◌≤◌, max, List, [], ◌∷◌, length, Result, Ok, Err, refl, sym, subst, ◌∙◌, arith, inl, inr}
 use Rattle.ss_lex.specs.declared.token.Token.{Token}
-use Rattle.ss_parse_expressions.specs.declared.failure.Fault.{Fault}
-use Rattle.ss_parse_expressions.specs.declared.failure.Fault.TheVariants.{Syntax, TooDeep}
+use Rattle.ss_parse_expressions.specs.declared.failure.ParseFault.{ParseFault}
+use Rattle.ss_parse_expressions.specs.declared.failure.ParseFault.TheVariants.{Syntax, TooDeep}
 use Rattle.ss_tree.specs.Tree.{ProgramTree}
 use Rattle.ss_parse_expressions.specs.Openers.{openers}
 use Rattle.ss_parse.specs.SpelledPrograms.{Program_is, Spell}
@@ -47,7 +47,7 @@ none_at_all ts h levels p s =
     let read = raised levels (max 64 levels) ts p (omega arith) (program_complete levels ts p s) in
     elim (program_upto 64 (max 64 levels) ts (omega arith)) [ inl e ↦ absurd cc | inr e ↦ absurd cc ]
 
-deep : (r : Result (ProgramTree × List Token) Fault) (k n : ℕ) → Bounded k n r → (r >>= none_left) ≡ Err TooDeep → k ≤ n
+deep : (r : Result (ProgramTree × List Token) ParseFault) (k n : ℕ) → Bounded k n r → (r >>= none_left) ≡ Err TooDeep → k ≤ n
 deep (Ok (p, [])) k n h e = absurd cc
 deep (Ok (p, x ∷ rest)) k n h e = absurd cc
 deep (Err Syntax) k n h e = absurd cc
@@ -58,9 +58,9 @@ unfolding program_of
 none_of_64 ts h = (λ p s. let read = program_complete 64 ts p s in absurd cc, deep (program_in 65 ts) 65 (openers ts) ((program_reads 64 64 (omega arith)).opening ts) h)
 
 -- no tokens at all are a program
-pub some_tokens : (f : Fault) → program_of 64 [] ≡ Err f → ⊥
+pub some_tokens : (f : ParseFault) → program_of 64 [] ≡ Err f → ⊥
 some_tokens f h = let read = program_complete 64 [] (record { preamble = []; sections = [] }) ([], inl refl, refl) in absurd cc
 
-pub tokens_there : (ts : List Token) (f : Fault) → program_of 64 ts ≡ Err f → 0 < length ts
+pub tokens_there : (ts : List Token) (f : ParseFault) → program_of 64 ts ≡ Err f → 0 < length ts
 tokens_there [] f h = absurd (some_tokens f h)
 tokens_there (t ∷ ts) f h = omega arith

@@ -5,19 +5,19 @@ use Rattle.ss_parse.specs.declared.error.ParseError.{ParseError}
 use Rattle.ss_parse.specs.declared.error.ParseError.TheVariants.{Syntax, TooDeep, Memory}
 
 -- its number, 41 or 42; 0 where memory ran out
-abbrev pub error_number : ParseError → ℕ
-error_number (Syntax line) = 41
-error_number (TooDeep line) = 42
-error_number Memory = 0
+abbrev pub parse_error_number : ParseError → ℕ
+parse_error_number (Syntax line) = 41
+parse_error_number (TooDeep line) = 42
+parse_error_number Memory = 0
 
 -- its name
-abbrev pub error_name : ParseError → List ℕ
-error_name (Syntax line) = codes "Syntax"
-error_name (TooDeep line) = codes "TooDeep"
-error_name Memory = codes "Memory"
+abbrev pub parse_error_name : ParseError → List ℕ
+parse_error_name (Syntax line) = codes "Syntax"
+parse_error_name (TooDeep line) = codes "TooDeep"
+parse_error_name Memory = codes "Memory"
 
 -- its line; 0 where memory ran out
-abbrev pub error_line : ParseError → Line
-error_line (Syntax line) = line
-error_line (TooDeep line) = line
-error_line Memory = record { 0 = 0 }
+abbrev pub parse_error_line : ParseError → Line
+parse_error_line (Syntax line) = line
+parse_error_line (TooDeep line) = line
+parse_error_line Memory = record { 0 = 0 }

@@ -11,11 +11,11 @@ use Rattle.ss_tree.specs.declared.preamble.Weighting.TheVariants as weightings
 use Rattle.ss_tree.specs.declared.preamble.StatisticKind.{StatisticKind}
 use Rattle.ss_tree.specs.declared.preamble.Statistic.{Statistic}
 use Rattle.ss_tree.specs.Tree.{ClauseTree, has, owns, belongs_to, OrderTree, fifo, lifo, ranked, PreambleTree, permanent_entities, temporary_entities, event_notices, every, normally, system_owns, define_variables, define_sets, priority_order, break_ties, statistics}
-use Rattle.ss_parse_expressions.specs.declared.classes.Class.TheVariants as alike
-use Rattle.ss_parse_expressions.specs.Reading.{Reader, ◌>>=◌, word, begins, begins_by, expect, in_table, taken, name_of, seq, following, closed, apply, maybe_list, choose, first_and, list_of}
+use Rattle.ss_parse_expressions.specs.declared.classes.WordClass.TheVariants as alike
+use Rattle.ss_parse_expressions.specs.Reading.{Reader, ◌>>=◌, word, begins, begins_by, expect, in_table, taken, name_in_token, seq, after_dropped, closed, apply, maybe_list, choose_reader, first_and, list_of}
 use Rattle.ss_parse_expressions.specs.ReadWords.{done, fail, skip_class, begins_noisy, expect_noisy, begins_among, begins_name, names, items}
 use Rattle.ss_parse.specs.SpelledPreambles.{group_after}
-use Rattle.ss_parse_expressions.specs.WordTables.{mode_of, rank_of, statistic_of}
+use Rattle.ss_parse_expressions.specs.WordTables.{mode_of_word, rank_of, statistic_of}
 use Rattle.ss_parse_statements.specs.ReadSimple.{after_the}
 use Rattle.ss_parse_statements.specs.ReadStatements.{by_word}
 
@@ -25,14 +25,14 @@ abbrev pub key_tree : Bool × List ℕ → Key
 key_tree p = record { high = p.0; name = p.1 }
 
 unfoldable pub key : Reader Key
-key = apply key_tree (seq (taken (in_table rank_of)) (taken name_of))
+key = apply key_tree (seq (taken (in_table rank_of)) (taken name_in_token))
 
 -- THEN BY, and HIGH or LOW
 abbrev pub then_rank : Reader Bool
-then_rank = following (expect_noisy (word words.Then)) (following (expect (word words.By)) (taken (in_table rank_of)))
+then_rank = after_dropped (expect_noisy (word words.Then)) (after_dropped (expect (word words.By)) (taken (in_table rank_of)))
 
 unfoldable pub then_key : Reader Key
-then_key = apply key_tree (seq then_rank (taken name_of))
+then_key = apply key_tree (seq then_rank (taken name_in_token))
 
 -- keys, the further ones after THEN BY
 abbrev pub keys : Reader (List Key)
@@ -43,19 +43,19 @@ statistic_tree p = record { name = p.0; kind = p.1 }
 
 -- AS and the kind of a statistic
 abbrev pub statistic_kind : Reader StatisticKind
-statistic_kind = following (expect (word words.As)) (after_the (taken (in_table statistic_of)))
+statistic_kind = after_dropped (expect (word words.As)) (after_the (taken (in_table statistic_of)))
 
 unfoldable pub statistic : Reader Statistic
-statistic = apply statistic_tree (seq (taken name_of) statistic_kind)
+statistic = apply statistic_tree (seq (taken name_in_token) statistic_kind)
 
 abbrev pub found : Reader (List Statistic)
 found = list_of begins_name statistic
 
 unfoldable pub clause : Reader ClauseTree
 clause =
-    choose (begins (word words.Has)) (apply has (following (expect (word words.Has)) items))
-    (choose (begins (word words.Owns)) (apply owns (following (expect (word words.Owns)) items))
-    (apply belongs_to (following (expect (word words.May)) (following (expect (word words.Belong)) (following (expect (word words.To)) items)))))
+    choose_reader (begins (word words.Has)) (apply has (after_dropped (expect (word words.Has)) items))
+    (choose_reader (begins (word words.Owns)) (apply owns (after_dropped (expect (word words.Owns)) items))
+    (apply belongs_to (after_dropped (expect (word words.May)) (after_dropped (expect (word words.Belong)) (after_dropped (expect (word words.To)) items)))))
 
 abbrev pub clause_word : Word → Bool
 clause_word words.Has = true
@@ -74,14 +74,14 @@ clauses = maybe_list begins_clause clause_list
 
 -- the ranking of a set, after SET
 abbrev pub ranking : Reader OrderTree
-ranking = choose (begins (word words.Ranked)) (apply ranked (following (expect (word words.Ranked)) (following (expect (word words.By)) keys))) (done fifo)
+ranking = choose_reader (begins (word words.Ranked)) (apply ranked (after_dropped (expect (word words.Ranked)) (after_dropped (expect (word words.By)) keys))) (done fifo)
 
 -- how a set is ordered
 unfoldable pub order : Reader OrderTree
 order =
-    choose (begins (word words.Fifo)) (apply (λ u. fifo) (following (expect (word words.Fifo)) (expect (word words.Set))))
-    (choose (begins (word words.Lifo)) (apply (λ u. lifo) (following (expect (word words.Lifo)) (expect (word words.Set))))
-    (following (expect (word words.Set)) ranking))
+    choose_reader (begins (word words.Fifo)) (apply (λ u. fifo) (after_dropped (expect (word words.Fifo)) (expect (word words.Set))))
+    (choose_reader (begins (word words.Lifo)) (apply (λ u. lifo) (after_dropped (expect (word words.Lifo)) (expect (word words.Set))))
+    (after_dropped (expect (word words.Set)) ranking))
 
 -- ---- statements of a preamble, after their first word
 
@@ -92,33 +92,33 @@ unfoldable pub temporary_at : Line → Reader PreambleTree
 temporary_at line = apply (λ u. temporary_entities line) (expect (word words.Entities))
 
 unfoldable pub notices_at : Line → Reader PreambleTree
-notices_at line = apply (event_notices line) (following (expect (word words.Notices)) (maybe_list (begins (word words.Include)) (following (expect (word words.Include)) names)))
+notices_at line = apply (event_notices line) (after_dropped (expect (word words.Notices)) (maybe_list (begins (word words.Include)) (after_dropped (expect (word words.Include)) names)))
 
 unfoldable pub every_at : Option ClassKind → Line → Reader PreambleTree
 every_at None line = fail
-every_at (Some kind) line = apply (λ p. every line kind p.0 p.1) (seq (taken name_of) clauses)
+every_at (Some kind) line = apply (λ p. every line kind p.0 p.1) (seq (taken name_in_token) clauses)
 
 unfoldable pub normally_at : Line → Reader PreambleTree
-normally_at line = apply (normally line) (following (expect_noisy (word words.Mode)) (following (expect (word words.Is)) (taken (in_table mode_of))))
+normally_at line = apply (normally line) (after_dropped (expect_noisy (word words.Mode)) (after_dropped (expect (word words.Is)) (taken (in_table mode_of_word))))
 
 unfoldable pub system_at : Line → Reader PreambleTree
-system_at line = apply (system_owns line) (following (expect (word words.System)) (following (expect (word words.Owns)) items))
+system_at line = apply (system_owns line) (after_dropped (expect (word words.System)) (after_dropped (expect (word words.Owns)) items))
 
 -- a mode, or how a set is ordered
 abbrev pub define_end : Line → List (List ℕ) → Reader PreambleTree
-define_end line ns = choose (begins_by (in_table mode_of)) (apply (define_variables line ns) (closed (taken (in_table mode_of)) (expect (word words.Variable)))) (apply (define_sets line ns) order)
+define_end line ns = choose_reader (begins_by (in_table mode_of_word)) (apply (define_variables line ns) (closed (taken (in_table mode_of_word)) (expect (word words.Variable)))) (apply (define_sets line ns) order)
 
 unfoldable pub define_at : Line → Reader PreambleTree
 define_at line ts = closed names (expect (word words.As)) ts >>= λ ns. define_end line ns.0 (skip_class alike.Article ns.1)
 
 unfoldable pub priority_at : Line → Reader PreambleTree
-priority_at line = apply (priority_order line) (following (expect (word words.Order)) (following (expect (word words.Is)) names))
+priority_at line = apply (priority_order line) (after_dropped (expect (word words.Order)) (after_dropped (expect (word words.Is)) names))
 
 unfoldable pub break_at : Line → Reader PreambleTree
-break_at line = apply (λ p. break_ties line p.0 p.1) (seq (taken name_of) (following (expect (word words.Ties)) (following (expect (word words.By)) keys)))
+break_at line = apply (λ p. break_ties line p.0 p.1) (seq (taken name_in_token) (after_dropped (expect (word words.Ties)) (after_dropped (expect (word words.By)) keys)))
 
 unfoldable pub statistics_at : Line → Weighting → Reader PreambleTree
-statistics_at line weighting = apply (λ p. statistics line weighting p.0 p.1) (seq found (following (expect (word words.Of)) (taken name_of)))
+statistics_at line weighting = apply (λ p. statistics line weighting p.0 p.1) (seq found (after_dropped (expect (word words.Of)) (taken name_in_token)))
 
 unfoldable pub preamble_at : Option ClassKind → Line → Word → Reader PreambleTree
 preamble_at group line words.Permanent = permanent_at line
@@ -167,4 +167,4 @@ preambles group ts = preamble_row (length ts) group ts
 
 -- a preamble, if there is one
 unfoldable pub whole_preamble : Reader (List PreambleTree)
-whole_preamble = maybe_list (begins (word words.Preamble)) (following (expect (word words.Preamble)) (closed (preambles None) (expect (word words.End))))
+whole_preamble = maybe_list (begins (word words.Preamble)) (after_dropped (expect (word words.Preamble)) (closed (preambles None) (expect (word words.End))))

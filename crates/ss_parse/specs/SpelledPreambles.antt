@@ -11,11 +11,11 @@ use Rattle.ss_tree.specs.declared.preamble.Weighting.{Weighting}
 use Rattle.ss_tree.specs.declared.preamble.Weighting.TheVariants as weightings
 use Rattle.ss_tree.specs.declared.preamble.Statistic.{Statistic}
 use Rattle.ss_tree.specs.Tree.{ClauseTree, has, owns, belongs_to, OrderTree, fifo, lifo, ranked, PreambleTree, permanent_entities, temporary_entities, event_notices, every, normally, system_owns, define_variables, define_sets, priority_order, break_ties, statistics}
-use Rattle.ss_parse_expressions.specs.declared.classes.Class.TheVariants as alike
-use Rattle.ss_parse_expressions.specs.Shapes.{Shape, ◌▷◌, nothing, optional, provided, Word_is, Name_is, Word_for, first_and, listed, at}
+use Rattle.ss_parse_expressions.specs.declared.classes.WordClass.TheVariants as alike
+use Rattle.ss_parse_expressions.specs.Shapes.{Shape, ◌▷◌, nothing, optional, provided, Word_is, Name_is, Word_for, first_and_each, separated_list, at}
 use Rattle.ss_parse_expressions.specs.Words.{One_of, the, Item_is, perhaps_listed}
 use Rattle.ss_parse_statements.specs.SpelledStatements.{noisy}
-use Rattle.ss_parse_expressions.specs.WordTables.{mode_of, rank_of, statistic_of}
+use Rattle.ss_parse_expressions.specs.WordTables.{mode_of_word, rank_of, statistic_of}
 
 -- ---- parts
 
@@ -24,19 +24,19 @@ Key_is key = Word_for rank_of key.high ▷ Name_is key.name
 
 -- keys, the further ones after THEN BY
 abbrev pub Keys_are : List Key → Shape
-Keys_are = first_and Key_is (λ key. noisy words.Then ▷ Word_is words.By ▷ Key_is key)
+Keys_are = first_and_each Key_is (λ key. noisy words.Then ▷ Word_is words.By ▷ Key_is key)
 
 abbrev pub Statistic_is : Statistic → Shape
 Statistic_is s = Name_is s.name ▷ Word_is words.As ▷ the ▷ Word_for statistic_of s.kind
 
 abbrev pub Clause_is : ClauseTree → Shape
-Clause_is (has names) = Word_is words.Has ▷ listed Item_is names
-Clause_is (owns names) = Word_is words.Owns ▷ listed Item_is names
-Clause_is (belongs_to names) = Word_is words.May ▷ Word_is words.Belong ▷ Word_is words.To ▷ listed Item_is names
+Clause_is (has names) = Word_is words.Has ▷ separated_list Item_is names
+Clause_is (owns names) = Word_is words.Owns ▷ separated_list Item_is names
+Clause_is (belongs_to names) = Word_is words.May ▷ Word_is words.Belong ▷ Word_is words.To ▷ separated_list Item_is names
 
 abbrev pub Clauses_are : List ClauseTree → Shape
 Clauses_are [] = nothing
-Clauses_are (c ∷ cs) = listed Clause_is (c ∷ cs)
+Clauses_are (c ∷ cs) = separated_list Clause_is (c ∷ cs)
 
 -- how a set is ordered: FIFO where the text doesn't say
 abbrev pub Order_is : OrderTree → Shape
@@ -50,7 +50,7 @@ article = optional (One_of alike.Article)
 
 -- names and their mode, after DEFINE
 abbrev pub Variables_are : List (List ℕ) × Mode → Shape
-Variables_are p = listed Name_is p.0 ▷ Word_is words.As ▷ article ▷ Word_for mode_of p.1 ▷ Word_is words.Variable
+Variables_are p = separated_list Name_is p.0 ▷ Word_is words.As ▷ article ▷ Word_for mode_of_word p.1 ▷ Word_is words.Variable
 
 -- ---- statements of a preamble
 
@@ -92,13 +92,13 @@ Preamble_rest group (permanent_entities line) = Word_is words.Entities
 Preamble_rest group (temporary_entities line) = Word_is words.Entities
 Preamble_rest group (event_notices line included) = Word_is words.Notices ▷ perhaps_listed (Word_is words.Include) Name_is included
 Preamble_rest group (every line kind class clauses) = provided (group ≡ Some kind) (Name_is class ▷ Clauses_are clauses)
-Preamble_rest group (normally line mode) = noisy words.Mode ▷ Word_is words.Is ▷ Word_for mode_of mode
-Preamble_rest group (system_owns line sets) = Word_is words.System ▷ Word_is words.Owns ▷ listed Item_is sets
+Preamble_rest group (normally line mode) = noisy words.Mode ▷ Word_is words.Is ▷ Word_for mode_of_word mode
+Preamble_rest group (system_owns line sets) = Word_is words.System ▷ Word_is words.Owns ▷ separated_list Item_is sets
 Preamble_rest group (define_variables line names mode) = Variables_are (names, mode)
-Preamble_rest group (define_sets line names order) = listed Name_is names ▷ Word_is words.As ▷ article ▷ Order_is order
-Preamble_rest group (priority_order line classes) = Word_is words.Order ▷ Word_is words.Is ▷ listed Name_is classes
+Preamble_rest group (define_sets line names order) = separated_list Name_is names ▷ Word_is words.As ▷ article ▷ Order_is order
+Preamble_rest group (priority_order line classes) = Word_is words.Order ▷ Word_is words.Is ▷ separated_list Name_is classes
 Preamble_rest group (break_ties line class keys) = Name_is class ▷ Word_is words.Ties ▷ Word_is words.By ▷ Keys_are keys
-Preamble_rest group (statistics line weighting found subject) = listed Statistic_is found ▷ Word_is words.Of ▷ Name_is subject
+Preamble_rest group (statistics line weighting found subject) = separated_list Statistic_is found ▷ Word_is words.Of ▷ Name_is subject
 
 -- a statement in a group of this kind, or before the first group
 abbrev pub Preamble_from : Option ClassKind → PreambleTree → Shape

@@ -5,7 +5,7 @@ use Rattle.ss_lex.specs.declared.word.Word.{Word}
 use Rattle.ss_lex.specs.declared.word.Word.TheVariants as words
 use Rattle.ss_tree.specs.Tree.{DefinitionTree, SectionKindTree, main, routine, event, SectionTree, ProgramTree}
 use Rattle.ss_parse_expressions.specs.Shapes.{Shape, ◌▷◌, nothing, optional, Word_is, Name_is, each, flagged, at}
-use Rattle.ss_parse_expressions.specs.declared.classes.Class.TheVariants as alike
+use Rattle.ss_parse_expressions.specs.declared.classes.WordClass.TheVariants as alike
 use Rattle.ss_parse_expressions.specs.Words.{One_of, the, perhaps_listed}
 use Rattle.ss_parse_statements.specs.SpelledStatements.{Statement_is}
 use Rattle.ss_parse.specs.SpelledPreambles.{Variables_are, Whole_preamble}

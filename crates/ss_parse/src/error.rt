@@ -1,7 +1,7 @@
 //! Why tokens spell no program.
 
 ghost use Rattle.std.specs.Prelude.{◌≡◌};
-ghost use Rattle.ss_parse.specs.Errors.{error_number, error_name, error_line};
+ghost use Rattle.ss_parse.specs.Errors.{parse_error_number, parse_error_name, parse_error_line};
 
 use ss_base::Line;
 use thiserror::Error;
@@ -22,7 +22,7 @@ pub enum ParseError {
 impl ParseError {
     /// The number that the refusal is reported by, 41 or 42; 0 where memory ran out.
     pub fn number(&self) -> u32
-        ensures { result ≡ error_number self.now }
+        ensures { result ≡ parse_error_number self.now }
     {
         match self {
             ParseError::Syntax(_) => 41,
@@ -33,7 +33,7 @@ impl ParseError {
 
     /// The name that the refusal is reported by.
     pub fn name(&self) -> &str
-        ensures { result.now ≡ error_name self.now }
+        ensures { result.now ≡ parse_error_name self.now }
     {
         match self {
             ParseError::Syntax(_) => "Syntax",
@@ -44,7 +44,7 @@ impl ParseError {
 
     /// The line that the refusal is reported with; 0 where memory ran out.
     pub fn line(&self) -> Line
-        ensures { result ≡ error_line self.now }
+        ensures { result ≡ parse_error_line self.now }
     {
         match self {
             ParseError::Syntax(line) | ParseError::TooDeep(line) => *line,

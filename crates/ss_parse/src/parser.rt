@@ -9,7 +9,7 @@ use crate::error::ParseError;
 use crate::reading::programs::program;
 use ss_base::Line;
 use ss_lex::{Token, Tokens};
-use ss_parse_expressions::failure::{Failure, Fault};
+use ss_parse_expressions::failure::{Failure, ParseFault};
 use ss_tree::program::Program;
 use std::alloc::Global;
 
@@ -40,8 +40,8 @@ pub fn parse(alloc: Global, tokens: &Tokens) -> Result<Program, ParseError>
         Err(Failure::Refused(fault, left)) => {
             let line = line_of(list, list.len().saturating_sub(left));
             match fault {
-                Fault::Syntax => Err(ParseError::Syntax(line)),
-                Fault::TooDeep => Err(ParseError::TooDeep(line)),
+                ParseFault::Syntax => Err(ParseError::Syntax(line)),
+                ParseFault::TooDeep => Err(ParseError::TooDeep(line)),
             }
         }
     }

@@ -15,13 +15,13 @@ use Rattle.ss_parse_expressions.specs.declared.conditions.Verb.{Verb}
 use Rattle.ss_parse_expressions.specs.declared.conditions.Verb.TheVariants as verbs
 use Rattle.ss_parse_expressions.specs.declared.conditions.TestWord.{TestWord}
 use Rattle.ss_parse_expressions.specs.declared.conditions.TestWord.TheVariants as test_words
-use Rattle.ss_parse_expressions.specs.Shapes.{Shape, ◌▷◌, nothing, never, optional, provided, Token_is, Word_is, Name_is, Word_for, flagged, within}
+use Rattle.ss_parse_expressions.specs.Shapes.{Shape, ◌▷◌, nothing, never, optional, provided, Token_is, Word_is, Name_is, Word_for, flagged, nested_shape}
 use Rattle.ss_parse_expressions.specs.Words.{the}
 use Rattle.ss_parse_expressions.specs.SpelledExpressions.{sum_place, Spelled, Sum_is, Plain_name, Subscript, Reference_is}
-use Rattle.ss_parse_expressions.specs.SpelledConditions.{In_words, Relation_is, Test_is, joined}
+use Rattle.ss_parse_expressions.specs.SpelledConditions.{In_words, Relation_is, Test_is, joined_by_word}
 use Rattle.ss_parse_expressions.specs.WordTables.{relation_of}
-use Rattle.ss_parse_expressions.specs.Reading.{word, is, begins, begins_by, skip, in_table, taken, seq, closed, choose}
-use Rattle.ss_parse_expressions.specs.ReadWords.{present}
+use Rattle.ss_parse_expressions.specs.Reading.{word, is, begins, begins_by, skip, in_table, taken, seq, closed, choose_reader}
+use Rattle.ss_parse_expressions.specs.ReadWords.{if_present}
 use Rattle.ss_parse_expressions.specs.ReadExpressions.{opening, star, begins_sign, begins_value, begins_sum, sum_in}
 use Rattle.ss_parse_expressions.specs.ReadPlaces.{reference_in}
 use Rattle.ss_parse_expressions.specs.ReadConditions.{relation_symbol, test_word_of, verb_end, worded_verb, verb, reference_of, empty_of, data_test, test_end, sum_test, test_in, conjunction_in, condition_in}
@@ -82,7 +82,7 @@ Verb_is (verbs.IsIn negated) = Word_is words.Is ▷ flagged (Word_is words.Not) 
 abbrev Verb_words : Bool × (Bool × TestWord) → Shape
 Verb_words p = flagged (Word_is words.Is) p.0 ▷ flagged (Word_is words.Not) p.1.0 ▷ Test_word_is p.1.1
 
-verb_words_reads : (k : ℕ) → Reads k (seq (present (word words.Is)) (seq (present (word words.Not)) (taken (in_table test_word_of)))) (seq (present (word words.Is)) (seq (present (word words.Not)) (taken (in_table test_word_of)))) Verb_words continues_never
+verb_words_reads : (k : ℕ) → Reads k (seq (if_present (word words.Is)) (seq (if_present (word words.Not)) (taken (in_table test_word_of)))) (seq (if_present (word words.Is)) (seq (if_present (word words.Not)) (taken (in_table test_word_of)))) Verb_words continues_never
 verb_words_reads k = seq_reads (present_reads k (word words.Is)) (seq_reads (present_reads k (word words.Not)) (reshaped_reads (word_in_reads k test_word_of) Test_word_is test_word_to test_word_from) no_not) no_is
   where
     no_not : (t : TestWord) (ts rest : List Token) → Test_word_is t ts rest → continues_never rest ≡ false → begins (word words.Not) ts ≡ false
@@ -308,7 +308,7 @@ module _ (n m : ℕ) (le : n ≤ m) where
   test_from (member x set negated) ts rest (a, s, (b, i, (c, neg, (d, at, t)))) = inr (sum_no_data ts (in_begins (suc n) ts x a s), ((x, verbs.IsIn negated), (d, (a, s, (b, i, (c, neg, at))), (set, refl, t))))
   test_from (data_ended negated) ts rest (a, d, (b, i, s)) = inl (a, d, (b, i, (negated, refl, s)))
 
-  test_reads : Reads (suc n) (choose (begins (word words.Data)) data_test (sum_test (suc n))) (choose (begins (word words.Data)) data_test (sum_test (suc m))) (λ x. Test_is n x) continues_sum
+  test_reads : Reads (suc n) (choose_reader (begins (word words.Data)) data_test (sum_test (suc n))) (choose_reader (begins (word words.Data)) data_test (sum_test (suc m))) (λ x. Test_is n x) continues_sum
   test_reads = choose_reads data_item sum_test_reads data_to sum_test_to test_from
 
   pub test_less : (ts : List Token) (x : TestTree) (rest : List Token) → Test_is n x ts rest → length rest < length ts
@@ -324,7 +324,7 @@ module _ (n m : ℕ) (le : n ≤ m) where
 -- ---- at each level
 
 abbrev pub In_test : ℕ → TestTree → Shape
-In_test room x = within (λ l. Test_is l x) room
+In_test room x = nested_shape (λ l. Test_is l x) room
 
 pub in_test_less : (n : ℕ) (ts : List Token) (x : TestTree) (rest : List Token) → In_test n x ts rest → length rest < length ts
 in_test_less zero ts x rest s = absurd s
@@ -339,10 +339,10 @@ test_in_reads (suc n) (suc m) le = test_reads n m (omega arith)
 -- ---- conditions
 
 abbrev pub In_conjunction : ℕ → List TestTree → Shape
-In_conjunction room = joined words.And (In_test room)
+In_conjunction room = joined_by_word words.And (In_test room)
 
 abbrev pub In_condition : ℕ → ConditionTree → Shape
-In_condition room = joined words.Or (In_conjunction room)
+In_condition room = joined_by_word words.Or (In_conjunction room)
 
 abbrev continues_conjunction : List Token → Bool
 continues_conjunction ts = begins (word words.And) ts || (continues_sum ts || continues_sum ts)

@@ -14,12 +14,12 @@ use Rattle.ss_tree.specs.declared.expression.Function.{Function}
 use Rattle.ss_tree.specs.declared.expression.Designator.{Designator}
 use Rattle.ss_tree.specs.declared.expression.Designator.TheVariants as designators
 use Rattle.ss_tree.specs.Tree.{ExpressionTree, number, text, named, call, parenthesised, product, signed, sum, ExpressionRow, no_expression, and_expression, expression_row, TermRow, no_term, and_term, term_row}
-use Rattle.ss_parse_expressions.specs.Shapes.{Shape, ◌▷◌, nothing, never, Token_is, Symbol_is, Word_for, separator, each, listed, within}
-use Rattle.ss_parse_expressions.specs.SpelledExpressions.{Place, sum_place, first_place, term_place, factor_place, Sign_is, Designated, Spelled, Further_arguments, Further_factors, Further_terms}
+use Rattle.ss_parse_expressions.specs.Shapes.{Shape, ◌▷◌, nothing, never, Token_is, Symbol_is, Word_for, separator, each, separated_list, nested_shape}
+use Rattle.ss_parse_expressions.specs.SpelledExpressions.{ExpressionPlace, sum_place, first_place, term_place, factor_place, Sign_is, Designated, Spelled, Further_arguments, Further_factors, Further_terms}
 use Rattle.ss_parse_expressions.specs.WordTables.{function_of}
 use Rattle.ss_parse_expressions.specs.Openers.{opens, openers}
 use Rattle.ss_parse_expressions.specs.Reading.{word, is, is_some, begins, skip, taken, seq, apply, skip_separator, begins_more}
-use Rattle.ss_parse_expressions.specs.ReadExpressions.{opening, closing, star, sign_of, begins_sign, designator_of_word, begins_value, begins_sum, sum_of, product_of, arguments_with, enclosed_with, subscripts_with, named_with, call_with, parenthesised_with, factor_in_words, factor_at, factor_with, further_factors_with, term_with, signed_term_with, first_term_with, further_terms_with, sum_with, sum_in}
+use Rattle.ss_parse_expressions.specs.ReadExpressions.{opening, closing, star, sign_of_token, begins_sign, designator_of_word, begins_value, begins_sum, sum_of_terms, product_of, arguments_with, enclosed_with, subscripts_with, named_with, call_with, parenthesised_with, factor_in_words, factor_at, factor_with, further_factors_with, term_with, signed_term_with, first_term_with, further_terms_with, sum_with, sum_in}
 use Rattle.ss_parse_expressions.proofs.Tools.{bind_ok, carry, or_false}
 use Rattle.ss_parse_expressions.proofs.Marks.{token, mark_begins, token_less, In_table}
 use Rattle.ss_parse_expressions.proofs.Depth.{Upto, upto_same, upto_bind, Bounded, bounded_more, bounded_bind, bounded_opened}
@@ -170,7 +170,7 @@ sum_begins e levels ts rest s =
 
 -- an expression within one level more
 abbrev pub In : ℕ → ExpressionTree → Shape
-In levels e = within (λ l. Spelled e sum_place l) levels
+In levels e = nested_shape (λ l. Spelled e sum_place l) levels
 
 pub in_begins : (levels : ℕ) (ts : List Token) (e : ExpressionTree) (rest : List Token) → In levels e ts rest → begins_sum ts ≡ true
 in_begins zero ts e rest s = absurd s
@@ -202,27 +202,27 @@ continues_sum ts = begins_sign ts || continues_term ts
 
 -- ---- tables
 
-sign_to : (sign : Sign) (ts rest : List Token) → In_table sign_of sign ts rest → Sign_is sign ts rest
+sign_to : (sign : Sign) (ts rest : List Token) → In_table sign_of_token sign ts rest → Sign_is sign ts rest
 sign_to sign ts rest (k, takes, at) = go k takes at
   where
-    go : (k : TokenKind) → sign_of k ≡ Some sign → Token_is k ts rest → Sign_is sign ts rest
+    go : (k : TokenKind) → sign_of_token k ≡ Some sign → Token_is k ts rest → Sign_is sign ts rest
     go (kinds.Symbol Plus) e at = let is_plus : signs.Plus ≡ sign = cc in subst (λ s. Sign_is s ts rest) is_plus at
     go (kinds.Symbol Minus) e at = let is_minus : signs.Minus ≡ sign = cc in subst (λ s. Sign_is s ts rest) is_minus at
     go _ e at = absurd cc
 
-sign_from : (sign : Sign) (ts rest : List Token) → Sign_is sign ts rest → In_table sign_of sign ts rest
+sign_from : (sign : Sign) (ts rest : List Token) → Sign_is sign ts rest → In_table sign_of_token sign ts rest
 sign_from signs.Plus ts rest at = (kinds.Symbol Plus, refl, at)
 sign_from signs.Minus ts rest at = (kinds.Symbol Minus, refl, at)
 
 -- ---- arguments in parentheses
 
 abbrev Enclosed : ℕ → List ExpressionTree → Shape
-Enclosed n xs = Symbol_is OpenParenthesis ▷ listed (In n) xs ▷ Symbol_is CloseParenthesis
+Enclosed n xs = Symbol_is OpenParenthesis ▷ separated_list (In n) xs ▷ Symbol_is CloseParenthesis
 
 -- arguments in parentheses, as a row of the tree
 abbrev Enclosed_row : ℕ → ExpressionRow → Shape
 Enclosed_row n no_expression = never
-Enclosed_row n (and_expression e es) = Symbol_is OpenParenthesis ▷ within (λ l. Spelled e sum_place l ▷ Further_arguments es l) n ▷ Symbol_is CloseParenthesis
+Enclosed_row n (and_expression e es) = Symbol_is OpenParenthesis ▷ nested_shape (λ l. Spelled e sum_place l ▷ Further_arguments es l) n ▷ Symbol_is CloseParenthesis
 
 enclosed_to : (n : ℕ) (xs : List ExpressionTree) (ts rest : List Token) → Enclosed n xs ts rest → Enclosed_row n (expression_row xs) ts rest
 enclosed_to n [] ts rest (a, opened, (b, nothing_there, close)) = absurd nothing_there
@@ -249,11 +249,11 @@ subscripts_from : (n : ℕ) (xs : List ExpressionTree) (ts rest : List Token) �
 subscripts_from n [] ts rest e = inl (refl, e)
 subscripts_from n (x ∷ xs) ts rest s = inr s
 
-named_to : (d : Designator) (n : ℕ) (xs : List ExpressionTree) (place : Place) (ts a rest : List Token) → Designated d ts a → Subscripts n xs a rest → Spelled (named d (expression_row xs)) place n ts rest
+named_to : (d : Designator) (n : ℕ) (xs : List ExpressionTree) (place : ExpressionPlace) (ts a rest : List Token) → Designated d ts a → Subscripts n xs a rest → Spelled (named d (expression_row xs)) place n ts rest
 named_to d n [] place ts a rest at e = subst (λ r. Designated d ts r) e at
 named_to d n (x ∷ xs) place ts a rest at s = (a, at, enclosed_to n (x ∷ xs) a rest s)
 
-named_from : (d : Designator) (n : ℕ) (es : ExpressionRow) (place : Place) (ts rest : List Token) → Spelled (named d es) place n ts rest → (xs : List ExpressionTree) × (expression_row xs ≡ es) × (Designated d ▷ Subscripts n xs) ts rest
+named_from : (d : Designator) (n : ℕ) (es : ExpressionRow) (place : ExpressionPlace) (ts rest : List Token) → Spelled (named d es) place n ts rest → (xs : List ExpressionTree) × (expression_row xs ≡ es) × (Designated d ▷ Subscripts n xs) ts rest
 named_from d n no_expression place ts rest s = ([], refl, (rest, s, refl))
 named_from d n (and_expression e es) place ts rest (a, at, s) =
     let found = enclosed_from n (and_expression e es) a rest s in
@@ -263,11 +263,11 @@ named_from d n (and_expression e es) place ts rest (a, at, s) =
     go [] is s = absurd cc
     go (x ∷ xs) is s = s
 
-call_to : (f : Function) (n : ℕ) (xs : List ExpressionTree) (place : Place) (ts a rest : List Token) → Word_for function_of f ts a → Enclosed n xs a rest → Spelled (call f (expression_row xs)) place n ts rest
+call_to : (f : Function) (n : ℕ) (xs : List ExpressionTree) (place : ExpressionPlace) (ts a rest : List Token) → Word_for function_of f ts a → Enclosed n xs a rest → Spelled (call f (expression_row xs)) place n ts rest
 call_to f n [] place ts a rest at (b, opened, (c, nothing_there, close)) = absurd nothing_there
 call_to f n (x ∷ xs) place ts a rest at s = (a, at, enclosed_to n (x ∷ xs) a rest s)
 
-call_from : (f : Function) (n : ℕ) (es : ExpressionRow) (place : Place) (ts rest : List Token) → Spelled (call f es) place n ts rest → (xs : List ExpressionTree) × (expression_row xs ≡ es) × (Word_for function_of f ▷ Enclosed n xs) ts rest
+call_from : (f : Function) (n : ℕ) (es : ExpressionRow) (place : ExpressionPlace) (ts rest : List Token) → Spelled (call f es) place n ts rest → (xs : List ExpressionTree) × (expression_row xs ≡ es) × (Word_for function_of f ▷ Enclosed n xs) ts rest
 call_from f n no_expression place ts rest s = absurd s
 call_from f n (and_expression e es) place ts rest (a, at, s) =
     let found = enclosed_from n (and_expression e es) a rest s in
@@ -295,7 +295,7 @@ function_no_designator _ f e = refl
 -- ---- the laws of an expression, given those of what is in its parentheses
 
 module _ (n m : ℕ) (inner : Reads n (sum_in n) (sum_in m) (In n) continues_sum) (inner_less : (ts : List Token) (e : ExpressionTree) (rest : List Token) → In n e ts rest → length rest < length ts) where
-  pub arguments_reads : Reads n (arguments_with (sum_in n)) (arguments_with (sum_in m)) (listed (In n)) (λ ts. begins_more begins_sum ts || (continues_sum ts || continues_sum ts))
+  pub arguments_reads : Reads n (arguments_with (sum_in n)) (arguments_with (sum_in m)) (separated_list (In n)) (λ ts. begins_more begins_sum ts || (continues_sum ts || continues_sum ts))
   arguments_reads = list_reads inner begins_sum (in_begins n) sum_no_and inner_less (λ span line ts. refl) (λ span line ts. refl)
 
   enclosed_reads : Reads (suc n) (enclosed_with (sum_in n)) (enclosed_with (sum_in m)) (Enclosed n) continues_never
@@ -511,9 +511,9 @@ module _ (n m : ℕ) (inner : Reads n (sum_in n) (sum_in m) (In n) continues_sum
   unfolding signed_term_with
   signed_term_reads = seq_reads sign_reads term_reads (λ x ts rest s stop. refl)
     where
-      sign_reads : Reads (suc n) (taken sign_of) (taken sign_of) Sign_is continues_never
+      sign_reads : Reads (suc n) (taken sign_of_token) (taken sign_of_token) Sign_is continues_never
       sign_reads =
-          let law = taken_reads (suc n) sign_of in
+          let law = taken_reads (suc n) sign_of_token in
           record { sound = λ ts x rest e. sign_to x ts rest (law.sound ts x rest e); complete = λ ts x rest s stop. law.complete ts x rest (sign_from x ts rest s) stop; shorter = λ ts x rest s. law.shorter ts x rest (sign_from x ts rest s); under = law.under; opening = law.opening }
 
   signed_term_less : (ts : List Token) (x : Sign × ExpressionTree) (rest : List Token) → Term_is n x ts rest → length rest < length ts
@@ -588,18 +588,18 @@ module _ (n m : ℕ) (inner : Reads n (sum_in n) (sum_in m) (In n) continues_sum
   as_sum (sum e no_term) ts rest s = s
   as_sum (sum e (and_term sign f fs)) ts rest s = absurd s.0
 
-  sum_to : (p : ExpressionTree × List (Sign × ExpressionTree)) (ts rest : List Token) → (Spelled p.0 first_place n ▷ each (Term_is n) p.1) ts rest → Spelled (sum_of p.0 p.1) sum_place n ts rest
+  sum_to : (p : ExpressionTree × List (Sign × ExpressionTree)) (ts rest : List Token) → (Spelled p.0 first_place n ▷ each (Term_is n) p.1) ts rest → Spelled (sum_of_terms p.0 p.1) sum_place n ts rest
   sum_to (e, []) ts rest (m, one, is) = as_sum e ts rest (subst (λ r. Spelled e first_place n ts r) is one)
   sum_to (e, f ∷ fs) ts rest (m, one, more) = (tt, (m, one, further_terms n (f ∷ fs) m rest more))
 
-  sum_from : (x : ExpressionTree) (ts rest : List Token) → Spelled x sum_place n ts rest → (p : ExpressionTree × List (Sign × ExpressionTree)) × (sum_of p.0 p.1 ≡ x) × (Spelled p.0 first_place n ▷ each (Term_is n) p.1) ts rest
+  sum_from : (x : ExpressionTree) (ts rest : List Token) → Spelled x sum_place n ts rest → (p : ExpressionTree × List (Sign × ExpressionTree)) × (sum_of_terms p.0 p.1 ≡ x) × (Spelled p.0 first_place n ▷ each (Term_is n) p.1) ts rest
   sum_from x ts rest s =
       elim (sum_cases x n ts rest s) [
         | inl p ↦ go p.0 p.1 p.2 p.3.0 p.3.1
         | inr f ↦ ((x, []), refl, (rest, f, refl))
       ]
     where
-      go : (f : ExpressionTree) (fs : TermRow) → x ≡ sum f fs → (fs ≡ no_term → ⊥) → (Spelled f first_place n ▷ Further_terms fs n) ts rest → (p : ExpressionTree × List (Sign × ExpressionTree)) × (sum_of p.0 p.1 ≡ x) × (Spelled p.0 first_place n ▷ each (Term_is n) p.1) ts rest
+      go : (f : ExpressionTree) (fs : TermRow) → x ≡ sum f fs → (fs ≡ no_term → ⊥) → (Spelled f first_place n ▷ Further_terms fs n) ts rest → (p : ExpressionTree × List (Sign × ExpressionTree)) × (sum_of_terms p.0 p.1 ≡ x) × (Spelled p.0 first_place n ▷ each (Term_is n) p.1) ts rest
       go f no_term is some s = absurd (some refl)
       go f (and_term sign e es) is some (m, one, (a, sign_is, (b, next, more))) =
           let found = terms_listed n es b rest more in
@@ -607,7 +607,7 @@ module _ (n m : ℕ) (inner : Reads n (sum_in n) (sum_in m) (In n) continues_sum
 
   pub sum_with_reads : Reads (suc n) (sum_with (sum_in n)) (sum_with (sum_in m)) (λ e. Spelled e sum_place n) continues_sum
   unfolding sum_with
-  sum_with_reads = apply_reads terms_reads (λ p. sum_of p.0 p.1) (λ e. Spelled e sum_place n) sum_to sum_from
+  sum_with_reads = apply_reads terms_reads (λ p. sum_of_terms p.0 p.1) (λ e. Spelled e sum_place n) sum_to sum_from
 
   first_less : (ts : List Token) (x : ExpressionTree) (rest : List Token) → Spelled x first_place n ts rest → length rest < length ts
   first_less ts x rest s =

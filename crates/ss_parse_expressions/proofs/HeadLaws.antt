@@ -9,13 +9,13 @@ use Rattle.ss_lex.specs.declared.token.Token.{Token}
 use Rattle.ss_tree.specs.declared.head.PhraseKind.{PhraseKind}
 use Rattle.ss_tree.specs.declared.head.GuardKind.{GuardKind}
 use Rattle.ss_tree.specs.Tree.{ExpressionTree, NamedTree, ConditionTree, PhraseTree, GuardTree, StartTree, from_end, from_member, after_member, HeadTree, over_range, over_members, over_class, LoopHeadTree, guarded}
-use Rattle.ss_parse_expressions.specs.declared.classes.Class.TheVariants as classes
-use Rattle.ss_parse_expressions.specs.Shapes.{Shape, ◌▷◌, nothing, either, provided, noise, Word_is, Symbol_is, Name_is, Word_for, each, perhaps, flagged}
+use Rattle.ss_parse_expressions.specs.declared.classes.WordClass.TheVariants as classes
+use Rattle.ss_parse_expressions.specs.Shapes.{Shape, ◌▷◌, nothing, either_shape, provided, noise, Word_is, Symbol_is, Name_is, Word_for, each, perhaps, flagged}
 use Rattle.ss_parse_expressions.specs.Words.{One_of, the}
 use Rattle.ss_parse_expressions.specs.SpelledExpressions.{Sum_is, Reference_is}
 use Rattle.ss_parse_expressions.specs.SpelledConditions.{Start_is, Head_rest}
 use Rattle.ss_parse_expressions.specs.WordTables.{phrase_of, guard_of}
-use Rattle.ss_parse_expressions.specs.Reading.{word, symbol, is, is_some, begins, expect, in_table, following, apply, choose, comma, skip_comma}
+use Rattle.ss_parse_expressions.specs.Reading.{word, symbol, is, is_some, begins, expect, in_table, after_dropped, apply, choose_reader, comma, skip_comma}
 use Rattle.ss_parse_expressions.specs.ReadWords.{done, begins_class, begins_among}
 use Rattle.ss_parse_expressions.specs.ReadExpressions.{sum_in}
 use Rattle.ss_parse_expressions.specs.ReadHeads.{phrase_tree, guard_tree, begins_phrase, begins_guard, phrase_in, guard_in, phrases_in, guards_in, step_in, range_tree, range_in, start_in, reverse, members_tree, members_in, class_tree, class_in, each_named, each_in, for_in, guarded_in}
@@ -214,13 +214,13 @@ module _ (n m : ℕ) (le : n ≤ m) where
       let c : continues_sum ts ≡ false = no_sum ts stop in
       rw (a, b, c) refl
 
-  after_reads : Reads (suc n) (choose (begins (word words.After)) (apply after_member (following (expect (word words.After)) (sum_in (suc n)))) (done from_end)) (choose (begins (word words.After)) (apply after_member (following (expect (word words.After)) (sum_in (suc m)))) (done from_end)) (λ x. either (Made after_member (λ e. Word_is words.After ▷ Sum_is n e) x) (provided (from_end ≡ x) nothing)) (λ ts. begins (word words.After) ts || continues_sum ts)
+  after_reads : Reads (suc n) (choose_reader (begins (word words.After)) (apply after_member (after_dropped (expect (word words.After)) (sum_in (suc n)))) (done from_end)) (choose_reader (begins (word words.After)) (apply after_member (after_dropped (expect (word words.After)) (sum_in (suc m)))) (done from_end)) (λ x. either_shape (Made after_member (λ e. Word_is words.After ▷ Sum_is n e) x) (provided (from_end ≡ x) nothing)) (λ ts. begins (word words.After) ts || continues_sum ts)
   after_reads =
       either_reads (item_made (word words.After) room_sum after_member) (done_reads (suc n) from_end) (λ ts. begins (word words.After) ts || continues_sum ts)
       (λ ts stop. ((or_false (begins (word words.After) ts) (continues_sum ts) stop).1, refl))
       (λ x ts rest s stop. ap (begins (word words.After)) s.1 ∙ (or_false (begins (word words.After) rest) (continues_sum rest) stop).0)
 
-  after_late : (x : StartTree) (ts rest : List Token) → either (Made after_member (λ e. Word_is words.After ▷ Sum_is n e) x) (provided (from_end ≡ x) nothing) ts rest → continues_start rest ≡ false → begins (word words.From) ts ≡ false
+  after_late : (x : StartTree) (ts rest : List Token) → either_shape (Made after_member (λ e. Word_is words.After ▷ Sum_is n e) x) (provided (from_end ≡ x) nothing) ts rest → continues_start rest ≡ false → begins (word words.From) ts ≡ false
   after_late x ts rest (inl (e, is, (a, (span, line, f), s))) stop = ap (begins (word words.From)) f
   after_late x ts rest (inr (is, e)) stop = ap (begins (word words.From)) e ∙ (or_false (begins (word words.From) rest) _ stop).0
 
@@ -231,12 +231,12 @@ module _ (n m : ℕ) (le : n ≤ m) where
       (λ ts stop. let both = or_false (begins (word words.From) ts) (begins (word words.After) ts || continues_sum ts) stop in ((or_false (begins (word words.After) ts) (continues_sum ts) both.1).1, both.1))
       after_late) (Start_is n) to from
     where
-      to : (x : StartTree) (ts rest : List Token) → either (Made from_member (λ e. Word_is words.From ▷ Sum_is n e) x) (either (Made after_member (λ e. Word_is words.After ▷ Sum_is n e) x) (provided (from_end ≡ x) nothing)) ts rest → Start_is n x ts rest
+      to : (x : StartTree) (ts rest : List Token) → either_shape (Made from_member (λ e. Word_is words.From ▷ Sum_is n e) x) (either_shape (Made after_member (λ e. Word_is words.After ▷ Sum_is n e) x) (provided (from_end ≡ x) nothing)) ts rest → Start_is n x ts rest
       to x ts rest (inl (e, is, s)) = subst (λ x. Start_is n x ts rest) is s
       to x ts rest (inr (inl (e, is, s))) = subst (λ x. Start_is n x ts rest) is s
       to x ts rest (inr (inr (is, s))) = subst (λ x. Start_is n x ts rest) is s
 
-      from : (x : StartTree) (ts rest : List Token) → Start_is n x ts rest → either (Made from_member (λ e. Word_is words.From ▷ Sum_is n e) x) (either (Made after_member (λ e. Word_is words.After ▷ Sum_is n e) x) (provided (from_end ≡ x) nothing)) ts rest
+      from : (x : StartTree) (ts rest : List Token) → Start_is n x ts rest → either_shape (Made from_member (λ e. Word_is words.From ▷ Sum_is n e) x) (either_shape (Made after_member (λ e. Word_is words.After ▷ Sum_is n e) x) (provided (from_end ≡ x) nothing)) ts rest
       from from_end ts rest s = inr (inr (refl, s))
       from (from_member e) ts rest s = inl (e, refl, s)
       from (after_member e) ts rest s = inr (inl (e, refl, s))
@@ -293,7 +293,7 @@ module _ (n m : ℕ) (le : n ≤ m) where
   class_late v x ts rest ((Some c, ps), is, (a, (b, (span, line, e), s), t)) stop = ap (begins (word words.In)) e
 
   abbrev Named_parts : List ℕ → HeadTree → Shape
-  Named_parts v x = either (Made (members_tree v) Members_parts x) (Made (class_tree v) Class_parts x)
+  Named_parts v x = either_shape (Made (members_tree v) Members_parts x) (Made (class_tree v) Class_parts x)
 
   named_reads : (v : List ℕ) → Reads (suc n) (each_named (suc n) v) (each_named (suc m) v) (Named_parts v) continues_for
   named_reads v = either_reads (members_item v) (class_reads v) continues_for (λ ts stop. (stop, stop)) (class_late v)
@@ -315,12 +315,12 @@ module _ (n m : ℕ) (le : n ≤ m) where
   range_late : (x : HeadTree) (ts rest : List Token) → Made range_tree Range_parts x ts rest → continues_for rest ≡ false → begins_class classes.Each ts ≡ false
   range_late x ts rest (p, is, (a, (span, line, e), s)) stop = ap (begins_class classes.Each) e
 
-  for_to : (x : HeadTree) (ts rest : List Token) → either (Each_parts x) (Made range_tree Range_parts x) ts rest → Head_rest n x ts rest
+  for_to : (x : HeadTree) (ts rest : List Token) → either_shape (Each_parts x) (Made range_tree Range_parts x) ts rest → Head_rest n x ts rest
   for_to x ts rest (inl (a, e, (v, (b, name, inl (p, is, (c, i, (d, s, t))))))) = subst (λ x. Head_rest n x ts rest) is (a, e, (b, name, (c, i, (s.0, s.1, (d, s.2, t)))))
   for_to x ts rest (inl (a, e, (v, (b, name, inr (p, is, s))))) = subst (λ x. Head_rest n x ts rest) is (a, e, (b, name, s))
   for_to x ts rest (inr (p, is, s)) = subst (λ x. Head_rest n x ts rest) is s
 
-  for_from : (x : HeadTree) (ts rest : List Token) → Head_rest n x ts rest → either (Each_parts x) (Made range_tree Range_parts x) ts rest
+  for_from : (x : HeadTree) (ts rest : List Token) → Head_rest n x ts rest → either_shape (Each_parts x) (Made range_tree Range_parts x) ts rest
   for_from (over_range v from to step ps) ts rest s = inr ((v, (from, (to, (step, ps)))), refl, s)
   for_from (over_members v set start rev ps) ts rest (a, e, (b, name, (c, i, (f, t, (d, s, more))))) = inl (a, e, (v, (b, name, inl ((set, (start, (rev, ps))), refl, (c, i, (d, (f, t, s), more))))))
   for_from (over_class c v ps) ts rest (a, e, (b, name, s)) = inl (a, e, (c, (b, name, inr ((v, ps), refl, s))))

@@ -11,7 +11,7 @@ use Rattle.ss_lex.specs.declared.token.TokenKind.{TokenKind}
 use Rattle.ss_lex.specs.declared.token.TokenKind.TheVariants as kinds
 use Rattle.ss_lex.specs.declared.token.Token.{Token}
 use Rattle.ss_parse_expressions.specs.Openers.{openers}
-use Rattle.ss_parse_expressions.specs.Reading.{Mark, word, symbol, kind_of, same_symbol, is, begins, skip, expect, begins_by, taken, found_then}
+use Rattle.ss_parse_expressions.specs.Reading.{Mark, word, symbol, kind_of_mark, same_symbol, is, begins, skip, expect, begins_by, taken, found_then}
 use Rattle.ss_parse_expressions.specs.Shapes.{Shape, Token_is}
 use Rattle.ss_parse_expressions.proofs.Tools.{which, chosen, carry}
 
@@ -20,7 +20,7 @@ token kind span line = record { kind = kind; span = span; line = line }
 
 -- a token of the mark's kind
 abbrev pub Mark_is : Mark → Shape
-Mark_is m = Token_is (kind_of m)
+Mark_is m = Token_is (kind_of_mark m)
 
 symbols_same : (a b : Symbol) → same_symbol a b ≡ true → a ≡ b
 symbols_same OpenParenthesis OpenParenthesis e = refl
@@ -43,12 +43,12 @@ same_symbols Star = refl
 same_symbols Equals = refl
 same_symbols (Other a) = grind (arith, nat_tests)
 
-pub is_true : (m : Mark) (k : TokenKind) → is m k ≡ true → k ≡ kind_of m
+pub is_true : (m : Mark) (k : TokenKind) → is m k ≡ true → k ≡ kind_of_mark m
 is_true (word w) (kinds.Word v) e = ap kinds.Word (same_true the_type tt v w e)
 is_true (symbol s) (kinds.Symbol r) e = ap kinds.Symbol (symbols_same r s e)
 is_true _ _ e = absurd cc
 
-pub is_itself : (m : Mark) → is m (kind_of m) ≡ true
+pub is_itself : (m : Mark) → is m (kind_of_mark m) ≡ true
 is_itself (word w) = true_same the_type w w refl
 is_itself (symbol s) = same_symbols s
 
@@ -59,7 +59,7 @@ token_of t ts k e = (t.span, t.line, ap (λ (k : TokenKind). token k t.span t.li
 -- the mark is first
 pub begins_mark : (m : Mark) (ts : List Token) → begins m ts ≡ true → Mark_is m ts (skip m ts)
 begins_mark m [] e = absurd cc
-begins_mark m (t ∷ ts) e = rw e (token_of t ts (kind_of m) (is_true m t.kind e))
+begins_mark m (t ∷ ts) e = rw e (token_of t ts (kind_of_mark m) (is_true m t.kind e))
 
 pub mark_begins : (m : Mark) (ts rest : List Token) → Mark_is m ts rest → begins m ts ≡ true
 mark_begins m ts rest (span, line, e) = rw e (is_itself m)
@@ -75,7 +75,7 @@ pub expect_sound : (m : Mark) (ts rest : List Token) (u : Unit {0}) → expect m
 expect_sound m [] rest u e = absurd cc
 expect_sound m (t ∷ ts) rest u e =
     elim (chosen (is m t.kind) _ _ _ e) [
-      | inl p ↦ carry (λ (u : Unit {0}) (r : List Token). Mark_is m (t ∷ ts) r) tt u ts rest p.1 (token_of t ts (kind_of m) (is_true m t.kind p.0))
+      | inl p ↦ carry (λ (u : Unit {0}) (r : List Token). Mark_is m (t ∷ ts) r) tt u ts rest p.1 (token_of t ts (kind_of_mark m) (is_true m t.kind p.0))
       | inr p ↦ let no = p.1 in absurd cc
     ]
 

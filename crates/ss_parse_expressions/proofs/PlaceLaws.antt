@@ -9,7 +9,7 @@ use Rattle.ss_lex.specs.declared.token.Token.{Token}
 use Rattle.ss_tree.specs.declared.expression.Designator.{Designator}
 use Rattle.ss_tree.specs.declared.expression.Designator.TheVariants as designators
 use Rattle.ss_tree.specs.Tree.{ExpressionTree, ExpressionRow, no_expression, and_expression, NamedTree}
-use Rattle.ss_parse_expressions.specs.Shapes.{Shape, ◌▷◌, Token_is, Symbol_is, listed, perhaps, within}
+use Rattle.ss_parse_expressions.specs.Shapes.{Shape, ◌▷◌, Token_is, Symbol_is, separated_list, perhaps, nested_shape}
 use Rattle.ss_parse_expressions.specs.SpelledExpressions.{Designated, Subscript, Target_is, Plain_name, Reference_is}
 use Rattle.ss_parse_expressions.specs.Reading.{word, is, begins, is_some, taken, seq, apply, maybe, begins_more, skip_separator}
 use Rattle.ss_parse_expressions.specs.ReadExpressions.{opening, closing, designator_of_word, designator_of, begins_sum, sum_in}
@@ -95,7 +95,7 @@ module _ (table : TokenKind → Option Designator) (D : Designator → Shape) (t
 
   -- within one level more
   abbrev pub In_place : ℕ → NamedTree → Shape
-  In_place room t = within (λ l. Place_is l t) room
+  In_place room t = nested_shape (λ l. Place_is l t) room
 
   pub place_in_reads : (n m : ℕ) → n ≤ m → Reads n (place_in table n) (place_in table m) (In_place n) continues_place
   unfolding place_in
@@ -106,7 +106,7 @@ module _ (table : TokenKind → Option Designator) (D : Designator → Shape) (t
 -- ---- targets
 
 abbrev pub In_target : ℕ → NamedTree → Shape
-In_target room t = within (λ l. Target_is l t) room
+In_target room t = nested_shape (λ l. Target_is l t) room
 
 pub target_in_reads : (n m : ℕ) → n ≤ m → Reads n (target_in n) (target_in m) (In_target n) continues_place
 target_in_reads n m le = place_in_reads designator_of Designated designated_to designated_from n m le
@@ -138,7 +138,7 @@ target_no_and (t ∷ ts) e = kind_no_and t.kind e
 abbrev pub continues_targets : List Token → Bool
 continues_targets ts = begins_more begins_target ts || (continues_place ts || continues_place ts)
 
-pub targets_in_reads : (n m : ℕ) → n ≤ m → Reads n (targets_in n) (targets_in m) (listed (In_target n)) continues_targets
+pub targets_in_reads : (n m : ℕ) → n ≤ m → Reads n (targets_in n) (targets_in m) (separated_list (In_target n)) continues_targets
 targets_in_reads n m le = list_reads (target_in_reads n m le) begins_target (in_target_begins n) target_no_and (in_target_less n) (λ span line ts. refl) (λ span line ts. refl)
 
 pub targets_loop : (n : ℕ) → Loop (begins_more begins_target) (λ r. target_in n (skip_separator r))
@@ -147,7 +147,7 @@ targets_loop n = loop_of (separated_item (target_in_reads n n (omega arith)) beg
 -- ---- references
 
 abbrev pub In_reference : ℕ → NamedTree → Shape
-In_reference room t = within (λ l. Reference_is l t) room
+In_reference room t = nested_shape (λ l. Reference_is l t) room
 
 pub reference_in_reads : (n m : ℕ) → n ≤ m → Reads n (reference_in n) (reference_in m) (In_reference n) continues_place
 reference_in_reads n m le = place_in_reads plain_of Plain_name plain_to plain_from n m le
@@ -157,5 +157,5 @@ reference_in_reads n m le = place_in_reads plain_of Plain_name plain_to plain_fr
 abbrev pub continues_sums : List Token → Bool
 continues_sums ts = begins_more begins_sum ts || (continues_sum ts || continues_sum ts)
 
-pub sums_in_reads : (n m : ℕ) → n ≤ m → Reads n (sums_in n) (sums_in m) (listed (In n)) continues_sums
+pub sums_in_reads : (n m : ℕ) → n ≤ m → Reads n (sums_in n) (sums_in m) (separated_list (In n)) continues_sums
 sums_in_reads n m le = list_reads (sum_in_reads n m le) begins_sum (in_begins n) sum_no_and (in_less n) (λ span line ts. refl) (λ span line ts. refl)

@@ -5,8 +5,8 @@ use Rattle.ss_lex.specs.declared.token.Token.{Token}
 use Rattle.ss_lex.specs.declared.token.Span.{Span}
 use Rattle.ss_base.specs.declared.line.Line.{Line}
 use Rattle.ss_parse_expressions.specs.Openers.{opens, openers}
-use Rattle.ss_parse_expressions.specs.Reading.{Reader, ◌>>=◌, Mark, kind_of, is, begins, skip, expect, taken, found_then, seq, following, closed, apply, lined, maybe, maybe_list, flag, choose, too_deep, comma, skip_comma}
-use Rattle.ss_parse_expressions.specs.Shapes.{Shape, ◌▷◌, never, optional, noise, perhaps, flagged, first_line}
+use Rattle.ss_parse_expressions.specs.Reading.{Reader, ◌>>=◌, Mark, kind_of_mark, is, begins, skip, expect, taken, found_then, seq, after_dropped, closed, apply, lined, maybe, maybe_list, flag, choose_reader, too_deep, comma, skip_comma}
+use Rattle.ss_parse_expressions.specs.Shapes.{Shape, ◌▷◌, never, optional, noise, perhaps, flagged, first_token_line}
 use Rattle.ss_parse_expressions.proofs.Tools.{bind_ok, which, chosen, carry, or_false}
 use Rattle.ss_parse_expressions.proofs.Marks.{token, Mark_is, is_true, mark_begins, expect_sound, expect_complete, token_less, begins_mark, no_skip, mark_skips, skip_openers, In_table, taken_sound, taken_complete}
 use Rattle.ss_parse_expressions.proofs.Depth.{Upto, upto_same, upto_bind, upto_if, Bounded, bounded_more, bounded_bind, bounded_if, bounded_opened}
@@ -29,7 +29,7 @@ pub expect_reads : (k : ℕ) (m : Mark) → Reads k (expect m) (expect m) (λ u.
 expect_reads k m = record {
   sound = λ ts u rest e. expect_sound m ts rest u e;
   complete = λ ts u rest s stop. expect_complete m ts rest u s;
-  shorter = λ ts u rest s. omega (arith, token_less (kind_of m) ts rest s);
+  shorter = λ ts u rest s. omega (arith, token_less (kind_of_mark m) ts rest s);
   under = λ ts. upto_same _;
   opening = opening;
 }
@@ -74,7 +74,7 @@ module _ {A B : Type 0} {k : ℕ} {r r' : Reader A} {q q' : Reader B} {S : A →
   }
 
 module _ {A : Type 0} {k : ℕ} {r r' : Reader (Unit {0})} {q q' : Reader A} {P : Shape} {S : A → Shape} {c d : List Token → Bool} (first : Reads k r r' (λ u. P) c) (second : Reads k q q' S d) (stops : (x : A) (ts rest : List Token) → S x ts rest → d rest ≡ false → c ts ≡ false) where
-  pub following_reads : Reads k (following r q) (following r' q') (λ x. P ▷ S x) d
+  pub following_reads : Reads k (after_dropped r q) (after_dropped r' q') (λ x. P ▷ S x) d
   following_reads = record {
     sound = λ ts y rest e.
         let x = bind_ok (r ts) _ _ e in
@@ -104,26 +104,26 @@ module _ {A : Type 0} {k : ℕ} {r r' : Reader A} {q q' : Reader (Unit {0})} {S 
   }
 
 -- a mark, and then what the reader reads
-pub marked_reads : {A : Type 0} {k : ℕ} {q q' : Reader A} {S : A → Shape} {d : List Token → Bool} (m : Mark) → Reads k q q' S d → Reads k (following (expect m) q) (following (expect m) q') (λ x. Mark_is m ▷ S x) d
+pub marked_reads : {A : Type 0} {k : ℕ} {q q' : Reader A} {S : A → Shape} {d : List Token → Bool} (m : Mark) → Reads k q q' S d → Reads k (after_dropped (expect m) q) (after_dropped (expect m) q') (λ x. Mark_is m ▷ S x) d
 marked_reads {k = k} m second = following_reads (expect_reads k m) second (λ x ts rest s stop. refl)
 
 -- what the reader reads, and then a mark
-pub before_mark_reads : {A : Type 0} {k : ℕ} {r r' : Reader A} {S : A → Shape} {c : List Token → Bool} (m : Mark) → Reads k r r' S c → ((span : Span) (line : Line) (ts : List Token) → c (token (kind_of m) span line ∷ ts) ≡ false) → Reads k (closed r (expect m)) (closed r' (expect m)) (λ x. S x ▷ Mark_is m) continues_never
+pub before_mark_reads : {A : Type 0} {k : ℕ} {r r' : Reader A} {S : A → Shape} {c : List Token → Bool} (m : Mark) → Reads k r r' S c → ((span : Span) (line : Line) (ts : List Token) → c (token (kind_of_mark m) span line ∷ ts) ≡ false) → Reads k (closed r (expect m)) (closed r' (expect m)) (λ x. S x ▷ Mark_is m) continues_never
 before_mark_reads {k = k} {c = c} m first stops = closed_reads first (expect_reads k m) (λ ts rest s stop. ap c s.2 ∙ stops s.0 s.1 rest)
 
 -- a mark that opens a level, and what is read with one level less
-module _ {A : Type 0} {k : ℕ} {q q' : Reader A} {S : A → Shape} {d : List Token → Bool} (m : Mark) (opener : opens (kind_of m) ≡ 1) (inside : Reads k q q' S d) where
-  opened_bounded : (ts : List Token) → Bounded (suc k) (openers ts) (following (expect m) q ts)
+module _ {A : Type 0} {k : ℕ} {q q' : Reader A} {S : A → Shape} {d : List Token → Bool} (m : Mark) (opener : opens (kind_of_mark m) ≡ 1) (inside : Reads k q q' S d) where
+  opened_bounded : (ts : List Token) → Bounded (suc k) (openers ts) (after_dropped (expect m) q ts)
   opened_bounded [] = tt
   opened_bounded (t ∷ ts) =
       elim (which (is m t.kind)) [
         | inl p ↦
-            let kind : t.kind ≡ kind_of m = is_true m t.kind p in
+            let kind : t.kind ≡ kind_of_mark m = is_true m t.kind p in
             rw p (bounded_opened k (openers ts) (openers (t ∷ ts)) (q ts) (omega (arith, ap opens kind)) (inside.opening ts))
         | inr p ↦ rw p tt
       ]
 
-  pub opened_reads : Reads (suc k) (following (expect m) q) (following (expect m) q') (λ x. Mark_is m ▷ S x) d
+  pub opened_reads : Reads (suc k) (after_dropped (expect m) q) (after_dropped (expect m) q') (λ x. Mark_is m ▷ S x) d
   opened_reads =
       let law = marked_reads m inside in
       record { sound = law.sound; complete = law.complete; shorter = law.shorter; under = law.under; opening = opened_bounded }
@@ -207,7 +207,7 @@ module _ {A : Type 0} {k : ℕ} {q q' : Reader A} {S : A → Shape} {d : List To
 
       less : (ts a : List Token) → optional (Mark_is m) ts a → length a ≤ length ts
       less ts a (inl e) = omega (arith, ap length e)
-      less ts a (inr w) = omega (arith, token_less (kind_of m) ts a w)
+      less ts a (inr w) = omega (arith, token_less (kind_of_mark m) ts a w)
 
 -- ---- optional parts
 
@@ -224,10 +224,10 @@ pub item_of : {A : Type 0} {k : ℕ} {r r' : Reader A} {S : A → Shape} {c : Li
 item_of starts law begins less = record { sound = λ ts x rest started e. law.sound ts x rest e; complete = law.complete; begins = begins; less = less; under = law.under; opening = law.opening }
 
 -- an item that begins with a mark
-pub item_marked : {A : Type 0} {k : ℕ} {q q' : Reader A} {S : A → Shape} {d : List Token → Bool} (m : Mark) → Reads k q q' S d → Item k (begins m) (following (expect m) q) (following (expect m) q') (λ x. Mark_is m ▷ S x) d
+pub item_marked : {A : Type 0} {k : ℕ} {q q' : Reader A} {S : A → Shape} {d : List Token → Bool} (m : Mark) → Reads k q q' S d → Item k (begins m) (after_dropped (expect m) q) (after_dropped (expect m) q') (λ x. Mark_is m ▷ S x) d
 item_marked {S = S} m second =
     item_of (begins m) (marked_reads m second) (λ ts x rest s. mark_begins m ts s.0 s.1)
-    (λ ts x rest s. omega (arith, token_less (kind_of m) ts s.0 s.1, second.shorter s.0 x rest s.2))
+    (λ ts x rest s. omega (arith, token_less (kind_of_mark m) ts s.0 s.1, second.shorter s.0 x rest s.2))
 
 -- an item that may have a comma before it
 module _ {A : Type 0} {k : ℕ} {q q' : Reader A} {S : A → Shape} {d : List Token → Bool} (law : Reads k q q' S d) (starts : List Token → Bool) (first : (ts : List Token) (x : A) (rest : List Token) → S x ts rest → starts ts ≡ true) (no_comma : (ts : List Token) → starts ts ≡ true → begins comma ts ≡ false) (less : (ts : List Token) (x : A) (rest : List Token) → S x ts rest → length rest < length ts) where
@@ -240,7 +240,7 @@ module _ {A : Type 0} {k : ℕ} {q q' : Reader A} {S : A → Shape} {d : List To
 
   noisy_less : (ts a : List Token) → noise ts a → length a ≤ length ts
   noisy_less ts a (inl e) = omega (arith, ap length e)
-  noisy_less ts a (inr w) = omega (arith, token_less (kind_of comma) ts a w)
+  noisy_less ts a (inr w) = omega (arith, token_less (kind_of_mark comma) ts a w)
 
   pub noisy_item : Item k (λ ts. starts (skip_comma ts)) (λ ts. q (skip_comma ts)) (λ ts. q' (skip_comma ts)) (λ x. noise ▷ S x) d
   noisy_item = item_of (λ ts. starts (skip_comma ts)) noisy_reads
@@ -253,7 +253,7 @@ item_skipped {k = k} {q = q} m law = record {
   sound = λ ts x rest started e. (skip m ts, begins_mark m ts started, law.sound (skip m ts) x rest e);
   complete = λ ts x rest s stop. ap q (mark_skips m ts s.0 s.1) ∙ law.complete s.0 x rest s.2 stop;
   begins = λ ts x rest s. mark_begins m ts s.0 s.1;
-  less = λ ts x rest s. omega (arith, token_less (kind_of m) ts s.0 s.1, law.shorter s.0 x rest s.2);
+  less = λ ts x rest s. omega (arith, token_less (kind_of_mark m) ts s.0 s.1, law.shorter s.0 x rest s.2);
   under = λ ts. law.under (skip m ts);
   opening = λ ts. bounded_more k (openers (skip m ts)) (openers ts) (q (skip m ts)) (skip_openers m ts) (law.opening (skip m ts));
 }
@@ -361,7 +361,7 @@ module _ {k : ℕ} {starts : List Token → Bool} {r r' : Reader (Unit {0})} {P 
 
 -- one of two readers, where the shapes of both mean U
 module _ {A : Type 0} {k : ℕ} {starts : List Token → Bool} {r r' q q' : Reader A} {S T U : A → Shape} {c d : List Token → Bool} (first : Item k starts r r' S c) (second : Reads k q q' T d) (to : (x : A) (ts rest : List Token) → S x ts rest → U x ts rest) (to' : (x : A) (ts rest : List Token) → T x ts rest → U x ts rest) (from : (x : A) (ts rest : List Token) → U x ts rest → S x ts rest ⊎ ((starts ts ≡ false) × T x ts rest)) where
-  pub choose_reads : Reads k (choose starts r q) (choose starts r' q') U (λ ts. c ts || d ts)
+  pub choose_reads : Reads k (choose_reader starts r q) (choose_reader starts r' q') U (λ ts. c ts || d ts)
   choose_reads = record {
     sound = λ ts x rest e.
         elim (chosen (starts ts) _ _ _ e) [
@@ -385,13 +385,13 @@ module _ {A : Type 0} {k : ℕ} {starts : List Token → Bool} {r r' q q' : Read
 
 -- ---- by the line of the first token
 
-pub lined_reads : {A : Type 0} {k : ℕ} {r r' : Line → Reader A} {S : Line → A → Shape} {c : List Token → Bool} → ((line : Line) → Reads k (r line) (r' line) (S line) c) → (T : A → Shape) → ((x : A) (ts rest : List Token) → S (first_line ts) x ts rest → T x ts rest) → ((x : A) (ts rest : List Token) → T x ts rest → S (first_line ts) x ts rest) → Reads k (lined r) (lined r') T c
+pub lined_reads : {A : Type 0} {k : ℕ} {r r' : Line → Reader A} {S : Line → A → Shape} {c : List Token → Bool} → ((line : Line) → Reads k (r line) (r' line) (S line) c) → (T : A → Shape) → ((x : A) (ts rest : List Token) → S (first_token_line ts) x ts rest → T x ts rest) → ((x : A) (ts rest : List Token) → T x ts rest → S (first_token_line ts) x ts rest) → Reads k (lined r) (lined r') T c
 lined_reads law T to from = record {
-  sound = λ ts x rest e. to x ts rest ((law (first_line ts)).sound ts x rest e);
-  complete = λ ts x rest s stop. (law (first_line ts)).complete ts x rest (from x ts rest s) stop;
-  shorter = λ ts x rest s. (law (first_line ts)).shorter ts x rest (from x ts rest s);
-  under = λ ts. (law (first_line ts)).under ts;
-  opening = λ ts. (law (first_line ts)).opening ts;
+  sound = λ ts x rest e. to x ts rest ((law (first_token_line ts)).sound ts x rest e);
+  complete = λ ts x rest s stop. (law (first_token_line ts)).complete ts x rest (from x ts rest s) stop;
+  shorter = λ ts x rest s. (law (first_token_line ts)).shorter ts x rest (from x ts rest s);
+  under = λ ts. (law (first_token_line ts)).under ts;
+  opening = λ ts. (law (first_token_line ts)).opening ts;
 }
 
 -- ---- readers that give up

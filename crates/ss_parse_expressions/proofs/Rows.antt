@@ -2,14 +2,14 @@
 use Rattle.std.proofs.Common.{◌≡◌, ℕ, zero, suc, ◌<◌, ◌≤◌, Bool, true, false, ◌||◌, List, [], ◌∷◌, ◌++◌, length, map, drop, Result, Ok, Err, refl, sym, ap, subst, ◌∙◌, append_assoc, arith, inl, inr}
 use Rattle.std.proofs.lemmas.List.{append-nil, map_push}
 use Rattle.ss_lex.specs.declared.token.Token.{Token}
-use Rattle.ss_parse_expressions.specs.declared.failure.Fault.{Fault}
+use Rattle.ss_parse_expressions.specs.declared.failure.ParseFault.{ParseFault}
 use Rattle.ss_parse_expressions.specs.declared.failure.Failure.{Failure}
 use Rattle.ss_parse_expressions.specs.declared.failure.Failure.TheVariants as failures
 use Rattle.ss_parse_expressions.specs.Openers.{openers}
-use Rattle.ss_parse_expressions.specs.Reading.{Reader, ◌>>=◌, Fails, row, rows, first_and, comma, word, begins, skip, skip_separator, begins_more, list_of, kind_of}
+use Rattle.ss_parse_expressions.specs.Reading.{Reader, ◌>>=◌, FailsReading, row, rows, first_and, comma, word, begins, skip, skip_separator, begins_more, list_of, kind_of_mark}
 use Rattle.ss_lex.specs.declared.word.Word.TheVariants as words
 use Rattle.ss_parse_expressions.specs.Shapes as shapes
-use Rattle.ss_parse_expressions.specs.Shapes.{Shape, ◌▷◌, nothing, never, either, each, listed, separator}
+use Rattle.ss_parse_expressions.specs.Shapes.{Shape, ◌▷◌, nothing, never, either_shape, each, separated_list, separator}
 use Rattle.ss_parse_expressions.proofs.Tools.{bind_ok, which, chosen, carry, or_false, and_true, ok_or_err}
 use Rattle.ss_lex.specs.declared.token.Span.{Span}
 use Rattle.ss_base.specs.declared.line.Line.{Line}
@@ -83,14 +83,14 @@ module _ {A : Type 0} {k : ℕ} {r r' : Reader A} {S : A → Shape} {starts : Li
   first_stops [] ts rest e stop = ap c e ∙ stop
   first_stops (x ∷ xs) ts rest (m, one, more) stop = (stops ts x m one).0
 
-  first_sound : (ts : List Token) (xs : List A) (rest : List Token) → first_and r starts item ts ≡ Ok (xs, rest) → shapes.first_and S T xs ts rest
+  first_sound : (ts : List Token) (xs : List A) (rest : List Token) → first_and r starts item ts ≡ Ok (xs, rest) → shapes.first_and_each S T xs ts rest
   first_sound ts xs rest e =
       let x = bind_ok (r ts) _ _ e in
       let more = bind_ok (rows starts item x.0.1) _ _ x.2 in
-      carry (λ (y : List A) (z : List Token). shapes.first_and S T y ts z) (x.0.0 ∷ more.0.0) xs more.0.1 rest more.2
+      carry (λ (y : List A) (z : List Token). shapes.first_and_each S T y ts z) (x.0.0 ∷ more.0.0) xs more.0.1 rest more.2
       (x.0.1, first.sound ts x.0.0 x.0.1 x.1, others.sound x.0.1 more.0.0 more.0.1 more.1)
 
-  first_complete : (ts : List Token) (xs : List A) (rest : List Token) → shapes.first_and S T xs ts rest → (starts rest || (c rest || d rest)) ≡ false → first_and r starts item ts ≡ Ok (xs, rest)
+  first_complete : (ts : List Token) (xs : List A) (rest : List Token) → shapes.first_and_each S T xs ts rest → (starts rest || (c rest || d rest)) ≡ false → first_and r starts item ts ≡ Ok (xs, rest)
   first_complete ts [] rest s stop = absurd s
   first_complete ts (x ∷ xs) rest (m, one, more) stop =
       let both = or_false (starts rest) (c rest || d rest) stop in
@@ -101,14 +101,14 @@ module _ {A : Type 0} {k : ℕ} {r r' : Reader A} {S : A → Shape} {starts : Li
       let read' : rows starts item m ≡ Ok (xs, rest) = others.complete m xs rest more (rw (over, over') refl) in
       rw (read, read') refl
 
-  pub first_less : (ts : List Token) (xs : List A) (rest : List Token) → shapes.first_and S T xs ts rest → length rest < length ts
+  pub first_less : (ts : List Token) (xs : List A) (rest : List Token) → shapes.first_and_each S T xs ts rest → length rest < length ts
   first_less ts [] rest s = absurd s
   first_less ts (x ∷ xs) rest (m, one, more) = omega (arith, less ts x m one, others.shorter m xs rest more)
 
-  first_shorter : (ts : List Token) (xs : List A) (rest : List Token) → shapes.first_and S T xs ts rest → length rest ≤ length ts
+  first_shorter : (ts : List Token) (xs : List A) (rest : List Token) → shapes.first_and_each S T xs ts rest → length rest ≤ length ts
   first_shorter ts xs rest s = omega (arith, first_less ts xs rest s)
 
-  pub first_and_reads : Reads k (first_and r starts item) (first_and r' starts item') (shapes.first_and S T) (λ ts. starts ts || (c ts || d ts))
+  pub first_and_reads : Reads k (first_and r starts item) (first_and r' starts item') (shapes.first_and_each S T) (λ ts. starts ts || (c ts || d ts))
   first_and_reads = record {
     sound = first_sound;
     complete = first_complete;
@@ -139,9 +139,9 @@ separator_sound ts e =
     ]
 
 separator_less : (ts a : List Token) → separator ts a → length a < length ts
-separator_less ts a (inl w) = omega (arith, token_less (kind_of comma) ts a w)
-separator_less ts a (inr (inl w)) = omega (arith, token_less (kind_of (word words.And)) ts a w)
-separator_less ts a (inr (inr (m, w, v))) = omega (arith, token_less (kind_of comma) ts m w, token_less (kind_of (word words.And)) m a v)
+separator_less ts a (inl w) = omega (arith, token_less (kind_of_mark comma) ts a w)
+separator_less ts a (inr (inl w)) = omega (arith, token_less (kind_of_mark (word words.And)) ts a w)
+separator_less ts a (inr (inr (m, w, v))) = omega (arith, token_less (kind_of_mark comma) ts m w, token_less (kind_of_mark (word words.And)) m a v)
 
 -- A list of items: none begins with a comma or AND, and neither continues one.
 module _ {A : Type 0} {k : ℕ} {item item' : Reader A} {S : A → Shape} {c : List Token → Bool} (law : Reads k item item' S c) (starts : List Token → Bool) (first : (ts : List Token) (x : A) (rest : List Token) → S x ts rest → starts ts ≡ true) (no_and : (ts : List Token) → starts ts ≡ true → begins (word words.And) ts ≡ false) where
@@ -163,21 +163,21 @@ module _ {A : Type 0} {k : ℕ} {item item' : Reader A} {S : A → Shape} {c : L
     opening = λ ts. bounded_more k (openers (skip_separator ts)) (openers ts) (item (skip_separator ts)) (omega (arith, skip_openers comma ts, skip_openers (word words.And) (skip comma ts))) (law.opening (skip_separator ts));
   }
 
-  separator_stops : ((span : Span) (line : Line) (ts : List Token) → c (token (kind_of comma) span line ∷ ts) ≡ false) → ((span : Span) (line : Line) (ts : List Token) → c (token (kind_of (word words.And)) span line ∷ ts) ≡ false) → (ts a : List Token) → separator ts a → c ts ≡ false
+  separator_stops : ((span : Span) (line : Line) (ts : List Token) → c (token (kind_of_mark comma) span line ∷ ts) ≡ false) → ((span : Span) (line : Line) (ts : List Token) → c (token (kind_of_mark (word words.And)) span line ∷ ts) ≡ false) → (ts a : List Token) → separator ts a → c ts ≡ false
   separator_stops on_comma on_and ts a (inl (span, line, e)) = ap c e ∙ on_comma span line a
   separator_stops on_comma on_and ts a (inr (inl (span, line, e))) = ap c e ∙ on_and span line a
   separator_stops on_comma on_and ts a (inr (inr (m, (span, line, e), v))) = ap c e ∙ on_comma span line m
 
-  pub list_reads : ((ts : List Token) (x : A) (rest : List Token) → S x ts rest → length rest < length ts) → ((span : Span) (line : Line) (ts : List Token) → c (token (kind_of comma) span line ∷ ts) ≡ false) → ((span : Span) (line : Line) (ts : List Token) → c (token (kind_of (word words.And)) span line ∷ ts) ≡ false) → Reads k (list_of starts item) (list_of starts item') (listed S) (λ ts. begins_more starts ts || (c ts || c ts))
+  pub list_reads : ((ts : List Token) (x : A) (rest : List Token) → S x ts rest → length rest < length ts) → ((span : Span) (line : Line) (ts : List Token) → c (token (kind_of_mark comma) span line ∷ ts) ≡ false) → ((span : Span) (line : Line) (ts : List Token) → c (token (kind_of_mark (word words.And)) span line ∷ ts) ≡ false) → Reads k (list_of starts item) (list_of starts item') (separated_list S) (λ ts. begins_more starts ts || (c ts || c ts))
   list_reads less on_comma on_and = first_and_reads law separated_item (λ ts x rest s. let stop = separator_stops on_comma on_and ts s.0 s.1 in (stop, stop)) less
 
 -- ---- a loop that reads a row
 
 -- what a loop has read, and what reading the rest gives
-abbrev pub with_front : {A : Type 0} → List A → Result (List A × List Token) Fault → Result (List A × List Token) Fault
+abbrev pub with_front : {A : Type 0} → List A → Result (List A × List Token) ParseFault → Result (List A × List Token) ParseFault
 with_front front read = read >>= λ x. Ok (front ++ x.0, x.1)
 
-pub with_front_more : {A : Type 0} (front : List A) (x : A) (read : Result (List A × List Token) Fault) → with_front (front ++ x ∷ []) read ≡ with_front front (read >>= λ xs. Ok (x ∷ xs.0, xs.1))
+pub with_front_more : {A : Type 0} (front : List A) (x : A) (read : Result (List A × List Token) ParseFault) → with_front (front ++ x ∷ []) read ≡ with_front front (read >>= λ xs. Ok (x ∷ xs.0, xs.1))
 with_front_more front x (Ok xs) = ap (λ ys. Ok (ys, xs.1)) (append_assoc front (x ∷ []) xs.0)
 with_front_more front x (Err e) = refl
 
@@ -215,7 +215,7 @@ module _ {A : Type 0} (starts : List Token → Bool) (item : Reader A) (at_end :
       let same = row_enough (length ts) (length rest) rest (omega arith) (omega arith) in
       rw (started, e, same) refl
 
-  pub rows_fail : (ts : List Token) (f : Fault) → starts ts ≡ true → item ts ≡ Err f → rows starts item ts ≡ Err f
+  pub rows_fail : (ts : List Token) (f : ParseFault) → starts ts ≡ true → item ts ≡ Err f → rows starts item ts ≡ Err f
   unfolding rows
   rows_fail [] f started e = absurd (let no_more = at_end in cc)
   rows_fail (t ∷ ts) f started e = rw (started, e) refl
@@ -235,33 +235,33 @@ loop_of law at_end = record { at_end = at_end; shrinks = λ ts x rest started e.
 
 module _ {A V : Type 0} (view : V → A) {starts : List Token → Bool} {item : Reader A} (loop : Loop starts item) where
   -- an item goes to the end of what was read
-  pub grows : (old new : List V) (x : V) (ts rest : List Token) (total : Result (List A × List Token) Fault) → new ≡ old ++ x ∷ [] → starts ts ≡ true → item ts ≡ Ok (view x, rest) → with_front (map view old) (rows starts item ts) ≡ total → with_front (map view new) (rows starts item rest) ≡ total
+  pub grows : (old new : List V) (x : V) (ts rest : List Token) (total : Result (List A × List Token) ParseFault) → new ≡ old ++ x ∷ [] → starts ts ≡ true → item ts ≡ Ok (view x, rest) → with_front (map view old) (rows starts item ts) ≡ total → with_front (map view new) (rows starts item rest) ≡ total
   grows old new x ts rest total pushed started e so_far =
       let all : map view new ≡ map view old ++ view x ∷ [] = rw pushed (map_push view old x) in
       rw all (with_front_more (map view old) (view x) (rows starts item rest)) ∙ ap (with_front (map view old)) (sym (rows_more starts item loop.at_end loop.shrinks ts rest (view x) started e)) ∙ so_far
 
   -- no more follows
-  pub is_done : (read : List V) (ts : List Token) (total : Result (List A × List Token) Fault) → starts ts ≡ false → with_front (map view read) (rows starts item ts) ≡ total → total ≡ Ok (map view read, ts)
+  pub is_done : (read : List V) (ts : List Token) (total : Result (List A × List Token) ParseFault) → starts ts ≡ false → with_front (map view read) (rows starts item ts) ≡ total → total ≡ Ok (map view read, ts)
   is_done read ts total over so_far = sym so_far ∙ ap (with_front (map view read)) (rows_done starts item loop.at_end loop.shrinks ts over) ∙ ap (λ ys. Ok (ys, ts)) (append-nil (map view read))
 
   -- an item fails
-  pub breaks : (read : List V) (ts : List Token) (e : Failure) (total : Result (List A × List Token) Fault) → starts ts ≡ true → Fails e (item ts) → with_front (map view read) (rows starts item ts) ≡ total → Fails e total
+  pub breaks : (read : List V) (ts : List Token) (e : Failure) (total : Result (List A × List Token) ParseFault) → starts ts ≡ true → FailsReading e (item ts) → with_front (map view read) (rows starts item ts) ≡ total → FailsReading e total
   breaks read ts failures.Memory total started f so_far = tt
   breaks read ts (failures.Refused f left) total started e so_far = sym so_far ∙ ap (with_front (map view read)) (rows_fail starts item loop.at_end loop.shrinks ts f started e)
 
 -- the laws of a loop, where the items need no view
 module _ {A : Type 0} {starts : List Token → Bool} {item : Reader A} (loop : Loop starts item) where
-  pub grows_plain : (old new : List A) (x : A) (ts rest : List Token) (total : Result (List A × List Token) Fault) → new ≡ old ++ x ∷ [] → starts ts ≡ true → item ts ≡ Ok (x, rest) → with_front old (rows starts item ts) ≡ total → with_front new (rows starts item rest) ≡ total
+  pub grows_plain : (old new : List A) (x : A) (ts rest : List Token) (total : Result (List A × List Token) ParseFault) → new ≡ old ++ x ∷ [] → starts ts ≡ true → item ts ≡ Ok (x, rest) → with_front old (rows starts item ts) ≡ total → with_front new (rows starts item rest) ≡ total
   grows_plain old new x ts rest total pushed started e so_far =
       rw pushed (with_front_more old x (rows starts item rest)) ∙ ap (with_front old) (sym (rows_more starts item loop.at_end loop.shrinks ts rest x started e)) ∙ so_far
 
-  pub is_done_plain : (read : List A) (ts : List Token) (total : Result (List A × List Token) Fault) → starts ts ≡ false → with_front read (rows starts item ts) ≡ total → total ≡ Ok (read, ts)
+  pub is_done_plain : (read : List A) (ts : List Token) (total : Result (List A × List Token) ParseFault) → starts ts ≡ false → with_front read (rows starts item ts) ≡ total → total ≡ Ok (read, ts)
   is_done_plain read ts total over so_far = sym so_far ∙ ap (with_front read) (rows_done starts item loop.at_end loop.shrinks ts over) ∙ ap (λ ys. Ok (ys, ts)) (append-nil read)
 
-  pub breaks_plain : (read : List A) (ts : List Token) (e : Failure) (total : Result (List A × List Token) Fault) → starts ts ≡ true → Fails e (item ts) → with_front read (rows starts item ts) ≡ total → Fails e total
+  pub breaks_plain : (read : List A) (ts : List Token) (e : Failure) (total : Result (List A × List Token) ParseFault) → starts ts ≡ true → FailsReading e (item ts) → with_front read (rows starts item ts) ≡ total → FailsReading e total
   breaks_plain read ts failures.Memory total started f so_far = tt
   breaks_plain read ts (failures.Refused f left) total started e so_far = sym so_far ∙ ap (with_front read) (rows_fail starts item loop.at_end loop.shrinks ts f started e)
 
 -- r leaves all tokens but the first, and these are all but the first
-pub first_taken : {A : Type 0} (r : Result (A × List Token) Fault) (x : A) (ts rest : List Token) → r ≡ Ok (x, drop 1 ts) → rest ≡ drop 1 ts → r ≡ Ok (x, rest)
+pub first_taken : {A : Type 0} (r : Result (A × List Token) ParseFault) (x : A) (ts rest : List Token) → r ≡ Ok (x, drop 1 ts) → rest ≡ drop 1 ts → r ≡ Ok (x, rest)
 first_taken r x ts rest e f = e ∙ ap (λ (a : List Token). Ok (x, a)) (sym f)

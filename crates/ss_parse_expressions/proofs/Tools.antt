@@ -1,10 +1,10 @@
 -- Results, tests and pairs.
 use Rattle.std.proofs.Common.{◌≡◌, Bool, true, false, cond, ◌||◌, ◌&&◌, List, Result, Ok, Err, refl, ap, subst, inl, inr, ◌⊎◌}
 use Rattle.ss_lex.specs.declared.token.Token.{Token}
-use Rattle.ss_parse_expressions.specs.declared.failure.Fault.{Fault}
+use Rattle.ss_parse_expressions.specs.declared.failure.ParseFault.{ParseFault}
 use Rattle.ss_parse_expressions.specs.Reading.{◌>>=◌}
 
-pub bind_ok : {A B : Type 0} (r : Result A Fault) (f : A → Result B Fault) (y : B) → (r >>= f) ≡ Ok y → (x : A) × (r ≡ Ok x) × (f x ≡ Ok y)
+pub bind_ok : {A B : Type 0} (r : Result A ParseFault) (f : A → Result B ParseFault) (y : B) → (r >>= f) ≡ Ok y → (x : A) × (r ≡ Ok x) × (f x ≡ Ok y)
 bind_ok (Ok x) f y e = (x, refl, e)
 bind_ok (Err d) f y e = absurd cc
 
@@ -28,7 +28,7 @@ pub chosen : {A : Type 0} (b : Bool) (x y z : A) → cond b x y ≡ z → ((b �
 chosen true x y z e = inl (refl, e)
 chosen false x y z e = inr (refl, e)
 
-abbrev done : {A : Type 0} → A → Result A Fault
+abbrev done : {A : Type 0} → A → Result A ParseFault
 done x = Ok x
 
 pub result_is : {A : Type 0} (x y : A) → done x ≡ done y → x ≡ y
@@ -46,6 +46,6 @@ carry P x y a b e h =
     let is = ok_is x y a b e in
     subst (λ z. P z b) is.0 (subst (P x) is.1 h)
 
-pub ok_or_err : {A : Type 0} (r : Result A Fault) → ((x : A) × (r ≡ Ok x)) ⊎ ((f : Fault) × (r ≡ Err f))
+pub ok_or_err : {A : Type 0} (r : Result A ParseFault) → ((x : A) × (r ≡ Ok x)) ⊎ ((f : ParseFault) × (r ≡ Err f))
 ok_or_err (Ok x) = inl (x, refl)
 ok_or_err (Err f) = inr (f, refl)

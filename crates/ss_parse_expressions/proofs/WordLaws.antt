@@ -7,13 +7,13 @@ use Rattle.ss_lex.specs.declared.token.Span.{Span}
 use Rattle.ss_lex.specs.declared.token.TokenKind.{TokenKind}
 use Rattle.ss_lex.specs.declared.token.TokenKind.TheVariants as kinds
 use Rattle.ss_lex.specs.declared.token.Token.{Token}
-use Rattle.ss_parse_expressions.specs.declared.classes.Class.{Class}
-use Rattle.ss_parse_expressions.specs.declared.classes.Class.TheVariants as classes
+use Rattle.ss_parse_expressions.specs.declared.classes.WordClass.{WordClass}
+use Rattle.ss_parse_expressions.specs.declared.classes.WordClass.TheVariants as classes
 use Rattle.ss_parse_expressions.specs.Openers.{openers}
-use Rattle.ss_parse_expressions.specs.Shapes.{Shape, ◌▷◌, nothing, never, either, optional, provided, noise, Token_is, Name_is, Word_for, listed, flagged}
+use Rattle.ss_parse_expressions.specs.Shapes.{Shape, ◌▷◌, nothing, never, either_shape, optional, provided, noise, Token_is, Name_is, Word_for, separated_list, flagged}
 use Rattle.ss_parse_expressions.specs.Words.{has_word, One_of, Item_is, perhaps_listed}
-use Rattle.ss_parse_expressions.specs.Reading.{Reader, Mark, word, kind_of, is, begins, skip, expect, in_table, taken, name_of, comma, skip_separator, following, apply, choose, maybe_list, begins_more}
-use Rattle.ss_parse_expressions.specs.ReadWords.{in_class, begins_class, skip_class, expect_class, present, done, fail, begins_noisy, expect_noisy, begins_name, names, begins_item, item, items, among, begins_among}
+use Rattle.ss_parse_expressions.specs.Reading.{Reader, Mark, word, kind_of_mark, is, begins, skip, expect, in_table, taken, name_in_token, comma, skip_separator, after_dropped, apply, choose_reader, maybe_list, begins_more}
+use Rattle.ss_parse_expressions.specs.ReadWords.{in_class, begins_class, skip_class, expect_class, if_present, done, fail, begins_noisy, expect_noisy, begins_name, names, begins_item, articled_name, items, among, begins_among}
 use Rattle.ss_parse_expressions.proofs.Tools.{which, chosen, carry}
 use Rattle.ss_parse_expressions.proofs.Marks.{token, Mark_is, is_true, token_of, mark_begins, mark_skips, begins_mark, no_skip, token_less, skip_openers, In_table, begins_table}
 use Rattle.ss_parse_expressions.proofs.Depth.{upto_same, upto_if, Bounded, bounded_more, bounded_if}
@@ -34,35 +34,35 @@ word_in_reads k table = reshaped_reads (taken_reads k (in_table table)) (Word_fo
 
 -- ---- words of a class
 
-class_word : (c : Class) (k : TokenKind) → in_class c k ≡ true → (w : Word) × (has_word c w ≡ true) × (k ≡ kinds.Word w)
+class_word : (c : WordClass) (k : TokenKind) → in_class c k ≡ true → (w : Word) × (has_word c w ≡ true) × (k ≡ kinds.Word w)
 class_word c (kinds.Word w) e = (w, e, refl)
 class_word c _ e = absurd cc
 
-pub one_of_token : (c : Class) (t : Token) (ts : List Token) → in_class c t.kind ≡ true → One_of c (t ∷ ts) ts
+pub one_of_token : (c : WordClass) (t : Token) (ts : List Token) → in_class c t.kind ≡ true → One_of c (t ∷ ts) ts
 one_of_token c t ts e = let w = class_word c t.kind e in (w.0, w.1, token_of t ts (kinds.Word w.0) w.2)
 
-pub one_begins : (c : Class) (ts rest : List Token) → One_of c ts rest → begins_class c ts ≡ true
+pub one_begins : (c : WordClass) (ts rest : List Token) → One_of c ts rest → begins_class c ts ≡ true
 one_begins c ts rest (w, has, (span, line, e)) = ap (begins_class c) e ∙ has
 
-pub one_skips : (c : Class) (ts rest : List Token) → One_of c ts rest → skip_class c ts ≡ rest
+pub one_skips : (c : WordClass) (ts rest : List Token) → One_of c ts rest → skip_class c ts ≡ rest
 one_skips c ts rest (w, has, (span, line, e)) = rw (e, has) refl
 
-pub one_less : (c : Class) (ts rest : List Token) → One_of c ts rest → suc (length rest) ≡ length ts
+pub one_less : (c : WordClass) (ts rest : List Token) → One_of c ts rest → suc (length rest) ≡ length ts
 one_less c ts rest (w, has, at) = token_less (kinds.Word w) ts rest at
 
-no_skip_class : (c : Class) (ts : List Token) → begins_class c ts ≡ false → skip_class c ts ≡ ts
+no_skip_class : (c : WordClass) (ts : List Token) → begins_class c ts ≡ false → skip_class c ts ≡ ts
 no_skip_class c [] e = refl
 no_skip_class c (t ∷ ts) e = rw e refl
 
-begins_one : (c : Class) (ts : List Token) → begins_class c ts ≡ true → One_of c ts (skip_class c ts)
+begins_one : (c : WordClass) (ts : List Token) → begins_class c ts ≡ true → One_of c ts (skip_class c ts)
 begins_one c [] e = absurd cc
 begins_one c (t ∷ ts) e = rw e (one_of_token c t ts e)
 
-skip_class_openers : (c : Class) (ts : List Token) → openers (skip_class c ts) ≤ openers ts
+skip_class_openers : (c : WordClass) (ts : List Token) → openers (skip_class c ts) ≤ openers ts
 skip_class_openers c [] = omega arith
 skip_class_openers c (t ∷ ts) = elim (which (in_class c t.kind)) [ inl p ↦ rw p (omega arith) | inr p ↦ rw p (omega arith) ]
 
-pub expect_class_reads : (k : ℕ) (c : Class) → Reads k (expect_class c) (expect_class c) (λ u. One_of c) continues_never
+pub expect_class_reads : (k : ℕ) (c : WordClass) → Reads k (expect_class c) (expect_class c) (λ u. One_of c) continues_never
 expect_class_reads k c = record {
   sound = sound;
   complete = λ ts u rest s stop. complete ts rest u s;
@@ -87,7 +87,7 @@ expect_class_reads k c = record {
     opening (t ∷ ts) = elim (which (in_class c t.kind)) [ inl p ↦ rw p (omega arith) | inr p ↦ rw p tt ]
 
 -- a word of the class that may be left out
-module _ {A : Type 0} {k : ℕ} {q q' : Reader A} {S : A → Shape} {d : List Token → Bool} (law : Reads k q q' S d) (c : Class) where
+module _ {A : Type 0} {k : ℕ} {q q' : Reader A} {S : A → Shape} {d : List Token → Bool} (law : Reads k q q' S d) (c : WordClass) where
   pub optional_class_reads : ((x : A) (ts rest : List Token) → S x ts rest → begins_class c ts ≡ false) → Reads k (λ ts. q (skip_class c ts)) (λ ts. q' (skip_class c ts)) (λ x. optional (One_of c) ▷ S x) d
   optional_class_reads first = record {
     sound = λ ts x rest e. (skip_class c ts, front ts, law.sound (skip_class c ts) x rest e);
@@ -131,7 +131,7 @@ fail_reads k = record {
   opening = λ ts. tt;
 }
 
-pub present_reads : (k : ℕ) (m : Mark) → Reads k (present m) (present m) (flagged (Mark_is m)) (begins m)
+pub present_reads : (k : ℕ) (m : Mark) → Reads k (if_present m) (if_present m) (flagged (Mark_is m)) (begins m)
 present_reads k m = record {
   sound = λ ts x rest e. carry (λ (x : Bool) (r : List Token). flagged (Mark_is m) x ts r) (begins m ts) x (skip m ts) rest e (there ts);
   complete = complete;
@@ -143,7 +143,7 @@ present_reads k m = record {
     there : (ts : List Token) → flagged (Mark_is m) (begins m ts) ts (skip m ts)
     there ts = elim (which (begins m ts)) [ inl p ↦ rw p (begins_mark m ts p) | inr p ↦ rw p (sym (no_skip m ts p)) ]
 
-    complete : (ts : List Token) (x : Bool) (rest : List Token) → flagged (Mark_is m) x ts rest → begins m rest ≡ false → present m ts ≡ Ok (x, rest)
+    complete : (ts : List Token) (x : Bool) (rest : List Token) → flagged (Mark_is m) x ts rest → begins m rest ≡ false → if_present m ts ≡ Ok (x, rest)
     complete ts true rest s stop =
         let a : begins m ts ≡ true = mark_begins m ts rest s in
         let b : skip m ts ≡ rest = mark_skips m ts rest s in
@@ -154,43 +154,43 @@ present_reads k m = record {
         rw (a, b) refl
 
     shorter : (ts : List Token) (x : Bool) (rest : List Token) → flagged (Mark_is m) x ts rest → length rest ≤ length ts
-    shorter ts true rest s = omega (arith, token_less (kind_of m) ts rest s)
+    shorter ts true rest s = omega (arith, token_less (kind_of_mark m) ts rest s)
     shorter ts false rest s = omega (arith, ap length s)
 
 -- ---- a mark with a comma before it or not
 
-pub noisy_mark_reads : (k : ℕ) (m : Mark) → is comma (kind_of m) ≡ false → Reads k (expect_noisy m) (expect_noisy m) (λ u. noise ▷ Mark_is m) continues_never
+pub noisy_mark_reads : (k : ℕ) (m : Mark) → is comma (kind_of_mark m) ≡ false → Reads k (expect_noisy m) (expect_noisy m) (λ u. noise ▷ Mark_is m) continues_never
 noisy_mark_reads k m other = optional_reads (expect_reads k m) comma (λ u ts rest s. ap (begins comma) s.2 ∙ other)
 
-pub noisy_begins : (m : Mark) → is comma (kind_of m) ≡ false → (ts rest : List Token) → (noise ▷ Mark_is m) ts rest → begins_noisy m ts ≡ true
+pub noisy_begins : (m : Mark) → is comma (kind_of_mark m) ≡ false → (ts rest : List Token) → (noise ▷ Mark_is m) ts rest → begins_noisy m ts ≡ true
 noisy_begins m other ts rest (a, inl e, s) =
     let none : begins comma a ≡ false = ap (begins comma) s.2 ∙ other in
     ap (begins_noisy m) e ∙ ap (begins m) (no_skip comma a none) ∙ mark_begins m a rest s
 noisy_begins m other ts rest (a, inr w, s) = ap (begins m) (mark_skips comma ts a w) ∙ mark_begins m a rest s
 
 pub noisy_less : (m : Mark) (ts rest : List Token) → (noise ▷ Mark_is m) ts rest → length rest < length ts
-noisy_less m ts rest (a, inl e, s) = omega (arith, ap length e, token_less (kind_of m) a rest s)
-noisy_less m ts rest (a, inr w, s) = omega (arith, token_less (kind_of comma) ts a w, token_less (kind_of m) a rest s)
+noisy_less m ts rest (a, inl e, s) = omega (arith, ap length e, token_less (kind_of_mark m) a rest s)
+noisy_less m ts rest (a, inr w, s) = omega (arith, token_less (kind_of_mark comma) ts a w, token_less (kind_of_mark m) a rest s)
 
 -- what begins with neither the mark nor a comma before it
-pub noisy_stops : (c : List Token → Bool) (m : Mark) → ((span : Span) (line : Line) (ts : List Token) → c (token (kind_of m) span line ∷ ts) ≡ false) → ((span span' : Span) (line line' : Line) (ts : List Token) → c (token (kind_of comma) span line ∷ token (kind_of m) span' line' ∷ ts) ≡ false) → (ts rest : List Token) → (noise ▷ Mark_is m) ts rest → c ts ≡ false
+pub noisy_stops : (c : List Token → Bool) (m : Mark) → ((span : Span) (line : Line) (ts : List Token) → c (token (kind_of_mark m) span line ∷ ts) ≡ false) → ((span span' : Span) (line line' : Line) (ts : List Token) → c (token (kind_of_mark comma) span line ∷ token (kind_of_mark m) span' line' ∷ ts) ≡ false) → (ts rest : List Token) → (noise ▷ Mark_is m) ts rest → c ts ≡ false
 noisy_stops c m alone noisy ts rest (a, inl e, (span, line, f)) = ap c (e ∙ f) ∙ alone span line rest
 noisy_stops c m alone noisy ts rest (a, inr (span, line, e), (span', line', f)) = rw (e, f) (noisy span span' line line' rest)
 
 -- ---- names
 
-name_to : (n : List ℕ) (ts rest : List Token) → In_table name_of n ts rest → Name_is n ts rest
+name_to : (n : List ℕ) (ts rest : List Token) → In_table name_in_token n ts rest → Name_is n ts rest
 name_to n ts rest (k, takes, at) = go k takes at
   where
-    go : (k : TokenKind) → name_of k ≡ Some n → Token_is k ts rest → Name_is n ts rest
+    go : (k : TokenKind) → name_in_token k ≡ Some n → Token_is k ts rest → Name_is n ts rest
     go (kinds.Name v) e at = let same : v ≡ n = cc in subst (λ n. Name_is n ts rest) same at
     go _ e at = absurd cc
 
-pub name_reads : (k : ℕ) → Reads k (taken name_of) (taken name_of) Name_is continues_never
-name_reads k = reshaped_reads (taken_reads k name_of) Name_is name_to (λ n ts rest s. (kinds.Name n, refl, s))
+pub name_reads : (k : ℕ) → Reads k (taken name_in_token) (taken name_in_token) Name_is continues_never
+name_reads k = reshaped_reads (taken_reads k name_in_token) Name_is name_to (λ n ts rest s. (kinds.Name n, refl, s))
 
 pub name_begins : (ts : List Token) (n : List ℕ) (rest : List Token) → Name_is n ts rest → begins_name ts ≡ true
-name_begins ts n rest s = begins_table name_of ts rest n (kinds.Name n, refl, s)
+name_begins ts n rest s = begins_table name_in_token ts rest n (kinds.Name n, refl, s)
 
 pub name_less : (ts : List Token) (n : List ℕ) (rest : List Token) → Name_is n ts rest → length rest < length ts
 name_less ts n rest s = omega (arith, token_less (kinds.Name n) ts rest s)
@@ -206,10 +206,10 @@ name_no_and (t ∷ ts) e = kind_no_and t.kind e
 abbrev pub continues_names : List Token → Bool
 continues_names ts = begins_more begins_name ts
 
-pub names_reads : (k : ℕ) → Reads k names names (listed Name_is) (λ ts. begins_more begins_name ts || (continues_never ts || continues_never ts))
+pub names_reads : (k : ℕ) → Reads k names names (separated_list Name_is) (λ ts. begins_more begins_name ts || (continues_never ts || continues_never ts))
 names_reads k = list_reads (name_reads k) begins_name name_begins name_no_and name_less (λ span line ts. refl) (λ span line ts. refl)
 
-pub names_loop : Loop (begins_more begins_name) (λ r. taken name_of (skip_separator r))
+pub names_loop : Loop (begins_more begins_name) (λ r. taken name_in_token (skip_separator r))
 names_loop = loop_of (separated_item (name_reads 0) begins_name name_begins name_no_and) refl
 
 -- ---- names with articles
@@ -217,7 +217,7 @@ names_loop = loop_of (separated_item (name_reads 0) begins_name name_begins name
 name_no_article : (n : List ℕ) (ts rest : List Token) → Name_is n ts rest → begins_class classes.Article ts ≡ false
 name_no_article n ts rest (span, line, e) = rw e refl
 
-pub item_reads : (k : ℕ) → Reads k item item Item_is continues_never
+pub item_reads : (k : ℕ) → Reads k articled_name articled_name Item_is continues_never
 item_reads k = optional_class_reads (name_reads k) classes.Article name_no_article
 
 pub item_begins : (ts : List Token) (n : List ℕ) (rest : List Token) → Item_is n ts rest → begins_item ts ≡ true
@@ -235,22 +235,22 @@ and_no_item (t ∷ ts) e = let kind : t.kind ≡ kinds.Word words.And = is_true 
 pub item_no_and : (ts : List Token) → begins_item ts ≡ true → begins (word words.And) ts ≡ false
 item_no_and ts e = elim (which (begins (word words.And) ts)) [ inl p ↦ absurd (let no = and_no_item ts p in cc) | inr p ↦ p ]
 
-pub items_reads : (k : ℕ) → Reads k items items (listed Item_is) (λ ts. begins_more begins_item ts || (continues_never ts || continues_never ts))
+pub items_reads : (k : ℕ) → Reads k items items (separated_list Item_is) (λ ts. begins_more begins_item ts || (continues_never ts || continues_never ts))
 items_reads k = list_reads (item_reads k) begins_item item_begins item_no_and item_less (λ span line ts. refl) (λ span line ts. refl)
 
-pub items_loop : Loop (begins_more begins_item) (λ r. item (skip_separator r))
+pub items_loop : Loop (begins_more begins_item) (λ r. articled_name (skip_separator r))
 items_loop = loop_of (separated_item (item_reads 0) begins_item item_begins item_no_and) refl
 
 -- ---- a list with a word before it, or neither
 
-pub perhaps_listed_reads : {X : Type 0} {k : ℕ} {starts : List Token → Bool} {r r' : Reader (List X)} {P : Shape} {S : X → Shape} {c : List Token → Bool} → Item k starts r r' (λ xs. P ▷ listed S xs) c → Reads k (maybe_list starts r) (maybe_list starts r') (perhaps_listed P S) (λ ts. starts ts || c ts)
-perhaps_listed_reads {X = X} {P = P} {S = S} item = maybe_list_reads item to from (λ ts. refl)
+pub perhaps_listed_reads : {X : Type 0} {k : ℕ} {starts : List Token → Bool} {r r' : Reader (List X)} {P : Shape} {S : X → Shape} {c : List Token → Bool} → Item k starts r r' (λ xs. P ▷ separated_list S xs) c → Reads k (maybe_list starts r) (maybe_list starts r') (perhaps_listed P S) (λ ts. starts ts || c ts)
+perhaps_listed_reads {X = X} {P = P} {S = S} articled_name = maybe_list_reads articled_name to from (λ ts. refl)
   where
-    to : (xs : List X) (ts rest : List Token) → (P ▷ listed S xs) ts rest → perhaps_listed P S xs ts rest
+    to : (xs : List X) (ts rest : List Token) → (P ▷ separated_list S xs) ts rest → perhaps_listed P S xs ts rest
     to [] ts rest s = absurd s.2
     to (x ∷ xs) ts rest s = s
 
-    from : (xs : List X) (ts rest : List Token) → perhaps_listed P S xs ts rest → ((xs ≡ []) × (ts ≡ rest)) ⊎ (P ▷ listed S xs) ts rest
+    from : (xs : List X) (ts rest : List Token) → perhaps_listed P S xs ts rest → ((xs ≡ []) × (ts ≡ rest)) ⊎ (P ▷ separated_list S xs) ts rest
     from [] ts rest s = inl (refl, s)
     from (x ∷ xs) ts rest s = inr s
 
@@ -266,7 +266,7 @@ no_word p w held (t ∷ ts) e =
       | inr none ↦ none
     ]
 
-pub no_class : (p : Word → Bool) (c : Class) → ((w : Word) → has_word c w ≡ true → p w ≡ true) → (ts : List Token) → begins_among p ts ≡ false → begins_class c ts ≡ false
+pub no_class : (p : Word → Bool) (c : WordClass) → ((w : Word) → has_word c w ≡ true → p w ≡ true) → (ts : List Token) → begins_among p ts ≡ false → begins_class c ts ≡ false
 no_class p c held [] e = refl
 no_class p c held (t ∷ ts) e =
     elim (which (in_class c t.kind)) [
@@ -280,7 +280,7 @@ no_class p c held (t ∷ ts) e =
 
 -- The second doesn't start as the first does, where the tokens after it can't continue it.
 module _ {A : Type 0} {k : ℕ} {starts : List Token → Bool} {r r' q q' : Reader A} {S T : A → Shape} {c d : List Token → Bool} (first : Item k starts r r' S c) (second : Reads k q q' T d) (e : List Token → Bool) (fewer : (ts : List Token) → e ts ≡ false → (c ts ≡ false) × (d ts ≡ false)) (late : (x : A) (ts rest : List Token) → T x ts rest → e rest ≡ false → starts ts ≡ false) where
-  pub either_reads : Reads k (choose starts r q) (choose starts r' q') (λ x. either (S x) (T x)) e
+  pub either_reads : Reads k (choose_reader starts r q) (choose_reader starts r' q') (λ x. either_shape (S x) (T x)) e
   either_reads = record {
     sound = λ ts x rest is.
         elim (chosen (starts ts) _ _ _ is) [
@@ -302,7 +302,7 @@ module _ {A : Type 0} {k : ℕ} {starts : List Token → Bool} {r r' q q' : Read
   }
 
 -- an item that is made of what begins with a mark
-pub item_made : {A B : Type 0} {k : ℕ} {q q' : Reader A} {S : A → Shape} {d : List Token → Bool} (m : Mark) (law : Reads k q q' S d) (f : A → B) → Item k (begins m) (apply f (following (expect m) q)) (apply f (following (expect m) q')) (Made f (λ x. Mark_is m ▷ S x)) d
+pub item_made : {A B : Type 0} {k : ℕ} {q q' : Reader A} {S : A → Shape} {d : List Token → Bool} (m : Mark) (law : Reads k q q' S d) (f : A → B) → Item k (begins m) (apply f (after_dropped (expect m) q)) (apply f (after_dropped (expect m) q')) (Made f (λ x. Mark_is m ▷ S x)) d
 item_made m law f =
     item_of (begins m) (made_reads (marked_reads m law) f) (λ ts y rest s. mark_begins m ts s.2.0 s.2.1)
-    (λ ts y rest s. omega (arith, token_less (kind_of m) ts s.2.0 s.2.1, law.shorter s.2.0 s.0 rest s.2.2))
+    (λ ts y rest s. omega (arith, token_less (kind_of_mark m) ts s.2.0 s.2.1, law.shorter s.2.0 s.0 rest s.2.2))

@@ -15,8 +15,8 @@ use Rattle.ss_parse_expressions.specs.declared.conditions.Verb.TheVariants as ve
 use Rattle.ss_parse_expressions.specs.declared.conditions.TestWord.{TestWord}
 use Rattle.ss_parse_expressions.specs.declared.conditions.TestWord.TheVariants as test_words
 use Rattle.ss_parse_expressions.specs.WordTables.{relation_of}
-use Rattle.ss_parse_expressions.specs.Reading.{Reader, ◌>>=◌, word, begins, begins_by, skip, expect, in_table, taken, seq, following, closed, apply, choose, too_deep, first_and}
-use Rattle.ss_parse_expressions.specs.ReadWords.{present, done, fail}
+use Rattle.ss_parse_expressions.specs.Reading.{Reader, ◌>>=◌, word, begins, begins_by, skip, expect, in_table, taken, seq, after_dropped, closed, apply, choose_reader, too_deep, first_and}
+use Rattle.ss_parse_expressions.specs.ReadWords.{if_present, done, fail}
 use Rattle.ss_parse_expressions.specs.ReadExpressions.{sum_in}
 use Rattle.ss_parse_expressions.specs.ReadPlaces.{reference_in}
 
@@ -47,10 +47,10 @@ verb_end test_words.Less is negated = apply (λ u. verbs.Compares (if negated th
 verb_end test_words.Greater is negated = apply (λ u. verbs.Compares (if negated then relations.LessOrEqual else relations.Greater)) (expect (word words.Than))
 
 unfoldable pub worded_verb : Reader Verb
-worded_verb ts = seq (present (word words.Is)) (seq (present (word words.Not)) (taken (in_table test_word_of))) ts >>= λ p. verb_end p.0.1.1 p.0.0 p.0.1.0 p.1
+worded_verb ts = seq (if_present (word words.Is)) (seq (if_present (word words.Not)) (taken (in_table test_word_of))) ts >>= λ p. verb_end p.0.1.1 p.0.0 p.0.1.0 p.1
 
 unfoldable pub verb : Reader Verb
-verb = choose (begins_by relation_symbol) (apply verbs.Compares (taken relation_symbol)) worded_verb
+verb = choose_reader (begins_by relation_symbol) (apply verbs.Compares (taken relation_symbol)) worded_verb
 
 -- ---- tests
 
@@ -78,7 +78,7 @@ empty_of None negated = fail
 
 -- DATA IS ENDED
 unfoldable pub data_test : Reader TestTree
-data_test = following (expect (word words.Data)) (following (expect (word words.Is)) (apply data_ended (closed (present (word words.Not)) (expect (word words.Ended)))))
+data_test = after_dropped (expect (word words.Data)) (after_dropped (expect (word words.Is)) (apply data_ended (closed (if_present (word words.Not)) (expect (word words.Ended)))))
 
 -- the rest of a test, after its first expression and its verb
 unfoldable pub test_end : ℕ → ExpressionTree → Verb → Reader TestTree
@@ -91,7 +91,7 @@ sum_test room ts = seq (sum_in room) verb ts >>= λ p. test_end room p.0.0 p.0.1
 
 unfoldable pub test_in : ℕ → Reader TestTree
 test_in zero = too_deep
-test_in (suc room) = choose (begins (word words.Data)) data_test (sum_test (suc room))
+test_in (suc room) = choose_reader (begins (word words.Data)) data_test (sum_test (suc room))
 
 -- ---- conditions
 

@@ -7,7 +7,7 @@ use Rattle.ss_lex.specs.declared.token.Symbol.TheVariants.{OpenParenthesis, Clos
 use Rattle.ss_lex.specs.declared.token.TokenKind.{TokenKind}
 use Rattle.ss_lex.specs.declared.token.TokenKind.TheVariants as kinds
 use Rattle.ss_lex.specs.declared.token.Token.{Token}
-use Rattle.ss_parse_expressions.specs.declared.failure.Fault.TheVariants.{Syntax}
+use Rattle.ss_parse_expressions.specs.declared.failure.ParseFault.TheVariants.{Syntax}
 use Rattle.ss_tree.specs.declared.expression.Sign.{Sign}
 use Rattle.ss_tree.specs.declared.expression.Sign.TheVariants as signs
 use Rattle.ss_tree.specs.declared.expression.Function.{Function}
@@ -15,7 +15,7 @@ use Rattle.ss_tree.specs.declared.expression.Designator.{Designator}
 use Rattle.ss_tree.specs.declared.expression.Designator.TheVariants as designators
 use Rattle.ss_tree.specs.Tree.{ExpressionTree, number, text, named, call, parenthesised, product, signed, sum, expression_row, term_row}
 use Rattle.ss_parse_expressions.specs.WordTables.{function_of}
-use Rattle.ss_parse_expressions.specs.Reading.{Reader, Mark, symbol, begins, skip, expect, is_some, begins_by, taken, seq, following, closed, apply, maybe_list, choose, too_deep, rows, list_of}
+use Rattle.ss_parse_expressions.specs.Reading.{Reader, Mark, symbol, begins, skip, expect, is_some, begins_by, taken, seq, after_dropped, closed, apply, maybe_list, choose_reader, too_deep, rows, list_of}
 
 -- ---- single tokens
 
@@ -33,12 +33,12 @@ sign_of_symbol Plus = Some signs.Plus
 sign_of_symbol Minus = Some signs.Minus
 sign_of_symbol _ = None
 
-abbrev pub sign_of : TokenKind → Option Sign
-sign_of (kinds.Symbol s) = sign_of_symbol s
-sign_of _ = None
+abbrev pub sign_of_token : TokenKind → Option Sign
+sign_of_token (kinds.Symbol s) = sign_of_symbol s
+sign_of_token _ = None
 
 abbrev pub begins_sign : List Token → Bool
-begins_sign = begins_by sign_of
+begins_sign = begins_by sign_of_token
 
 -- what is named, TIME.V and TIME.A included
 abbrev pub designator_of_word : Word → Option Designator
@@ -69,9 +69,9 @@ begins_sum (t ∷ ts) = begins_value t.kind
 -- ---- expressions
 
 -- a term and further terms, of which there may be none
-abbrev pub sum_of : ExpressionTree → List (Sign × ExpressionTree) → ExpressionTree
-sum_of e [] = e
-sum_of e (t ∷ ts) = sum e (term_row (t ∷ ts))
+abbrev pub sum_of_terms : ExpressionTree → List (Sign × ExpressionTree) → ExpressionTree
+sum_of_terms e [] = e
+sum_of_terms e (t ∷ ts) = sum e (term_row (t ∷ ts))
 
 -- a factor and further factors, of which there may be none
 abbrev pub product_of : ExpressionTree → List ExpressionTree → ExpressionTree
@@ -85,7 +85,7 @@ module _ (inner : Reader ExpressionTree) where
 
   -- expressions in parentheses
   unfoldable pub enclosed_with : Reader (List ExpressionTree)
-  enclosed_with = following (expect opening) (closed arguments_with (expect closing))
+  enclosed_with = after_dropped (expect opening) (closed arguments_with (expect closing))
 
   -- subscripts, if there are any
   unfoldable pub subscripts_with : Reader (List ExpressionTree)
@@ -128,17 +128,17 @@ module _ (inner : Reader ExpressionTree) where
 
   -- a sign and its term
   unfoldable pub signed_term_with : Reader (Sign × ExpressionTree)
-  signed_term_with = seq (taken sign_of) term_with
+  signed_term_with = seq (taken sign_of_token) term_with
 
   -- the first term, which may have a sign
   unfoldable pub first_term_with : Reader ExpressionTree
-  first_term_with = choose begins_sign (apply (λ p. signed p.0 p.1) signed_term_with) term_with
+  first_term_with = choose_reader begins_sign (apply (λ p. signed p.0 p.1) signed_term_with) term_with
 
   abbrev pub further_terms_with : Reader (List (Sign × ExpressionTree))
   further_terms_with = rows begins_sign signed_term_with
 
   unfoldable pub sum_with : Reader ExpressionTree
-  sum_with = apply (λ p. sum_of p.0 p.1) (seq first_term_with further_terms_with)
+  sum_with = apply (λ p. sum_of_terms p.0 p.1) (seq first_term_with further_terms_with)
 
 -- an expression, where this many levels, itself among them, may be opened
 unfoldable pub sum_in : ℕ → Reader ExpressionTree

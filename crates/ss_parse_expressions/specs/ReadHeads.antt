@@ -6,9 +6,9 @@ use Rattle.ss_lex.specs.declared.token.Token.{Token}
 use Rattle.ss_tree.specs.declared.head.PhraseKind.{PhraseKind}
 use Rattle.ss_tree.specs.declared.head.GuardKind.{GuardKind}
 use Rattle.ss_tree.specs.Tree.{ExpressionTree, NamedTree, ConditionTree, PhraseTree, GuardTree, StartTree, from_end, from_member, after_member, HeadTree, over_range, over_members, over_class, LoopHeadTree, guarded}
-use Rattle.ss_parse_expressions.specs.declared.classes.Class.TheVariants as classes
+use Rattle.ss_parse_expressions.specs.declared.classes.WordClass.TheVariants as classes
 use Rattle.ss_parse_expressions.specs.WordTables.{phrase_of, guard_of}
-use Rattle.ss_parse_expressions.specs.Reading.{Reader, ◌>>=◌, word, symbol, begins, begins_by, skip, expect, in_table, taken, name_of, seq, following, apply, maybe, flag, choose, rows, skip_comma}
+use Rattle.ss_parse_expressions.specs.Reading.{Reader, ◌>>=◌, word, symbol, begins, begins_by, skip, expect, in_table, taken, name_in_token, seq, after_dropped, apply, maybe, flag, choose_reader, rows, skip_comma}
 use Rattle.ss_parse_expressions.specs.ReadWords.{done, begins_class, expect_class}
 use Rattle.ss_parse_expressions.specs.ReadExpressions.{sum_in}
 use Rattle.ss_parse_expressions.specs.ReadPlaces.{reference_in}
@@ -44,48 +44,48 @@ guards_in room = rows (λ ts. begins_guard (skip_comma ts)) (λ r. guard_in room
 -- ---- FOR v = first TO last BY step
 
 abbrev pub step_in : ℕ → Reader (Option ExpressionTree)
-step_in room = maybe (begins (word words.By)) (following (expect (word words.By)) (sum_in room))
+step_in room = maybe (begins (word words.By)) (after_dropped (expect (word words.By)) (sum_in room))
 
 abbrev pub range_tree : List ℕ × (ExpressionTree × (ExpressionTree × (Option ExpressionTree × List PhraseTree))) → HeadTree
 range_tree p = over_range p.0 p.1.0 p.1.1.0 p.1.1.1.0 p.1.1.1.1
 
 unfoldable pub range_in : ℕ → Reader HeadTree
-range_in room = apply range_tree (seq (taken name_of) (following (expect (symbol Equals)) (seq (sum_in room) (following (expect (word words.To)) (seq (sum_in room) (seq (step_in room) (phrases_in room)))))))
+range_in room = apply range_tree (seq (taken name_in_token) (after_dropped (expect (symbol Equals)) (seq (sum_in room) (after_dropped (expect (word words.To)) (seq (sum_in room) (seq (step_in room) (phrases_in room)))))))
 
 -- ---- FOR EACH
 
 unfoldable pub start_in : ℕ → Reader StartTree
 start_in room =
-    choose (begins (word words.From)) (apply from_member (following (expect (word words.From)) (sum_in room)))
-    (choose (begins (word words.After)) (apply after_member (following (expect (word words.After)) (sum_in room)))
+    choose_reader (begins (word words.From)) (apply from_member (after_dropped (expect (word words.From)) (sum_in room)))
+    (choose_reader (begins (word words.After)) (apply after_member (after_dropped (expect (word words.After)) (sum_in room)))
     (done from_end))
 
 unfoldable pub reverse : Reader Bool
-reverse = flag (begins (word words.In)) (following (expect (word words.In)) (following (expect (word words.Reverse)) (expect (word words.Order))))
+reverse = flag (begins (word words.In)) (after_dropped (expect (word words.In)) (after_dropped (expect (word words.Reverse)) (expect (word words.Order))))
 
 abbrev pub members_tree : List ℕ → NamedTree × (StartTree × (Bool × List PhraseTree)) → HeadTree
 members_tree v p = over_members v p.0 p.1.0 p.1.1.0 p.1.1.1
 
 -- a loop over the members of a set, after its variable
 unfoldable pub members_in : ℕ → List ℕ → Reader HeadTree
-members_in room v = apply (members_tree v) (following (expect (word words.In)) (seq (λ ts. reference_in room (skip (word words.The) ts)) (seq (start_in room) (seq reverse (phrases_in room)))))
+members_in room v = apply (members_tree v) (after_dropped (expect (word words.In)) (seq (λ ts. reference_in room (skip (word words.The) ts)) (seq (start_in room) (seq reverse (phrases_in room)))))
 
 abbrev pub class_tree : List ℕ → Option (List ℕ) × List PhraseTree → HeadTree
 class_tree c p = over_class c p.0 p.1
 
 -- a loop over a class, after the name of the class
 unfoldable pub class_in : ℕ → List ℕ → Reader HeadTree
-class_in room c = apply (class_tree c) (seq (maybe (begins (word words.Called)) (following (expect (word words.Called)) (taken name_of))) (phrases_in room))
+class_in room c = apply (class_tree c) (seq (maybe (begins (word words.Called)) (after_dropped (expect (word words.Called)) (taken name_in_token))) (phrases_in room))
 
 abbrev pub each_named : ℕ → List ℕ → Reader HeadTree
-each_named room v = choose (begins (word words.In)) (members_in room v) (class_in room v)
+each_named room v = choose_reader (begins (word words.In)) (members_in room v) (class_in room v)
 
 -- a FOR EACH, after FOR
 unfoldable pub each_in : ℕ → Reader HeadTree
-each_in room = following (expect_class classes.Each) (λ ts. taken name_of ts >>= λ v. each_named room v.0 v.1)
+each_in room = after_dropped (expect_class classes.Each) (λ ts. taken name_in_token ts >>= λ v. each_named room v.0 v.1)
 
 unfoldable pub for_in : ℕ → Reader HeadTree
-for_in room = choose (begins_class classes.Each) (each_in room) (range_in room)
+for_in room = choose_reader (begins_class classes.Each) (each_in room) (range_in room)
 
 -- ---- loops that begin with WHILE or UNTIL, after that word
 

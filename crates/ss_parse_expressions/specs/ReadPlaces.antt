@@ -6,7 +6,7 @@ use Rattle.ss_lex.specs.declared.token.TokenKind.TheVariants as kinds
 use Rattle.ss_tree.specs.declared.expression.Designator.{Designator}
 use Rattle.ss_tree.specs.declared.expression.Designator.TheVariants as designators
 use Rattle.ss_tree.specs.Tree.{ExpressionTree, ExpressionRow, no_expression, and_expression, NamedTree}
-use Rattle.ss_parse_expressions.specs.Reading.{Reader, begins, expect, begins_by, taken, seq, following, closed, apply, maybe, too_deep, list_of}
+use Rattle.ss_parse_expressions.specs.Reading.{Reader, begins, expect, begins_by, taken, seq, after_dropped, closed, apply, maybe, too_deep, list_of}
 use Rattle.ss_parse_expressions.specs.ReadExpressions.{opening, closing, designator_of, begins_sum, sum_in}
 
 abbrev pub subscript_row : Option ExpressionTree → ExpressionRow
@@ -18,7 +18,7 @@ named_tree p = record { designator = p.0; subscripts = subscript_row p.1 }
 
 -- one subscript, in parentheses
 unfoldable pub subscript_with : Reader ExpressionTree → Reader ExpressionTree
-subscript_with inner = following (expect opening) (closed inner (expect closing))
+subscript_with inner = after_dropped (expect opening) (closed inner (expect closing))
 
 -- a set's name
 abbrev pub plain_of : TokenKind → Option Designator

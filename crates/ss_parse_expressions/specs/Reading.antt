@@ -10,29 +10,29 @@ use Rattle.ss_lex.specs.declared.token.TokenKind.{TokenKind}
 use Rattle.ss_lex.specs.declared.token.TokenKind.TheVariants as kinds
 use Rattle.ss_lex.specs.declared.token.Token.{Token}
 use Rattle.ss_base.specs.declared.line.Line.{Line}
-use Rattle.ss_parse_expressions.specs.Shapes.{first_line}
-use Rattle.ss_parse_expressions.specs.declared.failure.Fault.{Fault}
-use Rattle.ss_parse_expressions.specs.declared.failure.Fault.TheVariants.{Syntax, TooDeep}
+use Rattle.ss_parse_expressions.specs.Shapes.{first_token_line}
+use Rattle.ss_parse_expressions.specs.declared.failure.ParseFault.{ParseFault}
+use Rattle.ss_parse_expressions.specs.declared.failure.ParseFault.TheVariants.{Syntax, TooDeep}
 use Rattle.ss_parse_expressions.specs.declared.failure.Failure.{Failure}
 use Rattle.ss_parse_expressions.specs.declared.failure.Failure.TheVariants as failures
 
 -- A reader gives what it read and the tokens after it, or a fault.
 abbrev pub Reader : Type 0 → Type 0
-Reader T = List Token → Result (T × List Token) Fault
+Reader T = List Token → Result (T × List Token) ParseFault
 
 infixl 10 ◌>>=◌
-abbrev pub ◌>>=◌ : {A B : Type 0} → Result A Fault → (A → Result B Fault) → Result B Fault
+abbrev pub ◌>>=◌ : {A B : Type 0} → Result A ParseFault → (A → Result B ParseFault) → Result B ParseFault
 (Ok x) >>= f = f x
 (Err e) >>= f = Err e
 
 -- What a function returned, seen through `view`, is what reading gives, unless memory ran out.
-abbrev pub Fails : {Y : Type 0} → Failure → Result Y Fault → Type 0
-Fails failures.Memory read = Unit {0}
-Fails (failures.Refused f left) read = read ≡ Err f
+abbrev pub FailsReading : {Y : Type 0} → Failure → Result Y ParseFault → Type 0
+FailsReading failures.Memory read = Unit {0}
+FailsReading (failures.Refused f left) read = read ≡ Err f
 
-abbrev pub Gives : {X Y : Type 0} → (X → Y) → Result X Failure → Result Y Fault → Type 0
-Gives view (Ok x) read = read ≡ Ok (view x)
-Gives view (Err e) read = Fails e read
+abbrev pub GivesReading : {X Y : Type 0} → (X → Y) → Result X Failure → Result Y ParseFault → Type 0
+GivesReading view (Ok x) read = read ≡ Ok (view x)
+GivesReading view (Err e) read = FailsReading e read
 
 -- ---- single tokens
 
@@ -52,9 +52,9 @@ same_symbol Equals Equals = true
 same_symbol (Other a) (Other b) = a == b
 same_symbol _ _ = false
 
-abbrev pub kind_of : Mark → TokenKind
-kind_of (word w) = kinds.Word w
-kind_of (symbol s) = kinds.Symbol s
+abbrev pub kind_of_mark : Mark → TokenKind
+kind_of_mark (word w) = kinds.Word w
+kind_of_mark (symbol s) = kinds.Symbol s
 
 abbrev pub is : Mark → TokenKind → Bool
 is (word w) (kinds.Word v) = sameb the_type v w
@@ -93,7 +93,7 @@ first_by table (t ∷ ts) = table t.kind
 abbrev pub begins_by : {A : Type 0} → (TokenKind → Option A) → List Token → Bool
 begins_by table ts = is_some (first_by table ts)
 
-abbrev pub found_then : {A : Type 0} → Option A → List Token → Result (A × List Token) Fault
+abbrev pub found_then : {A : Type 0} → Option A → List Token → Result (A × List Token) ParseFault
 found_then None ts = Err Syntax
 found_then (Some x) ts = Ok (x, ts)
 
@@ -103,9 +103,9 @@ taken table [] = Err Syntax
 taken table (t ∷ ts) = found_then (table t.kind) ts
 
 -- a name
-abbrev pub name_of : TokenKind → Option (List ℕ)
-name_of (kinds.Name n) = Some n
-name_of _ = None
+abbrev pub name_in_token : TokenKind → Option (List ℕ)
+name_in_token (kinds.Name n) = Some n
+name_in_token _ = None
 
 -- ---- readers of several things
 
@@ -114,8 +114,8 @@ abbrev pub seq : {A B : Type 0} → Reader A → Reader B → Reader (A × B)
 seq r q ts = r ts >>= λ x. q x.1 >>= λ y. Ok ((x.0, y.0), y.1)
 
 -- the second reader, after tokens that the first one reads and drops
-abbrev pub following : {A : Type 0} → Reader (Unit {0}) → Reader A → Reader A
-following r q ts = r ts >>= λ x. q x.1
+abbrev pub after_dropped : {A : Type 0} → Reader (Unit {0}) → Reader A → Reader A
+after_dropped r q ts = r ts >>= λ x. q x.1
 
 -- the first reader, before tokens that the second one reads and drops
 abbrev pub closed : {A : Type 0} → Reader A → Reader (Unit {0}) → Reader A
@@ -126,7 +126,7 @@ apply f r ts = r ts >>= λ x. Ok (f x.0, x.1)
 
 -- a reader that depends on the line of the first token
 abbrev pub lined : {A : Type 0} → (Line → Reader A) → Reader A
-lined r ts = r (first_line ts) ts
+lined r ts = r (first_token_line ts) ts
 
 -- an optional item, which is there where the tokens start so
 abbrev pub maybe : {A : Type 0} → (List Token → Bool) → Reader A → Reader (Option A)
@@ -141,8 +141,8 @@ abbrev pub flag : (List Token → Bool) → Reader (Unit {0}) → Reader Bool
 flag starts q ts = if starts ts then (q ts >>= λ x. Ok (true, x.1)) else Ok (false, ts)
 
 -- the first reader where the tokens start so, and else the second
-abbrev pub choose : {A : Type 0} → (List Token → Bool) → Reader A → Reader A → Reader A
-choose starts r q ts = if starts ts then r ts else q ts
+abbrev pub choose_reader : {A : Type 0} → (List Token → Bool) → Reader A → Reader A → Reader A
+choose_reader starts r q ts = if starts ts then r ts else q ts
 
 abbrev pub too_deep : {A : Type 0} → Reader A
 too_deep ts = Err TooDeep

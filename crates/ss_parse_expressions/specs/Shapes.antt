@@ -25,11 +25,11 @@ nothing ts rest = ts ≡ rest
 abbrev pub never : Shape
 never ts rest = ⊥
 
-abbrev pub either : Shape → Shape → Shape
-either P Q ts rest = P ts rest ⊎ Q ts rest
+abbrev pub either_shape : Shape → Shape → Shape
+either_shape P Q ts rest = P ts rest ⊎ Q ts rest
 
 abbrev pub optional : Shape → Shape
-optional P = either nothing P
+optional P = either_shape nothing P
 
 -- only where the condition holds
 abbrev pub provided : Type 0 → Shape → Shape
@@ -58,7 +58,7 @@ noise = optional (Symbol_is symbols.Comma)
 
 -- a comma, AND, or both
 abbrev pub separator : Shape
-separator = either (Symbol_is symbols.Comma) (either (Word_is words.And) (Symbol_is symbols.Comma ▷ Word_is words.And))
+separator = either_shape (Symbol_is symbols.Comma) (either_shape (Word_is words.And) (Symbol_is symbols.Comma ▷ Word_is words.And))
 
 -- each of these in turn
 abbrev pub each : {X : Type 0} → (X → Shape) → List X → Shape
@@ -66,13 +66,13 @@ each S [] = nothing
 each S (x ∷ xs) = S x ▷ each S xs
 
 -- the first, and then each of the others in another way
-abbrev pub first_and : {X : Type 0} → (X → Shape) → (X → Shape) → List X → Shape
-first_and S T [] = never
-first_and S T (x ∷ xs) = S x ▷ each T xs
+abbrev pub first_and_each : {X : Type 0} → (X → Shape) → (X → Shape) → List X → Shape
+first_and_each S T [] = never
+first_and_each S T (x ∷ xs) = S x ▷ each T xs
 
 -- one at least, with separators between
-abbrev pub listed : {X : Type 0} → (X → Shape) → List X → Shape
-listed S = first_and S (λ y. separator ▷ S y)
+abbrev pub separated_list : {X : Type 0} → (X → Shape) → List X → Shape
+separated_list S = first_and_each S (λ y. separator ▷ S y)
 
 -- what may be there
 abbrev pub perhaps : {X : Type 0} → (X → Shape) → Option X → Shape
@@ -85,15 +85,15 @@ flagged P true = P
 flagged P false = nothing
 
 -- the line of the first token
-abbrev pub first_line : List Token → Line
-first_line [] = record { 0 = 0 }
-first_line (t ∷ ts) = t.line
+abbrev pub first_token_line : List Token → Line
+first_token_line [] = record { 0 = 0 }
+first_token_line (t ∷ ts) = t.line
 
 -- begins on this line
 abbrev pub at : Line → Shape → Shape
-at line P ts rest = (first_line ts ≡ line) × P ts rest
+at line P ts rest = (first_token_line ts ≡ line) × P ts rest
 
 -- with one level of nesting more
-abbrev pub within : (ℕ → Shape) → ℕ → Shape
-within P zero = never
-within P (suc levels) = P levels
+abbrev pub nested_shape : (ℕ → Shape) → ℕ → Shape
+nested_shape P zero = never
+nested_shape P (suc levels) = P levels

@@ -8,8 +8,8 @@ use Rattle.ss_tree.specs.declared.condition.Relation.TheVariants as relations
 use Rattle.ss_tree.specs.declared.head.GuardKind.{GuardKind}
 use Rattle.ss_tree.specs.declared.head.GuardKind.TheVariants as guards
 use Rattle.ss_tree.specs.Tree.{TestTree, compare, empty, member, data_ended, ConditionTree, PhraseTree, GuardTree, StartTree, from_end, from_member, after_member, HeadTree, over_range, over_members, over_class, LoopHeadTree, for_head, guarded}
-use Rattle.ss_parse_expressions.specs.Shapes.{Shape, ◌▷◌, nothing, never, either, optional, provided, Word_is, Symbol_is, Name_is, Word_for, noise, each, first_and, perhaps, flagged}
-use Rattle.ss_parse_expressions.specs.declared.classes.Class.TheVariants as classes
+use Rattle.ss_parse_expressions.specs.Shapes.{Shape, ◌▷◌, nothing, never, either_shape, optional, provided, Word_is, Symbol_is, Name_is, Word_for, noise, each, first_and_each, perhaps, flagged}
+use Rattle.ss_parse_expressions.specs.declared.classes.WordClass.TheVariants as classes
 use Rattle.ss_parse_expressions.specs.Words.{One_of, the}
 use Rattle.ss_parse_expressions.specs.SpelledExpressions.{Sum_is, Reference_is}
 use Rattle.ss_parse_expressions.specs.WordTables.{relation_of, phrase_of, guard_of}
@@ -26,7 +26,7 @@ In_words relations.LessOrEqual = Word_is words.Not ▷ Word_is words.Greater ▷
 In_words relations.GreaterOrEqual = Word_is words.Not ▷ Word_is words.Less ▷ Word_is words.Than
 
 abbrev pub Relation_is : Relation → Shape
-Relation_is r = either (provided (r ≡ relations.Equal) (Symbol_is Equals)) (either (Word_for relation_of r) (optional (Word_is words.Is) ▷ In_words r))
+Relation_is r = either_shape (provided (r ≡ relations.Equal) (Symbol_is Equals)) (either_shape (Word_for relation_of r) (optional (Word_is words.Is) ▷ In_words r))
 
 -- ---- conditions
 
@@ -38,11 +38,11 @@ Test_is levels (member x set negated) =
 Test_is levels (data_ended negated) = Word_is words.Data ▷ Word_is words.Is ▷ flagged (Word_is words.Not) negated ▷ Word_is words.Ended
 
 -- one at least, with the word between
-abbrev pub joined : {X : Type 0} → Word → (X → Shape) → List X → Shape
-joined w S = first_and S (λ y. Word_is w ▷ S y)
+abbrev pub joined_by_word : {X : Type 0} → Word → (X → Shape) → List X → Shape
+joined_by_word w S = first_and_each S (λ y. Word_is w ▷ S y)
 
 abbrev pub Condition_is : ℕ → ConditionTree → Shape
-Condition_is levels = joined words.Or (joined words.And (Test_is levels))
+Condition_is levels = joined_by_word words.Or (joined_by_word words.And (Test_is levels))
 
 -- ---- heads of loops
 
@@ -62,9 +62,9 @@ abbrev pub guard_word : GuardKind → Word
 guard_word guards.While = words.While
 guard_word guards.Until = words.Until
 
-abbrev pub head_word : LoopHeadTree → Word
-head_word (guarded (g ∷ gs)) = guard_word g.kind
-head_word _ = words.For
+abbrev pub loop_head_word : LoopHeadTree → Word
+loop_head_word (guarded (g ∷ gs)) = guard_word g.kind
+loop_head_word _ = words.For
 
 -- the head of a FOR after its first word
 abbrev pub Head_rest : ℕ → HeadTree → Shape

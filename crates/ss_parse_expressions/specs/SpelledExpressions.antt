@@ -8,33 +8,33 @@ use Rattle.ss_tree.specs.declared.expression.Sign.TheVariants as signs
 use Rattle.ss_tree.specs.declared.expression.Designator.{Designator}
 use Rattle.ss_tree.specs.declared.expression.Designator.TheVariants as designators
 use Rattle.ss_tree.specs.Tree.{ExpressionTree, number, text, named, call, parenthesised, product, signed, sum, ExpressionRow, no_expression, and_expression, TermRow, no_term, and_term, NamedTree}
-use Rattle.ss_parse_expressions.specs.Shapes.{Shape, ◌▷◌, nothing, never, provided, Token_is, Word_is, Symbol_is, Name_is, Word_for, separator, within}
+use Rattle.ss_parse_expressions.specs.Shapes.{Shape, ◌▷◌, nothing, never, provided, Token_is, Word_is, Symbol_is, Name_is, Word_for, separator, nested_shape}
 use Rattle.ss_parse_expressions.specs.WordTables.{function_of}
 
 -- The places of an expression, by which expressions need no parentheses there.
-pub data Place : Type 0 where
+pub data ExpressionPlace : Type 0 where
   -- any expression
-  sum_place : Place
+  sum_place : ExpressionPlace
   -- the first term of a sum, which may have a sign
-  first_place : Place
+  first_place : ExpressionPlace
   -- a further term of a sum
-  term_place : Place
+  term_place : ExpressionPlace
   -- a factor
-  factor_place : Place
+  factor_place : ExpressionPlace
 
 -- where a product needs no parentheses
-abbrev pub Takes_product : Place → Type 0
+abbrev pub Takes_product : ExpressionPlace → Type 0
 Takes_product factor_place = ⊥
 Takes_product _ = Unit {0}
 
 -- where a term with a sign needs no parentheses
-abbrev pub Takes_sign : Place → Type 0
+abbrev pub Takes_sign : ExpressionPlace → Type 0
 Takes_sign sum_place = Unit {0}
 Takes_sign first_place = Unit {0}
 Takes_sign _ = ⊥
 
 -- where a sum needs no parentheses
-abbrev pub Takes_sum : Place → Type 0
+abbrev pub Takes_sum : ExpressionPlace → Type 0
 Takes_sum sum_place = Unit {0}
 Takes_sum _ = ⊥
 
@@ -50,17 +50,17 @@ Designated designators.TimeA = Word_is words.TimeA
 
 abbrev mutual
   -- Where so many levels of nesting may still be opened, the tokens in front spell the expression.
-  pub Spelled : ExpressionTree → Place → ℕ → Shape
+  pub Spelled : ExpressionTree → ExpressionPlace → ℕ → Shape
   Spelled (number n) place levels = Token_is (kinds.Number n)
   Spelled (text t) place levels = Token_is (kinds.Text t)
   Spelled (named d no_expression) place levels = Designated d
   Spelled (named d (and_expression e es)) place levels =
-      Designated d ▷ Symbol_is OpenParenthesis ▷ within (λ l. Spelled e sum_place l ▷ Further_arguments es l) levels ▷ Symbol_is CloseParenthesis
+      Designated d ▷ Symbol_is OpenParenthesis ▷ nested_shape (λ l. Spelled e sum_place l ▷ Further_arguments es l) levels ▷ Symbol_is CloseParenthesis
   Spelled (call f no_expression) place levels = never
   Spelled (call f (and_expression e es)) place levels =
-      Word_for function_of f ▷ Symbol_is OpenParenthesis ▷ within (λ l. Spelled e sum_place l ▷ Further_arguments es l) levels ▷ Symbol_is CloseParenthesis
+      Word_for function_of f ▷ Symbol_is OpenParenthesis ▷ nested_shape (λ l. Spelled e sum_place l ▷ Further_arguments es l) levels ▷ Symbol_is CloseParenthesis
   Spelled (parenthesised e) place levels =
-      Symbol_is OpenParenthesis ▷ within (λ l. Spelled e sum_place l) levels ▷ Symbol_is CloseParenthesis
+      Symbol_is OpenParenthesis ▷ nested_shape (λ l. Spelled e sum_place l) levels ▷ Symbol_is CloseParenthesis
   Spelled (product e no_expression) place levels = never
   Spelled (product e (and_expression f fs)) place levels =
       provided (Takes_product place) (Spelled e factor_place levels ▷ Symbol_is Star ▷ Spelled f factor_place levels ▷ Further_factors fs levels)
@@ -88,7 +88,7 @@ Sum_is levels e = Spelled e sum_place levels
 -- one subscript at most
 abbrev pub Subscript : ExpressionRow → ℕ → Shape
 Subscript no_expression levels = nothing
-Subscript (and_expression e no_expression) levels = Symbol_is OpenParenthesis ▷ within (λ l. Sum_is l e) levels ▷ Symbol_is CloseParenthesis
+Subscript (and_expression e no_expression) levels = Symbol_is OpenParenthesis ▷ nested_shape (λ l. Sum_is l e) levels ▷ Symbol_is CloseParenthesis
 Subscript (and_expression e (and_expression f fs)) levels = never
 
 -- what a value is put into

@@ -54,11 +54,11 @@ outcome_of words.Found = Some outcomes.Found
 outcome_of words.None = Some outcomes.None
 outcome_of _ = None
 
-abbrev pub mode_of : Word → Option Mode
-mode_of words.Integer = Some modes.Integer
-mode_of words.Alpha = Some modes.Alpha
-mode_of words.Real = Some modes.Real
-mode_of _ = None
+abbrev pub mode_of_word : Word → Option Mode
+mode_of_word words.Integer = Some modes.Integer
+mode_of_word words.Alpha = Some modes.Alpha
+mode_of_word words.Real = Some modes.Real
+mode_of_word _ = None
 
 -- whether the highest value comes first
 abbrev pub rank_of : Word → Option Bool

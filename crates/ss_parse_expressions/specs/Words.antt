@@ -2,12 +2,12 @@
 use Rattle.std.specs.Prelude.{◌≡◌, ℕ, List, [], ◌∷◌, Bool, true, false}
 use Rattle.ss_lex.specs.declared.word.Word.{Word}
 use Rattle.ss_lex.specs.declared.word.Word.TheVariants as words
-use Rattle.ss_parse_expressions.specs.declared.classes.Class.{Class}
-use Rattle.ss_parse_expressions.specs.declared.classes.Class.TheVariants as classes
-use Rattle.ss_parse_expressions.specs.Shapes.{Shape, ◌▷◌, nothing, optional, Word_is, Name_is, listed}
+use Rattle.ss_parse_expressions.specs.declared.classes.WordClass.{WordClass}
+use Rattle.ss_parse_expressions.specs.declared.classes.WordClass.TheVariants as classes
+use Rattle.ss_parse_expressions.specs.Shapes.{Shape, ◌▷◌, nothing, optional, Word_is, Name_is, separated_list}
 
 -- which words are interchangeable in a place
-abbrev pub has_word : Class → Word → Bool
+abbrev pub has_word : WordClass → Word → Bool
 has_word classes.Article words.A = true
 has_word classes.Article words.An = true
 has_word classes.Article words.The = true
@@ -23,7 +23,7 @@ has_word classes.Towards words.For = true
 has_word _ _ = false
 
 -- any word of the class
-abbrev pub One_of : Class → Shape
+abbrev pub One_of : WordClass → Shape
 One_of class ts rest = (w : Word) × (has_word class w ≡ true) × Word_is w ts rest
 
 -- THE, which may be left out
@@ -37,4 +37,4 @@ Item_is n = optional (One_of classes.Article) ▷ Name_is n
 -- the word and a list after it, or neither where the list is empty
 abbrev pub perhaps_listed : {X : Type 0} → Shape → (X → Shape) → List X → Shape
 perhaps_listed P S [] = nothing
-perhaps_listed P S (x ∷ xs) = P ▷ listed S (x ∷ xs)
+perhaps_listed P S (x ∷ xs) = P ▷ separated_list S (x ∷ xs)

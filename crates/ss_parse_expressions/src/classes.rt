@@ -3,7 +3,7 @@
 ghost use Rattle.std.specs.Prelude.{◌≡◌};
 ghost use Rattle.ss_parse_expressions.specs.Words.{has_word};
 ghost use Rattle.ss_parse_expressions.specs.ReadWords.{begins_class, skip_class, expect_class};
-ghost use Rattle.ss_parse_expressions.specs.Reading.{Gives};
+ghost use Rattle.ss_parse_expressions.specs.Reading.{GivesReading};
 
 use crate::failure::Failure;
 use crate::tokens::syntax;
@@ -11,7 +11,7 @@ use ss_lex::{Token, TokenKind, Word};
 
 /// A class of words that are interchangeable in a place.
 #[derive(Clone, Copy)]
-pub enum Class {
+pub enum WordClass {
     /// A, AN or THE.
     Article,
     /// A or AN.
@@ -25,20 +25,20 @@ pub enum Class {
 }
 
 /// Whether the word is of the class.
-pub fn has_word(class: Class, word: Word) -> bool
+pub fn has_word(class: WordClass, word: Word) -> bool
     ensures { result ≡ has_word class word }
 {
     match class {
-        Class::Article => matches!(word, Word::A | Word::An | Word::The),
-        Class::Indefinite => matches!(word, Word::A | Word::An),
-        Class::Each => matches!(word, Word::Each | Word::Every | Word::All),
-        Class::Given => matches!(word, Word::Given | Word::Giving),
-        Class::Towards => matches!(word, Word::To | Word::For),
+        WordClass::Article => matches!(word, Word::A | Word::An | Word::The),
+        WordClass::Indefinite => matches!(word, Word::A | Word::An),
+        WordClass::Each => matches!(word, Word::Each | Word::Every | Word::All),
+        WordClass::Given => matches!(word, Word::Given | Word::Giving),
+        WordClass::Towards => matches!(word, Word::To | Word::For),
     }
 }
 
 /// Whether a word of the class is first.
-pub fn begins_class(tokens: &[Token], class: Class) -> bool
+pub fn begins_class(tokens: &[Token], class: WordClass) -> bool
     ensures { result ≡ begins_class class tokens.now }
 {
     match tokens {
@@ -51,7 +51,7 @@ pub fn begins_class(tokens: &[Token], class: Class) -> bool
 }
 
 /// The tokens after a word of the class, where one is first.
-pub fn skip_class(tokens: &[Token], class: Class) -> &[Token]
+pub fn skip_class(tokens: &[Token], class: WordClass) -> &[Token]
     ensures { result.now ≡ skip_class class tokens.now }
 {
     if begins_class(tokens, class) {
@@ -62,8 +62,8 @@ pub fn skip_class(tokens: &[Token], class: Class) -> &[Token]
 }
 
 /// What follows a word of the class, one of which has to be first.
-pub fn expect_class(tokens: &[Token], class: Class) -> Result<&[Token], Failure>
-    ensures { Gives (λ rest. (tt, rest.now)) result (expect_class class tokens.now) }
+pub fn expect_class(tokens: &[Token], class: WordClass) -> Result<&[Token], Failure>
+    ensures { GivesReading (λ rest. (tt, rest.now)) result (expect_class class tokens.now) }
 {
     if begins_class(tokens, class) {
         Ok(&tokens[1..])

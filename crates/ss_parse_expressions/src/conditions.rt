@@ -3,7 +3,7 @@
 ghost use Rattle.std.specs.Prelude.{◌≡◌, map};
 ghost use Rattle.ss_tree.specs.Tree.{expression_row};
 ghost use Rattle.ss_tree.specs.View.{view_expression, view_option, view_named, view_test, view_conjunction, view_condition};
-ghost use Rattle.ss_parse_expressions.specs.Reading.{Gives, begins_by, taken, in_table, word, expect, apply};
+ghost use Rattle.ss_parse_expressions.specs.Reading.{GivesReading, begins_by, taken, in_table, word, expect, apply};
 ghost use Rattle.ss_parse_expressions.specs.declared.conditions.Verb.TheVariants.{Compares};
 ghost use Rattle.ss_parse_expressions.specs.ReadConditions.{relation_symbol, test_word_of, verb_end, worded_verb, verb, is_short, is_reference, reference_of, data_test, test_end, sum_test, test_in, conjunction_in, condition_in};
 
@@ -64,7 +64,7 @@ fn test_word_of(word: Word) -> Option<TestWord>
 
 /// The word that says what is tested.
 fn test_word(tokens: &[Token]) -> Result<(TestWord, &[Token]), Failure>
-    ensures { Gives (λ x. (x.0, x.1.now)) result (taken (in_table test_word_of) tokens.now) }
+    ensures { GivesReading (λ x. (x.0, x.1.now)) result (taken (in_table test_word_of) tokens.now) }
 {
     match tokens {
         [] => Err(syntax(tokens)),
@@ -80,7 +80,7 @@ fn test_word(tokens: &[Token]) -> Result<(TestWord, &[Token]), Failure>
 
 /// A verb that compares, and ends with the word.
 fn compares(relation: Relation, tokens: &[Token], last: Word) -> Result<(Verb, &[Token]), Failure>
-    ensures { Gives (λ x. (x.0, x.1.now)) result (apply (λ u. Compares relation) (expect (word last)) tokens.now) }
+    ensures { GivesReading (λ x. (x.0, x.1.now)) result (apply (λ u. Compares relation) (expect (word last)) tokens.now) }
 {
     let rest = expect_word(tokens, last)?;
     Ok((Verb::Compares(relation), rest))
@@ -93,7 +93,7 @@ fn verb_end(
     tested: TestWord,
     tokens: &[Token],
 ) -> Result<(Verb, &[Token]), Failure>
-    ensures { Gives (λ x. (x.0, x.1.now)) result (verb_end tested is negated tokens.now) }
+    ensures { GivesReading (λ x. (x.0, x.1.now)) result (verb_end tested is negated tokens.now) }
 {
     match tested {
         TestWord::Empty if is => Ok((Verb::IsEmpty(negated), tokens)),
@@ -111,7 +111,7 @@ fn verb_end(
 /// A test's verb in words.
 #[tactic(auto, unfolding(crate::specs::ReadConditions::worded_verb))]
 fn worded_verb(tokens: &[Token]) -> Result<(Verb, &[Token]), Failure>
-    ensures { Gives (λ x. (x.0, x.1.now)) result (worded_verb tokens.now) }
+    ensures { GivesReading (λ x. (x.0, x.1.now)) result (worded_verb tokens.now) }
 {
     let is = begins_word(tokens, Word::Is);
     let rest = skip_word(tokens, Word::Is);
@@ -123,7 +123,7 @@ fn worded_verb(tokens: &[Token]) -> Result<(Verb, &[Token]), Failure>
 /// A test's verb.
 #[tactic(auto, unfolding(crate::specs::ReadConditions::verb))]
 fn any_verb(tokens: &[Token]) -> Result<(Verb, &[Token]), Failure>
-    ensures { Gives (λ x. (x.0, x.1.now)) result (verb tokens.now) }
+    ensures { GivesReading (λ x. (x.0, x.1.now)) result (verb tokens.now) }
 {
     match tokens {
         [] => worded_verb(tokens),
@@ -189,7 +189,7 @@ fn test_end(
     tokens: &[Token],
     room: u8,
 ) -> Result<(Test, &[Token]), Failure>
-    ensures { Gives (λ x. (view_test x.0, x.1.now)) result (test_end room (view_expression left) verb tokens.now) }
+    ensures { GivesReading (λ x. (view_test x.0, x.1.now)) result (test_end room (view_expression left) verb tokens.now) }
 {
     match verb {
         Verb::Compares(relation) => {
@@ -221,7 +221,7 @@ fn test_end(
 /// DATA IS ENDED.
 #[tactic(auto, unfolding(crate::specs::ReadConditions::data_test))]
 fn data_test(tokens: &[Token]) -> Result<(Test, &[Token]), Failure>
-    ensures { Gives (λ x. (view_test x.0, x.1.now)) result (data_test tokens.now) }
+    ensures { GivesReading (λ x. (view_test x.0, x.1.now)) result (data_test tokens.now) }
 {
     let rest = expect_word(tokens, Word::Data)?;
     let rest = expect_word(rest, Word::Is)?;
@@ -233,7 +233,7 @@ fn data_test(tokens: &[Token]) -> Result<(Test, &[Token]), Failure>
 /// A test that begins with an expression.
 #[tactic(auto, unfolding(crate::specs::ReadConditions::sum_test))]
 fn sum_test(alloc: Global, tokens: &[Token], room: u8) -> Result<(Test, &[Token]), Failure>
-    ensures { Gives (λ x. (view_test x.0, x.1.now)) result (sum_test room tokens.now) }
+    ensures { GivesReading (λ x. (view_test x.0, x.1.now)) result (sum_test room tokens.now) }
 {
     let (left, rest) = sum(alloc, tokens, room)?;
     let (verb, rest) = any_verb(rest)?;
@@ -243,7 +243,7 @@ fn sum_test(alloc: Global, tokens: &[Token], room: u8) -> Result<(Test, &[Token]
 /// A test, where this many levels of nesting, one around it among them, may be opened.
 #[tactic(auto, unfolding(crate::specs::ReadConditions::test_in))]
 fn test(alloc: Global, tokens: &[Token], room: u8) -> Result<(Test, &[Token]), Failure>
-    ensures { Gives (λ x. (view_test x.0, x.1.now)) result (test_in room tokens.now) }
+    ensures { GivesReading (λ x. (view_test x.0, x.1.now)) result (test_in room tokens.now) }
 {
     if room == 0 {
         return Err(too_deep(tokens));
@@ -261,7 +261,7 @@ fn conjunction(
     tokens: &[Token],
     room: u8,
 ) -> Result<(Conjunction, &[Token]), Failure>
-    ensures { Gives (λ x. (view_conjunction x.0, x.1.now)) result (conjunction_in room tokens.now) }
+    ensures { GivesReading (λ x. (view_conjunction x.0, x.1.now)) result (conjunction_in room tokens.now) }
 {
     let (first, mut rest) = test(alloc, tokens, room)?;
     let mut all = alone(alloc, first)?;
@@ -279,7 +279,7 @@ pub fn condition(
     tokens: &[Token],
     room: u8,
 ) -> Result<(Condition, &[Token]), Failure>
-    ensures { Gives (λ x. (view_condition x.0, x.1.now)) result (condition_in room tokens.now) }
+    ensures { GivesReading (λ x. (view_condition x.0, x.1.now)) result (condition_in room tokens.now) }
 {
     let (first, mut rest) = conjunction(alloc, tokens, room)?;
     let mut all = alone(alloc, first)?;

@@ -4,8 +4,8 @@ ghost use Rattle.std.specs.Prelude.{◌≡◌, IfOk, map};
 ghost use Rattle.ss_tree.specs.Tree.{signed};
 ghost use Rattle.ss_tree.specs.View.{view_expression, view_term};
 ghost use Rattle.ss_parse_expressions.specs.WordTables.{function_of};
-ghost use Rattle.ss_parse_expressions.specs.Reading.{Gives, word, begins_by, taken, begins_more};
-ghost use Rattle.ss_parse_expressions.specs.ReadExpressions.{sum_of, product_of, sign_of, begins_sign, designator_of_word, begins_sum, arguments_with, enclosed_with, subscripts_with, named_with, call_with, parenthesised_with, factor_in_words, factor_with, further_factors_with, term_with, signed_term_with, first_term_with, further_terms_with, sum_with, sum_in};
+ghost use Rattle.ss_parse_expressions.specs.Reading.{GivesReading, word, begins_by, taken, begins_more};
+ghost use Rattle.ss_parse_expressions.specs.ReadExpressions.{sum_of_terms, product_of, sign_of_token, begins_sign, designator_of_word, begins_sum, arguments_with, enclosed_with, subscripts_with, named_with, call_with, parenthesised_with, factor_in_words, factor_with, further_factors_with, term_with, signed_term_with, first_term_with, further_terms_with, sum_with, sum_in};
 
 use crate::failure::Failure;
 use crate::steps::{alone, beside};
@@ -25,7 +25,7 @@ fn begins_sign(tokens: &[Token]) -> bool
 
 /// A sign.
 fn sign(tokens: &[Token]) -> Result<(Sign, &[Token]), Failure>
-    ensures { Gives (λ x. (x.0, x.1.now)) result (taken sign_of tokens.now) }
+    ensures { GivesReading (λ x. (x.0, x.1.now)) result (taken sign_of_token tokens.now) }
 {
     match tokens {
         [] => Err(syntax(tokens)),
@@ -75,8 +75,12 @@ pub fn begins_more_sums(tokens: &[Token]) -> bool
 
 /// A term and further ones, of which there may be none.
 #[tactic(auto, using(ss_tree::specs::Views::view_sum_made))]
-fn sum_of(alloc: Global, first: Expression, further: Vec<Term>) -> Result<Expression, AllocError>
-    ensures { IfOk result (λ e. view_expression e ≡ sum_of (view_expression first) (map view_term further.items)) }
+fn sum_of_terms(
+    alloc: Global,
+    first: Expression,
+    further: Vec<Term>,
+) -> Result<Expression, AllocError>
+    ensures { IfOk result (λ e. view_expression e ≡ sum_of_terms (view_expression first) (map view_term further.items)) }
 {
     if further.is_empty() {
         return Ok(first);
@@ -115,21 +119,21 @@ fn signed(alloc: Global, term: Term) -> Result<Expression, AllocError>
 #[cycle(expressions)]
 #[tactic(auto, unfolding(crate::specs::ReadExpressions::sum_in, crate::specs::ReadExpressions::sum_with))]
 pub fn sum(alloc: Global, tokens: &[Token], room: u8) -> Result<(Expression, &[Token]), Failure>
-    ensures { Gives (λ x. (view_expression x.0, x.1.now)) result (sum_in room tokens.now) }
+    ensures { GivesReading (λ x. (view_expression x.0, x.1.now)) result (sum_in room tokens.now) }
 {
     if room == 0 {
         return Err(too_deep(tokens));
     }
     let (first, rest) = first_term(alloc, tokens, room - 1)?;
     let (first, (further, rest)) = beside(first, further_terms(alloc, rest, room - 1))?;
-    Ok((sum_of(alloc, first, further)?, rest))
+    Ok((sum_of_terms(alloc, first, further)?, rest))
 }
 
 /// The first term of a sum, which may have a sign.
 #[cycle(expressions)]
 #[tactic(auto, unfolding(crate::specs::ReadExpressions::first_term_with))]
 fn first_term(alloc: Global, tokens: &[Token], room: u8) -> Result<(Expression, &[Token]), Failure>
-    ensures { Gives (λ x. (view_expression x.0, x.1.now)) result (first_term_with (sum_in room) tokens.now) }
+    ensures { GivesReading (λ x. (view_expression x.0, x.1.now)) result (first_term_with (sum_in room) tokens.now) }
 {
     if begins_sign(tokens) {
         let (term, rest) = signed_term(alloc, tokens, room)?;
@@ -143,7 +147,7 @@ fn first_term(alloc: Global, tokens: &[Token], room: u8) -> Result<(Expression, 
 #[cycle(expressions)]
 #[tactic(auto, unfolding(crate::specs::ReadExpressions::signed_term_with))]
 fn signed_term(alloc: Global, tokens: &[Token], room: u8) -> Result<(Term, &[Token]), Failure>
-    ensures { Gives (λ x. (view_term x.0, x.1.now)) result (signed_term_with (sum_in room) tokens.now) }
+    ensures { GivesReading (λ x. (view_term x.0, x.1.now)) result (signed_term_with (sum_in room) tokens.now) }
 {
     let (sign, rest) = sign(tokens)?;
     let (value, rest) = term(alloc, rest, room)?;
@@ -157,7 +161,7 @@ fn further_terms(
     tokens: &[Token],
     room: u8,
 ) -> Result<(Vec<Term>, &[Token]), Failure>
-    ensures { Gives (λ x. (map view_term x.0.items, x.1.now)) result (further_terms_with (sum_in room) tokens.now) }
+    ensures { GivesReading (λ x. (map view_term x.0.items, x.1.now)) result (further_terms_with (sum_in room) tokens.now) }
 {
     let mut all = Vec::new(alloc);
     let mut rest = tokens;
@@ -173,7 +177,7 @@ fn further_terms(
 #[cycle(expressions)]
 #[tactic(auto, unfolding(crate::specs::ReadExpressions::term_with))]
 fn term(alloc: Global, tokens: &[Token], room: u8) -> Result<(Expression, &[Token]), Failure>
-    ensures { Gives (λ x. (view_expression x.0, x.1.now)) result (term_with (sum_in room) tokens.now) }
+    ensures { GivesReading (λ x. (view_expression x.0, x.1.now)) result (term_with (sum_in room) tokens.now) }
 {
     let (first, rest) = factor(alloc, tokens, room)?;
     let (first, (further, rest)) = beside(first, further_factors(alloc, rest, room))?;
@@ -187,7 +191,7 @@ fn further_factors(
     tokens: &[Token],
     room: u8,
 ) -> Result<(Vec<Expression>, &[Token]), Failure>
-    ensures { Gives (λ x. (map view_expression x.0.items, x.1.now)) result (further_factors_with (sum_in room) tokens.now) }
+    ensures { GivesReading (λ x. (map view_expression x.0.items, x.1.now)) result (further_factors_with (sum_in room) tokens.now) }
 {
     let mut all = Vec::new(alloc);
     let mut rest = tokens;
@@ -203,7 +207,7 @@ fn further_factors(
 #[cycle(expressions)]
 #[tactic(auto, unfolding(crate::specs::ReadExpressions::factor_at, ss_tree::specs::View::view_expression))]
 fn factor(alloc: Global, tokens: &[Token], room: u8) -> Result<(Expression, &[Token]), Failure>
-    ensures { Gives (λ x. (view_expression x.0, x.1.now)) result (factor_with (sum_in room) tokens.now) }
+    ensures { GivesReading (λ x. (view_expression x.0, x.1.now)) result (factor_with (sum_in room) tokens.now) }
 {
     match tokens {
         [] => Err(syntax(tokens)),
@@ -227,7 +231,7 @@ fn factor_in_words(
     tokens: &[Token],
     room: u8,
 ) -> Result<(Expression, &[Token]), Failure>
-    ensures { Gives (λ x. (view_expression x.0, x.1.now)) result (factor_in_words (sum_in room) (designator_of_word word) (function_of word) tokens.now) }
+    ensures { GivesReading (λ x. (view_expression x.0, x.1.now)) result (factor_in_words (sum_in room) (designator_of_word word) (function_of word) tokens.now) }
 {
     if let Some(designator) = designator_of_word(word) {
         return named(alloc, designator, tokens, room);
@@ -247,7 +251,7 @@ fn named(
     tokens: &[Token],
     room: u8,
 ) -> Result<(Expression, &[Token]), Failure>
-    ensures { Gives (λ x. (view_expression x.0, x.1.now)) result (named_with (sum_in room) designator tokens.now) }
+    ensures { GivesReading (λ x. (view_expression x.0, x.1.now)) result (named_with (sum_in room) designator tokens.now) }
 {
     let (subscripts, rest) = subscripts(alloc, tokens, room)?;
     let place = Named {
@@ -266,7 +270,7 @@ fn call(
     tokens: &[Token],
     room: u8,
 ) -> Result<(Expression, &[Token]), Failure>
-    ensures { Gives (λ x. (view_expression x.0, x.1.now)) result (call_with (sum_in room) function tokens.now) }
+    ensures { GivesReading (λ x. (view_expression x.0, x.1.now)) result (call_with (sum_in room) function tokens.now) }
 {
     let (arguments, rest) = enclosed(alloc, tokens, room)?;
     let call = Expression::Call {
@@ -284,7 +288,7 @@ fn parenthesised(
     tokens: &[Token],
     room: u8,
 ) -> Result<(Expression, &[Token]), Failure>
-    ensures { Gives (λ x. (view_expression x.0, x.1.now)) result (parenthesised_with (sum_in room) tokens.now) }
+    ensures { GivesReading (λ x. (view_expression x.0, x.1.now)) result (parenthesised_with (sum_in room) tokens.now) }
 {
     let (inner, rest) = sum(alloc, tokens, room)?;
     let (inner, rest) = beside(inner, expect_symbol(rest, Symbol::CloseParenthesis))?;
@@ -299,7 +303,7 @@ fn subscripts(
     tokens: &[Token],
     room: u8,
 ) -> Result<(Vec<Expression>, &[Token]), Failure>
-    ensures { Gives (λ x. (map view_expression x.0.items, x.1.now)) result (subscripts_with (sum_in room) tokens.now) }
+    ensures { GivesReading (λ x. (map view_expression x.0.items, x.1.now)) result (subscripts_with (sum_in room) tokens.now) }
 {
     if begins_symbol(tokens, Symbol::OpenParenthesis) {
         enclosed(alloc, tokens, room)
@@ -316,7 +320,7 @@ fn enclosed(
     tokens: &[Token],
     room: u8,
 ) -> Result<(Vec<Expression>, &[Token]), Failure>
-    ensures { Gives (λ x. (map view_expression x.0.items, x.1.now)) result (enclosed_with (sum_in room) tokens.now) }
+    ensures { GivesReading (λ x. (map view_expression x.0.items, x.1.now)) result (enclosed_with (sum_in room) tokens.now) }
 {
     let rest = expect_symbol(tokens, Symbol::OpenParenthesis)?;
     let (arguments, rest) = sums(alloc, rest, room)?;
@@ -331,7 +335,7 @@ pub fn sums(
     tokens: &[Token],
     room: u8,
 ) -> Result<(Vec<Expression>, &[Token]), Failure>
-    ensures { Gives (λ x. (map view_expression x.0.items, x.1.now)) result (arguments_with (sum_in room) tokens.now) }
+    ensures { GivesReading (λ x. (map view_expression x.0.items, x.1.now)) result (arguments_with (sum_in room) tokens.now) }
 {
     let (first, mut rest) = sum(alloc, tokens, room)?;
     let mut all = alone(alloc, first)?;

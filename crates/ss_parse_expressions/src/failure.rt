@@ -7,7 +7,7 @@ use std::alloc::{AllocError, AllocFailed};
 
 /// What is wrong with the tokens.
 #[derive(Clone, Copy)]
-pub enum Fault {
+pub enum ParseFault {
     Syntax,
     TooDeep,
 }
@@ -17,7 +17,7 @@ pub enum Fault {
 pub enum Failure {
     Memory,
     /// A fault, and how many tokens were left where it was found.
-    Refused(Fault, usize),
+    Refused(ParseFault, usize),
 }
 
 impl From<AllocError> for Failure {

@@ -3,10 +3,10 @@
 ghost use Rattle.std.specs.Prelude.{◌≡◌, map};
 ghost use Rattle.ss_tree.specs.View.{view_expression, view_option, view_phrase, view_guard, view_start, view_head, view_loop_head};
 ghost use Rattle.ss_parse_expressions.specs.WordTables.{phrase_of, guard_of};
-ghost use Rattle.ss_parse_expressions.specs.Reading.{Gives, taken, in_table, apply, skip_comma};
+ghost use Rattle.ss_parse_expressions.specs.Reading.{GivesReading, taken, in_table, apply, skip_comma};
 ghost use Rattle.ss_parse_expressions.specs.ReadHeads.{begins_phrase, begins_guard, phrase_in, guard_in, phrases_in, further_guards, step_in, range_in, start_in, reverse, members_in, class_in, class_tree, each_named, each_in, for_in, guarded_in};
 
-use crate::classes::{Class, begins_class, expect_class};
+use crate::classes::{WordClass, begins_class, expect_class};
 use crate::conditions::condition;
 use crate::expressions::sum;
 use crate::failure::Failure;
@@ -25,7 +25,7 @@ use std::alloc::Global;
 
 /// The word that begins a phrase.
 fn phrase_kind(tokens: &[Token]) -> Result<(PhraseKind, &[Token]), Failure>
-    ensures { Gives (λ x. (x.0, x.1.now)) result (taken (in_table phrase_of) tokens.now) }
+    ensures { GivesReading (λ x. (x.0, x.1.now)) result (taken (in_table phrase_of) tokens.now) }
 {
     match tokens {
         [] => Err(syntax(tokens)),
@@ -55,7 +55,7 @@ fn begins_phrase(tokens: &[Token]) -> bool
 /// A phrase.
 #[tactic(auto, unfolding(crate::specs::ReadHeads::phrase_in))]
 fn phrase(alloc: Global, tokens: &[Token], room: u8) -> Result<(Phrase, &[Token]), Failure>
-    ensures { Gives (λ x. (view_phrase x.0, x.1.now)) result (phrase_in room tokens.now) }
+    ensures { GivesReading (λ x. (view_phrase x.0, x.1.now)) result (phrase_in room tokens.now) }
 {
     let (kind, rest) = phrase_kind(tokens)?;
     let (condition, rest) = condition(alloc, rest, room)?;
@@ -64,7 +64,7 @@ fn phrase(alloc: Global, tokens: &[Token], room: u8) -> Result<(Phrase, &[Token]
 
 /// Phrases, each with a comma before it or not.
 fn phrases(alloc: Global, tokens: &[Token], room: u8) -> Result<(Vec<Phrase>, &[Token]), Failure>
-    ensures { Gives (λ x. (map view_phrase x.0.items, x.1.now)) result (phrases_in room tokens.now) }
+    ensures { GivesReading (λ x. (map view_phrase x.0.items, x.1.now)) result (phrases_in room tokens.now) }
 {
     let mut all = Vec::new(alloc);
     let mut rest = tokens;
@@ -78,7 +78,7 @@ fn phrases(alloc: Global, tokens: &[Token], room: u8) -> Result<(Vec<Phrase>, &[
 
 /// WHILE or UNTIL.
 fn guard_kind(tokens: &[Token]) -> Result<(GuardKind, &[Token]), Failure>
-    ensures { Gives (λ x. (x.0, x.1.now)) result (taken (in_table guard_of) tokens.now) }
+    ensures { GivesReading (λ x. (x.0, x.1.now)) result (taken (in_table guard_of) tokens.now) }
 {
     match tokens {
         [] => Err(syntax(tokens)),
@@ -115,7 +115,7 @@ fn begins_next_guard(tokens: &[Token]) -> bool
 /// WHILE or UNTIL and its condition.
 #[tactic(auto, unfolding(crate::specs::ReadHeads::guard_in))]
 fn guard(alloc: Global, tokens: &[Token], room: u8) -> Result<(Guard, &[Token]), Failure>
-    ensures { Gives (λ x. (view_guard x.0, x.1.now)) result (guard_in room tokens.now) }
+    ensures { GivesReading (λ x. (view_guard x.0, x.1.now)) result (guard_in room tokens.now) }
 {
     let (kind, rest) = guard_kind(tokens)?;
     let (condition, rest) = condition(alloc, rest, room)?;
@@ -129,7 +129,7 @@ fn guards(
     tokens: &[Token],
     room: u8,
 ) -> Result<(Vec<Guard>, &[Token]), Failure>
-    ensures { Gives (λ x. (map view_guard x.0.items, x.1.now)) result (further_guards room (view_guard first) tokens.now) }
+    ensures { GivesReading (λ x. (map view_guard x.0.items, x.1.now)) result (further_guards room (view_guard first) tokens.now) }
 {
     let mut all = alone(alloc, first)?;
     let mut rest = tokens;
@@ -147,7 +147,7 @@ fn step(
     tokens: &[Token],
     room: u8,
 ) -> Result<(Option<Expression>, &[Token]), Failure>
-    ensures { Gives (λ x. (view_option view_expression x.0, x.1.now)) result (step_in room tokens.now) }
+    ensures { GivesReading (λ x. (view_option view_expression x.0, x.1.now)) result (step_in room tokens.now) }
 {
     if !begins_word(tokens, Word::By) {
         return Ok((None, tokens));
@@ -159,7 +159,7 @@ fn step(
 /// The head of a FOR over numbers, after FOR.
 #[tactic(auto, unfolding(crate::specs::ReadHeads::range_in))]
 fn range(alloc: Global, tokens: &[Token], room: u8) -> Result<(Head, &[Token]), Failure>
-    ensures { Gives (λ x. (view_head x.0, x.1.now)) result (range_in room tokens.now) }
+    ensures { GivesReading (λ x. (view_head x.0, x.1.now)) result (range_in room tokens.now) }
 {
     let variable = name(tokens)?;
     let rest = expect_symbol(after_first(tokens), Symbol::Equals)?;
@@ -182,7 +182,7 @@ fn range(alloc: Global, tokens: &[Token], room: u8) -> Result<(Head, &[Token]), 
 /// The member with which a loop over a set begins.
 #[tactic(auto, unfolding(crate::specs::ReadHeads::start_in))]
 fn start(alloc: Global, tokens: &[Token], room: u8) -> Result<(MemberStart, &[Token]), Failure>
-    ensures { Gives (λ x. (view_start x.0, x.1.now)) result (start_in room tokens.now) }
+    ensures { GivesReading (λ x. (view_start x.0, x.1.now)) result (start_in room tokens.now) }
 {
     if begins_word(tokens, Word::From) {
         let (member, rest) = sum(alloc, skip_word(tokens, Word::From), room)?;
@@ -198,7 +198,7 @@ fn start(alloc: Global, tokens: &[Token], room: u8) -> Result<(MemberStart, &[To
 /// Whether a loop over a set goes in reverse order.
 #[tactic(auto, unfolding(crate::specs::ReadHeads::reverse))]
 fn reverse(tokens: &[Token]) -> Result<(bool, &[Token]), Failure>
-    ensures { Gives (λ x. (x.0, x.1.now)) result (reverse tokens.now) }
+    ensures { GivesReading (λ x. (x.0, x.1.now)) result (reverse tokens.now) }
 {
     if !begins_word(tokens, Word::In) {
         return Ok((false, tokens));
@@ -216,7 +216,7 @@ fn members(
     tokens: &[Token],
     room: u8,
 ) -> Result<(Head, &[Token]), Failure>
-    ensures { Gives (λ x. (view_head x.0, x.1.now)) result (members_in room variable tokens.now) }
+    ensures { GivesReading (λ x. (view_head x.0, x.1.now)) result (members_in room variable tokens.now) }
 {
     let rest = expect_word(tokens, Word::In)?;
     let (set, rest) = reference(alloc, skip_word(rest, Word::The), room)?;
@@ -241,7 +241,7 @@ fn class_phrases(
     tokens: &[Token],
     room: u8,
 ) -> Result<(Head, &[Token]), Failure>
-    ensures { Gives (λ x. (view_head x.0, x.1.now)) result (apply (λ ps. class_tree class (called, ps)) (phrases_in room) tokens.now) }
+    ensures { GivesReading (λ x. (view_head x.0, x.1.now)) result (apply (λ ps. class_tree class (called, ps)) (phrases_in room) tokens.now) }
 {
     let (phrases, rest) = phrases(alloc, tokens, room)?;
     let head = Head::Class {
@@ -260,7 +260,7 @@ fn class(
     tokens: &[Token],
     room: u8,
 ) -> Result<(Head, &[Token]), Failure>
-    ensures { Gives (λ x. (view_head x.0, x.1.now)) result (class_in room class tokens.now) }
+    ensures { GivesReading (λ x. (view_head x.0, x.1.now)) result (class_in room class tokens.now) }
 {
     if !begins_word(tokens, Word::Called) {
         return class_phrases(alloc, class, None, tokens, room);
@@ -277,7 +277,7 @@ fn each_named(
     tokens: &[Token],
     room: u8,
 ) -> Result<(Head, &[Token]), Failure>
-    ensures { Gives (λ x. (view_head x.0, x.1.now)) result (each_named room name tokens.now) }
+    ensures { GivesReading (λ x. (view_head x.0, x.1.now)) result (each_named room name tokens.now) }
 {
     if begins_word(tokens, Word::In) {
         members(alloc, name, tokens, room)
@@ -289,9 +289,9 @@ fn each_named(
 /// The head of a FOR over a set or a class, after FOR.
 #[tactic(auto, unfolding(crate::specs::ReadHeads::each_in))]
 fn each(alloc: Global, tokens: &[Token], room: u8) -> Result<(Head, &[Token]), Failure>
-    ensures { Gives (λ x. (view_head x.0, x.1.now)) result (each_in room tokens.now) }
+    ensures { GivesReading (λ x. (view_head x.0, x.1.now)) result (each_in room tokens.now) }
 {
-    let rest = expect_class(tokens, Class::Each)?;
+    let rest = expect_class(tokens, WordClass::Each)?;
     let variable = name(rest)?;
     each_named(alloc, variable, after_first(rest), room)
 }
@@ -299,9 +299,9 @@ fn each(alloc: Global, tokens: &[Token], room: u8) -> Result<(Head, &[Token]), F
 /// The head of a FOR, after its first word.
 #[tactic(auto, unfolding(crate::specs::ReadHeads::for_in))]
 pub fn for_head(alloc: Global, tokens: &[Token], room: u8) -> Result<(Head, &[Token]), Failure>
-    ensures { Gives (λ x. (view_head x.0, x.1.now)) result (for_in room tokens.now) }
+    ensures { GivesReading (λ x. (view_head x.0, x.1.now)) result (for_in room tokens.now) }
 {
-    if begins_class(tokens, Class::Each) {
+    if begins_class(tokens, WordClass::Each) {
         each(alloc, tokens, room)
     } else {
         range(alloc, tokens, room)
@@ -316,7 +316,7 @@ pub fn guarded_head(
     tokens: &[Token],
     room: u8,
 ) -> Result<(LoopHead, &[Token]), Failure>
-    ensures { Gives (λ x. (view_loop_head x.0, x.1.now)) result (guarded_in room kind tokens.now) }
+    ensures { GivesReading (λ x. (view_loop_head x.0, x.1.now)) result (guarded_in room kind tokens.now) }
 {
     let (condition, rest) = condition(alloc, tokens, room)?;
     let (guards, rest) = guards(alloc, Guard { kind, condition }, rest, room)?;

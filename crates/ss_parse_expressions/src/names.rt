@@ -1,10 +1,10 @@
 //! Names and lists of names.
 
 ghost use Rattle.std.specs.Prelude.{◌≡◌, drop};
-ghost use Rattle.ss_parse_expressions.specs.Reading.{Gives, taken, name_of, begins_more};
+ghost use Rattle.ss_parse_expressions.specs.Reading.{GivesReading, taken, name_in_token, begins_more};
 ghost use Rattle.ss_parse_expressions.specs.ReadWords.{begins_name, names, begins_item, items};
 
-use crate::classes::{Class, skip_class};
+use crate::classes::{WordClass, skip_class};
 use crate::failure::Failure;
 use crate::steps::alone;
 use crate::tokens::{after_first, begins_symbol, begins_word, skip_separator, syntax};
@@ -27,7 +27,7 @@ pub fn begins_name(tokens: &[Token]) -> bool
 
 /// The first token, which must be a name.
 pub fn name(tokens: &[Token]) -> Result<Name, Failure>
-    ensures { Gives (λ x. (x, drop 1 tokens.now)) result (taken name_of tokens.now) }
+    ensures { GivesReading (λ x. (x, drop 1 tokens.now)) result (taken name_in_token tokens.now) }
 {
     match tokens {
         [] => Err(syntax(tokens)),
@@ -48,7 +48,7 @@ fn begins_more_names(tokens: &[Token]) -> bool
 
 /// Names with separators between.
 pub fn names(alloc: Global, tokens: &[Token]) -> Result<(Vec<Name>, &[Token]), Failure>
-    ensures { Gives (λ x. (x.0.items, x.1.now)) result (names tokens.now) }
+    ensures { GivesReading (λ x. (x.0.items, x.1.now)) result (names tokens.now) }
 {
     let first = name(tokens)?;
     let mut all = alone(alloc, first)?;
@@ -65,7 +65,7 @@ pub fn names(alloc: Global, tokens: &[Token]) -> Result<(Vec<Name>, &[Token]), F
 fn begins_item(tokens: &[Token]) -> bool
     ensures { result ≡ begins_item tokens.now }
 {
-    begins_name(skip_class(tokens, Class::Article))
+    begins_name(skip_class(tokens, WordClass::Article))
 }
 
 /// Whether a separator and then a name, with an article before it or not, follow.
@@ -78,14 +78,14 @@ fn begins_more_items(tokens: &[Token]) -> bool
 
 /// Names with separators between, each with an article before it or not.
 pub fn items(alloc: Global, tokens: &[Token]) -> Result<(Vec<Name>, &[Token]), Failure>
-    ensures { Gives (λ x. (x.0.items, x.1.now)) result (items tokens.now) }
+    ensures { GivesReading (λ x. (x.0.items, x.1.now)) result (items tokens.now) }
 {
-    let from = skip_class(tokens, Class::Article);
+    let from = skip_class(tokens, WordClass::Article);
     let first = name(from)?;
     let mut all = alone(alloc, first)?;
     let mut rest = after_first(from);
     'more: while begins_more_items(rest) {
-        let from = skip_class(skip_separator(rest), Class::Article);
+        let from = skip_class(skip_separator(rest), WordClass::Article);
         let next = name(from)?;
         all.push(next)?;
         rest = after_first(from);

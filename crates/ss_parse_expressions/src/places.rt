@@ -3,7 +3,7 @@
 ghost use Rattle.std.specs.Prelude.{◌≡◌, IfOk, map, drop};
 ghost use Rattle.ss_tree.specs.Tree.{expression_row};
 ghost use Rattle.ss_tree.specs.View.{view_expression, view_option, view_named};
-ghost use Rattle.ss_parse_expressions.specs.Reading.{Gives, begins, maybe, taken, begins_more};
+ghost use Rattle.ss_parse_expressions.specs.Reading.{GivesReading, begins, maybe, taken, begins_more};
 ghost use Rattle.ss_parse_expressions.specs.ReadExpressions.{opening, designator_of, sum_in};
 ghost use Rattle.ss_parse_expressions.specs.ReadPlaces.{subscript_row, subscript_with, plain_of, target_in, reference_in, begins_target, targets_in};
 
@@ -20,7 +20,7 @@ use std::alloc::{AllocError, Global};
 
 /// The name at the front, or TIME.V or TIME.A.
 fn designator(tokens: &[Token]) -> Result<Designator, Failure>
-    ensures { Gives (λ x. (x, drop 1 tokens.now)) result (taken designator_of tokens.now) }
+    ensures { GivesReading (λ x. (x, drop 1 tokens.now)) result (taken designator_of tokens.now) }
 {
     match tokens {
         [] => Err(syntax(tokens)),
@@ -37,7 +37,7 @@ fn designator(tokens: &[Token]) -> Result<Designator, Failure>
 
 /// The first token, which must be a name.
 fn plain_designator(tokens: &[Token]) -> Result<Designator, Failure>
-    ensures { Gives (λ x. (x, drop 1 tokens.now)) result (taken plain_of tokens.now) }
+    ensures { GivesReading (λ x. (x, drop 1 tokens.now)) result (taken plain_of tokens.now) }
 {
     match tokens {
         [] => Err(syntax(tokens)),
@@ -55,7 +55,7 @@ fn subscript(
     tokens: &[Token],
     room: u8,
 ) -> Result<(Option<Expression>, &[Token]), Failure>
-    ensures { Gives (λ x. (view_option view_expression x.0, x.1.now)) result (maybe (begins opening) (subscript_with (sum_in room)) tokens.now) }
+    ensures { GivesReading (λ x. (view_option view_expression x.0, x.1.now)) result (maybe (begins opening) (subscript_with (sum_in room)) tokens.now) }
 {
     if !begins_symbol(tokens, Symbol::OpenParenthesis) {
         return Ok((None, tokens));
@@ -81,7 +81,7 @@ fn subscripts_of(
 /// What a value is put into, where this many levels of nesting, itself among them, may be opened.
 #[tactic(auto, unfolding(crate::specs::ReadPlaces::place_in))]
 pub fn target(alloc: Global, tokens: &[Token], room: u8) -> Result<(Named, &[Token]), Failure>
-    ensures { Gives (λ x. (view_named x.0, x.1.now)) result (target_in room tokens.now) }
+    ensures { GivesReading (λ x. (view_named x.0, x.1.now)) result (target_in room tokens.now) }
 {
     if room == 0 {
         return Err(too_deep(tokens));
@@ -99,7 +99,7 @@ pub fn target(alloc: Global, tokens: &[Token], room: u8) -> Result<(Named, &[Tok
 /// A reference to a set, where this many levels of nesting, itself among them, may be opened.
 #[tactic(auto, unfolding(crate::specs::ReadPlaces::place_in))]
 pub fn reference(alloc: Global, tokens: &[Token], room: u8) -> Result<(Named, &[Token]), Failure>
-    ensures { Gives (λ x. (view_named x.0, x.1.now)) result (reference_in room tokens.now) }
+    ensures { GivesReading (λ x. (view_named x.0, x.1.now)) result (reference_in room tokens.now) }
 {
     if room == 0 {
         return Err(too_deep(tokens));
@@ -137,7 +137,7 @@ fn begins_more_targets(tokens: &[Token]) -> bool
 
 /// Targets with separators between.
 pub fn targets(alloc: Global, tokens: &[Token], room: u8) -> Result<(Vec<Named>, &[Token]), Failure>
-    ensures { Gives (λ x. (map view_named x.0.items, x.1.now)) result (targets_in room tokens.now) }
+    ensures { GivesReading (λ x. (map view_named x.0.items, x.1.now)) result (targets_in room tokens.now) }
 {
     let (first, mut rest) = target(alloc, tokens, room)?;
     let mut all = alone(alloc, first)?;

@@ -1,7 +1,7 @@
 //! What each word means, in the place where it is looked for.
 
 ghost use Rattle.std.specs.Prelude.{◌≡◌};
-ghost use Rattle.ss_parse_expressions.specs.WordTables.{relation_of, function_of, phrase_of, guard_of, outcome_of, mode_of, rank_of, statistic_of};
+ghost use Rattle.ss_parse_expressions.specs.WordTables.{relation_of, function_of, phrase_of, guard_of, outcome_of, mode_of_word, rank_of, statistic_of};
 
 use ss_lex::Word;
 use ss_tree::condition::Relation;
@@ -75,8 +75,8 @@ pub fn outcome_of(word: Word) -> Option<FindOutcome>
 }
 
 /// The mode that the word names.
-pub fn mode_of(word: Word) -> Option<Mode>
-    ensures { result ≡ mode_of word }
+pub fn mode_of_word(word: Word) -> Option<Mode>
+    ensures { result ≡ mode_of_word word }
 {
     match word {
         Word::Integer => Some(Mode::Integer),

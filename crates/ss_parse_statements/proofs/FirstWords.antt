@@ -7,7 +7,7 @@ use Rattle.ss_lex.specs.declared.token.TokenKind.{TokenKind}
 use Rattle.ss_lex.specs.declared.token.TokenKind.TheVariants as kinds
 use Rattle.ss_lex.specs.declared.token.Token.{Token}
 use Rattle.ss_parse_expressions.specs.Openers.{opens, openers}
-use Rattle.ss_parse_expressions.specs.Shapes.{Shape, Word_is, first_line}
+use Rattle.ss_parse_expressions.specs.Shapes.{Shape, Word_is, first_token_line}
 use Rattle.ss_parse_expressions.specs.Reading.{Reader}
 use Rattle.ss_parse_expressions.proofs.Marks.{token, token_less}
 use Rattle.ss_parse_expressions.proofs.Depth.{Upto, upto_same, Bounded, bounded_more, bounded_opened}
@@ -40,7 +40,7 @@ opening_form {k = k} {r = r} w opener law = record {
   opening = λ ts. bounded_opened k (openers ts) (opens (kinds.Word w) + openers ts) (r ts) (omega (arith, opener)) (law.opening ts);
 }
 
-module _ {A : Type 0} {k : ℕ} {form form' : Line → Word → Reader A} {S : Line → Word → A → Shape} {c : List Token → Bool} (law : (line : Line) (w : Word) → Form k w (form line w) (form' line w) (S line w) c) (T : A → Shape) (to : (x : A) (w : Word) (span : Span) (line : Line) (ts rest : List Token) → S line w x ts rest → T x (token (kinds.Word w) span line ∷ ts) rest) (from : (x : A) (ts rest : List Token) → T x ts rest → (w : Word) × (m : List Token) × (Word_is w ts m) × S (first_line ts) w x m rest) where
+module _ {A : Type 0} {k : ℕ} {form form' : Line → Word → Reader A} {S : Line → Word → A → Shape} {c : List Token → Bool} (law : (line : Line) (w : Word) → Form k w (form line w) (form' line w) (S line w) c) (T : A → Shape) (to : (x : A) (w : Word) (span : Span) (line : Line) (ts rest : List Token) → S line w x ts rest → T x (token (kinds.Word w) span line ∷ ts) rest) (from : (x : A) (ts rest : List Token) → T x ts rest → (w : Word) × (m : List Token) × (Word_is w ts m) × S (first_token_line ts) w x m rest) where
   kind_sound : (kind : TokenKind) (span : Span) (line : Line) (ts : List Token) (x : A) (rest : List Token) → at_word form line kind ts ≡ Ok (x, rest) → T x (token kind span line ∷ ts) rest
   kind_sound (kinds.Word w) span line ts x rest e = to x w span line ts rest ((law line w).sound ts x rest e)
   kind_sound _ span line ts x rest e = absurd cc
@@ -52,16 +52,16 @@ module _ {A : Type 0} {k : ℕ} {form form' : Line → Word → Reader A} {S : L
   first_complete : (ts : List Token) (x : A) (rest : List Token) → T x ts rest → c rest ≡ false → by_word form ts ≡ Ok (x, rest)
   first_complete ts x rest s stop = go (from x ts rest s)
     where
-      go : ((w : Word) × (m : List Token) × (Word_is w ts m) × S (first_line ts) w x m rest) → by_word form ts ≡ Ok (x, rest)
+      go : ((w : Word) × (m : List Token) × (Word_is w ts m) × S (first_token_line ts) w x m rest) → by_word form ts ≡ Ok (x, rest)
       go (w, m, (span, line, e), s) =
-          let same : first_line ts ≡ line = ap first_line e in
+          let same : first_token_line ts ≡ line = ap first_token_line e in
           let following : S line w x m rest = subst (λ (l : Line). S l w x m rest) same s in
           ap (by_word form) e ∙ (law line w).complete m x rest following stop
 
   pub first_less : (ts : List Token) (x : A) (rest : List Token) → T x ts rest → length rest < length ts
   first_less ts x rest s =
       let f = from x ts rest s in
-      omega (arith, token_less (kinds.Word f.0) ts f.1 f.2, (law (first_line ts) f.0).shorter f.1 x rest f.3)
+      omega (arith, token_less (kinds.Word f.0) ts f.1 f.2, (law (first_token_line ts) f.0).shorter f.1 x rest f.3)
 
   kind_under : (line : Line) (kind : TokenKind) (ts : List Token) → Upto (at_word form line kind ts) (at_word form' line kind ts)
   kind_under line (kinds.Word w) ts = (law line w).under ts

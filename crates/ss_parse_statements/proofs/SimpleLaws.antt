@@ -11,12 +11,12 @@ use Rattle.ss_tree.specs.declared.head.GuardKind.{GuardKind}
 use Rattle.ss_tree.specs.declared.head.GuardKind.TheVariants as guards
 use Rattle.ss_tree.specs.declared.statement.SetEnd.{SetEnd}
 use Rattle.ss_tree.specs.Tree.{ExpressionTree, NamedTree, PositionTree, WhenTree, LoopHeadTree, for_head, guarded, StatementTree, let_statement, add_statement, subtract_statement, call_statement, return_statement, stop_statement, read_statement, start_simulation, if_statement, loop_statement, find_statement, find_if_statement, create_statement, create_every, destroy_statement, file_statement, remove_end, remove_statement, schedule_new, schedule_statement, cancel_statement, reset_statement, print_statement, skip_statement}
-use Rattle.ss_parse_expressions.specs.declared.classes.Class.TheVariants as classes
-use Rattle.ss_parse_expressions.specs.Shapes.{Shape, ◌▷◌, nothing, either, optional, provided, Token_is, Word_is, Symbol_is, Name_is, Word_for, listed}
+use Rattle.ss_parse_expressions.specs.declared.classes.WordClass.TheVariants as classes
+use Rattle.ss_parse_expressions.specs.Shapes.{Shape, ◌▷◌, nothing, either_shape, optional, provided, Token_is, Word_is, Symbol_is, Name_is, Word_for, separated_list}
 use Rattle.ss_parse_expressions.specs.Words.{has_word, One_of, the, perhaps_listed}
 use Rattle.ss_parse_expressions.specs.SpelledExpressions.{Sum_is, Target_is, Reference_is}
-use Rattle.ss_parse_expressions.specs.SpelledConditions.{guard_word, head_word}
-use Rattle.ss_parse_expressions.specs.Reading.{Reader, word, is, is_some, begins, begins_by, expect, in_table, taken, name_of, seq, following, apply}
+use Rattle.ss_parse_expressions.specs.SpelledConditions.{guard_word, loop_head_word}
+use Rattle.ss_parse_expressions.specs.Reading.{Reader, word, is, is_some, begins, begins_by, expect, in_table, taken, name_in_token, seq, after_dropped, apply}
 use Rattle.ss_parse_expressions.specs.ReadWords.{done, fail, begins_class}
 use Rattle.ss_parse_expressions.specs.ReadExpressions.{begins_value, begins_sum, sum_in}
 use Rattle.ss_parse_expressions.specs.ReadPlaces.{target_in}
@@ -27,9 +27,9 @@ use Rattle.ss_parse_expressions.proofs.WordLaws.{word_in_reads, expect_class_rea
 use Rattle.ss_parse_expressions.proofs.ExpressionLaws.{in_begins, continues_sum}
 use Rattle.ss_parse_expressions.proofs.PlaceLaws.{targets_in_reads, continues_place, continues_sums}
 use Rattle.ss_parse_expressions.proofs.ConditionLaws.{stops_place}
-use Rattle.ss_parse_statements.specs.SpelledParts.{Called, end_of, Position_is}
-use Rattle.ss_parse_statements.specs.SpelledStatements.{line_of, first_word, Statement_rest}
-use Rattle.ss_parse_statements.specs.ReadSimple.{equals, after_the, set_in, called, let_at, add_at, subtract_at, call_at, read_at, start_at, new_at, create_at, destroy_at, cancel_at, file_at, remove_end_at, remove_this_at, remove_at, schedule_the_at, schedule_a_at, schedule_at, reset_at, print_at, skip_at}
+use Rattle.ss_parse_statements.specs.SpelledParts.{CalledName, end_of, Position_is}
+use Rattle.ss_parse_statements.specs.SpelledStatements.{line_of_first_word, opening_word, Statement_rest}
+use Rattle.ss_parse_statements.specs.ReadSimple.{equals, after_the, set_reader, called, let_at, add_at, subtract_at, call_at, read_at, start_at, new_at, create_at, destroy_at, cancel_at, file_at, remove_end_at, remove_this_at, remove_at, schedule_the_at, schedule_a_at, schedule_at, reset_at, print_at, skip_at}
 use Rattle.ss_parse_statements.specs.ReadStatements.{form_word, nested_word}
 use Rattle.ss_parse_statements.proofs.StatementParts.{continues_simple, ended, over_place, over_targets, over_given, over_yielding, over_called, over_called_place, sum_reads, target_reads, set_reads, given_reads, yielding_reads, called_sum_reads, called_target_reads, continues_position, position_reads, position_stops, Due_is, due_reads, due_stops, Print_head_is, print_head_reads, Pictures_are, pictures_reads}
 
@@ -46,32 +46,32 @@ guard_nested : (k : GuardKind) → (nested_word (guard_word k) ≡ true) × (for
 guard_nested guards.While = (refl, refl)
 guard_nested guards.Until = (refl, refl)
 
-pub head_nested : (h : LoopHeadTree) → (nested_word (head_word h) ≡ true) × (form_word (head_word h) ≡ true)
+pub head_nested : (h : LoopHeadTree) → (nested_word (loop_head_word h) ≡ true) × (form_word (loop_head_word h) ≡ true)
 head_nested (for_head head) = (refl, refl)
 head_nested (guarded []) = (refl, refl)
 head_nested (guarded (g ∷ gs)) = guard_nested g.kind
 
-pub nested_first : (x : StatementTree) → nested_word (first_word x) ≡ is_nested x
+pub nested_first : (x : StatementTree) → nested_word (opening_word x) ≡ is_nested x
 nested_first (if_statement line condition then otherwise) = refl
 nested_first (loop_statement line head body) = (head_nested head).0
 nested_first _ = refl
 
-pub form_first : (x : StatementTree) → form_word (first_word x) ≡ true
+pub form_first : (x : StatementTree) → form_word (opening_word x) ≡ true
 form_first (loop_statement line head body) = (head_nested head).1
 form_first _ = refl
 
 -- ---- a statement after its first word
 
 abbrev pub Form_is : ℕ → Line → Word → StatementTree → Shape
-Form_is n line w x ts rest = (line_of x ≡ line) × (first_word x ≡ w) × Statement_rest x n ts rest
+Form_is n line w x ts rest = (line_of_first_word x ≡ line) × (opening_word x ≡ w) × Statement_rest x n ts rest
 
 -- a reader of a statement needs only that its trees have this shape
-pub formed : {k n : ℕ} {r r' : Reader StatementTree} {T : StatementTree → Shape} {c : List Token → Bool} → Reads k r r' T c → (line : Line) (w : Word) → nested_word w ≡ false → ((x : StatementTree) (ts rest : List Token) → T x ts rest → Form_is n line w x ts rest) → ((x : StatementTree) → is_nested x ≡ false → first_word x ≡ w → line_of x ≡ line → (ts rest : List Token) → Statement_rest x n ts rest → T x ts rest) → ((ts : List Token) → continues_simple ts ≡ false → c ts ≡ false) → Reads k r r' (Form_is n line w) continues_simple
+pub formed : {k n : ℕ} {r r' : Reader StatementTree} {T : StatementTree → Shape} {c : List Token → Bool} → Reads k r r' T c → (line : Line) (w : Word) → nested_word w ≡ false → ((x : StatementTree) (ts rest : List Token) → T x ts rest → Form_is n line w x ts rest) → ((x : StatementTree) → is_nested x ≡ false → opening_word x ≡ w → line_of_first_word x ≡ line → (ts rest : List Token) → Statement_rest x n ts rest → T x ts rest) → ((ts : List Token) → continues_simple ts ≡ false → c ts ≡ false) → Reads k r r' (Form_is n line w) continues_simple
 formed {n = n} law line w simple to from stops =
     fewer_reads (reshaped_reads law (Form_is n line w) to (λ x ts rest s. from x (sym (nested_first x) ∙ ap nested_word s.1 ∙ simple) s.1 s.0 ts rest s.2)) continues_simple stops
 
 -- a statement that is made of the parts that were read
-pub made_form : {k n : ℕ} {A : Type 0} {r r' : Reader A} {P : A → Shape} {c : List Token → Bool} → Reads k r r' P c → (f : A → StatementTree) (line : Line) (w : Word) → nested_word w ≡ false → ((p : A) → (line_of (f p) ≡ line) × (first_word (f p) ≡ w)) → ((p : A) (ts rest : List Token) → P p ts rest → Statement_rest (f p) n ts rest) → ((x : StatementTree) → is_nested x ≡ false → first_word x ≡ w → line_of x ≡ line → (ts rest : List Token) → Statement_rest x n ts rest → Made f P x ts rest) → ((ts : List Token) → continues_simple ts ≡ false → c ts ≡ false) → Reads k (apply f r) (apply f r') (Form_is n line w) continues_simple
+pub made_form : {k n : ℕ} {A : Type 0} {r r' : Reader A} {P : A → Shape} {c : List Token → Bool} → Reads k r r' P c → (f : A → StatementTree) (line : Line) (w : Word) → nested_word w ≡ false → ((p : A) → (line_of_first_word (f p) ≡ line) × (opening_word (f p) ≡ w)) → ((p : A) (ts rest : List Token) → P p ts rest → Statement_rest (f p) n ts rest) → ((x : StatementTree) → is_nested x ≡ false → opening_word x ≡ w → line_of_first_word x ≡ line → (ts rest : List Token) → Statement_rest x n ts rest → Made f P x ts rest) → ((ts : List Token) → continues_simple ts ≡ false → c ts ≡ false) → Reads k (apply f r) (apply f r') (Form_is n line w) continues_simple
 made_form {n = n} {P = P} law f line w simple line_and_word same from stops =
     formed (made_reads law f) line w simple
     (λ x ts rest s. subst (λ x. Form_is n line w x ts rest) s.1 ((line_and_word s.0).0, (line_and_word s.0).1, same s.0 ts rest s.2))
@@ -79,7 +79,7 @@ made_form {n = n} {P = P} law f line w simple line_and_word same from stops =
 
 -- no statement begins with another word
 pub no_form : (k n : ℕ) (line : Line) (w : Word) → form_word w ≡ false → Reads k fail fail (Form_is n line w) continues_simple
-no_form k n line w other = fewer_reads (reshaped_reads (fail_reads k) (Form_is n line w) (λ x ts rest s. absurd s) (λ x ts rest s. absurd (let a = form_first x in let b : form_word (first_word x) ≡ form_word w = ap form_word s.1 in cc))) continues_simple (λ ts stop. refl)
+no_form k n line w other = fewer_reads (reshaped_reads (fail_reads k) (Form_is n line w) (λ x ts rest s. absurd s) (λ x ts rest s. absurd (let a = form_first x in let b : form_word (opening_word x) ≡ form_word w = ap form_word s.1 in cc))) continues_simple (λ ts stop. refl)
 
 -- ---- what words no expression begins with
 
@@ -129,7 +129,7 @@ module _ (n m : ℕ) (le : n ≤ m) where
       made_form (seq_reads (target_reads n m le) (marked_reads equals (sum_reads n m le)) (λ e ts rest s stop. ap continues_place s.1.2)) (λ p. let_statement line p.0 p.1) line words.Let refl
       (λ p. (refl, refl)) (λ p ts rest s. s) from (λ ts stop. (ended ts stop).no_sum)
     where
-      from : (x : StatementTree) → is_nested x ≡ false → first_word x ≡ words.Let → line_of x ≡ line → (ts rest : List Token) → Statement_rest x n ts rest → Made (λ (p : NamedTree × ExpressionTree). let_statement line p.0 p.1) (λ p. Target_is n p.0 ▷ Symbol_is Equals ▷ Sum_is n p.1) x ts rest
+      from : (x : StatementTree) → is_nested x ≡ false → opening_word x ≡ words.Let → line_of_first_word x ≡ line → (ts rest : List Token) → Statement_rest x n ts rest → Made (λ (p : NamedTree × ExpressionTree). let_statement line p.0 p.1) (λ p. Target_is n p.0 ▷ Symbol_is Equals ▷ Sum_is n p.1) x ts rest
       from (let_statement l target value) u w at ts rest s = ((target, value), ap (λ (l : Line). let_statement l target value) (sym at), s)
       from _ u w at ts rest s = absurd cc
 
@@ -139,7 +139,7 @@ module _ (n m : ℕ) (le : n ≤ m) where
       made_form (seq_reads (sum_reads n m le) (marked_reads (word words.To) (target_reads n m le)) (λ e ts rest s stop. ap continues_sum s.1.2)) (λ p. add_statement line p.0 p.1) line words.Add refl
       (λ p. (refl, refl)) (λ p ts rest s. s) from (λ ts stop. over_place ts (ended ts stop))
     where
-      from : (x : StatementTree) → is_nested x ≡ false → first_word x ≡ words.Add → line_of x ≡ line → (ts rest : List Token) → Statement_rest x n ts rest → Made (λ (p : ExpressionTree × NamedTree). add_statement line p.0 p.1) (λ p. Sum_is n p.0 ▷ Word_is words.To ▷ Target_is n p.1) x ts rest
+      from : (x : StatementTree) → is_nested x ≡ false → opening_word x ≡ words.Add → line_of_first_word x ≡ line → (ts rest : List Token) → Statement_rest x n ts rest → Made (λ (p : ExpressionTree × NamedTree). add_statement line p.0 p.1) (λ p. Sum_is n p.0 ▷ Word_is words.To ▷ Target_is n p.1) x ts rest
       from (add_statement l amount target) u w at ts rest s = ((amount, target), ap (λ (l : Line). add_statement l amount target) (sym at), s)
       from _ u w at ts rest s = absurd cc
 
@@ -149,7 +149,7 @@ module _ (n m : ℕ) (le : n ≤ m) where
       made_form (seq_reads (sum_reads n m le) (marked_reads (word words.From) (target_reads n m le)) (λ e ts rest s stop. ap continues_sum s.1.2)) (λ p. subtract_statement line p.0 p.1) line words.Subtract refl
       (λ p. (refl, refl)) (λ p ts rest s. s) from (λ ts stop. over_place ts (ended ts stop))
     where
-      from : (x : StatementTree) → is_nested x ≡ false → first_word x ≡ words.Subtract → line_of x ≡ line → (ts rest : List Token) → Statement_rest x n ts rest → Made (λ (p : ExpressionTree × NamedTree). subtract_statement line p.0 p.1) (λ p. Sum_is n p.0 ▷ Word_is words.From ▷ Target_is n p.1) x ts rest
+      from : (x : StatementTree) → is_nested x ≡ false → opening_word x ≡ words.Subtract → line_of_first_word x ≡ line → (ts rest : List Token) → Statement_rest x n ts rest → Made (λ (p : ExpressionTree × NamedTree). subtract_statement line p.0 p.1) (λ p. Sum_is n p.0 ▷ Word_is words.From ▷ Target_is n p.1) x ts rest
       from (subtract_statement l amount target) u w at ts rest s = ((amount, target), ap (λ (l : Line). subtract_statement l amount target) (sym at), s)
       from _ u w at ts rest s = absurd cc
 
@@ -165,21 +165,21 @@ module _ (n m : ℕ) (le : n ≤ m) where
       made_form (seq_reads (name_reads (suc n)) (seq_reads (given_reads n m le) (fewer_reads (yielding_reads n m le) continues_simple (λ ts stop. over_yielding ts (ended ts stop))) given_stops) (λ p ts rest s stop. refl)) (λ p. call_statement line p.0 p.1.0 p.1.1) line words.Call refl
       (λ p. (refl, refl)) (λ p ts rest s. s) from (λ ts stop. stop)
     where
-      from : (x : StatementTree) → is_nested x ≡ false → first_word x ≡ words.Call → line_of x ≡ line → (ts rest : List Token) → Statement_rest x n ts rest → Made (λ (p : List ℕ × (List ExpressionTree × List NamedTree)). call_statement line p.0 p.1.0 p.1.1) (λ p. Name_is p.0 ▷ perhaps_listed (One_of classes.Given) (Sum_is n) p.1.0 ▷ perhaps_listed (Word_is words.Yielding) (Target_is n) p.1.1) x ts rest
+      from : (x : StatementTree) → is_nested x ≡ false → opening_word x ≡ words.Call → line_of_first_word x ≡ line → (ts rest : List Token) → Statement_rest x n ts rest → Made (λ (p : List ℕ × (List ExpressionTree × List NamedTree)). call_statement line p.0 p.1.0 p.1.1) (λ p. Name_is p.0 ▷ perhaps_listed (One_of classes.Given) (Sum_is n) p.1.0 ▷ perhaps_listed (Word_is words.Yielding) (Target_is n) p.1.1) x ts rest
       from (call_statement l routine given yielding) u w at ts rest s = ((routine, (given, yielding)), ap (λ (l : Line). call_statement l routine given yielding) (sym at), s)
       from _ u w at ts rest s = absurd cc
 
   pub return_reads : (line : Line) → Reads (suc n) (done (return_statement line)) (done (return_statement line)) (Form_is n line words.Return) continues_simple
   return_reads line = formed (done_reads (suc n) (return_statement line)) line words.Return refl (λ x ts rest s. subst (λ x. Form_is n line words.Return x ts rest) s.0 (refl, refl, s.1)) from (λ ts stop. refl)
     where
-      from : (x : StatementTree) → is_nested x ≡ false → first_word x ≡ words.Return → line_of x ≡ line → (ts rest : List Token) → Statement_rest x n ts rest → provided (return_statement line ≡ x) nothing ts rest
+      from : (x : StatementTree) → is_nested x ≡ false → opening_word x ≡ words.Return → line_of_first_word x ≡ line → (ts rest : List Token) → Statement_rest x n ts rest → provided (return_statement line ≡ x) nothing ts rest
       from (return_statement l) u w at ts rest s = (ap return_statement (sym at), s)
       from _ u w at ts rest s = absurd cc
 
   pub stop_reads : (line : Line) → Reads (suc n) (done (stop_statement line)) (done (stop_statement line)) (Form_is n line words.Stop) continues_simple
   stop_reads line = formed (done_reads (suc n) (stop_statement line)) line words.Stop refl (λ x ts rest s. subst (λ x. Form_is n line words.Stop x ts rest) s.0 (refl, refl, s.1)) from (λ ts stop. refl)
     where
-      from : (x : StatementTree) → is_nested x ≡ false → first_word x ≡ words.Stop → line_of x ≡ line → (ts rest : List Token) → Statement_rest x n ts rest → provided (stop_statement line ≡ x) nothing ts rest
+      from : (x : StatementTree) → is_nested x ≡ false → opening_word x ≡ words.Stop → line_of_first_word x ≡ line → (ts rest : List Token) → Statement_rest x n ts rest → provided (stop_statement line ≡ x) nothing ts rest
       from (stop_statement l) u w at ts rest s = (ap stop_statement (sym at), s)
       from _ u w at ts rest s = absurd cc
 
@@ -189,7 +189,7 @@ module _ (n m : ℕ) (le : n ≤ m) where
       made_form (targets_in_reads (suc n) (suc m) (omega arith)) (read_statement line) line words.Read refl
       (λ p. (refl, refl)) (λ p ts rest s. s) from (λ ts stop. over_targets ts (ended ts stop))
     where
-      from : (x : StatementTree) → is_nested x ≡ false → first_word x ≡ words.Read → line_of x ≡ line → (ts rest : List Token) → Statement_rest x n ts rest → Made (read_statement line) (listed (Target_is n)) x ts rest
+      from : (x : StatementTree) → is_nested x ≡ false → opening_word x ≡ words.Read → line_of_first_word x ≡ line → (ts rest : List Token) → Statement_rest x n ts rest → Made (read_statement line) (separated_list (Target_is n)) x ts rest
       from (read_statement l targets) u w at ts rest s = (targets, ap (λ (l : Line). read_statement l targets) (sym at), s)
       from _ u w at ts rest s = absurd cc
 
@@ -199,21 +199,21 @@ module _ (n m : ℕ) (le : n ≤ m) where
       made_form (expect_reads (suc n) (word words.Simulation)) (λ u. start_simulation line) line words.Start refl
       (λ p. (refl, refl)) (λ p ts rest s. s) from (λ ts stop. refl)
     where
-      from : (x : StatementTree) → is_nested x ≡ false → first_word x ≡ words.Start → line_of x ≡ line → (ts rest : List Token) → Statement_rest x n ts rest → Made (λ (u : Unit {0}). start_simulation line) (λ u. Word_is words.Simulation) x ts rest
+      from : (x : StatementTree) → is_nested x ≡ false → opening_word x ≡ words.Start → line_of_first_word x ≡ line → (ts rest : List Token) → Statement_rest x n ts rest → Made (λ (u : Unit {0}). start_simulation line) (λ u. Word_is words.Simulation) x ts rest
       from (start_simulation l) u w at ts rest s = (tt, ap start_simulation (sym at), s)
       from _ u w at ts rest s = absurd cc
 
   -- ---- CREATE, DESTROY, CANCEL
 
   abbrev New_parts : List ℕ × Option NamedTree → Shape
-  New_parts p = optional (One_of classes.Indefinite) ▷ Name_is p.0 ▷ Called (Target_is n) p.1
+  New_parts p = optional (One_of classes.Indefinite) ▷ Name_is p.0 ▷ CalledName (Target_is n) p.1
 
   new_reads : (line : Line) → Reads (suc n) (new_at line (suc n)) (new_at line (suc m)) (Made (λ p. create_statement line p.0 p.1) New_parts) (λ ts. begins (word words.Called) ts || continues_place ts)
   unfolding new_at
   new_reads line = made_reads (optional_class_reads (seq_reads (name_reads (suc n)) (called_target_reads n m le) (λ x ts rest s stop. refl)) classes.Indefinite (λ x ts rest s. ap (begins_class classes.Indefinite) s.1.2)) (λ p. create_statement line p.0 p.1)
 
   abbrev Every_parts : List (List ℕ) → Shape
-  Every_parts xs = Word_is words.Every ▷ listed Name_is xs
+  Every_parts xs = Word_is words.Every ▷ separated_list Name_is xs
 
   new_late : (line : Line) (x : StatementTree) (ts rest : List Token) → Made (λ p. create_statement line p.0 p.1) New_parts x ts rest → continues_simple rest ≡ false → begins (word words.Every) ts ≡ false
   new_late line x ts rest (p, is, (a, inl e, (b, (span, l, f), s))) stop = ap (begins (word words.Every)) (e ∙ f)
@@ -226,19 +226,19 @@ module _ (n m : ℕ) (le : n ≤ m) where
       (λ ts stop. let a = (ended ts stop).no_names in (rw a refl, over_called_place ts (ended ts stop))) (new_late line))
       line words.Create refl to from (λ ts stop. stop)
     where
-      to : (x : StatementTree) (ts rest : List Token) → either (Made (create_every line) Every_parts x) (Made (λ p. create_statement line p.0 p.1) New_parts x) ts rest → Form_is n line words.Create x ts rest
+      to : (x : StatementTree) (ts rest : List Token) → either_shape (Made (create_every line) Every_parts x) (Made (λ p. create_statement line p.0 p.1) New_parts x) ts rest → Form_is n line words.Create x ts rest
       to x ts rest (inl (p, is, s)) = subst (λ x. Form_is n line words.Create x ts rest) is (refl, refl, s)
       to x ts rest (inr (p, is, s)) = subst (λ x. Form_is n line words.Create x ts rest) is (refl, refl, s)
 
-      from : (x : StatementTree) → is_nested x ≡ false → first_word x ≡ words.Create → line_of x ≡ line → (ts rest : List Token) → Statement_rest x n ts rest → either (Made (create_every line) Every_parts x) (Made (λ p. create_statement line p.0 p.1) New_parts x) ts rest
+      from : (x : StatementTree) → is_nested x ≡ false → opening_word x ≡ words.Create → line_of_first_word x ≡ line → (ts rest : List Token) → Statement_rest x n ts rest → either_shape (Made (create_every line) Every_parts x) (Made (λ p. create_statement line p.0 p.1) New_parts x) ts rest
       from (create_every l classes) u w at ts rest s = inl (classes, ap (λ (l : Line). create_every l classes) (sym at), s)
       from (create_statement l class called) u w at ts rest s = inr ((class, called), ap (λ (l : Line). create_statement l class called) (sym at), s)
       from _ u w at ts rest s = absurd cc
 
   abbrev Taken_parts : List ℕ × Option ExpressionTree → Shape
-  Taken_parts p = the ▷ Name_is p.0 ▷ Called (Sum_is n) p.1
+  Taken_parts p = the ▷ Name_is p.0 ▷ CalledName (Sum_is n) p.1
 
-  taken_reads' : Reads (suc n) (after_the (seq (taken name_of) (called (sum_in (suc n))))) (after_the (seq (taken name_of) (called (sum_in (suc m))))) Taken_parts (λ ts. begins (word words.Called) ts || continues_sum ts)
+  taken_reads' : Reads (suc n) (after_the (seq (taken name_in_token) (called (sum_in (suc n))))) (after_the (seq (taken name_in_token) (called (sum_in (suc m))))) Taken_parts (λ ts. begins (word words.Called) ts || continues_sum ts)
   taken_reads' = optional_reads (seq_reads (name_reads (suc n)) (called_sum_reads n m le) (λ x ts rest s stop. refl)) (word words.The) (λ x ts rest s. ap (begins (word words.The)) s.1.2)
 
   pub destroy_reads : (line : Line) → Reads (suc n) (destroy_at line (suc n)) (destroy_at line (suc m)) (Form_is n line words.Destroy) continues_simple
@@ -247,7 +247,7 @@ module _ (n m : ℕ) (le : n ≤ m) where
       made_form taken_reads' (λ p. destroy_statement line p.0 p.1) line words.Destroy refl
       (λ p. (refl, refl)) (λ p ts rest s. s) from (λ ts stop. over_called ts (ended ts stop))
     where
-      from : (x : StatementTree) → is_nested x ≡ false → first_word x ≡ words.Destroy → line_of x ≡ line → (ts rest : List Token) → Statement_rest x n ts rest → Made (λ p. destroy_statement line p.0 p.1) Taken_parts x ts rest
+      from : (x : StatementTree) → is_nested x ≡ false → opening_word x ≡ words.Destroy → line_of_first_word x ≡ line → (ts rest : List Token) → Statement_rest x n ts rest → Made (λ p. destroy_statement line p.0 p.1) Taken_parts x ts rest
       from (destroy_statement l class called) u w at ts rest s = ((class, called), ap (λ (l : Line). destroy_statement l class called) (sym at), s)
       from _ u w at ts rest s = absurd cc
 
@@ -257,7 +257,7 @@ module _ (n m : ℕ) (le : n ≤ m) where
       made_form taken_reads' (λ p. cancel_statement line p.0 p.1) line words.Cancel refl
       (λ p. (refl, refl)) (λ p ts rest s. s) from (λ ts stop. over_called ts (ended ts stop))
     where
-      from : (x : StatementTree) → is_nested x ≡ false → first_word x ≡ words.Cancel → line_of x ≡ line → (ts rest : List Token) → Statement_rest x n ts rest → Made (λ p. cancel_statement line p.0 p.1) Taken_parts x ts rest
+      from : (x : StatementTree) → is_nested x ≡ false → opening_word x ≡ words.Cancel → line_of_first_word x ≡ line → (ts rest : List Token) → Statement_rest x n ts rest → Made (λ p. cancel_statement line p.0 p.1) Taken_parts x ts rest
       from (cancel_statement l class called) u w at ts rest s = ((class, called), ap (λ (l : Line). cancel_statement l class called) (sym at), s)
       from _ u w at ts rest s = absurd cc
 
@@ -266,10 +266,10 @@ module _ (n m : ℕ) (le : n ≤ m) where
   abbrev File_parts : ExpressionTree × (PositionTree × NamedTree) → Shape
   File_parts p = the ▷ Sum_is n p.0 ▷ Position_is n p.1.0 ▷ Word_is words.In ▷ the ▷ Reference_is n p.1.1
 
-  in_set_reads : Reads (suc n) (following (expect (word words.In)) (set_in (suc n))) (following (expect (word words.In)) (set_in (suc m))) (λ set. Word_is words.In ▷ the ▷ Reference_is n set) continues_place
+  in_set_reads : Reads (suc n) (after_dropped (expect (word words.In)) (set_reader (suc n))) (after_dropped (expect (word words.In)) (set_reader (suc m))) (λ set. Word_is words.In ▷ the ▷ Reference_is n set) continues_place
   in_set_reads = marked_reads (word words.In) (set_reads n m le)
 
-  from_set_reads : Reads (suc n) (following (expect (word words.From)) (set_in (suc n))) (following (expect (word words.From)) (set_in (suc m))) (λ set. Word_is words.From ▷ the ▷ Reference_is n set) continues_place
+  from_set_reads : Reads (suc n) (after_dropped (expect (word words.From)) (set_reader (suc n))) (after_dropped (expect (word words.From)) (set_reader (suc m))) (λ set. Word_is words.From ▷ the ▷ Reference_is n set) continues_place
   from_set_reads = marked_reads (word words.From) (set_reads n m le)
 
   pub file_reads : (line : Line) → Reads (suc n) (file_at line (suc n)) (file_at line (suc m)) (Form_is n line words.File) continues_simple
@@ -278,7 +278,7 @@ module _ (n m : ℕ) (le : n ≤ m) where
       made_form {P = File_parts} (optional_reads (seq_reads (sum_reads n m le) (seq_reads (position_reads n m le) in_set_reads (λ set ts rest s stop. ap (continues_position n m le) s.1.2)) (λ p ts rest s stop. position_stops n m le p.0 ts s.0 s.1 (ap continues_sum s.2.1.2))) (word words.The) (λ x ts rest s. no_the_sum ts x.0 s.0 s.1)) (λ p. file_statement line p.0 p.1.0 p.1.1) line words.File refl
       (λ p. (refl, refl)) (λ p ts rest s. s) from (λ ts stop. over_place ts (ended ts stop))
     where
-      from : (x : StatementTree) → is_nested x ≡ false → first_word x ≡ words.File → line_of x ≡ line → (ts rest : List Token) → Statement_rest x n ts rest → Made (λ p. file_statement line p.0 p.1.0 p.1.1) File_parts x ts rest
+      from : (x : StatementTree) → is_nested x ≡ false → opening_word x ≡ words.File → line_of_first_word x ≡ line → (ts rest : List Token) → Statement_rest x n ts rest → Made (λ p. file_statement line p.0 p.1.0 p.1.1) File_parts x ts rest
       from (file_statement l e position set) u w at ts rest s = ((e, (position, set)), ap (λ (l : Line). file_statement l e position set) (sym at), s)
       from _ u w at ts rest s = absurd cc
 
@@ -291,7 +291,7 @@ module _ (n m : ℕ) (le : n ≤ m) where
       (λ ts x rest s. begins_table (in_table end_of) ts s.2.0 s.0.0 (kinds.Word s.2.1.0, s.2.1.1, s.2.1.2))
       (λ ts x rest s. omega (arith, token_less (kinds.Word s.2.1.0) ts s.2.0 s.2.1.2, law.shorter s.2.0 s.0.1 rest s.2.2))
     where
-      law : Reads (suc n) (seq (target_in (suc n)) (following (expect (word words.From)) (set_in (suc n)))) (seq (target_in (suc m)) (following (expect (word words.From)) (set_in (suc m)))) (λ (p : NamedTree × NamedTree). Target_is n p.0 ▷ Word_is words.From ▷ the ▷ Reference_is n p.1) continues_place
+      law : Reads (suc n) (seq (target_in (suc n)) (after_dropped (expect (word words.From)) (set_reader (suc n)))) (seq (target_in (suc m)) (after_dropped (expect (word words.From)) (set_reader (suc m)))) (λ (p : NamedTree × NamedTree). Target_is n p.0 ▷ Word_is words.From ▷ the ▷ Reference_is n p.1) continues_place
       law = seq_reads (target_reads n m le) from_set_reads (λ p ts rest s stop. ap continues_place s.1.2)
 
   abbrev This_parts : ExpressionTree × NamedTree → Shape
@@ -302,7 +302,7 @@ module _ (n m : ℕ) (le : n ≤ m) where
   this_reads line = made_reads {S = This_parts} (seq_reads (sum_reads n m le) from_set_reads (λ p ts rest s stop. ap continues_sum s.1.2)) (λ p. remove_statement line p.0 p.1)
 
   abbrev Removed : Line → StatementTree → Shape
-  Removed line x = either (Made (λ p. remove_end line p.0 p.1.0 p.1.1) End_parts x) (Made (λ p. remove_statement line p.0 p.1) This_parts x)
+  Removed line x = either_shape (Made (λ p. remove_end line p.0 p.1.0 p.1.1) End_parts x) (Made (λ p. remove_statement line p.0 p.1) This_parts x)
 
   removed_no_the : (line : Line) (x : StatementTree) (ts rest : List Token) → Removed line x ts rest → begins (word words.The) ts ≡ false
   removed_no_the line x ts rest (inl (p, is, (a, (w, means, (span, l, e)), s))) = ap (begins (word words.The)) e ∙ end_no_the w p.0 means
@@ -318,7 +318,7 @@ module _ (n m : ℕ) (le : n ≤ m) where
       to x ts rest (a, t, inl (p, is, s)) = subst (λ x. Form_is n line words.Remove x ts rest) is (refl, refl, (a, t, s))
       to x ts rest (a, t, inr (p, is, s)) = subst (λ x. Form_is n line words.Remove x ts rest) is (refl, refl, (a, t, s))
 
-      from : (x : StatementTree) → is_nested x ≡ false → first_word x ≡ words.Remove → line_of x ≡ line → (ts rest : List Token) → Statement_rest x n ts rest → (the ▷ Removed line x) ts rest
+      from : (x : StatementTree) → is_nested x ≡ false → opening_word x ≡ words.Remove → line_of_first_word x ≡ line → (ts rest : List Token) → Statement_rest x n ts rest → (the ▷ Removed line x) ts rest
       from (remove_end l end target set) u w at ts rest (a, t, s) = (a, t, inl ((end, (target, set)), ap (λ (l : Line). remove_end l end target set) (sym at), s))
       from (remove_statement l e set) u w at ts rest (a, t, s) = (a, t, inr ((e, set), ap (λ (l : Line). remove_statement l e set) (sym at), s))
       from _ u w at ts rest s = absurd cc
@@ -326,14 +326,14 @@ module _ (n m : ℕ) (le : n ≤ m) where
   -- ---- SCHEDULE
 
   abbrev The_parts : List ℕ × (Option ExpressionTree × (List ExpressionTree × WhenTree)) → Shape
-  The_parts p = Word_is words.The ▷ Name_is p.0 ▷ Called (Sum_is n) p.1.0 ▷ Due_is n m le p.1.1
+  The_parts p = Word_is words.The ▷ Name_is p.0 ▷ CalledName (Sum_is n) p.1.0 ▷ Due_is n m le p.1.1
 
   the_item : (line : Line) → Item (suc n) (begins (word words.The)) (schedule_the_at line (suc n)) (schedule_the_at line (suc m)) (Made (λ p. schedule_statement line p.0 p.1.0 p.1.1.0 p.1.1.1) The_parts) continues_sum
   unfolding schedule_the_at
   the_item line = item_made (word words.The) (seq_reads (name_reads (suc n)) (seq_reads (called_sum_reads n m le) (due_reads n m le) (λ p ts rest s stop. due_stops n m le p ts rest s)) (λ p ts rest s stop. refl)) (λ p. schedule_statement line p.0 p.1.0 p.1.1.0 p.1.1.1)
 
   abbrev A_parts : List ℕ × (Option NamedTree × (List ExpressionTree × WhenTree)) → Shape
-  A_parts p = One_of classes.Indefinite ▷ Name_is p.0 ▷ Called (Target_is n) p.1.0 ▷ Due_is n m le p.1.1
+  A_parts p = One_of classes.Indefinite ▷ Name_is p.0 ▷ CalledName (Target_is n) p.1.0 ▷ Due_is n m le p.1.1
 
   place_stops : (p : List ExpressionTree × WhenTree) (ts rest : List Token) → Due_is n m le p ts rest → continues_sum rest ≡ false → (begins (word words.Called) ts || continues_place ts) ≡ false
   place_stops p ts rest s stop =
@@ -355,11 +355,11 @@ module _ (n m : ℕ) (le : n ≤ m) where
       formed (either_reads (the_item line) (a_reads line) continues_sum (λ ts stop. (stop, stop)) (a_late line))
       line words.Schedule refl to from (λ ts stop. (ended ts stop).no_sum)
     where
-      to : (x : StatementTree) (ts rest : List Token) → either (Made (λ p. schedule_statement line p.0 p.1.0 p.1.1.0 p.1.1.1) The_parts x) (Made (λ p. schedule_new line p.0 p.1.0 p.1.1.0 p.1.1.1) A_parts x) ts rest → Form_is n line words.Schedule x ts rest
+      to : (x : StatementTree) (ts rest : List Token) → either_shape (Made (λ p. schedule_statement line p.0 p.1.0 p.1.1.0 p.1.1.1) The_parts x) (Made (λ p. schedule_new line p.0 p.1.0 p.1.1.0 p.1.1.1) A_parts x) ts rest → Form_is n line words.Schedule x ts rest
       to x ts rest (inl (p, is, s)) = subst (λ x. Form_is n line words.Schedule x ts rest) is (refl, refl, s)
       to x ts rest (inr (p, is, s)) = subst (λ x. Form_is n line words.Schedule x ts rest) is (refl, refl, s)
 
-      from : (x : StatementTree) → is_nested x ≡ false → first_word x ≡ words.Schedule → line_of x ≡ line → (ts rest : List Token) → Statement_rest x n ts rest → either (Made (λ p. schedule_statement line p.0 p.1.0 p.1.1.0 p.1.1.1) The_parts x) (Made (λ p. schedule_new line p.0 p.1.0 p.1.1.0 p.1.1.1) A_parts x) ts rest
+      from : (x : StatementTree) → is_nested x ≡ false → opening_word x ≡ words.Schedule → line_of_first_word x ≡ line → (ts rest : List Token) → Statement_rest x n ts rest → either_shape (Made (λ p. schedule_statement line p.0 p.1.0 p.1.1.0 p.1.1.1) The_parts x) (Made (λ p. schedule_new line p.0 p.1.0 p.1.1.0 p.1.1.1) A_parts x) ts rest
       from (schedule_statement l class called given when) u w at ts rest s = inl ((class, (called, (given, when))), ap (λ (l : Line). schedule_statement l class called given when) (sym at), s)
       from (schedule_new l class called given when) u w at ts rest s = inr ((class, (called, (given, when))), ap (λ (l : Line). schedule_new l class called given when) (sym at), s)
       from _ u w at ts rest s = absurd cc
@@ -367,7 +367,7 @@ module _ (n m : ℕ) (le : n ≤ m) where
   -- ---- RESET, PRINT, SKIP
 
   abbrev Reset_parts : List NamedTree → Shape
-  Reset_parts xs = the ▷ Word_is words.Totals ▷ Word_is words.Of ▷ listed (Target_is n) xs
+  Reset_parts xs = the ▷ Word_is words.Totals ▷ Word_is words.Of ▷ separated_list (Target_is n) xs
 
   pub reset_reads : (line : Line) → Reads (suc n) (reset_at line (suc n)) (reset_at line (suc m)) (Form_is n line words.Reset) continues_simple
   unfolding reset_at
@@ -375,7 +375,7 @@ module _ (n m : ℕ) (le : n ≤ m) where
       made_form {P = Reset_parts} (optional_reads (marked_reads (word words.Totals) (marked_reads (word words.Of) (targets_in_reads (suc n) (suc m) (omega arith)))) (word words.The) (λ x ts rest s. ap (begins (word words.The)) s.1.2)) (reset_statement line) line words.Reset refl
       (λ p. (refl, refl)) (λ p ts rest s. s) from (λ ts stop. over_targets ts (ended ts stop))
     where
-      from : (x : StatementTree) → is_nested x ≡ false → first_word x ≡ words.Reset → line_of x ≡ line → (ts rest : List Token) → Statement_rest x n ts rest → Made (reset_statement line) Reset_parts x ts rest
+      from : (x : StatementTree) → is_nested x ≡ false → opening_word x ≡ words.Reset → line_of_first_word x ≡ line → (ts rest : List Token) → Statement_rest x n ts rest → Made (reset_statement line) Reset_parts x ts rest
       from (reset_statement l targets) u w at ts rest s = (targets, ap (λ (l : Line). reset_statement l targets) (sym at), s)
       from _ u w at ts rest s = absurd cc
 
@@ -392,7 +392,7 @@ module _ (n m : ℕ) (le : n ≤ m) where
       to x ts rest ((k, items), (a, (b, (some, number), (c, lines, (d, with, thus))), (ps, is, (counts, pictures)))) =
           subst (λ x. Form_is n line words.Print x ts rest) is (refl, refl, (subst (λ n. 0 < n) (sym counts) some, (b, subst (λ n. Token_is (kinds.Number (pos n)) ts b) (sym counts) number, (c, lines, (d, with, (a, thus, pictures))))))
 
-      from : (x : StatementTree) → is_nested x ≡ false → first_word x ≡ words.Print → line_of x ≡ line → (ts rest : List Token) → Statement_rest x n ts rest → Printed line x ts rest
+      from : (x : StatementTree) → is_nested x ≡ false → opening_word x ≡ words.Print → line_of_first_word x ≡ line → (ts rest : List Token) → Statement_rest x n ts rest → Printed line x ts rest
       from (print_statement l items ps) u w at ts rest (some, (b, number, (c, lines, (d, with, (a, thus, pictures))))) =
           ((length ps, items), (a, (b, (some, number), (c, lines, (d, with, thus))), (ps, ap (λ (l : Line). print_statement l items ps) (sym at), (refl, pictures))))
       from _ u w at ts rest s = absurd cc
@@ -410,6 +410,6 @@ module _ (n m : ℕ) (le : n ≤ m) where
       made_form {P = Skip_parts} (closed_reads (sum_reads n m le) (optional_reads (expect_reads (suc n) (word words.Line)) (word words.Output) (λ u ts rest s. ap (begins (word words.Output)) s.2)) line_stops) (skip_statement line) line words.Skip refl
       (λ p. (refl, refl)) (λ p ts rest s. s) from (λ ts stop. refl)
     where
-      from : (x : StatementTree) → is_nested x ≡ false → first_word x ≡ words.Skip → line_of x ≡ line → (ts rest : List Token) → Statement_rest x n ts rest → Made (skip_statement line) Skip_parts x ts rest
+      from : (x : StatementTree) → is_nested x ≡ false → opening_word x ≡ words.Skip → line_of_first_word x ≡ line → (ts rest : List Token) → Statement_rest x n ts rest → Made (skip_statement line) Skip_parts x ts rest
       from (skip_statement l count) u w at ts rest s = (count, ap (λ (l : Line). skip_statement l count) (sym at), s)
       from _ u w at ts rest s = absurd cc

@@ -12,10 +12,10 @@ use Rattle.ss_tree.specs.declared.head.GuardKind.TheVariants as guards
 use Rattle.ss_tree.specs.declared.statement.FindOutcome.{FindOutcome}
 use Rattle.ss_tree.specs.Tree.{ConditionTree, HeadTree, LoopHeadTree, for_head, guarded, StatementTree, let_statement, add_statement, subtract_statement, call_statement, return_statement, stop_statement, read_statement, start_simulation, if_statement, loop_statement, find_statement, find_if_statement, create_statement, create_every, destroy_statement, file_statement, remove_end, remove_statement, schedule_new, schedule_statement, cancel_statement, reset_statement, print_statement, skip_statement, StatementRow, no_statement, and_statement, statement_row}
 use Rattle.ss_parse_expressions.specs.Openers.{opens, openers}
-use Rattle.ss_parse_expressions.specs.Shapes.{Shape, ◌▷◌, nothing, either, optional, provided, noise, Word_is, Word_for, at, first_line, each, within}
-use Rattle.ss_parse_expressions.specs.SpelledConditions.{guard_word, head_word, Head_rest, Loop_head_rest, Begins_with_for}
+use Rattle.ss_parse_expressions.specs.Shapes.{Shape, ◌▷◌, nothing, either_shape, optional, provided, noise, Word_is, Word_for, at, first_token_line, each, nested_shape}
+use Rattle.ss_parse_expressions.specs.SpelledConditions.{guard_word, loop_head_word, Head_rest, Loop_head_rest, Begins_with_for}
 use Rattle.ss_parse_expressions.specs.WordTables.{phrase_of, guard_of, function_of, outcome_of}
-use Rattle.ss_parse_expressions.specs.Reading.{word, kind_of, is, is_some, begins, in_table, following, closed, choose, comma, skip_comma}
+use Rattle.ss_parse_expressions.specs.Reading.{word, kind_of_mark, is, is_some, begins, in_table, after_dropped, closed, choose_reader, comma, skip_comma}
 use Rattle.ss_parse_expressions.specs.ReadWords.{fail, begins_noisy, expect_noisy}
 use Rattle.ss_parse_expressions.specs.ReadExpressions.{designator_of_word, begins_value, begins_sum}
 use Rattle.ss_parse_expressions.specs.ReadHeads.{begins_guard, guard_tree}
@@ -27,7 +27,7 @@ use Rattle.ss_parse_expressions.proofs.Rows.{rows_reads, Loop, loop_of}
 use Rattle.ss_parse_expressions.proofs.WordLaws.{word_in_reads, done_reads, noisy_mark_reads, noisy_begins, noisy_less, noisy_stops, either_reads}
 use Rattle.ss_parse_expressions.proofs.ConditionLaws.{In_condition, continues_condition, condition_in_reads, condition_begins}
 use Rattle.ss_parse_expressions.proofs.HeadLaws.{head_more, continues_head, continues_for, continues_guarded, for_reads, Guarded_parts, guarded_reads}
-use Rattle.ss_parse_statements.specs.SpelledStatements.{noisy, Find_words, first_word, May_be_governed, Statement_rest, Statement_from, Statements_are, Else_part, Branches, Governed}
+use Rattle.ss_parse_statements.specs.SpelledStatements.{noisy, Find_words, opening_word, May_be_governed, Statement_rest, Statement_from, Statements_are, Else_part, Branches, Governed}
 use Rattle.ss_parse_statements.specs.ReadSimple.{simple_at}
 use Rattle.ss_parse_statements.specs.ReadStatements.{by_word, form_word, begins_form_kind, begins_form, begins_statement, begins_outcome, begins_find_if_form, begins_find_if, statements_with, else_with, branches_with, do_with, governed_with, body_with, find_words, if_with, loop_with, find_if_with, found_with, find_with, for_with, while_with, until_with, nested_word, nested_at, nested_in, form_in, statement_in, statements_in}
 use Rattle.ss_parse_statements.proofs.FirstWords.{Form, plain_form, opening_form, by_word_reads, first_less}
@@ -83,14 +83,14 @@ form_no_comma [] e = absurd cc
 form_no_comma (t ∷ ts) e = kind_no_comma t.kind e
 
 -- what is false of a comma and of a word that begins a statement is false of a statement
-false_at_statement : (c : List Token → Bool) → ((span : Span) (line : Line) (ts : List Token) → c (token (kind_of comma) span line ∷ ts) ≡ false) → ((w : Word) (span : Span) (line : Line) (ts : List Token) → form_word w ≡ true → c (token (kinds.Word w) span line ∷ ts) ≡ false) → (n : ℕ) (x : StatementTree) (ts rest : List Token) → (noise ▷ Statement_from x n) ts rest → c ts ≡ false
+false_at_statement : (c : List Token → Bool) → ((span : Span) (line : Line) (ts : List Token) → c (token (kind_of_mark comma) span line ∷ ts) ≡ false) → ((w : Word) (span : Span) (line : Line) (ts : List Token) → form_word w ≡ true → c (token (kinds.Word w) span line ∷ ts) ≡ false) → (n : ℕ) (x : StatementTree) (ts rest : List Token) → (noise ▷ Statement_from x n) ts rest → c ts ≡ false
 false_at_statement c on_comma on_word n x ts rest (a, inr (span, line, e), s) = ap c e ∙ on_comma span line a
-false_at_statement c on_comma on_word n x ts rest (a, inl e, (begins_at, (m, (span, line, f), s))) = ap c (e ∙ f) ∙ on_word (first_word x) span line m (form_first x)
+false_at_statement c on_comma on_word n x ts rest (a, inl e, (begins_at, (m, (span, line, f), s))) = ap c (e ∙ f) ∙ on_word (opening_word x) span line m (form_first x)
 
 -- what is false of such a word, with a comma before it or not, is false of a statement
-pub false_past_comma : (c : List Token → Bool) → ((span span' : Span) (line line' : Line) (w : Word) (ts : List Token) → form_word w ≡ true → c (token (kind_of comma) span line ∷ token (kinds.Word w) span' line' ∷ ts) ≡ false) → ((w : Word) (span : Span) (line : Line) (ts : List Token) → form_word w ≡ true → c (token (kinds.Word w) span line ∷ ts) ≡ false) → (n : ℕ) (x : StatementTree) (ts rest : List Token) → (noise ▷ Statement_from x n) ts rest → c ts ≡ false
-false_past_comma c on_comma on_word n x ts rest (a, inr (span, line, e), (begins_at, (m, (span', line', f), s))) = ap c e ∙ ap (λ (r : List Token). c (token (kind_of comma) span line ∷ r)) f ∙ on_comma span span' line line' (first_word x) m (form_first x)
-false_past_comma c on_comma on_word n x ts rest (a, inl e, (begins_at, (m, (span, line, f), s))) = ap c (e ∙ f) ∙ on_word (first_word x) span line m (form_first x)
+pub false_past_comma : (c : List Token → Bool) → ((span span' : Span) (line line' : Line) (w : Word) (ts : List Token) → form_word w ≡ true → c (token (kind_of_mark comma) span line ∷ token (kinds.Word w) span' line' ∷ ts) ≡ false) → ((w : Word) (span : Span) (line : Line) (ts : List Token) → form_word w ≡ true → c (token (kinds.Word w) span line ∷ ts) ≡ false) → (n : ℕ) (x : StatementTree) (ts rest : List Token) → (noise ▷ Statement_from x n) ts rest → c ts ≡ false
+false_past_comma c on_comma on_word n x ts rest (a, inr (span, line, e), (begins_at, (m, (span', line', f), s))) = ap c e ∙ ap (λ (r : List Token). c (token (kind_of_mark comma) span line ∷ r)) f ∙ on_comma span span' line line' (opening_word x) m (form_first x)
+false_past_comma c on_comma on_word n x ts rest (a, inl e, (begins_at, (m, (span, line, f), s))) = ap c (e ∙ f) ∙ on_word (opening_word x) span line m (form_first x)
 
 word_no_condition : (w : Word) (span : Span) (line : Line) (ts : List Token) → form_word w ≡ true → continues_condition (token (kinds.Word w) span line ∷ ts) ≡ false
 word_no_condition w span line ts e =
@@ -106,7 +106,7 @@ word_no_simple w span line ts e =
     let b : statement_more w ≡ false = no.3 in
     rw (a, b) refl
 
-comma_no_simple : (w : Word) (span span' : Span) (line line' : Line) (ts : List Token) → form_word w ≡ true → continues_simple (token (kind_of comma) span line ∷ token (kinds.Word w) span' line' ∷ ts) ≡ false
+comma_no_simple : (w : Word) (span span' : Span) (line line' : Line) (ts : List Token) → form_word w ≡ true → continues_simple (token (kind_of_mark comma) span line ∷ token (kinds.Word w) span' line' ∷ ts) ≡ false
 comma_no_simple w span span' line line' ts e =
     let no = word_no_other w e in
     let a : is (word words.And) (kinds.Word w) ≡ false = no.1 in
@@ -117,7 +117,7 @@ comma_no_simple w span span' line line' ts e =
 
 -- ---- an IF that isn't that of a FIND
 
-head_no_if : (h : LoopHeadTree) → head_word h ≡ words.If → ⊥
+head_no_if : (h : LoopHeadTree) → loop_head_word h ≡ words.If → ⊥
 head_no_if (guarded (g ∷ gs)) e = go g.kind e
   where
     go : (k : GuardKind) → guard_word k ≡ words.If → ⊥
@@ -141,7 +141,7 @@ condition_no_outcome (t ∷ ts) e = go t.kind e
     go (kinds.Word w) e = go_word w e
     go _ e = refl
 
-within_condition : (n : ℕ) (x : StatementTree) (ts rest : List Token) → first_word x ≡ words.If → Statement_rest x n ts rest → begins_outcome ts ≡ false
+within_condition : (n : ℕ) (x : StatementTree) (ts rest : List Token) → opening_word x ≡ words.If → Statement_rest x n ts rest → begins_outcome ts ≡ false
 within_condition zero (if_statement line c t e) ts rest is s = absurd s
 within_condition (suc n) (if_statement line c t e) ts rest is s = condition_no_outcome ts (condition_begins (suc n) c ts s.0 s.1)
 within_condition n (loop_statement line head body) ts rest is s = absurd (head_no_if head is)
@@ -149,10 +149,10 @@ within_condition n _ ts rest is s = absurd cc
 
 statement_no_find_if : (n : ℕ) (x : StatementTree) (ts rest : List Token) → Statement_from x n ts rest → begins_find_if_form ts ≡ false
 statement_no_find_if n x ts rest (begins_at, (m, (span, line, e), s)) =
-    elim (which (is (word words.If) (kinds.Word (first_word x)))) [
+    elim (which (is (word words.If) (kinds.Word (opening_word x)))) [
       | inl there ↦
-          let kind = is_true (word words.If) (kinds.Word (first_word x)) there in
-          let is : first_word x ≡ words.If = word_same (first_word x) words.If kind in
+          let kind = is_true (word words.If) (kinds.Word (opening_word x)) there in
+          let is : opening_word x ≡ words.If = word_same (opening_word x) words.If kind in
           let no : begins_outcome m ≡ false = within_condition n x m rest is s in
           rw (e, there, no) refl
       | inr none ↦ rw (e, none) refl
@@ -175,21 +175,21 @@ guard_first : (k : GuardKind) → is_some (guard_of (guard_word k)) ≡ true
 guard_first guards.While = refl
 guard_first guards.Until = refl
 
-head_guards : (h : LoopHeadTree) → is_some (guard_of (head_word h)) ≡ false → (n : ℕ) (ts rest : List Token) → Loop_head_rest n h ts rest → Begins_with_for h
+head_guards : (h : LoopHeadTree) → is_some (guard_of (loop_head_word h)) ≡ false → (n : ℕ) (ts rest : List Token) → Loop_head_rest n h ts rest → Begins_with_for h
 head_guards (for_head head) e n ts rest s = tt
 head_guards (guarded []) e n ts rest s = absurd s
 head_guards (guarded (g ∷ gs)) e n ts rest s = absurd (let a = guard_first g.kind in cc)
 
-head_for : (h : LoopHeadTree) → Begins_with_for h → head_word h ≡ words.For
+head_for : (h : LoopHeadTree) → Begins_with_for h → loop_head_word h ≡ words.For
 head_for (for_head head) b = refl
 head_for (guarded gs) b = absurd b
 
-may_govern : (n : ℕ) (x : StatementTree) (ts rest : List Token) → is_some (guard_of (first_word x)) ≡ false → Statement_rest x n ts rest → May_be_governed x
+may_govern : (n : ℕ) (x : StatementTree) (ts rest : List Token) → is_some (guard_of (opening_word x)) ≡ false → Statement_rest x n ts rest → May_be_governed x
 may_govern zero (loop_statement line head body) ts rest e s = absurd s
 may_govern (suc n) (loop_statement line head body) ts rest e s = head_guards head e n ts s.0 s.1
 may_govern n _ ts rest e s = tt
 
-governed_first : (n : ℕ) (x : StatementTree) (ts rest : List Token) → May_be_governed x → Statement_rest x n ts rest → is_some (guard_of (first_word x)) ≡ false
+governed_first : (n : ℕ) (x : StatementTree) (ts rest : List Token) → May_be_governed x → Statement_rest x n ts rest → is_some (guard_of (opening_word x)) ≡ false
 governed_first n (loop_statement line head body) ts rest may s = let is = head_for head may in ap (λ w. is_some (guard_of w)) is
 governed_first n _ ts rest may s = refl
 
@@ -250,7 +250,7 @@ module _ (k j : ℕ) (le : k ≤ j) (inner : Reads (suc k) (statement_in (suc k)
   else_reads : Reads (suc k) (else_with (statement_in (suc k))) (else_with (statement_in (suc j))) Else_list (λ ts. begins_noisy (word words.Else) ts || continues_statements ts)
   else_reads = maybe_list_reads item to from (λ ts. inl refl)
     where
-      item : Item (suc k) (begins_noisy (word words.Else)) (following (expect_noisy (word words.Else)) (statements_with (statement_in (suc k)))) (following (expect_noisy (word words.Else)) (statements_with (statement_in (suc j)))) Else_words continues_statements
+      item : Item (suc k) (begins_noisy (word words.Else)) (after_dropped (expect_noisy (word words.Else)) (statements_with (statement_in (suc k)))) (after_dropped (expect_noisy (word words.Else)) (statements_with (statement_in (suc j)))) Else_words continues_statements
       item = item_of (begins_noisy (word words.Else)) (following_reads (noisy_mark_reads (suc k) (word words.Else) refl) statements_reads (λ xs ts rest s stop. refl)) (λ ts xs rest s. noisy_begins (word words.Else) refl ts s.0 s.1) (λ ts xs rest s. omega (arith, noisy_less (word words.Else) ts s.0 s.1, statements_reads.shorter s.0 xs rest s.2))
 
       to : (xs : List StatementTree) (ts rest : List Token) → Else_words xs ts rest → Else_list xs ts rest
@@ -299,7 +299,7 @@ module _ (k j : ℕ) (le : k ≤ j) (inner : Reads (suc k) (statement_in (suc k)
       (λ p. (statement_row p.0, statement_row p.1)) Branches_are branches_to branches_from
 
   -- what is false of commas, words of statements, ELSE and ALWAYS is false of what follows a condition
-  false_at_branches : (c : List Token → Bool) → ((span : Span) (line : Line) (ts : List Token) → c (token (kind_of comma) span line ∷ ts) ≡ false) → ((w : Word) (span : Span) (line : Line) (ts : List Token) → form_word w ≡ true → c (token (kinds.Word w) span line ∷ ts) ≡ false) → ((span : Span) (line : Line) (ts : List Token) → c (token (kinds.Word words.Else) span line ∷ ts) ≡ false) → ((span : Span) (line : Line) (ts : List Token) → c (token (kinds.Word words.Always) span line ∷ ts) ≡ false) → (p : StatementRow × StatementRow) (ts rest : List Token) → Branches_are p ts rest → c ts ≡ false
+  false_at_branches : (c : List Token → Bool) → ((span : Span) (line : Line) (ts : List Token) → c (token (kind_of_mark comma) span line ∷ ts) ≡ false) → ((w : Word) (span : Span) (line : Line) (ts : List Token) → form_word w ≡ true → c (token (kinds.Word w) span line ∷ ts) ≡ false) → ((span : Span) (line : Line) (ts : List Token) → c (token (kinds.Word words.Else) span line ∷ ts) ≡ false) → ((span : Span) (line : Line) (ts : List Token) → c (token (kinds.Word words.Always) span line ∷ ts) ≡ false) → (p : StatementRow × StatementRow) (ts rest : List Token) → Branches_are p ts rest → c ts ≡ false
   false_at_branches c on_comma on_word on_else on_always (and_statement x row, e) ts rest (b, (a, (m, one, more), t), w) = false_at_statement c on_comma on_word k x ts m one
   false_at_branches c on_comma on_word on_else on_always (no_statement, and_statement y row) ts rest (b, (a, e, (m, w, more)), v) = ap c e ∙ noisy_stops c (word words.Else) on_else (λ span span' line line' ts. on_comma span line _) a m w
   false_at_branches c on_comma on_word on_else on_always (no_statement, no_statement) ts rest (b, (a, e, inr w), v) = ap c e ∙ noisy_stops c (word words.Else) on_else (λ span span' line line' ts. on_comma span line _) a b w
@@ -342,10 +342,10 @@ module _ (k j : ℕ) (le : k ≤ j) (inner : Reads (suc k) (statement_in (suc k)
   abbrev Governed_one : StatementTree → Shape
   Governed_one x = provided (May_be_governed x) (Statement_from x k)
 
-  governed_guard : (x : StatementTree) (ts rest : List Token) → Statement_from x k ts rest → begins_guard ts ≡ is_some (guard_of (first_word x))
+  governed_guard : (x : StatementTree) (ts rest : List Token) → Statement_from x k ts rest → begins_guard ts ≡ is_some (guard_of (opening_word x))
   governed_guard x ts rest (begins_at, (m, (span, line, e), s)) = ap begins_guard e
 
-  one_reads : Reads (suc k) (choose begins_guard fail (statement_in (suc k))) (choose begins_guard fail (statement_in (suc j))) Governed_one continues_statement
+  one_reads : Reads (suc k) (choose_reader begins_guard fail (statement_in (suc k))) (choose_reader begins_guard fail (statement_in (suc j))) Governed_one continues_statement
   one_reads = record {
     sound = λ ts x rest e.
         elim (chosen (begins_guard ts) _ _ _ e) [
@@ -368,17 +368,17 @@ module _ (k j : ℕ) (le : k ≤ j) (inner : Reads (suc k) (statement_in (suc k)
   governed_reads = made_reads (optional_reads one_reads comma (λ x ts rest s. form_no_comma ts (form_begins k x ts rest s.1))) (λ x. x ∷ [])
 
   abbrev Body_list : List StatementTree → Shape
-  Body_list xs = either (Do_list xs) (Governed_list xs)
+  Body_list xs = either_shape (Do_list xs) (Governed_list xs)
 
-  false_at_governed : (c : List Token → Bool) → ((span span' : Span) (line line' : Line) (w : Word) (ts : List Token) → form_word w ≡ true → is_some (guard_of w) ≡ false → c (token (kind_of comma) span line ∷ token (kinds.Word w) span' line' ∷ ts) ≡ false) → ((w : Word) (span : Span) (line : Line) (ts : List Token) → form_word w ≡ true → is_some (guard_of w) ≡ false → c (token (kinds.Word w) span line ∷ ts) ≡ false) → (x : StatementTree) (ts rest : List Token) → (noise ▷ Governed_one x) ts rest → c ts ≡ false
-  false_at_governed c on_comma on_word x ts rest (a, inr (span, line, e), (may, (begins_at, (m, (span', line', f), s)))) = ap c e ∙ ap (λ (r : List Token). c (token (kind_of comma) span line ∷ r)) f ∙ on_comma span span' line line' (first_word x) m (form_first x) (governed_first k x m rest may s)
-  false_at_governed c on_comma on_word x ts rest (a, inl e, (may, (begins_at, (m, (span, line, f), s)))) = ap c (e ∙ f) ∙ on_word (first_word x) span line m (form_first x) (governed_first k x m rest may s)
+  false_at_governed : (c : List Token → Bool) → ((span span' : Span) (line line' : Line) (w : Word) (ts : List Token) → form_word w ≡ true → is_some (guard_of w) ≡ false → c (token (kind_of_mark comma) span line ∷ token (kinds.Word w) span' line' ∷ ts) ≡ false) → ((w : Word) (span : Span) (line : Line) (ts : List Token) → form_word w ≡ true → is_some (guard_of w) ≡ false → c (token (kinds.Word w) span line ∷ ts) ≡ false) → (x : StatementTree) (ts rest : List Token) → (noise ▷ Governed_one x) ts rest → c ts ≡ false
+  false_at_governed c on_comma on_word x ts rest (a, inr (span, line, e), (may, (begins_at, (m, (span', line', f), s)))) = ap c e ∙ ap (λ (r : List Token). c (token (kind_of_mark comma) span line ∷ r)) f ∙ on_comma span span' line line' (opening_word x) m (form_first x) (governed_first k x m rest may s)
+  false_at_governed c on_comma on_word x ts rest (a, inl e, (may, (begins_at, (m, (span, line, f), s)))) = ap c (e ∙ f) ∙ on_word (opening_word x) span line m (form_first x) (governed_first k x m rest may s)
 
   governed_no_do : (xs : List StatementTree) (ts rest : List Token) → Governed_list xs ts rest → begins_noisy (word words.Do) ts ≡ false
   governed_no_do xs ts rest (x, is, s) = false_at_governed (begins_noisy (word words.Do)) (λ span span' line line' w r e u. (word_no_other w e).5) (λ w span line r e u. (word_no_other w e).5) x ts rest s
 
   abbrev Body_is : StatementRow → Shape
-  Body_is row = either (noisy words.Do ▷ Statements_are row k ▷ noisy words.Loop) (Governed row k)
+  Body_is row = either_shape (noisy words.Do ▷ Statements_are row k ▷ noisy words.Loop) (Governed row k)
 
   body_to : (xs : List StatementTree) (ts rest : List Token) → Body_list xs ts rest → Body_is (statement_row xs) ts rest
   body_to xs ts rest (inl (a, w, (b, s, v))) = inl (a, w, (b, statements_to k xs a b s, v))
@@ -401,7 +401,7 @@ module _ (k j : ℕ) (le : k ≤ j) (inner : Reads (suc k) (statement_in (suc k)
   loop_reads line h = made_reads body_reads (loop_statement line h)
 
   -- what is false of DO, commas and words of statements is false of what a loop repeats
-  false_at_body : (c : List Token → Bool) → ((span : Span) (line : Line) (ts : List Token) → c (token (kinds.Word words.Do) span line ∷ ts) ≡ false) → ((span span' : Span) (line line' : Line) (ts : List Token) → c (token (kind_of comma) span line ∷ token (kinds.Word words.Do) span' line' ∷ ts) ≡ false) → ((span span' : Span) (line line' : Line) (w : Word) (ts : List Token) → form_word w ≡ true → is_some (guard_of w) ≡ false → c (token (kind_of comma) span line ∷ token (kinds.Word w) span' line' ∷ ts) ≡ false) → ((w : Word) (span : Span) (line : Line) (ts : List Token) → form_word w ≡ true → is_some (guard_of w) ≡ false → c (token (kinds.Word w) span line ∷ ts) ≡ false) → (row : StatementRow) (ts rest : List Token) → Body_is row ts rest → c ts ≡ false
+  false_at_body : (c : List Token → Bool) → ((span : Span) (line : Line) (ts : List Token) → c (token (kinds.Word words.Do) span line ∷ ts) ≡ false) → ((span span' : Span) (line line' : Line) (ts : List Token) → c (token (kind_of_mark comma) span line ∷ token (kinds.Word words.Do) span' line' ∷ ts) ≡ false) → ((span span' : Span) (line line' : Line) (w : Word) (ts : List Token) → form_word w ≡ true → is_some (guard_of w) ≡ false → c (token (kind_of_mark comma) span line ∷ token (kinds.Word w) span' line' ∷ ts) ≡ false) → ((w : Word) (span : Span) (line : Line) (ts : List Token) → form_word w ≡ true → is_some (guard_of w) ≡ false → c (token (kinds.Word w) span line ∷ ts) ≡ false) → (row : StatementRow) (ts rest : List Token) → Body_is row ts rest → c ts ≡ false
   false_at_body c on_do on_comma_do on_comma on_word row ts rest (inl (a, w, s)) = noisy_stops c (word words.Do) on_do on_comma_do ts a w
   false_at_body c on_do on_comma_do on_comma on_word no_statement ts rest (inr s) = absurd s
   false_at_body c on_do on_comma_do on_comma on_word (and_statement x no_statement) ts rest (inr (may, (a, n, s))) = false_at_governed c on_comma on_word x ts rest (a, n, (may, s))
@@ -436,7 +436,7 @@ module _ (k j : ℕ) (le : k ≤ j) (inner : Reads (suc k) (statement_in (suc k)
       (λ ts x rest s. omega (arith, noisy_less (word words.If) ts s.2.0 s.2.1, (seq_reads (word_in_reads (suc k) outcome_of) branches_reads (λ p ts rest s stop. refl)).shorter s.2.0 s.0 rest s.2.2))
 
   abbrev Found_parts : Line → HeadTree → StatementTree → Shape
-  Found_parts line h x = either (Made (λ p. find_if_statement line h p.0 p.1.0 p.1.1) Find_if_parts x) (provided (find_statement line h ≡ x) nothing)
+  Found_parts line h x = either_shape (Made (λ p. find_if_statement line h p.0 p.1.0 p.1.1) Find_if_parts x) (provided (find_statement line h ≡ x) nothing)
 
   found_reads : (line : Line) (h : HeadTree) → Reads (suc k) (found_with line (suc k) (statement_in (suc k)) h) (found_with line (suc j) (statement_in (suc j)) h) (Found_parts line h) continues_statement
   found_reads line h = either_reads (find_if_item line h) (done_reads (suc k) (find_statement line h)) continues_statement (λ ts stop. (refl, refl)) (λ x ts rest s stop. ap begins_find_if s.1 ∙ (or_false (begins_find_if rest) (continues_simple rest) stop).0)
@@ -453,12 +453,12 @@ module _ (k j : ℕ) (le : k ≤ j) (inner : Reads (suc k) (statement_in (suc k)
   -- ---- loops that begin with FOR
 
   abbrev For_tail : Line → HeadTree → StatementTree → Shape
-  For_tail line h x = either ((Find_words ▷ Found_parts line h x)) (Made (loop_statement line (for_head h)) Body_is x)
+  For_tail line h x = either_shape ((Find_words ▷ Found_parts line h x)) (Made (loop_statement line (for_head h)) Body_is x)
 
   loop_no_find : (line : Line) (h : LoopHeadTree) (x : StatementTree) (ts rest : List Token) → Made (loop_statement line h) Body_is x ts rest → begins_noisy (word words.Find) ts ≡ false
   loop_no_find line h x ts rest (row, is, s) = false_at_body (begins_noisy (word words.Find)) (λ span line ts. refl) (λ span span' line line' ts. refl) (λ span span' line line' w r e u. (word_no_other w e).6) (λ w span line r e u. (word_no_other w e).6) row ts rest s
 
-  tail_reads : (line : Line) (h : HeadTree) → Reads (suc k) (choose (begins_noisy (word words.Find)) (find_with line (suc k) (statement_in (suc k)) h) (loop_with line (suc k) (statement_in (suc k)) (for_head h))) (choose (begins_noisy (word words.Find)) (find_with line (suc j) (statement_in (suc j)) h) (loop_with line (suc j) (statement_in (suc j)) (for_head h))) (For_tail line h) continues_statement
+  tail_reads : (line : Line) (h : HeadTree) → Reads (suc k) (choose_reader (begins_noisy (word words.Find)) (find_with line (suc k) (statement_in (suc k)) h) (loop_with line (suc k) (statement_in (suc k)) (for_head h))) (choose_reader (begins_noisy (word words.Find)) (find_with line (suc j) (statement_in (suc j)) h) (loop_with line (suc j) (statement_in (suc j)) (for_head h))) (For_tail line h) continues_statement
   tail_reads line h = either_reads (find_item line h) (loop_reads line (for_head h)) continues_statement (λ ts stop. (stop, stop)) (λ x ts rest s stop. loop_no_find line (for_head h) x ts rest s)
 
   word_no_head : (w : Word) (span : Span) (line : Line) (ts : List Token) → form_word w ≡ true → continues_head (token (kinds.Word w) span line ∷ ts) ≡ false
@@ -575,7 +575,7 @@ nested_opens _ e = absurd cc
 -- ---- statements at each level
 
 abbrev pub In_statement : ℕ → StatementTree → Shape
-In_statement room x = within (λ l. Statement_from x l) room
+In_statement room x = nested_shape (λ l. Statement_from x l) room
 
 simple_law : (n m : ℕ) → n ≤ m → (line : Line) (w : Word) → nested_word w ≡ false → Reads (suc n) (simple_at line (suc n) w) (simple_at line (suc m) w) (Form_is n line w) continues_simple
 unfolding simple_at
@@ -603,7 +603,7 @@ simple_law n m le line words.Until e = absurd cc
 simple_law n m le line _ e = no_form (suc n) n line _ refl
 
 module _ (n m : ℕ) (le : n ≤ m) (nested : (line : Line) (w : Word) → nested_word w ≡ true → Reads n (nested_in n (statement_in n) line w) (nested_in m (statement_in m) line w) (Form_is n line w) continues_statement) where
-  form_by : (b : Bool) (line : Line) (w : Word) → nested_word w ≡ b → Form (suc n) w (choose (λ ts. b) (nested_in n (statement_in n) line w) (simple_at line (suc n) w)) (choose (λ ts. b) (nested_in m (statement_in m) line w) (simple_at line (suc m) w)) (Form_is n line w) continues_statement
+  form_by : (b : Bool) (line : Line) (w : Word) → nested_word w ≡ b → Form (suc n) w (choose_reader (λ ts. b) (nested_in n (statement_in n) line w) (simple_at line (suc n) w)) (choose_reader (λ ts. b) (nested_in m (statement_in m) line w) (simple_at line (suc m) w)) (Form_is n line w) continues_statement
   form_by true line w there = opening_form w (nested_opens w there) (nested line w there)
   form_by false line w none = plain_form w (fewer_reads (simple_law n m le line w none) continues_statement no_simple)
 
@@ -613,8 +613,8 @@ module _ (n m : ℕ) (le : n ≤ m) (nested : (line : Line) (w : Word) → neste
   form_to : (x : StatementTree) (w : Word) (span : Span) (line : Line) (ts rest : List Token) → Form_is n line w x ts rest → Statement_from x n (token (kinds.Word w) span line ∷ ts) rest
   form_to x w span line ts rest (at, is, s) = (sym at, (ts, subst (λ (v : Word). Word_is v (token (kinds.Word w) span line ∷ ts) ts) (sym is) (span, line, refl), s))
 
-  form_from : (x : StatementTree) (ts rest : List Token) → Statement_from x n ts rest → (w : Word) × (r : List Token) × (Word_is w ts r) × Form_is n (first_line ts) w x r rest
-  form_from x ts rest (at, (r, w, s)) = (first_word x, r, w, (sym at, refl, s))
+  form_from : (x : StatementTree) (ts rest : List Token) → Statement_from x n ts rest → (w : Word) × (r : List Token) × (Word_is w ts r) × Form_is n (first_token_line ts) w x r rest
+  form_from x ts rest (at, (r, w, s)) = (opening_word x, r, w, (sym at, refl, s))
 
   from_reads : Reads (suc n) (by_word (form_in n (statement_in n))) (by_word (form_in m (statement_in m))) (λ x. Statement_from x n) continues_statement
   from_reads = by_word_reads form_law (λ x. Statement_from x n) form_to form_from

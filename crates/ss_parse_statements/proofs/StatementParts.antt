@@ -8,8 +8,8 @@ use Rattle.ss_lex.specs.declared.token.TokenKind.{TokenKind}
 use Rattle.ss_lex.specs.declared.token.TokenKind.TheVariants as kinds
 use Rattle.ss_lex.specs.declared.token.Token.{Token}
 use Rattle.ss_tree.specs.Tree.{ExpressionTree, NamedTree, PositionTree, by_discipline, at_first, at_last, before, after, WhenTree, at_time, in_units, now}
-use Rattle.ss_parse_expressions.specs.declared.classes.Class.TheVariants as classes
-use Rattle.ss_parse_expressions.specs.Shapes.{Shape, ◌▷◌, nothing, either, provided, Token_is, Word_is, each}
+use Rattle.ss_parse_expressions.specs.declared.classes.WordClass.TheVariants as classes
+use Rattle.ss_parse_expressions.specs.Shapes.{Shape, ◌▷◌, nothing, either_shape, provided, Token_is, Word_is, each}
 use Rattle.ss_parse_expressions.specs.Words.{has_word, One_of, the, perhaps_listed}
 use Rattle.ss_parse_expressions.specs.SpelledExpressions.{Sum_is, Target_is, Reference_is}
 use Rattle.ss_parse_expressions.specs.Openers.{openers}
@@ -25,8 +25,8 @@ use Rattle.ss_parse_expressions.proofs.WordLaws.{expect_class_reads, one_begins,
 use Rattle.ss_parse_expressions.proofs.ExpressionLaws.{In, sum_in_reads, continues_sum}
 use Rattle.ss_parse_expressions.proofs.PlaceLaws.{target_in_reads, targets_in_reads, sums_in_reads, continues_place, continues_targets, continues_sums}
 use Rattle.ss_parse_expressions.proofs.ConditionLaws.{the_set_reads, stops_place}
-use Rattle.ss_parse_statements.specs.SpelledParts.{Trigger, Picture_is, Called, Position_is, When_is}
-use Rattle.ss_parse_statements.specs.ReadSimple.{called, positive, positive_of, items_in, trigger, picture_of, pictures_at, given_in, yielding_in, position_in, when_in, due_in, set_in, print_head}
+use Rattle.ss_parse_statements.specs.SpelledParts.{Trigger, Picture_is, CalledName, Position_is, When_is}
+use Rattle.ss_parse_statements.specs.ReadSimple.{called, positive, positive_of, items_in, trigger, picture_token, pictures_at, given_in, yielding_in, position_in, when_in, due_in, set_reader, print_head}
 
 -- ---- PRINT
 
@@ -41,11 +41,11 @@ trigger_reads k =
     (λ u ts rest s. inl s) (λ u ts rest s. inr s) from')
     (λ u ts rest s. inl s) (λ u ts rest s. inr s) from
   where
-    from' : (u : Unit {0}) (ts rest : List Token) → either (Word_is words.As ▷ Word_is words.Follows) (Word_is words.Like ▷ Word_is words.This) ts rest → (Word_is words.As ▷ Word_is words.Follows) ts rest ⊎ ((begins (word words.As) ts ≡ false) × (Word_is words.Like ▷ Word_is words.This) ts rest)
+    from' : (u : Unit {0}) (ts rest : List Token) → either_shape (Word_is words.As ▷ Word_is words.Follows) (Word_is words.Like ▷ Word_is words.This) ts rest → (Word_is words.As ▷ Word_is words.Follows) ts rest ⊎ ((begins (word words.As) ts ≡ false) × (Word_is words.Like ▷ Word_is words.This) ts rest)
     from' u ts rest (inl s) = inl s
     from' u ts rest (inr (m, (span, line, e), s)) = inr (rw e refl, (m, (span, line, e), s))
 
-    from : (u : Unit {0}) (ts rest : List Token) → Trigger ts rest → Word_is words.Thus ts rest ⊎ ((begins (word words.Thus) ts ≡ false) × either (Word_is words.As ▷ Word_is words.Follows) (Word_is words.Like ▷ Word_is words.This) ts rest)
+    from : (u : Unit {0}) (ts rest : List Token) → Trigger ts rest → Word_is words.Thus ts rest ⊎ ((begins (word words.Thus) ts ≡ false) × either_shape (Word_is words.As ▷ Word_is words.Follows) (Word_is words.Like ▷ Word_is words.This) ts rest)
     from u ts rest (inl s) = inl s
     from u ts rest (inr (inl (m, (span, line, e), s))) = inr (rw e refl, inl (m, (span, line, e), s))
     from u ts rest (inr (inr (m, (span, line, e), s))) = inr (rw e refl, inr (m, (span, line, e), s))
@@ -89,15 +89,15 @@ print_head_reads n m le =
     stops ts rest (inr (inl (m, (span, line, e), s))) stop = rw e refl
     stops ts rest (inr (inr (m, (span, line, e), s))) stop = rw e refl
 
-pictures_to : (bytes : List ℕ) (ts rest : List Token) → In_table picture_of bytes ts rest → Picture_is bytes ts rest
+pictures_to : (bytes : List ℕ) (ts rest : List Token) → In_table picture_token bytes ts rest → Picture_is bytes ts rest
 pictures_to bytes ts rest (k, takes, at) = go k takes at
   where
-    go : (k : TokenKind) → picture_of k ≡ Some bytes → Token_is k ts rest → Picture_is bytes ts rest
+    go : (k : TokenKind) → picture_token k ≡ Some bytes → Token_is k ts rest → Picture_is bytes ts rest
     go (kinds.Picture b) e at = let same : b ≡ bytes = cc in subst (λ b. Picture_is b ts rest) same at
     go _ e at = absurd cc
 
-picture_reads : (k : ℕ) → Reads k (taken picture_of) (taken picture_of) Picture_is continues_never
-picture_reads k = reshaped_reads (taken_reads k picture_of) Picture_is pictures_to (λ bytes ts rest s. (kinds.Picture bytes, refl, s))
+picture_reads : (k : ℕ) → Reads k (taken picture_token) (taken picture_token) Picture_is continues_never
+picture_reads k = reshaped_reads (taken_reads k picture_token) Picture_is pictures_to (λ bytes ts rest s. (kinds.Picture bytes, refl, s))
 
 -- so many pictures
 abbrev pub Pictures_are : ℕ → List (List ℕ) → Shape
@@ -110,7 +110,7 @@ pictures_reads k n = record { sound = sound n; complete = λ ts ps rest s stop. 
     sound : (n : ℕ) (ts : List Token) (ps : List (List ℕ)) (rest : List Token) → pictures_at n ts ≡ Ok (ps, rest) → Pictures_are n ps ts rest
     sound zero ts ps rest e = carry (λ (ps : List (List ℕ)) (r : List Token). Pictures_are 0 ps ts r) [] ps ts rest e (refl, refl)
     sound (suc n) ts ps rest e =
-        let p = bind_ok (taken picture_of ts) _ _ e in
+        let p = bind_ok (taken picture_token ts) _ _ e in
         let qs = bind_ok (pictures_at n p.0.1) _ _ p.2 in
         let s = sound n p.0.1 qs.0.0 qs.0.1 qs.1 in
         carry (λ (ps : List (List ℕ)) (r : List Token). Pictures_are (suc n) ps ts r) (p.0.0 ∷ qs.0.0) ps qs.0.1 rest qs.2
@@ -121,7 +121,7 @@ pictures_reads k n = record { sound = sound n; complete = λ ts ps rest s stop. 
     complete zero (p ∷ ps) ts rest counts s = absurd (omega arith)
     complete (suc n) [] ts rest counts s = absurd (omega arith)
     complete (suc n) (p ∷ ps) ts rest counts (m, one, more) =
-        let first : taken picture_of ts ≡ Ok (p, m) = (picture_reads k).complete ts p m one refl in
+        let first : taken picture_token ts ≡ Ok (p, m) = (picture_reads k).complete ts p m one refl in
         let others : pictures_at n m ≡ Ok (ps, rest) = complete n ps m rest (omega arith) more in
         rw (first, others) refl
 
@@ -131,7 +131,7 @@ pictures_reads k n = record { sound = sound n; complete = λ ts ps rest s stop. 
 
     opening : (n : ℕ) (ts : List Token) → Bounded k (openers ts) (pictures_at n ts)
     opening zero ts = omega arith
-    opening (suc n) ts = bounded_bind k (openers ts) (taken picture_of ts) _ ((picture_reads k).opening ts) (λ p. bounded_bind k (openers p.1) (pictures_at n p.1) _ (opening n p.1) (λ ps. omega arith))
+    opening (suc n) ts = bounded_bind k (openers ts) (taken picture_token ts) _ ((picture_reads k).opening ts) (λ p. bounded_bind k (openers p.1) (pictures_at n p.1) _ (opening n p.1) (λ ps. omega arith))
 
 -- ---- words that may follow a statement and continue it
 
@@ -205,7 +205,7 @@ module _ (n m : ℕ) (le : n ≤ m) where
   pub target_reads : Reads (suc n) (target_in (suc n)) (target_in (suc m)) (λ t. Target_is n t) continues_place
   target_reads = target_in_reads (suc n) (suc m) (omega arith)
 
-  pub set_reads : Reads (suc n) (set_in (suc n)) (set_in (suc m)) (λ set. the ▷ Reference_is n set) continues_place
+  pub set_reads : Reads (suc n) (set_reader (suc n)) (set_reader (suc m)) (λ set. the ▷ Reference_is n set) continues_place
   set_reads = the_set_reads n m le
 
   pub given_reads : Reads (suc n) (given_in (suc n)) (given_in (suc m)) (perhaps_listed (One_of classes.Given) (Sum_is n)) (λ ts. begins_class classes.Given ts || continues_sums ts)
@@ -215,10 +215,10 @@ module _ (n m : ℕ) (le : n ≤ m) where
   pub yielding_reads : Reads (suc n) (yielding_in (suc n)) (yielding_in (suc m)) (perhaps_listed (Word_is words.Yielding) (Target_is n)) (λ ts. begins (word words.Yielding) ts || continues_targets ts)
   yielding_reads = perhaps_listed_reads (item_marked (word words.Yielding) (targets_in_reads (suc n) (suc m) (omega arith)))
 
-  pub called_sum_reads : Reads (suc n) (called (sum_in (suc n))) (called (sum_in (suc m))) (Called (Sum_is n)) (λ ts. begins (word words.Called) ts || continues_sum ts)
+  pub called_sum_reads : Reads (suc n) (called (sum_in (suc n))) (called (sum_in (suc m))) (CalledName (Sum_is n)) (λ ts. begins (word words.Called) ts || continues_sum ts)
   called_sum_reads = maybe_reads (item_marked (word words.Called) sum_reads)
 
-  pub called_target_reads : Reads (suc n) (called (target_in (suc n))) (called (target_in (suc m))) (Called (Target_is n)) (λ ts. begins (word words.Called) ts || continues_place ts)
+  pub called_target_reads : Reads (suc n) (called (target_in (suc n))) (called (target_in (suc m))) (CalledName (Target_is n)) (λ ts. begins (word words.Called) ts || continues_place ts)
   called_target_reads = maybe_reads (item_marked (word words.Called) target_reads)
 
   -- ---- where a member is filed: always before IN
@@ -234,16 +234,16 @@ module _ (n m : ℕ) (le : n ≤ m) where
   continues_position ts = begins_among statement_more ts || continues_sum ts
 
   abbrev After_is : PositionTree → Shape
-  After_is x = either (Made after (λ e. Word_is words.After ▷ Sum_is n e) x) (provided (by_discipline ≡ x) nothing)
+  After_is x = either_shape (Made after (λ e. Word_is words.After ▷ Sum_is n e) x) (provided (by_discipline ≡ x) nothing)
 
   abbrev Before_is : PositionTree → Shape
-  Before_is x = either (Made before (λ e. Word_is words.Before ▷ Sum_is n e) x) (After_is x)
+  Before_is x = either_shape (Made before (λ e. Word_is words.Before ▷ Sum_is n e) x) (After_is x)
 
   abbrev Last_is : PositionTree → Shape
-  Last_is x = either (Made (λ (u : Unit {0}). at_last) (λ (u : Unit {0}). Word_is words.Last) x) (Before_is x)
+  Last_is x = either_shape (Made (λ (u : Unit {0}). at_last) (λ (u : Unit {0}). Word_is words.Last) x) (Before_is x)
 
   abbrev First_is : PositionTree → Shape
-  First_is x = either (Made (λ (u : Unit {0}). at_first) (λ (u : Unit {0}). Word_is words.First) x) (Last_is x)
+  First_is x = either_shape (Made (λ (u : Unit {0}). at_first) (λ (u : Unit {0}). Word_is words.First) x) (Last_is x)
 
   position_word : (ts : List Token) → continues_position ts ≡ false → (w : Word) → statement_more w ≡ true → begins (word w) ts ≡ false
   position_word ts stop w held = no_word statement_more w held ts (or_false (begins_among statement_more ts) (continues_sum ts) stop).0
@@ -302,7 +302,7 @@ module _ (n m : ℕ) (le : n ≤ m) where
   -- ---- when a notice is due
 
   abbrev In_units_or_now : WhenTree → Shape
-  In_units_or_now x = either (Made in_units (λ e. Word_is words.In ▷ Sum_is n e ▷ Word_is words.Unit) x) (Made (λ (u : Unit {0}). now) (λ (u : Unit {0}). Word_is words.Now) x)
+  In_units_or_now x = either_shape (Made in_units (λ e. Word_is words.In ▷ Sum_is n e ▷ Word_is words.Unit) x) (Made (λ (u : Unit {0}). now) (λ (u : Unit {0}). Word_is words.Now) x)
 
   now_late : (x : WhenTree) (ts rest : List Token) → Made (λ (u : Unit {0}). now) (λ (u : Unit {0}). Word_is words.Now) x ts rest → begins (word words.In) ts ≡ false
   now_late x ts rest (u, q, (span, line, e)) = ap (begins (word words.In)) e
@@ -319,12 +319,12 @@ module _ (n m : ℕ) (le : n ≤ m) where
       continues_sum (λ ts stop. (stop, stop)) (λ x ts rest s stop. in_late x ts rest s))
       (When_is n) to from
     where
-      to : (x : WhenTree) (ts rest : List Token) → either (Made at_time (λ e. Word_is words.At ▷ Sum_is n e) x) (In_units_or_now x) ts rest → When_is n x ts rest
+      to : (x : WhenTree) (ts rest : List Token) → either_shape (Made at_time (λ e. Word_is words.At ▷ Sum_is n e) x) (In_units_or_now x) ts rest → When_is n x ts rest
       to x ts rest (inl (e, q, s)) = subst (λ x. When_is n x ts rest) q s
       to x ts rest (inr (inl (e, q, s))) = subst (λ x. When_is n x ts rest) q s
       to x ts rest (inr (inr (u, q, s))) = subst (λ x. When_is n x ts rest) q s
 
-      from : (x : WhenTree) (ts rest : List Token) → When_is n x ts rest → either (Made at_time (λ e. Word_is words.At ▷ Sum_is n e) x) (In_units_or_now x) ts rest
+      from : (x : WhenTree) (ts rest : List Token) → When_is n x ts rest → either_shape (Made at_time (λ e. Word_is words.At ▷ Sum_is n e) x) (In_units_or_now x) ts rest
       from (at_time e) ts rest s = inl (e, refl, s)
       from (in_units e) ts rest s = inr (inl (e, refl, s))
       from now ts rest s = inr (inr (tt, refl, s))

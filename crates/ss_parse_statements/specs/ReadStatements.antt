@@ -8,8 +8,8 @@ use Rattle.ss_lex.specs.declared.token.TokenKind.TheVariants as kinds
 use Rattle.ss_lex.specs.declared.token.Token.{Token}
 use Rattle.ss_tree.specs.declared.head.GuardKind.TheVariants as guards
 use Rattle.ss_tree.specs.Tree.{HeadTree, LoopHeadTree, for_head, StatementTree, if_statement, loop_statement, find_statement, find_if_statement, StatementRow, statement_row}
-use Rattle.ss_parse_expressions.specs.declared.failure.Fault.TheVariants.{Syntax}
-use Rattle.ss_parse_expressions.specs.Reading.{Reader, ◌>>=◌, word, begins, begins_by, skip, expect, in_table, taken, seq, following, closed, apply, maybe_list, choose, too_deep, rows, skip_comma}
+use Rattle.ss_parse_expressions.specs.declared.failure.ParseFault.TheVariants.{Syntax}
+use Rattle.ss_parse_expressions.specs.Reading.{Reader, ◌>>=◌, word, begins, begins_by, skip, expect, in_table, taken, seq, after_dropped, closed, apply, maybe_list, choose_reader, too_deep, rows, skip_comma}
 use Rattle.ss_parse_expressions.specs.ReadWords.{done, fail, begins_noisy, expect_noisy}
 use Rattle.ss_parse_expressions.specs.ReadConditions.{condition_in}
 use Rattle.ss_parse_expressions.specs.ReadHeads.{begins_guard, for_in, guarded_in}
@@ -83,24 +83,24 @@ module _ (statement : Reader StatementTree) where
   statements_with = rows begins_statement (λ r. statement (skip_comma r))
 
   abbrev pub else_with : Reader (List StatementTree)
-  else_with = maybe_list (begins_noisy (word words.Else)) (following (expect_noisy (word words.Else)) statements_with)
+  else_with = maybe_list (begins_noisy (word words.Else)) (after_dropped (expect_noisy (word words.Else)) statements_with)
 
   -- what follows a condition: the statements where it holds, and those where it doesn't
   unfoldable pub branches_with : Reader (StatementRow × StatementRow)
   branches_with = apply (λ p. (statement_row p.0, statement_row p.1)) (closed (seq statements_with else_with) (expect_noisy (word words.Always)))
 
   unfoldable pub do_with : Reader (List StatementTree)
-  do_with = following (expect_noisy (word words.Do)) (closed statements_with (expect_noisy (word words.Loop)))
+  do_with = after_dropped (expect_noisy (word words.Do)) (closed statements_with (expect_noisy (word words.Loop)))
 
   -- one statement, that begins with neither WHILE nor UNTIL
   unfoldable pub governed_with : Reader (List StatementTree)
-  governed_with = apply (λ s. s ∷ []) (λ ts. choose begins_guard fail statement (skip_comma ts))
+  governed_with = apply (λ s. s ∷ []) (λ ts. choose_reader begins_guard fail statement (skip_comma ts))
 
   unfoldable pub body_with : Reader StatementRow
-  body_with = apply statement_row (choose (begins_noisy (word words.Do)) do_with governed_with)
+  body_with = apply statement_row (choose_reader (begins_noisy (word words.Do)) do_with governed_with)
 
 unfoldable pub find_words : Reader (Unit {0})
-find_words = following (expect_noisy (word words.Find)) (after_the (following (expect (word words.First)) (expect (word words.Case))))
+find_words = after_dropped (expect_noisy (word words.Find)) (after_the (after_dropped (expect (word words.First)) (expect (word words.Case))))
 
 module _ (line : Line) (room : ℕ) (statement : Reader StatementTree) where
   -- an IF, after IF
@@ -112,18 +112,18 @@ module _ (line : Line) (room : ℕ) (statement : Reader StatementTree) where
 
   -- the IF of a FIND
   unfoldable pub find_if_with : HeadTree → Reader StatementTree
-  find_if_with head = apply (λ p. find_if_statement line head p.0 p.1.0 p.1.1) (following (expect_noisy (word words.If)) (seq (taken (in_table outcome_of)) (branches_with statement)))
+  find_if_with head = apply (λ p. find_if_statement line head p.0 p.1.0 p.1.1) (after_dropped (expect_noisy (word words.If)) (seq (taken (in_table outcome_of)) (branches_with statement)))
 
   abbrev pub found_with : HeadTree → Reader StatementTree
-  found_with head = choose begins_find_if (find_if_with head) (done (find_statement line head))
+  found_with head = choose_reader begins_find_if (find_if_with head) (done (find_statement line head))
 
   -- a FIND, after the head of its loop
   unfoldable pub find_with : HeadTree → Reader StatementTree
-  find_with head = following find_words (found_with head)
+  find_with head = after_dropped find_words (found_with head)
 
   -- a loop or a FIND, after FOR
   unfoldable pub for_with : Reader StatementTree
-  for_with ts = for_in room ts >>= λ h. choose (begins_noisy (word words.Find)) (find_with h.0) (loop_with (for_head h.0)) h.1
+  for_with ts = for_in room ts >>= λ h. choose_reader (begins_noisy (word words.Find)) (find_with h.0) (loop_with (for_head h.0)) h.1
 
   -- a loop, after WHILE or UNTIL
   unfoldable pub while_with : Reader StatementTree
@@ -155,7 +155,7 @@ nested_in zero statement line w = too_deep
 nested_in (suc room) statement line w = nested_at line (suc room) statement w
 
 abbrev pub form_in : ℕ → Reader StatementTree → Line → Word → Reader StatementTree
-form_in room statement line w = choose (λ ts. nested_word w) (nested_in room statement line w) (simple_at line (suc room) w)
+form_in room statement line w = choose_reader (λ ts. nested_word w) (nested_in room statement line w) (simple_at line (suc room) w)
 
 -- a statement, where so many levels may be opened, itself among them
 unfoldable pub statement_in : ℕ → Reader StatementTree

@@ -6,21 +6,21 @@ use Rattle.ss_lex.specs.declared.word.Word.TheVariants as words
 use Rattle.ss_tree.specs.declared.statement.SetEnd.{SetEnd}
 use Rattle.ss_tree.specs.declared.statement.SetEnd.TheVariants as ends
 use Rattle.ss_tree.specs.Tree.{ExpressionTree, PositionTree, by_discipline, at_first, at_last, before, after, WhenTree, at_time, in_units, now}
-use Rattle.ss_parse_expressions.specs.declared.classes.Class.TheVariants as classes
-use Rattle.ss_parse_expressions.specs.Shapes.{Shape, ◌▷◌, nothing, either, Token_is, Word_is, perhaps}
+use Rattle.ss_parse_expressions.specs.declared.classes.WordClass.TheVariants as classes
+use Rattle.ss_parse_expressions.specs.Shapes.{Shape, ◌▷◌, nothing, either_shape, Token_is, Word_is, perhaps}
 use Rattle.ss_parse_expressions.specs.Words.{One_of, perhaps_listed}
 use Rattle.ss_parse_expressions.specs.SpelledExpressions.{Sum_is}
 
 -- the words of a PRINT before its pictures
 abbrev pub Trigger : Shape
-Trigger = either (Word_is words.Thus) (either (Word_is words.As ▷ Word_is words.Follows) (Word_is words.Like ▷ Word_is words.This))
+Trigger = either_shape (Word_is words.Thus) (either_shape (Word_is words.As ▷ Word_is words.Follows) (Word_is words.Like ▷ Word_is words.This))
 
 abbrev pub Picture_is : List ℕ → Shape
 Picture_is bytes = Token_is (kinds.Picture bytes)
 
 -- CALLED and what follows it, if CALLED is there
-abbrev pub Called : {X : Type 0} → (X → Shape) → Option X → Shape
-Called S = perhaps (λ x. Word_is words.Called ▷ S x)
+abbrev pub CalledName : {X : Type 0} → (X → Shape) → Option X → Shape
+CalledName S = perhaps (λ x. Word_is words.Called ▷ S x)
 
 abbrev pub end_of : Word → Option SetEnd
 end_of words.First = Some ends.First

@@ -1,7 +1,7 @@
 //! The word that the IF of a FIND asks for.
 
 ghost use Rattle.std.specs.Prelude.{◌≡◌};
-ghost use Rattle.ss_parse_expressions.specs.Reading.{Gives, taken, in_table};
+ghost use Rattle.ss_parse_expressions.specs.Reading.{GivesReading, taken, in_table};
 ghost use Rattle.ss_parse_expressions.specs.WordTables.{outcome_of};
 ghost use Rattle.ss_parse_statements.specs.ReadStatements.{begins_outcome};
 
@@ -13,7 +13,7 @@ use ss_tree::statement::FindOutcome;
 
 /// FOUND or NONE.
 pub fn outcome(tokens: &[Token]) -> Result<(FindOutcome, &[Token]), Failure>
-    ensures { Gives (λ x. (x.0, x.1.now)) result (taken (in_table outcome_of) tokens.now) }
+    ensures { GivesReading (λ x. (x.0, x.1.now)) result (taken (in_table outcome_of) tokens.now) }
 {
     match tokens {
         [] => Err(syntax(tokens)),

@@ -2,15 +2,15 @@
 
 ghost use Rattle.std.specs.Prelude.{◌≡◌, map};
 ghost use Rattle.ss_tree.specs.View.{view_expression, view_option, view_named, view_position, view_when};
-ghost use Rattle.ss_parse_expressions.specs.Reading.{Gives, word, expect, following, begins_by, taken, in_table};
+ghost use Rattle.ss_parse_expressions.specs.Reading.{GivesReading, word, expect, after_dropped, begins_by, taken, in_table};
 ghost use Rattle.ss_parse_expressions.specs.ReadExpressions.{sum_in};
 ghost use Rattle.ss_parse_expressions.specs.ReadPlaces.{target_in};
 ghost use Rattle.ss_parse_statements.specs.SpelledParts.{end_of};
-ghost use Rattle.ss_parse_statements.specs.ReadSimple.{equals, set_in, called, positive_of, picture_of, items_in, trigger, pictures_at, given_in, yielding_in, position_in, when_in, due_in};
+ghost use Rattle.ss_parse_statements.specs.ReadSimple.{equals, set_reader, called, positive_of, picture_token, items_in, trigger, pictures_at, given_in, yielding_in, position_in, when_in, due_in};
 
 use ss_base::PictureLine;
 use ss_lex::{Symbol, Token, TokenKind, Word};
-use ss_parse_expressions::classes::{Class, begins_class, skip_class};
+use ss_parse_expressions::classes::{WordClass, begins_class, skip_class};
 use ss_parse_expressions::expressions::{sum, sums};
 use ss_parse_expressions::failure::Failure;
 use ss_parse_expressions::places::{reference, target, targets};
@@ -33,7 +33,7 @@ fn end_of(word: Word) -> Option<SetEnd>
 
 /// FIRST or LAST.
 pub fn set_end(tokens: &[Token]) -> Result<(SetEnd, &[Token]), Failure>
-    ensures { Gives (λ x. (x.0, x.1.now)) result (taken (in_table end_of) tokens.now) }
+    ensures { GivesReading (λ x. (x.0, x.1.now)) result (taken (in_table end_of) tokens.now) }
 {
     match tokens {
         [] => Err(syntax(tokens)),
@@ -62,7 +62,7 @@ pub fn begins_end(tokens: &[Token]) -> bool
 
 /// A number of pictures, 1 at least.
 pub fn positive(tokens: &[Token]) -> Result<(u64, &[Token]), Failure>
-    ensures { Gives (λ x. (x.0, x.1.now)) result (taken positive_of tokens.now) }
+    ensures { GivesReading (λ x. (x.0, x.1.now)) result (taken positive_of tokens.now) }
 {
     match tokens {
         [] => Err(syntax(tokens)),
@@ -85,7 +85,7 @@ pub fn items(
     tokens: &[Token],
     room: u8,
 ) -> Result<(Vec<Expression>, &[Token]), Failure>
-    ensures { Gives (λ x. (map view_expression x.0.items, x.1.now)) result (items_in room tokens.now) }
+    ensures { GivesReading (λ x. (map view_expression x.0.items, x.1.now)) result (items_in room tokens.now) }
 {
     if !begins_word(tokens, Word::With) {
         return Ok((Vec::new(alloc), tokens));
@@ -96,7 +96,7 @@ pub fn items(
 /// The words of a PRINT before its pictures.
 #[tactic(auto, unfolding(crate::specs::ReadSimple::trigger))]
 pub fn trigger(tokens: &[Token]) -> Result<&[Token], Failure>
-    ensures { Gives (λ rest. (tt, rest.now)) result (trigger tokens.now) }
+    ensures { GivesReading (λ rest. (tt, rest.now)) result (trigger tokens.now) }
 {
     if begins_word(tokens, Word::Thus) {
         Ok(skip_word(tokens, Word::Thus))
@@ -110,7 +110,7 @@ pub fn trigger(tokens: &[Token]) -> Result<&[Token], Failure>
 
 /// The bytes of a picture.
 fn picture(alloc: Global, tokens: &[Token]) -> Result<(PictureLine, &[Token]), Failure>
-    ensures { Gives (λ x. (x.0, x.1.now)) result (taken picture_of tokens.now) }
+    ensures { GivesReading (λ x. (x.0, x.1.now)) result (taken picture_token tokens.now) }
 {
     match tokens {
         [] => Err(syntax(tokens)),
@@ -127,7 +127,7 @@ pub fn pictures(
     tokens: &[Token],
     count: u64,
 ) -> Result<(Vec<PictureLine>, &[Token]), Failure>
-    ensures { Gives (λ x. (x.0.items, x.1.now)) result (pictures_at count tokens.now) }
+    ensures { GivesReading (λ x. (x.0.items, x.1.now)) result (pictures_at count tokens.now) }
 {
     let mut all = Vec::new(alloc);
     let mut rest = tokens;
@@ -145,12 +145,12 @@ pub fn given(
     tokens: &[Token],
     room: u8,
 ) -> Result<(Vec<Expression>, &[Token]), Failure>
-    ensures { Gives (λ x. (map view_expression x.0.items, x.1.now)) result (given_in room tokens.now) }
+    ensures { GivesReading (λ x. (map view_expression x.0.items, x.1.now)) result (given_in room tokens.now) }
 {
-    if !begins_class(tokens, Class::Given) {
+    if !begins_class(tokens, WordClass::Given) {
         return Ok((Vec::new(alloc), tokens));
     }
-    sums(alloc, skip_class(tokens, Class::Given), room)
+    sums(alloc, skip_class(tokens, WordClass::Given), room)
 }
 
 /// The targets of what is yielded, if there are any.
@@ -159,7 +159,7 @@ pub fn yielding(
     tokens: &[Token],
     room: u8,
 ) -> Result<(Vec<Named>, &[Token]), Failure>
-    ensures { Gives (λ x. (map view_named x.0.items, x.1.now)) result (yielding_in room tokens.now) }
+    ensures { GivesReading (λ x. (map view_named x.0.items, x.1.now)) result (yielding_in room tokens.now) }
 {
     if !begins_word(tokens, Word::Yielding) {
         return Ok((Vec::new(alloc), tokens));
@@ -173,7 +173,7 @@ pub fn called_value(
     tokens: &[Token],
     room: u8,
 ) -> Result<(Option<Expression>, &[Token]), Failure>
-    ensures { Gives (λ x. (view_option view_expression x.0, x.1.now)) result (called (sum_in room) tokens.now) }
+    ensures { GivesReading (λ x. (view_option view_expression x.0, x.1.now)) result (called (sum_in room) tokens.now) }
 {
     if !begins_word(tokens, Word::Called) {
         return Ok((None, tokens));
@@ -188,7 +188,7 @@ pub fn called_target(
     tokens: &[Token],
     room: u8,
 ) -> Result<(Option<Named>, &[Token]), Failure>
-    ensures { Gives (λ x. (view_option view_named x.0, x.1.now)) result (called (target_in room) tokens.now) }
+    ensures { GivesReading (λ x. (view_option view_named x.0, x.1.now)) result (called (target_in room) tokens.now) }
 {
     if !begins_word(tokens, Word::Called) {
         return Ok((None, tokens));
@@ -200,7 +200,7 @@ pub fn called_target(
 /// Where a member is filed.
 #[tactic(auto, unfolding(crate::specs::ReadSimple::position_in))]
 pub fn place(alloc: Global, tokens: &[Token], room: u8) -> Result<(Position, &[Token]), Failure>
-    ensures { Gives (λ x. (view_position x.0, x.1.now)) result (position_in room tokens.now) }
+    ensures { GivesReading (λ x. (view_position x.0, x.1.now)) result (position_in room tokens.now) }
 {
     if begins_word(tokens, Word::First) {
         Ok((Position::First, skip_word(tokens, Word::First)))
@@ -220,7 +220,7 @@ pub fn place(alloc: Global, tokens: &[Token], room: u8) -> Result<(Position, &[T
 /// When a notice is due.
 #[tactic(auto, unfolding(crate::specs::ReadSimple::when_in))]
 pub fn due(alloc: Global, tokens: &[Token], room: u8) -> Result<(When, &[Token]), Failure>
-    ensures { Gives (λ x. (view_when x.0, x.1.now)) result (when_in room tokens.now) }
+    ensures { GivesReading (λ x. (view_when x.0, x.1.now)) result (when_in room tokens.now) }
 {
     if begins_word(tokens, Word::At) {
         let (time, rest) = sum(alloc, skip_word(tokens, Word::At), room)?;
@@ -241,7 +241,7 @@ pub fn given_and_due(
     tokens: &[Token],
     room: u8,
 ) -> Result<(Vec<Expression>, When, &[Token]), Failure>
-    ensures { Gives (λ x. ((map view_expression x.0.items, view_when x.1), x.2.now)) result (due_in room tokens.now) }
+    ensures { GivesReading (λ x. ((map view_expression x.0.items, view_when x.1), x.2.now)) result (due_in room tokens.now) }
 {
     let (given, rest) = given(alloc, tokens, room)?;
     let (given, (when, rest)) = beside(given, due(alloc, rest, room))?;
@@ -254,7 +254,7 @@ pub fn value_set(
     tokens: &[Token],
     room: u8,
 ) -> Result<(Expression, &[Token]), Failure>
-    ensures { Gives (λ x. (view_expression x.0, x.1.now)) result (following (expect equals) (sum_in room) tokens.now) }
+    ensures { GivesReading (λ x. (view_expression x.0, x.1.now)) result (after_dropped (expect equals) (sum_in room) tokens.now) }
 {
     let rest = expect_symbol(tokens, Symbol::Equals)?;
     sum(alloc, rest, room)
@@ -267,7 +267,7 @@ pub fn target_after(
     tokens: &[Token],
     room: u8,
 ) -> Result<(Named, &[Token]), Failure>
-    ensures { Gives (λ x. (view_named x.0, x.1.now)) result (following (expect (word wanted)) (target_in room) tokens.now) }
+    ensures { GivesReading (λ x. (view_named x.0, x.1.now)) result (after_dropped (expect (word wanted)) (target_in room) tokens.now) }
 {
     let rest = expect_word(tokens, wanted)?;
     target(alloc, rest, room)
@@ -280,7 +280,7 @@ pub fn set_after(
     tokens: &[Token],
     room: u8,
 ) -> Result<(Named, &[Token]), Failure>
-    ensures { Gives (λ x. (view_named x.0, x.1.now)) result (following (expect (word wanted)) (set_in room) tokens.now) }
+    ensures { GivesReading (λ x. (view_named x.0, x.1.now)) result (after_dropped (expect (word wanted)) (set_reader room) tokens.now) }
 {
     let rest = expect_word(tokens, wanted)?;
     reference(alloc, skip_word(rest, Word::The), room)

@@ -2,7 +2,7 @@
 
 ghost use Rattle.std.specs.Prelude.{◌≡◌, map};
 ghost use Rattle.ss_tree.specs.View.{view_expression, view_statement};
-ghost use Rattle.ss_parse_expressions.specs.Reading.{Gives};
+ghost use Rattle.ss_parse_expressions.specs.Reading.{GivesReading};
 ghost use Rattle.ss_parse_statements.specs.ReadSimple.{let_at, add_at, subtract_at, call_at, read_at, start_at, new_at, create_at, destroy_at, cancel_at, file_at, remove_end_at, remove_this_at, remove_at, schedule_the_at, schedule_a_at, schedule_at, reset_at, print_head, print_at, skip_at, simple_at};
 
 use crate::parts::{
@@ -11,7 +11,7 @@ use crate::parts::{
 };
 use ss_base::Line;
 use ss_lex::{Token, Word};
-use ss_parse_expressions::classes::{Class, expect_class, skip_class};
+use ss_parse_expressions::classes::{WordClass, expect_class, skip_class};
 use ss_parse_expressions::expressions::sum;
 use ss_parse_expressions::failure::Failure;
 use ss_parse_expressions::names::{name, names};
@@ -30,7 +30,7 @@ fn let_form(
     tokens: &[Token],
     room: u8,
 ) -> Result<(Statement, &[Token]), Failure>
-    ensures { Gives (λ x. (view_statement x.0, x.1.now)) result (let_at line room tokens.now) }
+    ensures { GivesReading (λ x. (view_statement x.0, x.1.now)) result (let_at line room tokens.now) }
 {
     let (target, rest) = target(alloc, tokens, room)?;
     let (target, (value, rest)) = beside(target, value_set(alloc, rest, room))?;
@@ -50,7 +50,7 @@ fn add_form(
     tokens: &[Token],
     room: u8,
 ) -> Result<(Statement, &[Token]), Failure>
-    ensures { Gives (λ x. (view_statement x.0, x.1.now)) result (add_at line room tokens.now) }
+    ensures { GivesReading (λ x. (view_statement x.0, x.1.now)) result (add_at line room tokens.now) }
 {
     let (amount, rest) = sum(alloc, tokens, room)?;
     let (amount, (target, rest)) = beside(amount, target_after(alloc, Word::To, rest, room))?;
@@ -70,7 +70,7 @@ fn subtract_form(
     tokens: &[Token],
     room: u8,
 ) -> Result<(Statement, &[Token]), Failure>
-    ensures { Gives (λ x. (view_statement x.0, x.1.now)) result (subtract_at line room tokens.now) }
+    ensures { GivesReading (λ x. (view_statement x.0, x.1.now)) result (subtract_at line room tokens.now) }
 {
     let (amount, rest) = sum(alloc, tokens, room)?;
     let (amount, (target, rest)) = beside(amount, target_after(alloc, Word::From, rest, room))?;
@@ -90,7 +90,7 @@ fn call_form(
     tokens: &[Token],
     room: u8,
 ) -> Result<(Statement, &[Token]), Failure>
-    ensures { Gives (λ x. (view_statement x.0, x.1.now)) result (call_at line room tokens.now) }
+    ensures { GivesReading (λ x. (view_statement x.0, x.1.now)) result (call_at line room tokens.now) }
 {
     let routine = name(tokens)?;
     let (given, rest) = given(alloc, after_first(tokens), room)?;
@@ -112,7 +112,7 @@ fn read_form(
     tokens: &[Token],
     room: u8,
 ) -> Result<(Statement, &[Token]), Failure>
-    ensures { Gives (λ x. (view_statement x.0, x.1.now)) result (read_at line room tokens.now) }
+    ensures { GivesReading (λ x. (view_statement x.0, x.1.now)) result (read_at line room tokens.now) }
 {
     let (targets, rest) = targets(alloc, tokens, room)?;
     Ok((Statement::Read { line, targets }, rest))
@@ -121,7 +121,7 @@ fn read_form(
 /// The rest of a START SIMULATION, after its first word.
 #[tactic(auto, unfolding(crate::specs::ReadSimple::start_at, ss_tree::specs::View::view_statement))]
 fn start_form(line: Line, tokens: &[Token]) -> Result<(Statement, &[Token]), Failure>
-    ensures { Gives (λ x. (view_statement x.0, x.1.now)) result (start_at line tokens.now) }
+    ensures { GivesReading (λ x. (view_statement x.0, x.1.now)) result (start_at line tokens.now) }
 {
     let rest = expect_word(tokens, Word::Simulation)?;
     Ok((Statement::StartSimulation { line }, rest))
@@ -135,9 +135,9 @@ fn new_form(
     tokens: &[Token],
     room: u8,
 ) -> Result<(Statement, &[Token]), Failure>
-    ensures { Gives (λ x. (view_statement x.0, x.1.now)) result (new_at line room tokens.now) }
+    ensures { GivesReading (λ x. (view_statement x.0, x.1.now)) result (new_at line room tokens.now) }
 {
-    let rest = skip_class(tokens, Class::Indefinite);
+    let rest = skip_class(tokens, WordClass::Indefinite);
     let class = name(rest)?;
     let (called, rest) = called_target(alloc, after_first(rest), room)?;
     let form = Statement::Create {
@@ -156,7 +156,7 @@ fn create_form(
     tokens: &[Token],
     room: u8,
 ) -> Result<(Statement, &[Token]), Failure>
-    ensures { Gives (λ x. (view_statement x.0, x.1.now)) result (create_at line room tokens.now) }
+    ensures { GivesReading (λ x. (view_statement x.0, x.1.now)) result (create_at line room tokens.now) }
 {
     if !begins_word(tokens, Word::Every) {
         return new_form(alloc, line, tokens, room);
@@ -173,7 +173,7 @@ fn destroy_form(
     tokens: &[Token],
     room: u8,
 ) -> Result<(Statement, &[Token]), Failure>
-    ensures { Gives (λ x. (view_statement x.0, x.1.now)) result (destroy_at line room tokens.now) }
+    ensures { GivesReading (λ x. (view_statement x.0, x.1.now)) result (destroy_at line room tokens.now) }
 {
     let rest = skip_word(tokens, Word::The);
     let class = name(rest)?;
@@ -194,7 +194,7 @@ fn cancel_form(
     tokens: &[Token],
     room: u8,
 ) -> Result<(Statement, &[Token]), Failure>
-    ensures { Gives (λ x. (view_statement x.0, x.1.now)) result (cancel_at line room tokens.now) }
+    ensures { GivesReading (λ x. (view_statement x.0, x.1.now)) result (cancel_at line room tokens.now) }
 {
     let rest = skip_word(tokens, Word::The);
     let class = name(rest)?;
@@ -215,7 +215,7 @@ fn file_form(
     tokens: &[Token],
     room: u8,
 ) -> Result<(Statement, &[Token]), Failure>
-    ensures { Gives (λ x. (view_statement x.0, x.1.now)) result (file_at line room tokens.now) }
+    ensures { GivesReading (λ x. (view_statement x.0, x.1.now)) result (file_at line room tokens.now) }
 {
     let (member, rest) = sum(alloc, skip_word(tokens, Word::The), room)?;
     let (member, (position, rest)) = beside(member, place(alloc, rest, room))?;
@@ -238,7 +238,7 @@ fn remove_end_form(
     tokens: &[Token],
     room: u8,
 ) -> Result<(Statement, &[Token]), Failure>
-    ensures { Gives (λ x. (view_statement x.0, x.1.now)) result (remove_end_at line room tokens.now) }
+    ensures { GivesReading (λ x. (view_statement x.0, x.1.now)) result (remove_end_at line room tokens.now) }
 {
     let (end, rest) = set_end(tokens)?;
     let (target, rest) = target(alloc, rest, room)?;
@@ -260,7 +260,7 @@ fn remove_this_form(
     tokens: &[Token],
     room: u8,
 ) -> Result<(Statement, &[Token]), Failure>
-    ensures { Gives (λ x. (view_statement x.0, x.1.now)) result (remove_this_at line room tokens.now) }
+    ensures { GivesReading (λ x. (view_statement x.0, x.1.now)) result (remove_this_at line room tokens.now) }
 {
     let (member, rest) = sum(alloc, tokens, room)?;
     let (member, (set, rest)) = beside(member, set_after(alloc, Word::From, rest, room))?;
@@ -275,7 +275,7 @@ fn remove_form(
     tokens: &[Token],
     room: u8,
 ) -> Result<(Statement, &[Token]), Failure>
-    ensures { Gives (λ x. (view_statement x.0, x.1.now)) result (remove_at line room tokens.now) }
+    ensures { GivesReading (λ x. (view_statement x.0, x.1.now)) result (remove_at line room tokens.now) }
 {
     let rest = skip_word(tokens, Word::The);
     if begins_end(rest) {
@@ -293,7 +293,7 @@ fn schedule_the_form(
     tokens: &[Token],
     room: u8,
 ) -> Result<(Statement, &[Token]), Failure>
-    ensures { Gives (λ x. (view_statement x.0, x.1.now)) result (schedule_the_at line room tokens.now) }
+    ensures { GivesReading (λ x. (view_statement x.0, x.1.now)) result (schedule_the_at line room tokens.now) }
 {
     let rest = expect_word(tokens, Word::The)?;
     let class = name(rest)?;
@@ -317,9 +317,9 @@ fn schedule_a_form(
     tokens: &[Token],
     room: u8,
 ) -> Result<(Statement, &[Token]), Failure>
-    ensures { Gives (λ x. (view_statement x.0, x.1.now)) result (schedule_a_at line room tokens.now) }
+    ensures { GivesReading (λ x. (view_statement x.0, x.1.now)) result (schedule_a_at line room tokens.now) }
 {
-    let rest = expect_class(tokens, Class::Indefinite)?;
+    let rest = expect_class(tokens, WordClass::Indefinite)?;
     let class = name(rest)?;
     let (called, rest) = called_target(alloc, after_first(rest), room)?;
     let (called, (given, when, rest)) = beside(called, given_and_due(alloc, rest, room))?;
@@ -341,7 +341,7 @@ fn schedule_form(
     tokens: &[Token],
     room: u8,
 ) -> Result<(Statement, &[Token]), Failure>
-    ensures { Gives (λ x. (view_statement x.0, x.1.now)) result (schedule_at line room tokens.now) }
+    ensures { GivesReading (λ x. (view_statement x.0, x.1.now)) result (schedule_at line room tokens.now) }
 {
     if begins_word(tokens, Word::The) {
         schedule_the_form(alloc, line, tokens, room)
@@ -358,7 +358,7 @@ fn reset_form(
     tokens: &[Token],
     room: u8,
 ) -> Result<(Statement, &[Token]), Failure>
-    ensures { Gives (λ x. (view_statement x.0, x.1.now)) result (reset_at line room tokens.now) }
+    ensures { GivesReading (λ x. (view_statement x.0, x.1.now)) result (reset_at line room tokens.now) }
 {
     let rest = expect_word(skip_word(tokens, Word::The), Word::Totals)?;
     let rest = expect_word(rest, Word::Of)?;
@@ -373,7 +373,7 @@ fn print_head(
     tokens: &[Token],
     room: u8,
 ) -> Result<(u64, Vec<Expression>, &[Token]), Failure>
-    ensures { Gives (λ x. ((x.0, map view_expression x.1.items), x.2.now)) result (print_head room tokens.now) }
+    ensures { GivesReading (λ x. ((x.0, map view_expression x.1.items), x.2.now)) result (print_head room tokens.now) }
 {
     let (count, rest) = positive(tokens)?;
     let rest = expect_word(rest, Word::Line)?;
@@ -390,7 +390,7 @@ fn print_form(
     tokens: &[Token],
     room: u8,
 ) -> Result<(Statement, &[Token]), Failure>
-    ensures { Gives (λ x. (view_statement x.0, x.1.now)) result (print_at line room tokens.now) }
+    ensures { GivesReading (λ x. (view_statement x.0, x.1.now)) result (print_at line room tokens.now) }
 {
     let (count, items, rest) = print_head(alloc, tokens, room)?;
     let (items, (pictures, rest)) = beside(items, pictures(alloc, rest, count))?;
@@ -410,7 +410,7 @@ fn skip_form(
     tokens: &[Token],
     room: u8,
 ) -> Result<(Statement, &[Token]), Failure>
-    ensures { Gives (λ x. (view_statement x.0, x.1.now)) result (skip_at line room tokens.now) }
+    ensures { GivesReading (λ x. (view_statement x.0, x.1.now)) result (skip_at line room tokens.now) }
 {
     let (count, rest) = sum(alloc, tokens, room)?;
     let rest = expect_word(skip_word(rest, Word::Output), Word::Line);
@@ -427,7 +427,7 @@ pub fn simple_form(
     tokens: &[Token],
     room: u8,
 ) -> Result<(Statement, &[Token]), Failure>
-    ensures { Gives (λ x. (view_statement x.0, x.1.now)) result (simple_at line room word tokens.now) }
+    ensures { GivesReading (λ x. (view_statement x.0, x.1.now)) result (simple_at line room word tokens.now) }
 {
     match word {
         Word::Let => let_form(alloc, line, tokens, room),

@@ -5,7 +5,7 @@ ghost use Rattle.ss_tree.specs.Tree.{statement_row};
 ghost use Rattle.ss_tree.specs.View.{view_statement, view_head, view_loop_head};
 ghost use Rattle.ss_parse_expressions.specs.WordTables.{outcome_of};
 ghost use Rattle.ss_lex.specs.declared.word.Word.TheVariants.{If};
-ghost use Rattle.ss_parse_expressions.specs.Reading.{Gives, word, skip, skip_comma, following, seq, taken, in_table};
+ghost use Rattle.ss_parse_expressions.specs.Reading.{GivesReading, word, skip, skip_comma, after_dropped, seq, taken, in_table};
 ghost use Rattle.ss_parse_expressions.specs.ReadWords.{begins_noisy, expect_noisy};
 ghost use Rattle.ss_parse_statements.specs.ReadStatements.{nested_word, begins_form, begins_statement, begins_find_if, statements_with, else_with, branches_with, do_with, governed_with, body_with, find_words, if_with, loop_with, find_if_with, found_with, find_with, for_with, while_with, until_with, nested_in, statement_in, statements_in};
 
@@ -33,7 +33,7 @@ pub fn begins_noisy(tokens: &[Token], wanted: Word) -> bool
 
 /// What follows this word, which has to be first but for a comma.
 pub fn expect_noisy(tokens: &[Token], wanted: Word) -> Result<&[Token], Failure>
-    ensures { Gives (λ rest. (tt, rest.now)) result (expect_noisy (word wanted) tokens.now) }
+    ensures { GivesReading (λ rest. (tt, rest.now)) result (expect_noisy (word wanted) tokens.now) }
 {
     expect_word(skip_symbol(tokens, Symbol::Comma), wanted)
 }
@@ -106,7 +106,7 @@ fn begins_find_if(tokens: &[Token]) -> bool
 /// FIND THE FIRST CASE.
 #[tactic(auto, unfolding(crate::specs::ReadStatements::find_words))]
 fn find_words(tokens: &[Token]) -> Result<&[Token], Failure>
-    ensures { Gives (λ rest. (tt, rest.now)) result (find_words tokens.now) }
+    ensures { GivesReading (λ rest. (tt, rest.now)) result (find_words tokens.now) }
 {
     let rest = expect_noisy(tokens, Word::Find)?;
     let rest = expect_word(skip_word(rest, Word::The), Word::First)?;
@@ -120,7 +120,7 @@ pub fn statements(
     tokens: &[Token],
     room: u8,
 ) -> Result<(Vec<Statement>, &[Token]), Failure>
-    ensures { Gives (λ x. (map view_statement x.0.items, x.1.now)) result (statements_in room tokens.now) }
+    ensures { GivesReading (λ x. (map view_statement x.0.items, x.1.now)) result (statements_in room tokens.now) }
 {
     let mut all = Vec::new(alloc);
     let mut rest = tokens;
@@ -140,7 +140,7 @@ fn otherwise(
     tokens: &[Token],
     room: u8,
 ) -> Result<(Vec<Statement>, &[Token]), Failure>
-    ensures { Gives (λ x. (map view_statement x.0.items, x.1.now)) result (else_with (statement_in room) tokens.now) }
+    ensures { GivesReading (λ x. (map view_statement x.0.items, x.1.now)) result (else_with (statement_in room) tokens.now) }
 {
     if !begins_noisy(tokens, Word::Else) {
         return Ok((Vec::new(alloc), tokens));
@@ -156,7 +156,7 @@ fn branches(
     tokens: &[Token],
     room: u8,
 ) -> Result<(Vec<Statement>, Vec<Statement>, &[Token]), Failure>
-    ensures { Gives (λ x. ((statement_row (map view_statement x.0.items), statement_row (map view_statement x.1.items)), x.2.now)) result (branches_with (statement_in room) tokens.now) }
+    ensures { GivesReading (λ x. ((statement_row (map view_statement x.0.items), statement_row (map view_statement x.1.items)), x.2.now)) result (branches_with (statement_in room) tokens.now) }
 {
     let (then, rest) = statements(alloc, tokens, room)?;
     let (then, (otherwise, rest)) = beside(then, otherwise(alloc, rest, room))?;
@@ -168,7 +168,7 @@ fn branches(
 #[cycle(statements)]
 #[tactic(auto, unfolding(crate::specs::ReadStatements::do_with))]
 fn do_body(alloc: Global, tokens: &[Token], room: u8) -> Result<(Vec<Statement>, &[Token]), Failure>
-    ensures { Gives (λ x. (map view_statement x.0.items, x.1.now)) result (do_with (statement_in room) tokens.now) }
+    ensures { GivesReading (λ x. (map view_statement x.0.items, x.1.now)) result (do_with (statement_in room) tokens.now) }
 {
     let rest = expect_noisy(tokens, Word::Do)?;
     let (body, rest) = statements(alloc, rest, room)?;
@@ -184,7 +184,7 @@ fn governed(
     tokens: &[Token],
     room: u8,
 ) -> Result<(Vec<Statement>, &[Token]), Failure>
-    ensures { Gives (λ x. (map view_statement x.0.items, x.1.now)) result (governed_with (statement_in room) tokens.now) }
+    ensures { GivesReading (λ x. (map view_statement x.0.items, x.1.now)) result (governed_with (statement_in room) tokens.now) }
 {
     let tokens = skip_symbol(tokens, Symbol::Comma);
     if begins_guard(tokens) {
@@ -198,7 +198,7 @@ fn governed(
 #[cycle(statements)]
 #[tactic(auto, unfolding(crate::specs::ReadStatements::body_with))]
 fn body(alloc: Global, tokens: &[Token], room: u8) -> Result<(Vec<Statement>, &[Token]), Failure>
-    ensures { Gives (λ x. (statement_row (map view_statement x.0.items), x.1.now)) result (body_with (statement_in room) tokens.now) }
+    ensures { GivesReading (λ x. (statement_row (map view_statement x.0.items), x.1.now)) result (body_with (statement_in room) tokens.now) }
 {
     if begins_noisy(tokens, Word::Do) {
         do_body(alloc, tokens, room)
@@ -216,7 +216,7 @@ fn if_form(
     tokens: &[Token],
     room: u8,
 ) -> Result<(Statement, &[Token]), Failure>
-    ensures { Gives (λ x. (view_statement x.0, x.1.now)) result (if_with line room (statement_in room) tokens.now) }
+    ensures { GivesReading (λ x. (view_statement x.0, x.1.now)) result (if_with line room (statement_in room) tokens.now) }
 {
     let (condition, rest) = condition(alloc, tokens, room)?;
     let branches = branches(alloc, rest, room);
@@ -240,7 +240,7 @@ fn loop_form(
     tokens: &[Token],
     room: u8,
 ) -> Result<(Statement, &[Token]), Failure>
-    ensures { Gives (λ x. (view_statement x.0, x.1.now)) result (loop_with line room (statement_in room) (view_loop_head head) tokens.now) }
+    ensures { GivesReading (λ x. (view_statement x.0, x.1.now)) result (loop_with line room (statement_in room) (view_loop_head head) tokens.now) }
 {
     let (head, (body, rest)) = beside(head, body(alloc, tokens, room))?;
     Ok((Statement::Loop { line, head, body }, rest))
@@ -254,7 +254,7 @@ fn outcome_and_branches(
     tokens: &[Token],
     room: u8,
 ) -> Result<(FindOutcome, (Vec<Statement>, Vec<Statement>), &[Token]), Failure>
-    ensures { Gives (λ x. ((x.0, (statement_row (map view_statement x.1.0.items), statement_row (map view_statement x.1.1.items))), x.2.now)) result (following (expect_noisy (word If)) (seq (taken (in_table outcome_of)) (branches_with (statement_in room))) tokens.now) }
+    ensures { GivesReading (λ x. ((x.0, (statement_row (map view_statement x.1.0.items), statement_row (map view_statement x.1.1.items))), x.2.now)) result (after_dropped (expect_noisy (word If)) (seq (taken (in_table outcome_of)) (branches_with (statement_in room))) tokens.now) }
 {
     let rest = expect_noisy(tokens, Word::If)?;
     let (outcome, rest) = outcome(rest)?;
@@ -272,7 +272,7 @@ fn find_if_form(
     tokens: &[Token],
     room: u8,
 ) -> Result<(Statement, &[Token]), Failure>
-    ensures { Gives (λ x. (view_statement x.0, x.1.now)) result (find_if_with line room (statement_in room) (view_head head) tokens.now) }
+    ensures { GivesReading (λ x. (view_statement x.0, x.1.now)) result (find_if_with line room (statement_in room) (view_head head) tokens.now) }
 {
     let (head, (outcome, (then, otherwise), rest)) = beside(
         head,
@@ -298,7 +298,7 @@ fn find_form(
     tokens: &[Token],
     room: u8,
 ) -> Result<(Statement, &[Token]), Failure>
-    ensures { Gives (λ x. (view_statement x.0, x.1.now)) result (find_with line room (statement_in room) (view_head head) tokens.now) }
+    ensures { GivesReading (λ x. (view_statement x.0, x.1.now)) result (find_with line room (statement_in room) (view_head head) tokens.now) }
 {
     let (head, rest) = beside(head, find_words(tokens))?;
     if begins_find_if(rest) {
@@ -317,7 +317,7 @@ fn for_form(
     tokens: &[Token],
     room: u8,
 ) -> Result<(Statement, &[Token]), Failure>
-    ensures { Gives (λ x. (view_statement x.0, x.1.now)) result (for_with line room (statement_in room) tokens.now) }
+    ensures { GivesReading (λ x. (view_statement x.0, x.1.now)) result (for_with line room (statement_in room) tokens.now) }
 {
     let (head, rest) = for_head(alloc, tokens, room)?;
     if begins_noisy(rest, Word::Find) {
@@ -336,7 +336,7 @@ fn while_form(
     tokens: &[Token],
     room: u8,
 ) -> Result<(Statement, &[Token]), Failure>
-    ensures { Gives (λ x. (view_statement x.0, x.1.now)) result (while_with line room (statement_in room) tokens.now) }
+    ensures { GivesReading (λ x. (view_statement x.0, x.1.now)) result (while_with line room (statement_in room) tokens.now) }
 {
     let (head, rest) = guarded_head(alloc, GuardKind::While, tokens, room)?;
     loop_form(alloc, line, head, rest, room)
@@ -351,7 +351,7 @@ fn until_form(
     tokens: &[Token],
     room: u8,
 ) -> Result<(Statement, &[Token]), Failure>
-    ensures { Gives (λ x. (view_statement x.0, x.1.now)) result (until_with line room (statement_in room) tokens.now) }
+    ensures { GivesReading (λ x. (view_statement x.0, x.1.now)) result (until_with line room (statement_in room) tokens.now) }
 {
     let (head, rest) = guarded_head(alloc, GuardKind::Until, tokens, room)?;
     loop_form(alloc, line, head, rest, room)
@@ -368,7 +368,7 @@ fn nested_form(
     tokens: &[Token],
     room: u8,
 ) -> Result<(Statement, &[Token]), Failure>
-    ensures { Gives (λ x. (view_statement x.0, x.1.now)) result (nested_in room (statement_in room) line word tokens.now) }
+    ensures { GivesReading (λ x. (view_statement x.0, x.1.now)) result (nested_in room (statement_in room) line word tokens.now) }
 {
     if room == 0 {
         return Err(too_deep(tokens));
@@ -386,7 +386,7 @@ fn nested_form(
 #[cycle(statements)]
 #[tactic(auto, unfolding(crate::specs::ReadStatements::statement_in))]
 fn statement(alloc: Global, tokens: &[Token], room: u8) -> Result<(Statement, &[Token]), Failure>
-    ensures { Gives (λ x. (view_statement x.0, x.1.now)) result (statement_in room tokens.now) }
+    ensures { GivesReading (λ x. (view_statement x.0, x.1.now)) result (statement_in room tokens.now) }
 {
     if room == 0 {
         return Err(too_deep(tokens));

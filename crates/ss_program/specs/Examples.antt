@@ -15,7 +15,7 @@ use Rattle.ss_program.specs.declared.expression.Variable.TheVariants.{Global, Lo
 use Rattle.ss_program.specs.declared.expression.Operator.TheVariants.{Add, Multiply}
 use Rattle.ss_program.specs.declared.expression.Sign.TheVariants.{Plus}
 use Rattle.ss_program.specs.Program.{Expression, Constant, Fetch, Calculate, TheSystem, Entity, AtEnd, Numbers, Members, AValue, ToVariable, ToAttribute, ToCount, ByDiscipline, At, Let, Change, Read, Simulate, For, Create, CreateEvery, File, ScheduleNew, Print, Block, Done, Then, Program}
-use Rattle.ss_program.specs.WellTyped.{WellTyped, Scope, HaveModes, kind_of}
+use Rattle.ss_program.specs.WellTyped.{WellTyped, Scope, HaveModes, kind_of_class}
 use Rattle.ss_program.specs.Nodes.{nodes}
 
 abbrev number : ℕ → Expression
@@ -98,7 +98,7 @@ ranking l field = record {
       Done)))));
 }
 
-no_notices : (l : Line) (class : ℕ) → kind_of (ranking l 0) class ≡ Some Notice → ⊥
+no_notices : (l : Line) (class : ℕ) → kind_of_class (ranking l 0) class ≡ Some Notice → ⊥
 no_notices l zero e = cc
 no_notices l (suc zero) e = cc
 no_notices l (suc (suc n)) e = cc
@@ -140,7 +140,7 @@ bells l given body = record {
 abbrev pub ring : Line → Block
 ring l = Then (Print l (AValue (Fetch (Local 0)) ∷ AValue (Fetch (Global 0)) ∷ []) (codes "RING ** **" ∷ [])) Done
 
-bell_has_an_event : (l : Line) (class : ℕ) → kind_of (bells l (number 8) (ring l)) class ≡ Some Notice → Contains (map (λ e. e.class) (bells l (number 8) (ring l)).events) class
+bell_has_an_event : (l : Line) (class : ℕ) → kind_of_class (bells l (number 8) (ring l)) class ≡ Some Notice → Contains (map (λ e. e.class) (bells l (number 8) (ring l)).events) class
 bell_has_an_event l zero e = (0, omega arith, refl)
 bell_has_an_event l (suc n) e = absurd (none-some Notice e)
 

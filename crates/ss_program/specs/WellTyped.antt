@@ -25,8 +25,8 @@ use Rattle.ss_program.specs.Program.{Expression, Constant, Fetch, Attribute, OfS
 
 -- ---- what is numbered
 
-abbrev pub kind_of : Program → (class : ℕ) → Option ClassKind
-kind_of p class = option_map (λ c. c.kind) (slice_get p.layout.classes class)
+abbrev pub kind_of_class : Program → (class : ℕ) → Option ClassKind
+kind_of_class p class = option_map (λ c. c.kind) (slice_get p.layout.classes class)
 
 -- the modes of the attributes of a class
 abbrev pub fields_of : Program → (class : ℕ) → Option (List Mode)
@@ -136,7 +136,7 @@ GoodStart s (After e) = HasMode s e Integer
 abbrev pub GoodHead : Scope → Head → Type 0
 GoodHead s (Numbers x a b step) = TakesMode s (ToVariable x) Integer × HasMode s a Integer × HasMode s b Integer × IfSome step (λ e. HasMode s e Integer)
 GoodHead s (Members x set owner start reverse) = TakesMode s (ToVariable x) Integer × OwnerFits s set owner × GoodStart s start
-GoodHead s (Each x class) = TakesMode s (ToVariable x) Integer × (kind_of s.program class ≡ Some Permanent)
+GoodHead s (Each x class) = TakesMode s (ToVariable x) Integer × (kind_of_class s.program class ≡ Some Permanent)
 
 -- the condition of a phrase is good
 abbrev pub GoodPhrase : Scope → Phrase → Type 0
@@ -164,7 +164,7 @@ GoodWhen s Now = Unit {0}
 -- the class is one of notices, whose first attributes take the values given
 abbrev pub GoodGiven : Scope → (class : ℕ) → List Expression → Type 0
 GoodGiven s class given =
-    (kind_of s.program class ≡ Some Notice) × ((modes : List Mode) × (fields_of s.program class ≡ Some modes) × HaveModes s given (take (length given) modes))
+    (kind_of_class s.program class ≡ Some Notice) × ((modes : List Mode) × (fields_of s.program class ≡ Some modes) × HaveModes s given (take (length given) modes))
 
 -- the statistic is that of one thing or, with an expression, of each entity
 abbrev pub GoodRestart : Scope → (statistic : ℕ) → Option Expression → Type 0
@@ -194,15 +194,15 @@ abbrev mutual
   Good s (Loop l guards body) = Every (λ guard. GoodCondition s guard.condition) guards × GoodBlock s body
   Good s (For l head phrases body) = GoodHead s head × Every (GoodPhrase s) phrases × GoodBlock s body
   Good s (Find l head phrases found none) = GoodHead s head × Every (GoodPhrase s) phrases × GoodBlock s found × GoodBlock s none
-  Good s (Create l class x) = (is_created_singly (kind_of s.program class) ≡ true) × TakesMode s x Integer
+  Good s (Create l class x) = (is_created_singly (kind_of_class s.program class) ≡ true) × TakesMode s x Integer
   Good s (CreateEvery l counts) = Every (Contains s.program.counts) counts
-  Good s (Destroy l class e) = (is_created_singly (kind_of s.program class) ≡ true) × HasMode s e Integer
+  Good s (Destroy l class e) = (is_created_singly (kind_of_class s.program class) ≡ true) × HasMode s e Integer
   Good s (File l set e position owner) = HasMode s e Integer × GoodPosition s position × OwnerFits s set owner
   Good s (RemoveEnd l end set x owner) = TakesMode s x Integer × OwnerFits s set owner
   Good s (Remove l set e owner) = HasMode s e Integer × OwnerFits s set owner
   Good s (ScheduleNew l class x given when) = GoodGiven s class given × TakesMode s x Integer × GoodWhen s when
   Good s (Schedule l class e given when) = GoodGiven s class given × HasMode s e Integer × GoodWhen s when
-  Good s (Cancel l class e) = (kind_of s.program class ≡ Some Notice) × HasMode s e Integer
+  Good s (Cancel l class e) = (kind_of_class s.program class ≡ Some Notice) × HasMode s e Integer
   Good s (Reset l restarts) = Every (λ r. GoodRestart s r.statistic r.of) restarts
   Good s (Print l items pictures) = GoodPrint s items pictures
   Good s (Skip l e) = HasMode s e Integer
@@ -224,7 +224,7 @@ GoodDiscipline p set (Ranked keys) = GoodKeys p set.member keys
 
 -- N. of a class is that of a permanent one
 abbrev pub GoodCount : Program → Counted → Type 0
-GoodCount p count = (kind_of p count.class ≡ Some Permanent) × (slice_get p.globals count.variable ≡ Some Integer)
+GoodCount p count = (kind_of_class p count.class ≡ Some Permanent) × (slice_get p.globals count.variable ≡ Some Integer)
 
 -- the subject of a statistic is there, and a whole number
 abbrev pub GoodSubject : Program → Subject → Type 0
@@ -239,7 +239,7 @@ GoodRoutine p r = GoodBlock (record { program = p; locals = r.given ++ (r.yieldi
 pub record GoodEvent (p : Program) (e : Event) : Type 0 where
   pub modes : List Mode
   pub fields : fields_of p e.class ≡ Some modes
-  pub notice : kind_of p e.class ≡ Some Notice
+  pub notice : kind_of_class p e.class ≡ Some Notice
   pub ties : GoodKeys p e.class e.ties
   pub given : e.given ≡ take (length e.given) modes
   -- the variable that takes the number of a notice that is saved
@@ -256,5 +256,5 @@ pub record WellTyped (p : Program) : Type 0 where
   pub routines : Every (GoodRoutine p) p.routines
   pub events : Every (GoodEvent p) p.events
   -- each notice class has its event routine
-  pub served : (class : ℕ) → kind_of p class ≡ Some Notice → Contains (map (λ e. e.class) p.events) class
+  pub served : (class : ℕ) → kind_of_class p class ≡ Some Notice → Contains (map (λ e. e.class) p.events) class
   pub main : GoodBlock (record { program = p; locals = p.locals; is_main = true }) p.main

@@ -18,7 +18,7 @@ use Rattle.ss_records_blocks.specs.declared.store.Address.{Address}
 use Rattle.ss_records_blocks.specs.Cells.{Word, number, Cells, IsNumber, MayBeNumber, words_at, word_of, word_at, with_word, put_word}
 use Rattle.ss_world.specs.State.{Record, State, Members, and_then, entity, numbered, of_notice, notice, value_in, time_in, number_in, kind_in, kind_of, modes_of, is_notice, with_value, with_time, with_indexed, with_entity, with_entity_of_kind, assigned, timed}
 use Rattle.ss_records_words.specs.Shape.{values_end, links_start}
-use Rattle.ss_records_words.specs.Reading.{plain, class_of, record_of, record_at, records_at, value_at, put_two, PutsValue}
+use Rattle.ss_records_words.specs.Reading.{plain, class_in_words, record_of, record_at, records_at, value_at, put_two, PutsValue}
 use Rattle.ss_records_blocks.specs.Writes.{Written}
 use Rattle.ss_records_words.specs.Kept.{Kept, Formed, IsPermanent, state_of}
 use Rattle.ss_records_words.specs.Places.{Made, Directory, Lists, class_at}
@@ -77,7 +77,7 @@ record Headed (l : Layout) (cs ds : Cells) (p : Address) (n : ℕ) (us : List Wo
 module _ (l : Layout) (cs : Cells) (sys : Ptr) (d : Directory) (ms : List Members) (K : Kept l cs sys d ms) (i : ℕ) (p : Address) (g : Lists d i p) where
   module _ (ds : Cells) (us : List Word) (h : Headed l cs ds p (suc i) us) where
     class_put : class_at ds p ≡ class_at cs p
-    class_put = ap class_of h.words ∙ ap plain h.its_class
+    class_put = ap class_in_words h.words ∙ ap plain h.its_class
 
     form_put : Formed l (class_at cs p) (suc i) (words_at ds p.at)
     form_put = subst (λ vs. Formed l (class_at cs p) (suc i) vs) (sym h.words) h.formed

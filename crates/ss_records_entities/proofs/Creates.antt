@@ -14,7 +14,7 @@ use Rattle.ss_records_blocks.specs.declared.store.Address.{Address}
 use Rattle.ss_records_blocks.specs.Cells.{Word, number, Cells, IsNumber, words_at, word_of, word_at, blanks}
 use Rattle.ss_world.specs.State.{Record, Members, kind_of, modes_of, is_notice, first_record, created, LAST_NUMBER}
 use Rattle.ss_records_words.specs.Shape.{values_end, links_start, block_words}
-use Rattle.ss_records_words.specs.Reading.{plain, value_of, values_from, class_of, record_of, record_at, records_at}
+use Rattle.ss_records_words.specs.Reading.{plain, value_of_words, values_from, class_in_words, record_of, record_at, records_at}
 use Rattle.ss_records_words.specs.Kept.{Kept, Formed, IsPermanent, state_of}
 use Rattle.ss_records_blocks.specs.Places.{Numbers}
 use Rattle.ss_records_words.specs.Places.{Made, Directory, lying, own_or, listing, Lists, class_at, made_count}
@@ -29,7 +29,7 @@ use Rattle.ss_records_entities.proofs.Keeps.{map_same, made_same, entry_is}
 use Rattle.ss_records_blocks.proofs.Entries.{get_inside, living_push, living_bound}
 use Rattle.ss_records_entities.proofs.NamesCreated.{name_born}
 
-first_of : (m : Mode) → value_of m 0 0 ≡ first_value m
+first_of : (m : Mode) → value_of_words m 0 0 ≡ first_value m
 first_of Integer = refl
 first_of Alpha = refl
 
@@ -38,14 +38,14 @@ values_first [] ws k h = refl
 values_first (m ∷ ms) ws k h =
     let a : word_of ws k ≡ number 0 = h k (omega arith) (omega arith) in
     let b : word_of ws (k + 1) ≡ number 0 = h (k + 1) (omega arith) (omega arith) in
-    let here : value_of m (plain (word_of ws k)) (plain (word_of ws (k + 1))) ≡ first_value m = (λ i. value_of m (plain (a i)) (plain (b i))) ∙ first_of m in
+    let here : value_of_words m (plain (word_of ws k)) (plain (word_of ws (k + 1))) ≡ first_value m = (λ i. value_of_words m (plain (a i)) (plain (b i))) ∙ first_of m in
     λ i. here i ∷ values_first ms ws (k + 2) (λ j x y. h j (omega (arith, x)) (omega (arith, y))) i
 
 time_first : (b : Bool) (ws : List Word) (n : ℕ) → 2 ≤ n → ((k : ℕ) → 2 ≤ k → k < n + cond b 1 0 → word_of ws k ≡ number 0) → cond b (cast_signed w64 (plain (word_of ws n))) (pos 0) ≡ pos 0
 time_first true ws n low h = ap (λ w. cast_signed w64 (plain w)) (h n low (omega arith))
 time_first false ws n low h = refl
 
-pub record_first : (l : Layout) (c : ℕ) (ws : List Word) → class_of ws ≡ c → ((k : ℕ) → 2 ≤ k → k < links_start l c → word_of ws k ≡ number 0) → record_of l ws ≡ first_record l c
+pub record_first : (l : Layout) (c : ℕ) (ws : List Word) → class_in_words ws ≡ c → ((k : ℕ) → 2 ≤ k → k < links_start l c → word_of ws k ≡ number 0) → record_of l ws ≡ first_record l c
 record_first l c ws e h =
     let values = values_first (modes_of l c) ws 2 (λ j a b. h j a (omega (arith, b))) in
     let time = time_first (is_notice (kind_of l c)) ws (values_end l c) (omega arith) h in
@@ -180,15 +180,15 @@ module _ (l : Layout) (cs : Cells) (sys : Ptr) (d : Directory) (ms : List Member
       end = ap (λ us. word_of us 1) (kept_words sys (off_sys q.at fresh)) ∙ K.end;
       kinds = λ i p h. elim (get_cases d.numbers q p i h) as (λ _. IsPermanent (kind_of l (class_at ds p)) → ⊥) [
         | inl x ↦ subst (λ (r : Address). IsPermanent (kind_of l (class_at ds r)) → ⊥) x.1 (subst (λ b. IsPermanent (kind_of l b) → ⊥) (sym new_class) kind)
-        | inr x ↦ subst (λ us. IsPermanent (kind_of l (class_of us)) → ⊥) (sym (old i p (inl x))) (K.kinds i p x)
+        | inr x ↦ subst (λ us. IsPermanent (kind_of l (class_in_words us)) → ⊥) (sym (old i p (inl x))) (K.kinds i p x)
       ];
-      made = λ b ps h. let m = K.made b ps h in record { permanent = m.permanent; class = λ i p x. ap class_of (old i p (inr (b, ps, h, x))) ∙ m.class i p x; few = m.few };
+      made = λ b ps h. let m = K.made b ps h in record { permanent = m.permanent; class = λ i p x. ap class_in_words (old i p (inr (b, ps, h, x))) ∙ m.class i p x; few = m.few };
       classes = λ i p h. by_entry i p h
           (λ x y. subst (λ (r : Address). class_at ds r < length l.classes) y (subst (λ b. b < length l.classes) (sym new_class) inside))
-          (λ x. subst (λ us. class_of us < length l.classes) (sym (old i p x)) (K.classes i p x));
+          (λ x. subst (λ us. class_in_words us < length l.classes) (sym (old i p x)) (K.classes i p x));
       formed = λ i p h. by_entry i p h
           (λ x y. subst (λ (r : Address). Formed l (class_at ds r) (suc i) (words_at ds r.at)) y (subst (λ b. Formed l b (suc i) (words_at ds q.at)) (sym new_class) (subst (λ j. Formed l c (suc j) (words_at ds q.at)) (sym x) (born_formed l ds sys q.at c (suc (length d.numbers)) born))))
-          (λ x. subst (λ us. Formed l (class_of us) (suc i) us) (sym (old i p x)) (K.formed i p x));
+          (λ x. subst (λ us. Formed l (class_in_words us) (suc i) us) (sym (old i p x)) (K.formed i p x));
       apart = λ i j p r h k z. by_entry i p h
           (λ x y. by_entry j r k (λ x' y'. x ∙ sym x') (λ x'. absurd (off_entry q.at fresh j r x' (ap (λ (o : Address). o.at) y ∙ z))))
           (λ x. by_entry j r k (λ x' y'. absurd (off_entry q.at fresh i p x (ap (λ (o : Address). o.at) y' ∙ sym z))) (λ x'. K.apart i j p r x x' z));
@@ -199,7 +199,7 @@ module _ (l : Layout) (cs : Cells) (sys : Ptr) (d : Directory) (ms : List Member
             | inl x ↦ inl (new_of b i p x.0 x.1 k)
             | inr x ↦ inr (x, old i p (listed d b i p x))
           ])
-          (λ b i p h k. (push_on d q b i p h, ap class_of (old i p (listed d b i p h)) ∙ k));
+          (λ b i p h k. (push_on d q b i p h, ap class_in_words (old i p (listed d b i p h)) ∙ k));
     }
 
     records_same : (i : ℕ) (o : Option Address) → slice_get d.numbers i ≡ Some o → record_at l ds o ≡ record_at l cs o

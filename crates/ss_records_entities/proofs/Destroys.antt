@@ -9,7 +9,7 @@ use Rattle.ss_records_blocks.specs.declared.store.Address.{Address}
 use Rattle.ss_records_blocks.specs.Cells.{Cells, words_at, word_of, without}
 use Rattle.ss_world.specs.State.{Members, members_of, kind_of, and_then, entity, number_in, in_a_set, owns_members, let_go, destroyed}
 use Rattle.ss_records_words.specs.Shape.{block_words}
-use Rattle.ss_records_words.specs.Reading.{class_of, record_of, record_at, records_at}
+use Rattle.ss_records_words.specs.Reading.{class_in_words, record_of, record_at, records_at}
 use Rattle.ss_records_words.specs.Kept.{Kept, Formed, IsPermanent, state_of}
 use Rattle.ss_records_blocks.specs.Places.{Numbers}
 use Rattle.ss_records_words.specs.Places.{Directory, lying, own_or, listing, IsMade, Lists, class_at}
@@ -67,7 +67,7 @@ module _ (l : Layout) (cs : Cells) (sys : Ptr) (d : Directory) (ms : List Member
   its_size c h = (K.formed i p (inl g)).size ∙ ap (λ b. block_words l (Class b)) h
 
   pub not_made : (j : ℕ) (q : Address) → IsMade d.classes j q → p.at ≡ q.at → ⊥
-  not_made j q h k = let y = K.made h.0 h.1 h.2 in K.kinds i p g (subst (λ c. IsPermanent (kind_of l c)) (sym (ap (λ (r : Ptr). class_of (words_at cs r)) k ∙ y.class j q h.3)) y.permanent)
+  not_made j q h k = let y = K.made h.0 h.1 h.2 in K.kinds i p g (subst (λ c. IsPermanent (kind_of l c)) (sym (ap (λ (r : Ptr). class_in_words (words_at cs r)) k ∙ y.class j q h.3)) y.permanent)
 
   entry : {P : Type 0} (j : ℕ) (q : Address) → Lists e j q → ((p.at ≡ q.at → ⊥) → Lists d j q → words_at ds q.at ≡ words_at cs q.at → P) → P
   entry {P} j q (inl h) k = by_same i j
@@ -89,10 +89,10 @@ module _ (l : Layout) (cs : Cells) (sys : Ptr) (d : Directory) (ms : List Member
     end = ap (λ us. word_of us 1) (words_without cs p.at sys (K.off_system i p (inl g))) ∙ K.end;
     kinds = λ j q h. by_same i j
         (λ t n. absurd (get_gone d.numbers i q (ap (slice_get e.numbers) n ∙ h)))
-        (λ t n. let was = sym (get_other d.numbers i None j n) ∙ h in λ x. K.kinds j q was (subst (λ us. IsPermanent (kind_of l (class_of us))) (words_without cs p.at q.at (λ z. n (K.apart i j p q (inl g) (inl was) z))) x));
-    made = λ b ps h. let m = K.made b ps h in record { permanent = m.permanent; class = λ j q x. ap class_of (words_without cs p.at q.at (not_made j q (b, ps, h, x))) ∙ m.class j q x; few = m.few };
-    classes = λ j q h. entry j q h (λ n was w. subst (λ us. class_of us < length l.classes) (sym w) (K.classes j q was));
-    formed = λ j q h. entry j q h (λ n was w. subst (λ us. Formed l (class_of us) (suc j) us) (sym w) (K.formed j q was));
+        (λ t n. let was = sym (get_other d.numbers i None j n) ∙ h in λ x. K.kinds j q was (subst (λ us. IsPermanent (kind_of l (class_in_words us))) (words_without cs p.at q.at (λ z. n (K.apart i j p q (inl g) (inl was) z))) x));
+    made = λ b ps h. let m = K.made b ps h in record { permanent = m.permanent; class = λ j q x. ap class_in_words (words_without cs p.at q.at (not_made j q (b, ps, h, x))) ∙ m.class j q x; few = m.few };
+    classes = λ j q h. entry j q h (λ n was w. subst (λ us. class_in_words us < length l.classes) (sym w) (K.classes j q was));
+    formed = λ j q h. entry j q h (λ n was w. subst (λ us. Formed l (class_in_words us) (suc j) us) (sym w) (K.formed j q was));
     apart = λ j k q r h m z. entry j q h (λ n was w. entry k r m (λ n' was' w'. K.apart j k q r was was' z));
     off_system = λ j q h. entry j q h (λ n was w. K.off_system j q was);
     counted = omega (arith, K.counted, living_gone d.numbers i p g, blocks_without cs p.at (omega (arith, (K.formed i p (inl g)).size)));

@@ -10,7 +10,7 @@ use Rattle.ss_base.specs.declared.layout.Layout.{Layout}
 use Rattle.ss_records_blocks.specs.declared.store.Address.{Address}
 use Rattle.ss_records_blocks.specs.Cells.{number, Cells, IsNumber, words_at, word_of, word_at}
 use Rattle.ss_world.specs.State.{Record, Members, issued_record, numbered, and_then, of_class, of_notice, notice, is_notice, kind_of}
-use Rattle.ss_records_words.specs.Reading.{plain, class_of, record_of, record_at, records_at}
+use Rattle.ss_records_words.specs.Reading.{plain, class_in_words, record_of, record_at, records_at}
 use Rattle.ss_records_blocks.specs.Writes.{Written}
 use Rattle.ss_records_words.specs.Kept.{Kept, IsPermanent, Formed, MadeOf, state_of, issued_place, numbered_place}
 use Rattle.ss_records_blocks.specs.Places.{Numbers}
@@ -133,10 +133,10 @@ module _ (l : Layout) (cs : Cells) (sys : Ptr) (d : Directory) (ms : List Member
     entries j q h {P} here other = by_ptr p.at q.at (λ e k. here (K.apart i j p q g h k) k) (λ e n. other n)
 
     abbrev class_in : Ptr → ℕ
-    class_in r = class_of (words_at ds r)
+    class_in r = class_in_words (words_at ds r)
 
     pub class_kept : (j : ℕ) (q : Address) → Lists d j q → class_at ds q ≡ class_at cs q
-    class_kept j q h = entries j q h (λ k e. ap class_in (sym e) ∙ same_class ∙ ap (λ (r : Ptr). class_of (words_at cs r)) e) (λ n. ap class_of (w.others q.at n))
+    class_kept j q h = entries j q h (λ k e. ap class_in (sym e) ∙ same_class ∙ ap (λ (r : Ptr). class_in_words (words_at cs r)) e) (λ n. ap class_in_words (w.others q.at n))
 
     made_kept : (c : ℕ) (ps : List Address) → slice_get d.classes c ≡ Some (Some ps) → MadeOf l ds c ps
     made_kept c ps e = let m = K.made c ps e in record { permanent = m.permanent; class = λ j q h. class_kept j q (inr (c, ps, e, h)) ∙ m.class j q h; few = m.few }
@@ -152,7 +152,7 @@ module _ (l : Layout) (cs : Cells) (sys : Ptr) (d : Directory) (ms : List Member
       made = made_kept;
       classes = λ j q h. subst (λ c. c < length l.classes) (sym (class_kept j q h)) (K.classes j q h);
       formed = λ j q h. subst (λ c. Formed l c (suc j) (words_at ds q.at)) (sym (class_kept j q h)) (entries j q h {P = Formed l (class_at cs q) (suc j) (words_at ds q.at)}
-          (λ k e. subst (λ (r : Ptr). Formed l (class_of (words_at cs r)) (suc j) (words_at ds r)) e (subst (λ n. Formed l (class_at cs p) (suc n) (words_at ds p.at)) k f))
+          (λ k e. subst (λ (r : Ptr). Formed l (class_in_words (words_at cs r)) (suc j) (words_at ds r)) e (subst (λ n. Formed l (class_at cs p) (suc n) (words_at ds p.at)) k f))
           (λ n. subst (λ us. Formed l (class_at cs q) (suc j) us) (sym (w.others q.at n)) (K.formed j q h)));
       apart = K.apart;
       off_system = K.off_system;
@@ -177,7 +177,7 @@ module _ (l : Layout) (cs : Cells) (sys : Ptr) (d : Directory) (ms : List Member
       pub permanents_same : map (records_at l ds) d.classes ≡ map (records_at l cs) d.classes
       permanents_same = made_same l cs ds d.classes (λ j q h. read_other j q (inr h) (λ k. not_numbered j q h k)) where
         not_numbered : (j : ℕ) (q : Address) → IsMade d.classes j q → p.at ≡ q.at → ⊥
-        not_numbered j q h k = let y = K.made h.0 h.1 h.2 in K.kinds i p m (subst (λ c. IsPermanent (kind_of l c)) (sym (ap (λ (r : Ptr). class_of (words_at cs r)) k ∙ y.class j q h.3)) y.permanent)
+        not_numbered j q h k = let y = K.made h.0 h.1 h.2 in K.kinds i p m (subst (λ c. IsPermanent (kind_of l c)) (sym (ap (λ (r : Ptr). class_in_words (words_at cs r)) k ∙ y.class j q h.3)) y.permanent)
 
     -- the entry of a permanent entity
     module _ (c : ℕ) (ps : List Address) (m : slice_get d.classes c ≡ Some (Some ps)) (h : slice_get ps i ≡ Some p) where
@@ -185,9 +185,9 @@ module _ (l : Layout) (cs : Cells) (sys : Ptr) (d : Directory) (ms : List Member
       records_same = map_same (record_at l cs) (record_at l ds) d.numbers other_entry where
         other_entry : (j : ℕ) (q : Option Address) → slice_get d.numbers j ≡ Some q → record_at l ds q ≡ record_at l cs q
         other_entry j None e = refl
-        other_entry j (Some q) e = ap Some (read_other j q (inl e) (λ k. let y = K.made c ps m in K.kinds j q e (subst (λ b. IsPermanent (kind_of l b)) (sym (ap (λ (r : Ptr). class_of (words_at cs r)) (sym k) ∙ y.class i p h)) y.permanent)))
+        other_entry j (Some q) e = ap Some (read_other j q (inl e) (λ k. let y = K.made c ps m in K.kinds j q e (subst (λ b. IsPermanent (kind_of l b)) (sym (ap (λ (r : Ptr). class_in_words (words_at cs r)) (sym k) ∙ y.class i p h)) y.permanent)))
 
       pub permanents_written : (v : Record) → record_of l (words_at ds p.at) ≡ v → map (records_at l ds) d.classes ≡ slice_set (map (records_at l cs) d.classes) c (Some (slice_set (map (λ (q : Address). record_of l (words_at cs q.at)) ps) i v))
       permanents_written v e = made_set l cs ds d.classes c ps i v m
           (row_set l cs ds ps i p v h e (λ j q k n. read_other j q (inr (c, ps, m, k)) (λ z. n (K.apart i j p q g (inr (c, ps, m, k)) z))))
-          (λ b qs k n j q x. read_other j q (inr (b, qs, k, x)) (λ z. n (sym ((K.made c ps m).class i p h) ∙ ap (λ (r : Ptr). class_of (words_at cs r)) z ∙ (K.made b qs k).class j q x)))
+          (λ b qs k n j q x. read_other j q (inr (b, qs, k, x)) (λ z. n (sym ((K.made c ps m).class i p h) ∙ ap (λ (r : Ptr). class_in_words (words_at cs r)) z ∙ (K.made b qs k).class j q x)))

@@ -9,7 +9,7 @@ use Rattle.ss_records_blocks.specs.declared.store.Address.{Address}
 use Rattle.ss_records_blocks.specs.Cells.{Cells, words_at, blanks, without}
 use Rattle.ss_world.specs.State.{Members, not_made as unmade, living_numbers, made_entities, living_records}
 use Rattle.ss_records_words.specs.Shape.{block_words}
-use Rattle.ss_records_words.specs.Reading.{class_of, record_of, record_at, records_at}
+use Rattle.ss_records_words.specs.Reading.{class_in_words, record_of, record_at, records_at}
 use Rattle.ss_records_blocks.specs.Places.{row_in, Numbers, living}
 use Rattle.ss_records_words.specs.Kept.{Kept, Small, RowsHeld, state_of}
 use Rattle.ss_records_words.specs.Places.{Made, Directory, lying, IsMade, Lists, made_count}
@@ -124,7 +124,7 @@ rows_held l cs bs sys d ms K same count = record {
   size = λ c i ps p m h. let x : IsMade d.classes i p = (c, ps, m, h) in ap length (same i p x) ∙ (K.formed i p (inr x)).size ∙ ap (λ b. block_words l (Class b)) ((K.made c ps m).class i p h);
   apart = λ c b i j ps qs p q m n h k z. (
     K.apart i j p q (inr (c, ps, m, h)) (inr (b, qs, n, k)) z,
-    sym ((K.made c ps m).class i p h) ∙ ap (λ (r : Ptr). class_of (words_at cs r)) z ∙ (K.made b qs n).class j q k,
+    sym ((K.made c ps m).class i p h) ∙ ap (λ (r : Ptr). class_in_words (words_at cs r)) z ∙ (K.made b qs n).class j q k,
   );
   off_system = λ i p h. K.off_system i p (inr h);
   counted = count;

@@ -8,7 +8,7 @@ use Rattle.ss_records_blocks.specs.declared.store.Address.{Address}
 use Rattle.ss_records_blocks.specs.Cells.{Cells, words_at, word_of}
 use Rattle.ss_world.specs.State.{Record, Members, kind_of, first_record, with_made}
 use Rattle.ss_records_words.specs.Shape.{block_words}
-use Rattle.ss_records_words.specs.Reading.{plain, class_of, record_of, record_at, records_at}
+use Rattle.ss_records_words.specs.Reading.{plain, class_in_words, record_of, record_at, records_at}
 use Rattle.ss_records_words.specs.Places.{Made, Directory, lying, own_or, listing, IsMade, Lists, class_at, made_count}
 use Rattle.ss_records_words.specs.Kept.{Kept, Formed, MadeOf, IsPermanent, state_of}
 use Rattle.ss_records_blocks.specs.Writes.{NoneAt, Placed, Unchanged}
@@ -86,16 +86,16 @@ module _ (l : Layout) (cs : Cells) (sys : Ptr) (d : Directory) (ms : List Member
       width = K.width;
       system = ap length same_system ∙ K.system;
       end = ap (λ us. word_of us 1) same_system ∙ K.end;
-      kinds = λ i p h. subst (λ us. IsPermanent (kind_of l (class_of us)) → ⊥) (sym (same_words i p (inl h))) (K.kinds i p h);
-      made = λ c ps h. let m = K.made c ps h in record { permanent = m.permanent; class = λ i p x. ap class_of (same_words i p (inr (c, ps, h, x))) ∙ m.class i p x; few = m.few };
-      classes = λ i p h. subst (λ us. class_of us < length l.classes) (sym (same_words i p h)) (K.classes i p h);
-      formed = λ i p h. subst (λ us. Formed l (class_of us) (suc i) us) (sym (same_words i p h)) (K.formed i p h);
+      kinds = λ i p h. subst (λ us. IsPermanent (kind_of l (class_in_words us)) → ⊥) (sym (same_words i p (inl h))) (K.kinds i p h);
+      made = λ c ps h. let m = K.made c ps h in record { permanent = m.permanent; class = λ i p x. ap class_in_words (same_words i p (inr (c, ps, h, x))) ∙ m.class i p x; few = m.few };
+      classes = λ i p h. subst (λ us. class_in_words us < length l.classes) (sym (same_words i p h)) (K.classes i p h);
+      formed = λ i p h. subst (λ us. Formed l (class_in_words us) (suc i) us) (sym (same_words i p h)) (K.formed i p h);
       apart = K.apart;
       off_system = K.off_system;
       counted = u.count ∙ K.counted;
       names = λ s t g. name_born l cs sys d ms K s t g d ds same_system
           (λ b i p h k. inr (h, same_words i p (listed d b i p h)))
-          (λ b i p h k. (h, ap class_of (same_words i p (listed d b i p h)) ∙ k));
+          (λ b i p h k. (h, ap class_in_words (same_words i p (listed d b i p h)) ∙ k));
     }
 
     pub state_unchanged : state_of l ds d ms ≡ state_of l cs d ms
@@ -165,7 +165,7 @@ module _ (l : Layout) (cs : Cells) (sys : Ptr) (d : Directory) (ms : List Member
     still : (b i : ℕ) (p : Address) → slice_get (listing d b) i ≡ Some (Some p) → class_at cs p ≡ b → (slice_get (listing e b) i ≡ Some (Some p)) × (class_at ds p ≡ b)
     still b i p h k = by_same c b
         (λ t z. absurd (none_yet (suc i) (subst (λ a. IsOf cs d a (suc i)) (sym z) (is_of cs d b i p h k))))
-        (λ t n. (ap (λ us. slice_get us i) (other_listing b n) ∙ h, ap class_of (old i p (listed d b i p h)) ∙ k))
+        (λ t n. (ap (λ us. slice_get us i) (other_listing b n) ∙ h, ap class_in_words (old i p (listed d b i p h)) ∙ k))
 
     pub kept_made : Kept l ds sys e ms
     kept_made = record {
@@ -174,16 +174,16 @@ module _ (l : Layout) (cs : Cells) (sys : Ptr) (d : Directory) (ms : List Member
       width = length_row_set d.classes c (Some ps) ∙ K.width;
       system = ap length old_system ∙ K.system;
       end = ap (λ us. word_of us 1) old_system ∙ K.end;
-      kinds = λ i p h. subst (λ us. IsPermanent (kind_of l (class_of us)) → ⊥) (sym (old i p (inl h))) (K.kinds i p h);
+      kinds = λ i p h. subst (λ us. IsPermanent (kind_of l (class_in_words us)) → ⊥) (sym (old i p (inl h))) (K.kinds i p h);
       made = λ b qs h. by_row b qs h
           (λ z y. subst (λ a. MadeOf l ds a qs) z (subst (MadeOf l ds c) y (record { permanent = kind; class = new_class; few = few })))
-          (λ x. let m = K.made b qs x in record { permanent = m.permanent; class = λ i p g. ap class_of (old i p (inr (b, qs, x, g))) ∙ m.class i p g; few = m.few });
+          (λ x. let m = K.made b qs x in record { permanent = m.permanent; class = λ i p g. ap class_in_words (old i p (inr (b, qs, x, g))) ∙ m.class i p g; few = m.few });
       classes = λ i p h. by_listed i p h
           (λ x. subst (λ b. b < length l.classes) (sym (new_class i p x)) inside)
-          (λ x. subst (λ us. class_of us < length l.classes) (sym (old i p x)) (K.classes i p x));
+          (λ x. subst (λ us. class_in_words us < length l.classes) (sym (old i p x)) (K.classes i p x));
       formed = λ i p h. by_listed i p h
           (λ x. subst (λ b. Formed l b (suc i) (words_at ds p.at)) (sym (new_class i p x)) (born_formed l ds sys p.at c (suc i) (born i p x)))
-          (λ x. subst (λ us. Formed l (class_of us) (suc i) us) (sym (old i p x)) (K.formed i p x));
+          (λ x. subst (λ us. Formed l (class_in_words us) (suc i) us) (sym (old i p x)) (K.formed i p x));
       apart = λ i j p q h k z. by_listed i p h
           (λ x. by_listed j q k (λ y. placed.apart i j p q x y z) (λ y. absurd (off_entry l cs sys d ms K p.at (placed.fresh i p x) j q y z)))
           (λ x. by_listed j q k (λ y. absurd (off_entry l cs sys d ms K q.at (placed.fresh j q y) i p x (sym z))) (λ y. K.apart i j p q x y z));

@@ -9,8 +9,8 @@ use Rattle.ss_records_blocks.specs.declared.store.Address.{Address}
 use Rattle.ss_records_blocks.specs.Cells.{Cells, words_at, word_of, word_at, link, counter}
 use Rattle.ss_world.specs.State.{Members, members_of}
 use Rattle.ss_records_words.specs.Shape.{owned_start, block_words, count_before, owned_by}
-use Rattle.ss_records_words.specs.Reading.{class_of}
-use Rattle.ss_records_words.specs.Places.{Directory, listing, place_in, entity_at, owner_at, class_at}
+use Rattle.ss_records_words.specs.Reading.{class_in_words}
+use Rattle.ss_records_words.specs.Places.{Directory, listing, place_in_record, entity_at, owner_at, class_at}
 use Rattle.ss_records_words.specs.Kept.{Kept}
 use Rattle.ss_records_blocks.specs.Writes.{owned_word, owned_from}
 use Rattle.ss_records_words.specs.Laid.{Born}
@@ -73,10 +73,10 @@ module _ (l : Layout) (cs : Cells) (sys : Ptr) (d : Directory) (ms : List Member
     entity b n h = by_entry (entry_of ds e b n h) where
       by_entry : (i : ℕ) × (p : Address) × (n ≡ suc i) × (slice_get (listing e b) i ≡ Some (Some p)) × (class_at ds p ≡ b) → Newborn ds b n (entity_at sys e b n) ⊎ ((IsOf cs d b n) × Old (entity_at sys d b) (entity_at sys e b) n)
       by_entry (i, p, q, r, c) = elim (which b i p r c) as (λ _. Newborn ds b n (entity_at sys e b n) ⊎ ((IsOf cs d b n) × Old (entity_at sys d b) (entity_at sys e b) n)) [
-        | inl x ↦ inl (subst (λ v. Newborn ds b v (entity_at sys e b v)) (sym q) (subst (λ v. Newborn ds b (suc i) v) (sym (ap place_in r)) x))
+        | inl x ↦ inl (subst (λ v. Newborn ds b v (entity_at sys e b v)) (sym q) (subst (λ v. Newborn ds b (suc i) v) (sym (ap place_in_record r)) x))
         | inr x ↦
-            let new : entity_at sys e b n ≡ p.at = ap (entity_at sys e b) q ∙ ap place_in r in let old : entity_at sys d b n ≡ p.at = ap (entity_at sys d b) q ∙ ap place_in x.0 in
-            inr (subst (IsOf cs d b) (sym q) (is_of cs d b i p x.0 (sym (ap class_of x.1) ∙ c)), (new ∙ sym old, (λ k. (λ z. word_at ds (new z) k) ∙ ap (λ us. word_of us k) x.1 ∙ (λ z. word_at cs (sym old z) k))))
+            let new : entity_at sys e b n ≡ p.at = ap (entity_at sys e b) q ∙ ap place_in_record r in let old : entity_at sys d b n ≡ p.at = ap (entity_at sys d b) q ∙ ap place_in_record x.0 in
+            inr (subst (IsOf cs d b) (sym q) (is_of cs d b i p x.0 (sym (ap class_in_words x.1) ∙ c)), (new ∙ sym old, (λ k. (λ z. word_at ds (new z) k) ∙ ap (λ us. word_of us k) x.1 ∙ (λ z. word_at cs (sym old z) k))))
       ]
 
     still_of : (b n : ℕ) → IsOf cs d b n → IsOf ds e b n

@@ -9,8 +9,8 @@ use Rattle.ss_records_blocks.specs.declared.store.Address.{Address}
 use Rattle.ss_records_blocks.specs.Cells.{Cells, words_at, word_of, word_at, link, counter}
 use Rattle.ss_world.specs.State.{Members, members_of}
 use Rattle.ss_records_words.specs.Shape.{owned_start, block_words, count_before, owned_by}
-use Rattle.ss_records_words.specs.Reading.{class_of}
-use Rattle.ss_records_words.specs.Places.{Directory, listing, place_in, entity_at, owner_at, class_at}
+use Rattle.ss_records_words.specs.Reading.{class_in_words}
+use Rattle.ss_records_words.specs.Places.{Directory, listing, place_in_record, entity_at, owner_at, class_at}
 use Rattle.ss_records_words.specs.Kept.{Kept}
 use Rattle.ss_records_blocks.specs.Writes.{owned_from}
 use Rattle.ss_records_words.specs.Laid.{LaidSystem}
@@ -88,14 +88,14 @@ module _ (l : Layout) (cs : Cells) (sys : Ptr) (d : Directory) (ms : List Member
   was : (b n : ℕ) → IsOf ds e b n → (IsOf cs d b n) × (entity_at sys e b n ≡ entity_at sys d b n) × ((k : ℕ) → word_at ds (entity_at sys e b n) k ≡ word_at cs (entity_at sys d b n) k)
   was b n h =
       let a = entry_of ds e b n h in let x = entry b a.0 a.1 a.3 in
-      let new : entity_at sys e b n ≡ a.1.at = ap (entity_at sys e b) a.2 ∙ ap place_in a.3 in let old : entity_at sys d b n ≡ a.1.at = ap (entity_at sys d b) a.2 ∙ ap place_in x.0 in
-      (subst (IsOf cs d b) (sym a.2) (is_of cs d b a.0 a.1 x.0 (sym (ap class_of x.1) ∙ a.4)), new ∙ sym old, (λ k. (λ z. word_at ds (new z) k) ∙ ap (λ us. word_of us k) x.1 ∙ (λ z. word_at cs (sym old z) k)))
+      let new : entity_at sys e b n ≡ a.1.at = ap (entity_at sys e b) a.2 ∙ ap place_in_record a.3 in let old : entity_at sys d b n ≡ a.1.at = ap (entity_at sys d b) a.2 ∙ ap place_in_record x.0 in
+      (subst (IsOf cs d b) (sym a.2) (is_of cs d b a.0 a.1 x.0 (sym (ap class_in_words x.1) ∙ a.4)), new ∙ sym old, (λ k. (λ z. word_at ds (new z) k) ∙ ap (λ us. word_of us k) x.1 ∙ (λ z. word_at cs (sym old z) k)))
 
   stays_entity : (b n : ℕ) → IsOf cs d b n → ((n ≡ suc i) → (b ≡ class_at cs p) → ⊥) → IsOf ds e b n
   stays_entity b n h not_it =
       let a = entry_of cs d b n h in
       let y = other b a.0 a.1 a.3 a.4 (λ x. not_it (a.2 ∙ ap suc x)) in
-      subst (IsOf ds e b) (sym a.2) (is_of ds e b a.0 a.1 y (ap class_of (entry b a.0 a.1 y).1 ∙ a.4))
+      subst (IsOf ds e b) (sym a.2) (is_of ds e b a.0 a.1 y (ap class_in_words (entry b a.0 a.1 y).1 ∙ a.4))
 
   owner_was : (o : Owner) (n : ℕ) → MayOwn ds e o n → (MayOwn cs d o n) × (owner_at sys e o n ≡ owner_at sys d o n) × ((k : ℕ) → word_at ds (owner_at sys e o n) k ≡ word_at cs (owner_at sys d o n) k)
   owner_was System n h = (h, refl, (λ k. ap (λ us. word_of us k) words_sys))

@@ -12,7 +12,7 @@ use Rattle.ss_records_blocks.specs.Cells.{number, IsNumber, word_at}
 use Rattle.ss_world.specs.State.{State, and_then, entity, number_in}
 use Rattle.ss_world.specs.Sets.{member_class, owner_kind, joiner, owner_by, owner}
 use Rattle.ss_records_words.specs.Reading.{plain}
-use Rattle.ss_records_words.specs.Places.{listing, place_in, entity_at, owner_at}
+use Rattle.ss_records_words.specs.Places.{listing, place_in_record, entity_at, owner_at}
 use Rattle.ss_records_words.specs.Slotted.{IsOf, MayOwn}
 use Rattle.ss_records_words.specs.Plans.{is_system}
 use Rattle.ss_records_entities.specs.Parts.{IsKept, state, places, Found, Owns, Joins}
@@ -32,7 +32,7 @@ module _ (r : Records) (K : IsKept r) (c : ℕ) (x : ℤ) (p : Address) (f : Fou
     its_place = subst (λ b. slice_get (listing (places r) b) f.index ≡ Some (Some p)) f.class (lists_place r.layout r.blocks.cells r.system.at (places r) r.notes.lists K f.index p f.entry)
 
     lies_at : p.at ≡ entity_at r.system.at (places r) c n
-    lies_at = sym (ap (entity_at r.system.at (places r) c) number_of ∙ ap place_in its_place)
+    lies_at = sym (ap (entity_at r.system.at (places r) c) number_of ∙ ap place_in_record its_place)
 
     is_it : IsOf r.blocks.cells (places r) c n
     is_it = subst (IsOf r.blocks.cells (places r) c) (sym number_of) (is_of r.blocks.cells (places r) c f.index p its_place f.class)

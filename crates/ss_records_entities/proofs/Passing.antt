@@ -17,7 +17,7 @@ use Rattle.ss_world.specs.Sets.{member_class}
 use Rattle.ss_world.specs.Disciplines.{value_or_zero}
 use Rattle.ss_world.specs.Lists.{head0, succ, In, Distinct}
 use Rattle.ss_records_words.specs.Reading.{record_of, value_at}
-use Rattle.ss_records_words.specs.Places.{Lists, place_in, entity_at, class_at}
+use Rattle.ss_records_words.specs.Places.{Lists, place_in_record, entity_at, class_at}
 use Rattle.ss_records_blocks.specs.Links.{Leads}
 use Rattle.ss_records_words.specs.Slotted.{member_base}
 use Rattle.ss_records_entities.specs.Parts.{IsKept, state, places, held, Lies, Joins, Between}
@@ -59,7 +59,7 @@ module _ (r : Records) (K : IsKept r) (s : ℕ) (q : Entry) (j : Joins r s q) (f
 
   place : (i : ℕ) × (p : Address) × (q.number ≡ suc i) × (Lists (places r) i p) × (class_at r.blocks.cells p ≡ class) × (q.place.at ≡ p.at)
   place = let a = entry_of r.blocks.cells (places r) class q.number j.is in
-      (a.0, a.1, a.2, listed (places r) class a.0 a.1 a.3, a.4, j.lies ∙ ap (entity_at r.system.at (places r) class) a.2 ∙ ap place_in a.3)
+      (a.0, a.1, a.2, listed (places r) class a.0 a.1 a.3, a.4, j.lies ∙ ap (entity_at r.system.at (places r) class) a.2 ∙ ap place_in_record a.3)
 
   its_entity : entity (state r) class (pos q.number) ≡ Ok (record_of r.layout (words_at r.blocks.cells place.1.at))
   its_entity = entity_is r.layout r.blocks.cells r.system.at (places r) r.notes.lists K class q.number place.0 place.1 place.2 place.4 place.3

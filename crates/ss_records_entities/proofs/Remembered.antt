@@ -14,10 +14,10 @@ use Rattle.ss_world.specs.State.{entity, kind_of, members_of}
 use Rattle.ss_world.specs.Sets.{member_class}
 use Rattle.ss_world.specs.Lists.{In}
 use Rattle.ss_records_blocks.specs.Places.{Numbers}
-use Rattle.ss_records_words.specs.Places.{Lists, place_in, entity_at, class_at}
+use Rattle.ss_records_words.specs.Places.{Lists, place_in_record, entity_at, class_at}
 use Rattle.ss_records_words.specs.Kept.{IsPermanent, issued_place, numbered_place}
 use Rattle.ss_records_words.specs.Slotted.{member_base}
-use Rattle.ss_records_words.specs.Plans.{is_permanent}
+use Rattle.ss_records_words.specs.Plans.{is_permanent_kind}
 use Rattle.ss_records_entities.specs.Parts.{IsKept, state, places, Found, Lies, Joins}
 use Rattle.ss_records_entities.proofs.Apart.{entity_is}
 use Rattle.ss_records_entities.proofs.Cuts.{lies_there}
@@ -42,7 +42,7 @@ found_numbered r K c x p h k =
     let t = there r.directory.places x p h in
     record { index = t.0; is = t.1; entry = inl t.2; class = k; entity = ap (entity (state r) c) t.1 ∙ entity_is r.layout r.blocks.cells r.system.at (places r) r.notes.lists K c (suc t.0) t.0 p refl k (inl t.2) }
 
-pub comes_and_goes : (k : ClassKind) → is_permanent k ≡ false → IsPermanent k → ⊥
+pub comes_and_goes : (k : ClassKind) → is_permanent_kind k ≡ false → IsPermanent k → ⊥
 comes_and_goes Permanent e p = cc
 comes_and_goes Temporary e p = p
 comes_and_goes Notice e p = p
@@ -58,7 +58,7 @@ some_number r s e h z = let a = entry_of r.blocks.cells (places r) (member_class
 pub numbered_entry : (r : Records) (K : IsKept r) (s : ℕ) (e : Entry) → Joins r s e → (IsPermanent (kind_of r.layout (member_class r.layout s)) → ⊥) → slice_get r.directory.places (e.number - 1) ≡ Some (Some e.place)
 numbered_entry r K s e h kind =
     let a = entry_of r.blocks.cells (places r) (member_class r.layout s) e.number h.is in
-    let at : e.place.at ≡ a.1.at = h.lies ∙ ap (entity_at r.system.at (places r) (member_class r.layout s)) a.2 ∙ ap place_in a.3 in
+    let at : e.place.at ≡ a.1.at = h.lies ∙ ap (entity_at r.system.at (places r) (member_class r.layout s)) a.2 ∙ ap place_in_record a.3 in
     let m = by_entry a.0 a.1 a.4 (listed (places r) (member_class r.layout s) a.0 a.1 a.3) in
     let before : e.number - 1 ≡ a.0 = omega (arith, a.2) in
     ap (λ n. slice_get r.directory.places n) before ∙ m ∙ ap (λ (q : Address). Some (Some q)) (same_place a.1 e.place (sym at)) where

@@ -9,7 +9,7 @@ use Rattle.ss_records_laws.specs.declared.commands.Command.{Command}
 use Rattle.ss_records_laws.specs.declared.commands.Command.TheVariants.{Create, CreateAll, Destroy, SetValue, SetTime, FileFirst, FileLast, FileBefore, FileAfter, Remove}
 use Rattle.ss_world.specs.State.{State, Record, and_then, number_in, entity, notice, kind_of, is_made, is_filed, contains, members_of, in_a_set, owns_members, with_entity_of_kind, with_entity, with_value, with_time, with_created, with_made, LAST_NUMBER, MOST_ENTITIES, created_all, made_many, destroyed, let_go, assigned, timed}
 use Rattle.ss_world.specs.Sets.{joiner, owner, with_list_of, put_in, put_beside, taken_out, put_before, put_after, less, filed_first, filed_last, filed_before, filed_after, removed}
-use Rattle.ss_records_laws.specs.Commands.{done, state_in, after_command}
+use Rattle.ss_records_laws.specs.Commands.{done_with_state, state_in, after_command}
 use Rattle.ss_records_laws.specs.declared.commands.Answer.{Answer}
 use Rattle.ss_records_laws.specs.declared.commands.Answer.TheVariants.{Number}
 
@@ -26,7 +26,7 @@ keeps_if : (s : State) (b : Bool) (x y : Result State FaultKind) → Keeps s x �
 keeps_if s true x y h k = h
 keeps_if s false x y h k = k
 
-keeps_done : (s : State) (r : Result State FaultKind) → Keeps s r → (state_in s (done r)).layout ≡ s.layout
+keeps_done : (s : State) (r : Result State FaultKind) → Keeps s r → (state_in s (done_with_state r)).layout ≡ s.layout
 keeps_done s (Ok t) h = h
 keeps_done s (Err e) h = refl
 

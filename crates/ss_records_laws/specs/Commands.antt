@@ -65,26 +65,26 @@ FitsCommand l (FileAfter set o member beside) = set < length l.sets
 FitsCommand l (Remove set o member) = set < length l.sets
 
 -- what a call answers that gives no value
-abbrev pub outcome_of : Result (Unit {0}) FaultKind → Answer
-outcome_of (Ok u) = Done
-outcome_of (Err kind) = Faulted kind
+abbrev pub answer_without_value : Result (Unit {0}) FaultKind → Answer
+answer_without_value (Ok u) = Done
+answer_without_value (Err kind) = Faulted kind
 
 -- done, with the state that a call makes
-abbrev pub done : Result State FaultKind → Result (Answer × State) FaultKind
-done r = and_then r (λ s. Ok (Done, s))
+abbrev pub done_with_state : Result State FaultKind → Result (Answer × State) FaultKind
+done_with_state r = and_then r (λ s. Ok (Done, s))
 
 -- what a command answers and makes, or its fault
 abbrev pub commanded : Command → State → Result (Answer × State) FaultKind
 commanded (Create class) s = and_then (created s class) (λ p. Ok (Number p.0, p.1))
-commanded (CreateAll class n) s = done (created_all s class n)
-commanded (Destroy class r) s = done (destroyed s class r)
-commanded (SetValue class field r value) s = done (assigned s class field r value)
-commanded (SetTime r time) s = done (timed s r time)
-commanded (FileFirst set o member) s = done (filed_first s set o member)
-commanded (FileLast set o member) s = done (filed_last s set o member)
-commanded (FileBefore set o member beside) s = done (filed_before s set o member beside)
-commanded (FileAfter set o member beside) s = done (filed_after s set o member beside)
-commanded (Remove set o member) s = done (removed s set o member)
+commanded (CreateAll class n) s = done_with_state (created_all s class n)
+commanded (Destroy class r) s = done_with_state (destroyed s class r)
+commanded (SetValue class field r value) s = done_with_state (assigned s class field r value)
+commanded (SetTime r time) s = done_with_state (timed s r time)
+commanded (FileFirst set o member) s = done_with_state (filed_first s set o member)
+commanded (FileLast set o member) s = done_with_state (filed_last s set o member)
+commanded (FileBefore set o member beside) s = done_with_state (filed_before s set o member beside)
+commanded (FileAfter set o member beside) s = done_with_state (filed_after s set o member beside)
+commanded (Remove set o member) s = done_with_state (removed s set o member)
 
 -- the answer, or the fault
 abbrev pub answer_in : Result (Answer × State) FaultKind → Answer

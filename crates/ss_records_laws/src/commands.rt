@@ -4,7 +4,7 @@ ghost use Rattle.ss_base.specs.declared.value.Value.{Value};
 ghost use Rattle.ss_records_laws.specs.declared.commands.Command.{Command};
 ghost use Rattle.ss_world.specs.State.{State, members_of, created, created_all, destroyed, assigned, timed};
 ghost use Rattle.ss_world.specs.Sets.{filed_first, filed_last, filed_before, filed_after, removed, put_before, put_after, less};
-ghost use Rattle.ss_records_laws.specs.Commands.{Changes, ChangesBeside, LeavesOthers, KeepsRecords, KeepsLists, IsMadeSingly, IsMadeTogether, HasField, IsOnOthers, after_commands, outcome_of, FitsCommand, answer_of, after_command, answers_of, IsAfterSome};
+ghost use Rattle.ss_records_laws.specs.Commands.{Changes, ChangesBeside, LeavesOthers, KeepsRecords, KeepsLists, IsMadeSingly, IsMadeTogether, HasField, IsOnOthers, after_commands, answer_without_value, FitsCommand, answer_of, after_command, answers_of, IsAfterSome};
 
 use ss_base::{ClassKind, FaultKind, Layout, Mode, Refused, Value};
 use ss_records::{Heap, kind};
@@ -175,33 +175,33 @@ fn make(heap: &mut Heap, command: &Command) -> Result<Answer, AllocError>
     match command {
         Command::Create { class } => make_one(heap, *class),
         Command::CreateAll { class, n } => make_all(heap, *class, *n),
-        Command::Destroy { class, r } => Ok(outcome_of(heap.destroy(*class, *r))),
+        Command::Destroy { class, r } => Ok(answer_without_value(heap.destroy(*class, *r))),
         Command::SetValue {
             class,
             field,
             r,
             value,
-        } => Ok(outcome_of(heap.set_value(*class, *field, *r, *value))),
-        Command::SetTime { r, time } => Ok(outcome_of(heap.set_time_a(*r, *time))),
+        } => Ok(answer_without_value(heap.set_value(*class, *field, *r, *value))),
+        Command::SetTime { r, time } => Ok(answer_without_value(heap.set_time_a(*r, *time))),
         Command::FileFirst { set, owner, member } => {
-            Ok(outcome_of(heap.file_first(*set, *owner, *member)))
+            Ok(answer_without_value(heap.file_first(*set, *owner, *member)))
         }
         Command::FileLast { set, owner, member } => {
-            Ok(outcome_of(heap.file_last(*set, *owner, *member)))
+            Ok(answer_without_value(heap.file_last(*set, *owner, *member)))
         }
         Command::FileBefore {
             set,
             owner,
             member,
             beside,
-        } => Ok(outcome_of(heap.file_before(*set, *owner, *member, *beside))),
+        } => Ok(answer_without_value(heap.file_before(*set, *owner, *member, *beside))),
         Command::FileAfter {
             set,
             owner,
             member,
             beside,
-        } => Ok(outcome_of(heap.file_after(*set, *owner, *member, *beside))),
-        Command::Remove { set, owner, member } => Ok(outcome_of(heap.remove(
+        } => Ok(answer_without_value(heap.file_after(*set, *owner, *member, *beside))),
+        Command::Remove { set, owner, member } => Ok(answer_without_value(heap.remove(
             *set, *owner, *member,
         ))),
     }
@@ -233,8 +233,8 @@ fn make_all(heap: &mut Heap, class: usize, n: i64) -> Result<Answer, AllocError>
     }
 }
 
-fn outcome_of(outcome: Result<(), FaultKind>) -> Answer
-    ensures { result ≡ outcome_of outcome }
+fn answer_without_value(outcome: Result<(), FaultKind>) -> Answer
+    ensures { result ≡ answer_without_value outcome }
 {
     match outcome {
         Ok(()) => Answer::Done,

@@ -12,11 +12,11 @@ use Rattle.ss_records_blocks.specs.declared.store.Address.{Address}
 use Rattle.ss_records_blocks.specs.Cells.{Word, Cells, words_at, put_word}
 use Rattle.ss_world.specs.State.{Members}
 use Rattle.ss_records_words.specs.Shape.{links_start, owned_start, block_words, joins, owned_by, same_owner, count_before, count_sets}
-use Rattle.ss_records_words.specs.Places.{Directory, listing, Lists, place_in, entity_at, owner_at, class_at}
+use Rattle.ss_records_words.specs.Places.{Directory, listing, Lists, place_in_record, entity_at, owner_at, class_at}
 use Rattle.ss_records_words.specs.Kept.{Kept}
 use Rattle.ss_records_words.specs.Links.{Grounds, OfMember, OfOwner}
 use Rattle.ss_records_words.specs.Slotted.{member_base, owner_base, slots_of, is_entry, IsOf, MayOwn, OfName, Spares}
-use Rattle.ss_records_words.specs.Reading.{class_of}
+use Rattle.ss_records_words.specs.Reading.{class_in_words}
 use Rattle.ss_records_blocks.proofs.Same.{same}
 use Rattle.ss_records_words.proofs.Listing.{listed, lists_place}
 use Rattle.ss_records_blocks.proofs.Puts.{put_other, length_put}
@@ -101,14 +101,14 @@ module _ (l : Layout) (cs : Cells) (sys : Ptr) (d : Directory) (ms : List Member
   home = owner_at sys d
 
   pub at_entry : (c n i : ℕ) (p : Address) → n ≡ suc i → slice_get (listing d c) i ≡ Some (Some p) → at c n ≡ p.at
-  at_entry c n i p e g = ap (at c) e ∙ ap place_in g
+  at_entry c n i p e g = ap (at c) e ∙ ap place_in_record g
 
   pub apart_of : (c b x y : ℕ) → IsOf cs d c x → IsOf cs d b y → at c x ≡ at b y → (x ≡ y) × (c ≡ b)
   apart_of c b x y h k z =
       let a = entry_of cs d c x h in let e = entry_of cs d b y k in
       let q = sym (at_entry c x a.0 a.1 a.2 a.3) ∙ z ∙ at_entry b y e.0 e.1 e.2 e.3 in
       let i : a.0 ≡ e.0 = K.apart a.0 e.0 a.1 e.1 (listed d c a.0 a.1 a.3) (listed d b e.0 e.1 e.3) q in
-      (a.2 ∙ ap suc i ∙ sym e.2, sym a.4 ∙ ap (λ (r : Ptr). class_of (words_at cs r)) q ∙ e.4)
+      (a.2 ∙ ap suc i ∙ sym e.2, sym a.4 ∙ ap (λ (r : Ptr). class_in_words (words_at cs r)) q ∙ e.4)
 
   pub off_end : (c x : ℕ) → IsOf cs d c x → at c x ≡ sys → ⊥
   off_end c x h z = let a = entry_of cs d c x h in K.off_system a.0 a.1 (listed d c a.0 a.1 a.3) (sym (at_entry c x a.0 a.1 a.2 a.3) ∙ z)
@@ -154,12 +154,12 @@ module _ (l : Layout) (cs : Cells) (sys : Ptr) (d : Directory) (ms : List Member
     -- no word of the name is in a block's head
     pub above_head : (i : ℕ) (p : Address) (k : ℕ) → Lists d i p → k < links_start l (class_at cs p) → OfName l cs sys d s t p.at k → ⊥
     above_head i p k h small (inl m) =
-        let q = (apart_of (class_at cs p) t.member (suc i) m.0 (is_of cs d (class_at cs p) i p (lists_place l cs sys d ms K i p h) refl) m.1 (ap place_in (lists_place l cs sys d ms K i p h) ∙ m.2)).1 in
+        let q = (apart_of (class_at cs p) t.member (suc i) m.0 (is_of cs d (class_at cs p) i p (lists_place l cs sys d ms K i p h) refl) m.1 (ap place_in_record (lists_place l cs sys d ms K i p h) ∙ m.2)).1 in
         omega (arith, small, subst (λ c. links_start l c ≤ k) (sym q) (member_inside l s t k g m.3).0)
     above_head i p k h small (inr m) = by_owner t.owner m.1 m.2 (owner_inside l s t k g m.3).0 where
       by_owner : (o : Owner) → MayOwn cs d o m.0 → p.at ≡ home o m.0 → owned_start l o ≤ k → ⊥
       by_owner System a z b = K.off_system i p h z
-      by_owner (Class c) a z b = let q = (apart_of (class_at cs p) c (suc i) m.0 (is_of cs d (class_at cs p) i p (lists_place l cs sys d ms K i p h) refl) a (ap place_in (lists_place l cs sys d ms K i p h) ∙ z)).1 in
+      by_owner (Class c) a z b = let q = (apart_of (class_at cs p) c (suc i) m.0 (is_of cs d (class_at cs p) i p (lists_place l cs sys d ms K i p h) refl) a (ap place_in_record (lists_place l cs sys d ms K i p h) ∙ z)).1 in
           omega (arith, small, subst (λ n. owned_start l (Class n) ≤ k) (sym q) b)
 
     pub above_end : (k : ℕ) → k < 2 → OfName l cs sys d s t sys k → ⊥

@@ -8,7 +8,7 @@ use Rattle.ss_base.specs.declared.layout.SetLayout.{SetLayout}
 use Rattle.ss_base.specs.declared.layout.Layout.{Layout}
 use Rattle.ss_records_blocks.specs.Cells.{number, link, Cells, word_at}
 use Rattle.ss_world.specs.State.{Members, members_of, contains, owner_among, owner_of, is_filed, has_members, in_a_set, owns_members, is_owner_class}
-use Rattle.ss_records_words.specs.Places.{Directory, place_in, entity_at, owner_at}
+use Rattle.ss_records_words.specs.Places.{Directory, place_in_record, entity_at, owner_at}
 use Rattle.ss_records_words.specs.Kept.{Kept}
 use Rattle.ss_world.specs.Lists.{succ, In, NotIn}
 use Rattle.ss_records_words.specs.Slotted.{slots_of, IsOf, MayOwn}
@@ -80,7 +80,7 @@ module _ (l : Layout) (cs : Cells) (sys : Ptr) (d : Directory) (ms : List Member
   -- the number in the block of an entity, or of the end
   pub number_at : (c n : ℕ) → (n ≡ 0) ⊎ IsOf cs d c n → word_at cs (entity_at sys d c n) 1 ≡ number n
   number_at c n (inl e) = (λ z. word_at cs (entity_at sys d c (e z)) 1) ∙ K.end ∙ ap number (sym e)
-  number_at c n (inr h) = let a = entry_of cs d c n h in let q : entity_at sys d c n ≡ a.1.at = ap (entity_at sys d c) a.2 ∙ ap place_in a.3 in
+  number_at c n (inr h) = let a = entry_of cs d c n h in let q : entity_at sys d c n ≡ a.1.at = ap (entity_at sys d c) a.2 ∙ ap place_in_record a.3 in
       (λ z. word_at cs (q z) 1) ∙ (K.formed a.0 a.1 (listed d c a.0 a.1 a.3)).number ∙ ap number (sym a.2)
 
   -- the number in the block of an owner

@@ -11,9 +11,9 @@ use Rattle.std.proofs.Math.Facts.{leb_yes}
 use mir.Syntax.{w64}
 use Rattle.ss_base.specs.declared.value.Value.TheVariants.{Text}
 use Rattle.ss_base.specs.Values.{text_limit, is_text_byte, text_of, IsText}
-use Rattle.ss_base.specs.Room.{before_zero, padded}
+use Rattle.ss_base.specs.Room.{before_zero, padded_text}
 use Rattle.ss_base.specs.declared.layout.Mode.TheVariants.{Alpha}
-use Rattle.ss_records_words.specs.Reading.{value_of}
+use Rattle.ss_records_words.specs.Reading.{value_of_words}
 
 before_zero-padded : (text : List ℕ) (k : ℕ) → list_all is_text_byte text ≡ true → before_zero (text ++ replicate k 0) ≡ text
 before_zero-padded [] zero h = refl
@@ -54,12 +54,12 @@ halves_again bs a b l small e f =
     let back : to_be_bytes w64 b ≡ drop 8 bs = be_bytes_8 (drop 8 bs) b (omega (arith, l, length-drop 8 bs)) (small_after 8 bs small) f in
     (λ i. front i ++ back i) ∙ take-append-drop 8 bs
 
-read_back : (t : List ℕ) (a b : ℕ) → IsText t → length (padded t) ≡ 16 → a ≡ from_be_bytes w64 (take 8 (padded t)) → b ≡ from_be_bytes w64 (drop 8 (padded t)) → value_of Alpha a b ≡ Text t
+read_back : (t : List ℕ) (a b : ℕ) → IsText t → length (padded_text t) ≡ 16 → a ≡ from_be_bytes w64 (take 8 (padded_text t)) → b ≡ from_be_bytes w64 (drop 8 (padded_text t)) → value_of_words Alpha a b ≡ Text t
 read_back t a b h l e f =
-    let is : to_be_bytes w64 a ++ to_be_bytes w64 b ≡ padded t = halves_again (padded t) a b l (λ i. bytes_small t (text_limit - length t) i h.printable) e f in
+    let is : to_be_bytes w64 a ++ to_be_bytes w64 b ≡ padded_text t = halves_again (padded_text t) a b l (λ i. bytes_small t (text_limit - length t) i h.printable) e f in
     ap (λ bs. Text (unwrap_or (text_of (before_zero bs)) [])) is ∙ ap (λ bs. Text (unwrap_or (text_of bs) [])) (before_zero-padded t (text_limit - length t) h.printable) ∙ ap (λ o. Text (unwrap_or o [])) (text_again t h)
 
-pad_length : (t : List ℕ) → length t ≤ text_limit → length (padded t) ≡ 16
+pad_length : (t : List ℕ) → length t ≤ text_limit → length (padded_text t) ≡ 16
 pad_length t h = omega (arith, h, length-append t (replicate (text_limit - length t) 0), length-replicate {A = ℕ} (text_limit - length t) 0)
 
 -- in a room of sixteen bytes
@@ -71,7 +71,7 @@ module _ (t bytes : List ℕ) (h : IsText t) (is : bytes ≡ t) where
     abbrev room : List ℕ
     room = copied ++ drop (length bytes) (replicate text_limit 0)
 
-    room_is : room ≡ padded t
+    room_is : room ≡ padded_text t
     room_is = rw (same, is, drop-replicate {X = ℕ} (length t) text_limit 0) refl
 
     room_length : length room ≡ 16
@@ -91,14 +91,14 @@ module _ (t bytes : List ℕ) (h : IsText t) (is : bytes ≡ t) where
 
 -- the words of a text that was copied into zeros
 pub text_read : (t bytes copied : List ℕ) (a b : ℕ) → IsText t → bytes ≡ t → copied ≡ bytes
-    → a ≡ from_be_bytes w64 (take 8 (copied ++ drop (length bytes) (replicate text_limit 0))) → b ≡ from_be_bytes w64 (take 8 (drop 8 (copied ++ drop (length bytes) (replicate text_limit 0)))) → value_of Alpha a b ≡ Text t
+    → a ≡ from_be_bytes w64 (take 8 (copied ++ drop (length bytes) (replicate text_limit 0))) → b ≡ from_be_bytes w64 (take 8 (drop 8 (copied ++ drop (length bytes) (replicate text_limit 0)))) → value_of_words Alpha a b ≡ Text t
 text_read t bytes copied a b h is same e f =
     let room = room_is t bytes h is copied same in
     let all = pad_length t h.short in
-    let rest : take 8 (drop 8 (padded t)) ≡ drop 8 (padded t) = take_all 8 (drop 8 (padded t)) (omega (arith, all, length-drop 8 (padded t))) in
+    let rest : take 8 (drop 8 (padded_text t)) ≡ drop 8 (padded_text t) = take_all 8 (drop 8 (padded_text t)) (omega (arith, all, length-drop 8 (padded_text t))) in
     read_back t a b h all (e ∙ ap (λ r. from_be_bytes w64 (take 8 r)) room) (f ∙ ap (λ r. from_be_bytes w64 (take 8 (drop 8 r))) room ∙ ap (from_be_bytes w64) rest)
 
 -- the text that is found in the bytes of two words
-pub text_found : (a b : ℕ) (bytes used : List ℕ) (found : Option (List ℕ)) → bytes ≡ to_be_bytes w64 a ++ to_be_bytes w64 b → used ≡ before_zero bytes → found ≡ text_of used → value_of Alpha a b ≡ Text (unwrap_or found [])
+pub text_found : (a b : ℕ) (bytes used : List ℕ) (found : Option (List ℕ)) → bytes ≡ to_be_bytes w64 a ++ to_be_bytes w64 b → used ≡ before_zero bytes → found ≡ text_of used → value_of_words Alpha a b ≡ Text (unwrap_or found [])
 text_found a b bytes used found e f g =
     ap (λ bs. Text (unwrap_or (text_of (before_zero bs)) [])) (sym e) ∙ ap (λ bs. Text (unwrap_or (text_of bs) [])) (sym f) ∙ ap (λ o. Text (unwrap_or o [])) (sym g)

@@ -10,7 +10,7 @@ use Rattle.ss_records_blocks.specs.Cells.{Word, number, counter, link, Cells, Is
 use Rattle.ss_world.specs.State.{Members, members_of, is_filed, has_members}
 use Rattle.ss_records_words.specs.Shape.{count_before, count_sets}
 use Rattle.ss_records_words.specs.Reading.{plain}
-use Rattle.ss_records_words.specs.Places.{Directory, Lists, listing, place_in, entity_at, owner_at, class_at}
+use Rattle.ss_records_words.specs.Places.{Directory, Lists, listing, place_in_record, entity_at, owner_at, class_at}
 use Rattle.ss_records_words.specs.Kept.{Kept}
 use Rattle.ss_records_words.specs.Slotted.{member_base, owner_base, IsOf, MayOwn}
 use Rattle.ss_records_blocks.proofs.Same.{differs, by_same}
@@ -45,7 +45,7 @@ module _ (l : Layout) (cs : Cells) (sys : Ptr) (d : Directory) (ms : List Member
     its_place = subst (λ c. slice_get (listing d c) i ≡ Some (Some p)) class (lists_place l cs sys d ms K i p e)
 
     here : at (suc i) ≡ p.at
-    here = ap place_in its_place
+    here = ap place_in_record its_place
 
     pub it : IsOf cs d t.member (suc i)
     it = is_of cs d t.member i p its_place class
@@ -74,7 +74,7 @@ module _ (l : Layout) (cs : Cells) (sys : Ptr) (d : Directory) (ms : List Member
     owner = subst (λ o. MayOwn cs d o (suc i)) (sym owns) (is_of cs d (class_at cs p) i p (lists_place l cs sys d ms K i p e) refl)
 
     home : owner_at sys d t.owner (suc i) ≡ p.at
-    home = ap (λ o. owner_at sys d o (suc i)) owns ∙ ap place_in (lists_place l cs sys d ms K i p e)
+    home = ap (λ o. owner_at sys d o (suc i)) owns ∙ ap place_in_record (lists_place l cs sys d ms K i p e)
 
     pub count_word : word_at cs p.at (owner_base l s t + 2) ≡ counter (length (members_of ms s (suc i)))
     count_word = (λ z. word_at cs (sym home z) (owner_base l s t + 2)) ∙ (K.names s t g).count (suc i) owner

@@ -9,7 +9,7 @@ use Rattle.ss_base.specs.declared.value.Value.TheVariants.{Whole, Text}
 use Rattle.ss_base.specs.declared.layout.Mode.{Mode}
 use Rattle.ss_base.specs.declared.layout.Mode.TheVariants.{Integer, Alpha}
 use Rattle.ss_records_blocks.specs.Cells.{Word, number, Cells, IsNumber, word_at, put_word}
-use Rattle.ss_records_words.specs.Reading.{plain, value_of, value_at, PutsValue}
+use Rattle.ss_records_words.specs.Reading.{plain, value_of_words, value_at, PutsValue}
 use Rattle.ss_records_blocks.proofs.Numbers.{is_number, put_seen}
 use Rattle.ss_records_blocks.proofs.Puts.{put_other}
 
@@ -17,8 +17,8 @@ pub whole_read : (cs : Cells) (p : Ptr) (k n : ℕ) (m : Mode) (v : Value) → v
 whole_read cs p k n m v e h is =
     e ∙ ap (λ (w : Word). Whole (cast_signed w64 (plain w))) (sym h) ∙ ap (λ (o : Mode). value_at o cs p k) (sym is)
 
-pub text_read_at : (cs : Cells) (p : Ptr) (k a b : ℕ) (v : Value) → v ≡ value_of Alpha a b → word_at cs p k ≡ number a → word_at cs p (k + 1) ≡ number b → v ≡ value_at Alpha cs p k
-text_read_at cs p k a b v e x y = e ∙ (λ i. value_of Alpha (plain (sym x i)) (plain (sym y i)))
+pub text_read_at : (cs : Cells) (p : Ptr) (k a b : ℕ) (v : Value) → v ≡ value_of_words Alpha a b → word_at cs p k ≡ number a → word_at cs p (k + 1) ≡ number b → v ≡ value_at Alpha cs p k
+text_read_at cs p k a b v e x y = e ∙ (λ i. value_of_words Alpha (plain (sym x i)) (plain (sym y i)))
 
 -- a whole number leaves the second word
 pub whole_put : (cs ds : Cells) (p : Ptr) (k w : ℕ) (n : ℤ) → cast_signed w64 w ≡ n → IsNumber (word_at cs p (k + 1)) → ds ≡ put_word cs p k (number w) → PutsValue cs ds p k (Whole n)
@@ -29,6 +29,6 @@ whole_put cs ds p k w n e second h =
     record { first = w; second = s.0; value = ap (λ (z : ℤ). Whole z) e; cells = h ∙ sym (put_seen es p (k + 1) (number s.0) next) }
 
 -- a text is both
-pub text_put : (cs ds es : Cells) (p : Ptr) (k a b : ℕ) (t : List ℕ) → value_of Alpha a b ≡ Text t → ds ≡ put_word cs p k (number a) → es ≡ put_word ds p (k + 1) (number b) → PutsValue cs es p k (Text t)
+pub text_put : (cs ds es : Cells) (p : Ptr) (k a b : ℕ) (t : List ℕ) → value_of_words Alpha a b ≡ Text t → ds ≡ put_word cs p k (number a) → es ≡ put_word ds p (k + 1) (number b) → PutsValue cs es p k (Text t)
 text_put cs ds es p k a b t e x y =
     record { first = a; second = b; value = e; cells = y ∙ ap (λ (z : Cells). put_word z p (k + 1) (number b)) x }

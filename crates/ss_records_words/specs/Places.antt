@@ -5,7 +5,7 @@ use Rattle.ss_base.specs.declared.layout.Owner.{Owner}
 use Rattle.ss_base.specs.declared.layout.Owner.TheVariants.{System, Class}
 use Rattle.ss_records_blocks.specs.declared.store.Address.{Address}
 use Rattle.ss_records_blocks.specs.Cells.{Cells, words_at}
-use Rattle.ss_records_words.specs.Reading.{class_of}
+use Rattle.ss_records_words.specs.Reading.{class_in_words}
 use Rattle.ss_records_blocks.specs.Places.{Numbers}
 
 -- the permanent entities of each class by index, none until they are made
@@ -37,15 +37,15 @@ IsMade ms i p = (c : ℕ) × (ps : List Address) × (slice_get ms c ≡ Some (So
 abbrev pub Lists : Directory → ℕ → Address → Type 0
 Lists d i p = (slice_get d.numbers i ≡ Some (Some p)) ⊎ IsMade d.classes i p
 
-abbrev pub place_in : Option (Option Address) → Ptr
-place_in None = null_ptr
-place_in (Some None) = null_ptr
-place_in (Some (Some p)) = p.at
+abbrev pub place_in_record : Option (Option Address) → Ptr
+place_in_record None = null_ptr
+place_in_record (Some None) = null_ptr
+place_in_record (Some (Some p)) = p.at
 
 -- where the block of a number lies; 0 is the system
 abbrev pub numbered_at : Ptr → Numbers → ℕ → Ptr
 numbered_at sys d zero = sys
-numbered_at sys d (suc i) = place_in (slice_get d i)
+numbered_at sys d (suc i) = place_in_record (slice_get d i)
 
 -- where the block of an entity of a class lies; 0 is the end of a set, which is the system
 abbrev pub entity_at : Ptr → Directory → ℕ → ℕ → Ptr
@@ -58,7 +58,7 @@ owner_at sys d (Class c) n = entity_at sys d c n
 
 -- the class that the words of a block give
 abbrev pub class_at : Cells → Address → ℕ
-class_at cs p = class_of (words_at cs p.at)
+class_at cs p = class_in_words (words_at cs p.at)
 
 -- how many permanent entities there are
 abbrev pub made_count : Made → ℕ

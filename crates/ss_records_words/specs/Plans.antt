@@ -18,10 +18,10 @@ abbrev pub extent_of : Layout → ℕ → Extent
 extent_of l c = record { links = links_start l c; owned = owned_start l (Class c); joined = count_sets (joins c) l.sets; sets = count_sets (owned_by (Class c)) l.sets; words = block_words l (Class c) }
 
 -- whether a class is permanent
-abbrev pub is_permanent : ClassKind → Bool
-is_permanent Permanent = true
-is_permanent Temporary = false
-is_permanent Notice = false
+abbrev pub is_permanent_kind : ClassKind → Bool
+is_permanent_kind Permanent = true
+is_permanent_kind Temporary = false
+is_permanent_kind Notice = false
 
 -- whether an owner is the system
 abbrev pub is_system : Owner → Bool
@@ -30,7 +30,7 @@ is_system (Class c) = false
 
 -- where the words of a set are, and the facts of its members and its owner
 abbrev pub bases_of : Layout → ℕ → SetLayout → Bases
-bases_of l s t = record { member = member_base l s t; owner = owner_base l s t; class = t.member; permanent = is_permanent (kind_of l t.member); system = is_system t.owner }
+bases_of l s t = record { member = member_base l s t; owner = owner_base l s t; class = t.member; permanent = is_permanent_kind (kind_of l t.member); system = is_system t.owner }
 
 -- those of each class, and of each set
 abbrev pub AreExtents : Layout → List Extent → Type 0

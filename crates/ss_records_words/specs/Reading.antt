@@ -25,18 +25,18 @@ plain (counter n) = 0
 plain (link q) = 0
 
 -- what two words mean: a whole number is the 64 bits of the first, a text the bytes of both without the zeros at the end
-abbrev pub value_of : Mode → ℕ → ℕ → Value
-value_of Integer a b = Whole (cast_signed w64 a)
-value_of Alpha a b = Text (unwrap_or (text_of (before_zero (to_be_bytes w64 a ++ to_be_bytes w64 b))) [])
+abbrev pub value_of_words : Mode → ℕ → ℕ → Value
+value_of_words Integer a b = Whole (cast_signed w64 a)
+value_of_words Alpha a b = Text (unwrap_or (text_of (before_zero (to_be_bytes w64 a ++ to_be_bytes w64 b))) [])
 
 -- the values from the word k on, two words each
 abbrev pub values_from : List Mode → List Word → ℕ → List Value
 values_from [] ws k = []
-values_from (m ∷ ms) ws k = value_of m (plain (word_of ws k)) (plain (word_of ws (k + 1))) ∷ values_from ms ws (k + 2)
+values_from (m ∷ ms) ws k = value_of_words m (plain (word_of ws k)) (plain (word_of ws (k + 1))) ∷ values_from ms ws (k + 2)
 
 -- the value in the words k and k + 1 of the block at p
 abbrev pub value_at : Mode → Cells → Ptr → ℕ → Value
-value_at m cs p k = value_of m (plain (word_at cs p k)) (plain (word_at cs p (k + 1)))
+value_at m cs p k = value_of_words m (plain (word_at cs p k)) (plain (word_at cs p (k + 1)))
 
 -- the blocks with these numbers as the words k and k + 1 of the block at p
 abbrev pub put_two : Cells → Ptr → ℕ → ℕ → ℕ → Cells
@@ -46,17 +46,17 @@ put_two cs p k a b = put_word (put_word cs p k (number a)) p (k + 1) (number b)
 pub record PutsValue (cs ds : Cells) (p : Ptr) (k : ℕ) (v : Value) : Type 0 where
   pub first : ℕ
   pub second : ℕ
-  pub value : value_of (mode_of v) first second ≡ v
+  pub value : value_of_words (mode_of v) first second ≡ v
   pub cells : ds ≡ put_two cs p k first second
 
-abbrev pub class_of : List Word → ℕ
-class_of ws = plain (word_of ws 0)
+abbrev pub class_in_words : List Word → ℕ
+class_in_words ws = plain (word_of ws 0)
 
 abbrev pub record_of : Layout → List Word → Record
 record_of l ws = record {
-  class = class_of ws;
-  values = values_from (modes_of l (class_of ws)) ws 2;
-  time = cond (is_notice (kind_of l (class_of ws))) (cast_signed w64 (plain (word_of ws (values_end l (class_of ws))))) (pos 0);
+  class = class_in_words ws;
+  values = values_from (modes_of l (class_in_words ws)) ws 2;
+  time = cond (is_notice (kind_of l (class_in_words ws))) (cast_signed w64 (plain (word_of ws (values_end l (class_in_words ws))))) (pos 0);
 }
 
 -- the record at an entry of the directory

@@ -6,7 +6,7 @@ ghost use Rattle.ss_records_words.specs.Shape.{values_end, links_start, owned_st
 ghost use Rattle.ss_records_words.specs.Kept.{Small};
 ghost use Rattle.ss_records_words.specs.Slotted.{member_base, owner_base};
 ghost use Rattle.ss_world.specs.Sets.{member_class, owner_kind};
-ghost use Rattle.ss_records_words.specs.Plans.{AreExtents, AreBases, is_permanent, is_system};
+ghost use Rattle.ss_records_words.specs.Plans.{AreExtents, AreBases, is_permanent_kind, is_system};
 
 use crate::shape::{self, VALUES};
 use ss_base::{ClassKind, Layout, Mode, Owner};
@@ -208,7 +208,7 @@ impl Plan {
     #[inline(always)]
     pub fn holds_permanent(&self, s: usize) -> bool
         requires { s < length self.now.sets }
-        ensures { result ≡ is_permanent (kind_of self.now (member_class self.now s)) }
+        ensures { result ≡ is_permanent_kind (kind_of self.now (member_class self.now s)) }
     {
         self.sets[s].permanent
     }

@@ -4,7 +4,7 @@ ghost use Rattle.ss_world.specs.State.{kind_of, modes_of};
 ghost use Rattle.ss_records_words.specs.Shape.{values_end, links_start, owned_start, joins, owned_by, count_sets};
 ghost use Rattle.ss_records_words.specs.Kept.{Small};
 ghost use Rattle.ss_records_words.specs.Slotted.{member_base, owner_base};
-ghost use Rattle.ss_records_words.specs.Plans.{is_permanent, is_system};
+ghost use Rattle.ss_records_words.specs.Plans.{is_permanent_kind, is_system};
 
 use ss_base::{ClassKind, Layout, Mode, Owner, SetLayout};
 
@@ -177,7 +177,7 @@ pub fn owner_class(layout: &Layout, s: usize) -> Owner
 pub fn holds_permanent(layout: &Layout, s: usize) -> bool
     requires small { Small layout.now }
     requires set { s < length layout.now.sets }
-    ensures { (t : SetLayout) → slice_get layout.now.sets s ≡ Some t → result ≡ is_permanent (kind_of layout.now t.member) }
+    ensures { (t : SetLayout) → slice_get layout.now.sets s ≡ Some t → result ≡ is_permanent_kind (kind_of layout.now t.member) }
 {
     match kind(layout, member_class(layout, s)) {
         ClassKind::Permanent => true,

@@ -2,7 +2,7 @@
 ghost use Rattle.std.specs.Prelude.{◌≡◌, ◌≤◌, ◌++◌, length, take};
 ghost use Rattle.std.specs.Int.{w64, cast_signed, from_be_bytes, to_be_bytes};
 ghost use Rattle.ss_base.specs.Room.{before_zero};
-ghost use Rattle.ss_records_words.specs.Reading.{value_of};
+ghost use Rattle.ss_records_words.specs.Reading.{value_of_words};
 
 use ss_base::{Alpha, Mode, TEXT_LIMIT, Value};
 
@@ -31,7 +31,7 @@ pub fn whole_in(word: u64) -> Value
 
 /// The words of a text.
 pub fn text_words(text: Alpha) -> TextWords
-    ensures { value_of Mode.Alpha result.first result.second ≡ Value.Text text }
+    ensures { value_of_words Mode.Alpha result.first result.second ≡ Value.Text text }
 {
     let bytes = text.bytes();
     let mut room = [0u8; TEXT_LIMIT];
@@ -53,7 +53,7 @@ fn word_of(bytes: &[u8]) -> u64
 
 /// The text of two words.
 pub fn text_in(first: u64, second: u64) -> Alpha
-    ensures { Value.Text result ≡ value_of Mode.Alpha first second }
+    ensures { Value.Text result ≡ value_of_words Mode.Alpha first second }
 {
     let bytes = bytes_of(first, second);
     match Alpha::of(used(&bytes)) {

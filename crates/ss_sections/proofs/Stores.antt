@@ -24,7 +24,7 @@ use Rattle.ss_meaning.specs.Histories.{all_noting, noted, renewed}
 use Rattle.ss_meaning.specs.Entities.{class_at, field_at, entity, is_single, is_permanent, with_new, made_one, with_all, made_all, with_none, gone, without}
 use Rattle.ss_meaning.specs.Places.{Spot, InVariable, InAttribute, InCount, held, assigned_variable, is_of_mode, assigned_attribute, assigned_count, written}
 use Rattle.ss_meaning.specs.Sets.{Filing, member, owner_number, recounted, filed_by, filed_in, removed_from, end_removed, removed_at, coming}
-use Rattle.ss_meaning.specs.Events.{Ranked, ranked, ties_of, endowed, with_time, prepared, made_notice, filed_notice, rescheduled, unscheduled, Beginning, attributes, saved_or_gone, Coming, ranked_as, coming_as, coming_with, next_event, begun}
+use Rattle.ss_meaning.specs.Events.{Ranked, ranked, ties_of, endowed, with_time, prepared, made_notice, filed_notice, rescheduled, unscheduled, Beginning, attributes_given, saved_or_gone, Coming, ranked_as, coming_as, coming_with, next_event, begun}
 use Rattle.ss_meaning.specs.Statistics.{subject_of, bearer, present, reset}
 use Rattle.ss_meaning.specs.Statements.{with_input, read_word}
 use Rattle.ss_code_instructions.specs.Machine.{changed, visited}
@@ -228,7 +228,7 @@ saved_alike None class x s = gone_alike class x s
 
 pub begun_alike : (c : Coming) → Only (λ (b : Beginning). Alike c.store b.store) (begun c)
 begun_alike c =
-    only_each (λ (b : Beginning). Alike c.store b.store) (attributes c.ranked.said.class 0 c.ranked.said.given c.notice c.store) (λ vs. turned (λ t. record { rank = c.ranked.rank; given = vs; store = t }) (saved_or_gone c.ranked.said.saved c.ranked.said.class c.notice c.store)) (λ vs.
+    only_each (λ (b : Beginning). Alike c.store b.store) (attributes_given c.ranked.said.class 0 c.ranked.said.given c.notice c.store) (λ vs. turned (λ t. record { rank = c.ranked.rank; given = vs; store = t }) (saved_or_gone c.ranked.said.saved c.ranked.said.class c.notice c.store)) (λ vs.
     only_turned (λ (b : Beginning). Alike c.store b.store) (λ t. record { rank = c.ranked.rank; given = vs; store = t }) (saved_or_gone c.ranked.said.saved c.ranked.said.class c.notice c.store) (saved_alike c.ranked.said.saved c.ranked.said.class c.notice c.store) (λ t q. q))
 
 -- ## Statistics

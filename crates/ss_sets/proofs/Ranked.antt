@@ -9,7 +9,7 @@ use Rattle.ss_base.specs.declared.layout.RankKey.{RankKey}
 use Rattle.ss_world.specs.State.{State, Record, and_then, entity, entity_of_kind, kind_of, number_in, members_of, contains, owner_of, is_filed}
 use Rattle.ss_world.specs.Lists.{In}
 use Rattle.ss_world.specs.Sets.{joiner, owner, member_class, as_number, owner_of_member, put_before, put_in, put_beside, with_list_of, filed_last, filed_before, Apart}
-use Rattle.ss_world.specs.Disciplines.{ranks_after, put_ranked, owned_by, owned, filed_ranked}
+use Rattle.ss_world.specs.Disciplines.{ranks_after, put_ranked, members_owned_by, owned, filed_ranked}
 use Rattle.ss_sets.specs.Walks.{first_after, filed_at}
 use Rattle.ss_sets.proofs.Same.{same, differs, false_is_not_true}
 use Rattle.ss_sets.proofs.Members.{went_on, stopped}
@@ -68,11 +68,11 @@ module _ (st : State) (A : Apart st) (ks : List RankKey) (s : ℕ) (inside : s <
   class = member_class st.layout s
 
   module _ (n : ℕ) where
-    last_by : (r : Result ℕ FaultKind) → first_after st class ks (pos n) (owned_by st s r) ≡ None → and_then r (λ m. put_in (λ y l. l ++ y ∷ []) st s m n) ≡ and_then r (λ m. put_in (put_ranked st class ks) st s m n)
+    last_by : (r : Result ℕ FaultKind) → first_after st class ks (pos n) (members_owned_by st s r) ≡ None → and_then r (λ m. put_in (λ y l. l ++ y ∷ []) st s m n) ≡ and_then r (λ m. put_in (put_ranked st class ks) st s m n)
     last_by (Ok m) h = ap (λ l. if is_filed st.lists s n then Err FiledTwice else Ok (with_list_of st s m l)) (sym (put_last st class ks n (members_of st.lists s m) h))
     last_by (Err e) h = refl
 
-    before_by : (r : Result ℕ FaultKind) (k : ℕ) → Before st class ks n (owned_by st s r) k → and_then r (λ m. put_beside put_before st s m n k) ≡ and_then r (λ m. put_in (put_ranked st class ks) st s m n)
+    before_by : (r : Result ℕ FaultKind) (k : ℕ) → Before st class ks n (members_owned_by st s r) k → and_then r (λ m. put_beside put_before st s m n k) ≡ and_then r (λ m. put_in (put_ranked st class ks) st s m n)
     before_by (Ok m) k h =
         ap (λ b. if is_filed st.lists s n then Err FiledTwice else (if b then Ok (with_list_of st s m (put_before k n (members_of st.lists s m))) else Err NotFiled)) h.has
         ∙ ap (λ l. if is_filed st.lists s n then Err FiledTwice else Ok (with_list_of st s m l)) (sym h.put)

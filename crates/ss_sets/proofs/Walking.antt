@@ -12,7 +12,7 @@ use Rattle.ss_world.specs.Lists.{head0, In, NotIn, Distinct}
 use Rattle.ss_world.specs.Sets.{joiner, owner, member_class, follower, members_by, companions, first_in, next_in, Apart}
 use Rattle.std.proofs.lemmas.List.Elements.{All-head, All-tail}
 use Rattle.ss_base.specs.declared.layout.Layout.{Layout}
-use Rattle.ss_world.specs.Disciplines.{AreFields, value_of, value_or_zero, ranks_after, passed, owned_by, owned}
+use Rattle.ss_world.specs.Disciplines.{AreFields, value_of, value_or_zero, ranks_after, passed, members_owned_by, owned}
 use Rattle.ss_sets.specs.Walks.{first_after, as_member}
 use Rattle.ss_sets.proofs.Same.{same, differs, by_same}
 use Rattle.ss_sets.proofs.Members.{stopped}
@@ -72,19 +72,19 @@ onward_follower l z (w ∷ ws) d h = from_follower l z w ws d h
 
 module _ (st : State) (A : Apart st) (s : ℕ) (inside : s < length st.layout.sets) where
   -- a member's set is the owner's
-  own_list : (r : Result ℕ FaultKind) (z : ℕ) → In z (owned_by st s r) → (m : ℕ) × (owned_by st s r ≡ members_of st.lists s m)
+  own_list : (r : Result ℕ FaultKind) (z : ℕ) → In z (members_owned_by st s r) → (m : ℕ) × (members_owned_by st s r ≡ members_of st.lists s m)
   own_list (Ok m) z h = (m, refl)
   own_list (Err e) z h = absurd h
 
-  distinct_by : (r : Result ℕ FaultKind) → Distinct (owned_by st s r)
+  distinct_by : (r : Result ℕ FaultKind) → Distinct (members_owned_by st s r)
   distinct_by (Ok m) = A.distinct s m inside
   distinct_by (Err e) = tt
 
-  pub member_by : (r : Result ℕ FaultKind) (x : ℕ) → In x (owned_by st s r) → (0 ≡ x → ⊥) × (joiner st s (pos x) ≡ Ok x)
+  pub member_by : (r : Result ℕ FaultKind) (x : ℕ) → In x (members_owned_by st s r) → (0 ≡ x → ⊥) × (joiner st s (pos x) ≡ Ok x)
   member_by (Ok m) x h = A.members s m x inside h
   member_by (Err e) x h = absurd h
 
-  companions_by : (r : Result ℕ FaultKind) (x : ℕ) → In x (owned_by st s r) → companions st.lists s x ≡ owned_by st s r
+  companions_by : (r : Result ℕ FaultKind) (x : ℕ) → In x (members_owned_by st s r) → companions st.lists s x ≡ members_owned_by st s r
   companions_by (Ok m) x h = ap (members_by st.lists s) (A.sole s m x inside h)
   companions_by (Err e) x h = absurd h
 
@@ -126,7 +126,7 @@ reached_member all member y e h =
     (s.0, s.1, s.2, s.3, sym (ap (λ m. onward m all) (e ∙ ap Some s.3)) ∙ s.2)
 
 module _ (st : State) (s : ℕ) (f : Option ℤ) where
-  ok_by : (r : Result ℕ FaultKind) → Ok f ≡ and_then (and_then r (λ n. Ok (pos (head0 (members_of st.lists s n))))) (λ y. Ok (as_member y)) → IsOk r × (f ≡ as_member (pos (head0 (owned_by st s r))))
+  ok_by : (r : Result ℕ FaultKind) → Ok f ≡ and_then (and_then r (λ n. Ok (pos (head0 (members_of st.lists s n))))) (λ y. Ok (as_member y)) → IsOk r × (f ≡ as_member (pos (head0 (members_owned_by st s r))))
   ok_by (Ok m) h = let q : f ≡ as_member (pos (head0 (members_of st.lists s m))) = cc in (refl, q)
   ok_by (Err e) h = cc
 

@@ -3,13 +3,13 @@ use Rattle.std.specs.Prelude.{◌≡◌, ◌^◌, ◌-◌, [], ◌∷◌, ℤ, p
 use Rattle.std.proofs.Common.{refl}
 use Rattle.ss_base.specs.declared.fault.FaultKind.TheVariants.{Overflow}
 use Rattle.ss_base.specs.Arithmetic.{in_64_bits}
-use Rattle.ss_stats.specs.History.{History, Tally, Accumulate, number_of, sum_of, mean_of, maximum_of, minimum_of, with_value, restarted}
+use Rattle.ss_stats.specs.History.{History, Tally, Accumulate, number_noted, sum_of, mean_of, maximum_of, minimum_of, with_value, restarted}
 
 -- a variable that is given 4, -2 and 7
 abbrev pub three_values : History
 three_values = Tally (pos 4 ∷ negsuc 1 ∷ pos 7 ∷ [])
 
-pub three_values-number : number_of three_values (pos 0) ≡ pos 3
+pub three_values-number : number_noted three_values (pos 0) ≡ pos 3
 three_values-number = refl
 
 pub three_values-sum : sum_of three_values (pos 0) ≡ Ok (pos 9)
@@ -30,7 +30,7 @@ pub three_values-minimum : minimum_of three_values ≡ negsuc 1
 three_values-minimum = refl
 
 -- a reset leaves none of them
-pub none-number : number_of (restarted three_values (pos 0) (pos 7)) (pos 0) ≡ pos 0
+pub none-number : number_noted (restarted three_values (pos 0) (pos 7)) (pos 0) ≡ pos 0
 none-number = refl
 
 abbrev pub nothing_of_none : ℤ × ℤ
@@ -47,7 +47,7 @@ abbrev pub two_changes : History
 two_changes =
     with_value (with_value (Accumulate (record { moment = pos 0; value = pos 0 }) []) (pos 0) (pos 2)) (pos 5) (pos 4)
 
-pub two_changes-number : number_of two_changes (pos 10) ≡ pos 10
+pub two_changes-number : number_noted two_changes (pos 10) ≡ pos 10
 two_changes-number = refl
 
 -- 5 units of time with 2, and 5 with 4
@@ -69,7 +69,7 @@ pub two_changes-minimum : minimum_of two_changes ≡ pos 0
 two_changes-minimum = refl
 
 -- a reset at moment 7 leaves the present value alone
-pub reset_between-number : number_of (restarted two_changes (pos 7) (pos 4)) (pos 10) ≡ pos 3
+pub reset_between-number : number_noted (restarted two_changes (pos 7) (pos 4)) (pos 10) ≡ pos 3
 reset_between-number = refl
 
 pub reset_between-sum : sum_of (restarted two_changes (pos 7) (pos 4)) (pos 10) ≡ Ok (pos 12)

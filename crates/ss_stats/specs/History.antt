@@ -31,9 +31,9 @@ last_moment (Accumulate start changes) = (last_of start changes).moment
 -- ---- the statistics
 
 -- NUMBER: how many values were noted, or the time since the start
-abbrev pub number_of : History → ℤ → ℤ
-number_of (Tally values) now = pos (length values)
-number_of (Accumulate start changes) now = now -ℤ start.moment
+abbrev pub number_noted : History → ℤ → ℤ
+number_noted (Tally values) now = pos (length values)
+number_noted (Accumulate start changes) now = now -ℤ start.moment
 
 -- each value times the time for which the variable had it, the last one until now
 abbrev pub weighed_sum : Change → List Change → ℤ → ℤ
@@ -48,7 +48,7 @@ exact_sum_of (Accumulate start changes) now = weighed_sum start changes now
 
 -- MEAN: the exact sum, and the NUMBER by which it is divided where it is printed
 abbrev pub mean_of : History → ℤ → ℤ × ℤ
-mean_of history now = (exact_sum_of history now, number_of history now)
+mean_of history now = (exact_sum_of history now, number_noted history now)
 
 -- SUM: the exact sum, or an overflow
 abbrev pub sum_of : History → ℤ → Result ℤ FaultKind

@@ -1,5 +1,5 @@
 ghost use Rattle.std.specs.Prelude.{◌≡◌, ◌↔◌, ◌^◌, ℤ, pos, neg_ℤ, ◌*ℤ◌, ◌≤ℤ◌, [], OnOk, OnErr, IsTrue};
-ghost use Rattle.ss_stats.specs.History.{History, Tally, Accumulate, number_of, sum_of, exact_sum_of, mean_of, maximum_of, minimum_of, note_outcome, with_value, restarted};
+ghost use Rattle.ss_stats.specs.History.{History, Tally, Accumulate, number_noted, sum_of, exact_sum_of, mean_of, maximum_of, minimum_of, note_outcome, with_value, restarted};
 ghost use Rattle.ss_stats.specs.Summary.{IsSummaryOf, times_until};
 ghost use Rattle.ss_stats.specs.declared.totals.Weighing.TheVariants.{Once};
 
@@ -140,7 +140,7 @@ impl Totals {
     /// NUMBER: how many values were noted, or how long ago the start was.
     pub fn number(&self, now: i64) -> i64
         requires { self.now.last_moment ≤ℤ now }
-        ensures { (h : History) → IsSummaryOf self.now h → result ≡ number_of h now }
+        ensures { (h : History) → IsSummaryOf self.now h → result ≡ number_noted h now }
     {
         self.times(now)
     }
@@ -203,7 +203,7 @@ impl Totals {
     /// How often a value went into the sum until now: once for each that was noted, or once for each unit of time.
     fn times(&self, now: i64) -> i64
         requires { self.now.last_moment ≤ℤ now }
-        ensures value { (h : History) → IsSummaryOf self.now h → result ≡ number_of h now }
+        ensures value { (h : History) → IsSummaryOf self.now h → result ≡ number_noted h now }
         ensures times { result ≡ times_until self.now.weighing now }
         ensures count { pos 0 ≤ℤ result }
     {

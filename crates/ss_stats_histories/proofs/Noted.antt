@@ -15,7 +15,7 @@ use Rattle.ss_program.specs.declared.sections.Subject.{Subject}
 use Rattle.ss_program.specs.declared.sections.Statistic.{Statistic}
 use Rattle.ss_meaning.specs.Values.{Trouble, Misfit, if_ok, turned, due, sure, unless_fault}
 use Rattle.ss_meaning.specs.Store.{Column}
-use Rattle.ss_meaning.specs.Histories.{starting, ending, noting_in, all_noting, with_history, history_of, folded, renewed}
+use Rattle.ss_meaning.specs.Histories.{starting, ending, noting_in, all_noting, with_history, history_of_subject, folded, renewed}
 use Rattle.ss_stats_histories.specs.declared.unnoted.Unnoted.{Unnoted}
 use Rattle.ss_stats_histories.specs.declared.unnoted.Unnoted.TheVariants.{Full}
 use Rattle.ss_stats_histories.specs.declared.unnoted.Unnoted.TheVariants as unnoted
@@ -300,13 +300,13 @@ some_there : (n k : Recorded) → Some n ≡ Some k → n ≡ k
 some_there n k e = cc
 
 pub figure_there : (fold : Fold) (x now : ℤ) (ks : List Recorded) (j : ℕ) (k : Recorded) → slice_get ks j ≡ Some k →
-    if_ok (history_of j x (columns_of (rows_of ks))) (folded fold now) ≡ figured (option_map (figure_of fold now) (column_of k.rows x))
+    if_ok (history_of_subject j x (columns_of (rows_of ks))) (folded fold now) ≡ figured (option_map (figure_of fold now) (column_of k.rows x))
 figure_there fold x now [] j k e = absurd (none_there k e)
 figure_there fold x now (n ∷ ns) zero k e =
     asked_in fold now (column_of n.rows x) ∙ ap (λ (r : Recorded). figured (option_map (figure_of fold now) (column_of r.rows x))) (some_there n k e)
 figure_there fold x now (n ∷ ns) (suc j) k e = figure_there fold x now ns j k e
 
-pub figure_nowhere : (fold : Fold) (x now : ℤ) (ks : List Recorded) (j : ℕ) → slice_get ks j ≡ None → if_ok (history_of j x (columns_of (rows_of ks))) (folded fold now) ≡ Err Misfit
+pub figure_nowhere : (fold : Fold) (x now : ℤ) (ks : List Recorded) (j : ℕ) → slice_get ks j ≡ None → if_ok (history_of_subject j x (columns_of (rows_of ks))) (folded fold now) ≡ Err Misfit
 figure_nowhere fold x now [] j e = refl
 figure_nowhere fold x now (n ∷ ns) zero e = absurd (none_there n (sym e))
 figure_nowhere fold x now (n ∷ ns) (suc j) e = figure_nowhere fold x now ns j e

@@ -31,10 +31,10 @@ abbrev pub cell_at : List (List (List ℕ)) → ℕ → ℕ → List ℕ
 cell_at tables j k = row_at (table_in (slice_get tables j)) k
 
 -- what tables of variables, of attributes and of sets have of a subject
-abbrev pub found : Subject → (variables : List (List ℕ)) → (attributes : List (List (List ℕ))) → (sets : List (List ℕ)) → List ℕ
-found (OfVariable k) variables attributes sets = row_at variables k
-found (OfAttribute class field) variables attributes sets = cell_at attributes class field
-found (OfCount set) variables attributes sets = row_at sets set
+abbrev pub place_found : Subject → (variables : List (List ℕ)) → (attributes : List (List (List ℕ))) → (sets : List (List ℕ)) → List ℕ
+place_found (OfVariable k) variables attributes sets = row_at variables k
+place_found (OfAttribute class field) variables attributes sets = cell_at attributes class field
+place_found (OfCount set) variables attributes sets = row_at sets set
 
 -- whether there is one
 abbrev pub has_some : List ℕ → Bool

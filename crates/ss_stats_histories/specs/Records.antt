@@ -14,10 +14,10 @@ use Rattle.ss_program.specs.declared.expression.Fold.TheVariants.{Number, Sum, M
 use Rattle.ss_program.specs.declared.sections.Subject.{Subject}
 use Rattle.ss_program.specs.declared.sections.Subject.TheVariants.{OfCount}
 use Rattle.ss_program.specs.declared.sections.Statistic.{Statistic}
-use Rattle.ss_stats.specs.History.{History, last_moment, number_of, sum_of, mean_of, maximum_of, minimum_of, is_full, with_value, restarted}
+use Rattle.ss_stats.specs.History.{History, last_moment, number_noted, sum_of, mean_of, maximum_of, minimum_of, is_full, with_value, restarted}
 use Rattle.ss_meaning.specs.Values.{Trouble, Fails, Misfit, turned, due}
 use Rattle.ss_meaning.specs.Store.{Column}
-use Rattle.ss_meaning.specs.Histories.{history_of, with_history, all_noting, home, same_owner, starting, ending}
+use Rattle.ss_meaning.specs.Histories.{history_of_subject, with_history, all_noting, home, same_owner, starting, ending}
 use Rattle.ss_stats_histories.specs.Places.{places, is_about}
 use Rattle.ss_stats_histories.specs.declared.unnoted.Unnoted.{Unnoted}
 use Rattle.ss_stats_histories.specs.declared.unnoted.Unnoted.TheVariants.{Full}
@@ -25,7 +25,7 @@ use Rattle.ss_stats_histories.specs.declared.unnoted.Unnoted.TheVariants as unno
 
 -- what is asked of a history, as a number
 abbrev pub figure_of : Fold → (now : ℤ) → History → Result ℤ FaultKind
-figure_of Number now h = Ok (number_of h now)
+figure_of Number now h = Ok (number_noted h now)
 figure_of Sum now h = sum_of h now
 figure_of Maximum now h = Ok (maximum_of h)
 figure_of Minimum now h = Ok (minimum_of h)
@@ -134,7 +134,7 @@ figured (Some answer) = turned Whole (due answer)
 
 -- the mean of the history of a statistic of an entity, now: its exact sum and its number
 abbrev pub mean_in : (statistic : ℕ) → (entity now : ℤ) → List Column → Result (ℤ × ℤ) Trouble
-mean_in j x now cs = turned (λ h. mean_of h now) (history_of j x cs)
+mean_in j x now cs = turned (λ h. mean_of h now) (history_of_subject j x cs)
 
 -- the histories once one was started afresh, where there is one to start
 abbrev pub renewed_where : Bool → List Column → Result (List Column) Trouble

@@ -4,7 +4,7 @@ ghost use Rattle.std.specs.Prelude.{◌≡◌, ℕ, true, ◌++◌, ◌∷◌, [
 ghost use Rattle.ss_meaning.specs.Histories.{same_subject};
 ghost use Rattle.ss_program.specs.declared.sections.Subject.{Subject as TheSubject};
 ghost use Rattle.ss_program.specs.declared.sections.Subject.TheVariants.{OfAttribute, OfCount};
-ghost use Rattle.ss_stats_histories.specs.Places.{places, is_about, found};
+ghost use Rattle.ss_stats_histories.specs.Places.{places, is_about, place_found};
 
 use crate::table::{Grid, Table};
 use ss_program::sections::{Statistic, Subject};
@@ -21,7 +21,7 @@ struct Tables {
 
 impl Tables {
     fn new(alloc: Global) -> Tables
-        ensures { (s : TheSubject) → found s result.variables result.attributes result.sets ≡ [] }
+        ensures { (s : TheSubject) → place_found s result.variables result.attributes result.sets ≡ [] }
     {
         Tables {
             variables: Table::new(alloc),
@@ -33,7 +33,7 @@ impl Tables {
     /// The numbers under a subject.
     #[inline(always)]
     fn at(&self, subject: Subject) -> &[usize]
-        ensures { result.now ≡ found subject self.now.variables self.now.attributes self.now.sets }
+        ensures { result.now ≡ place_found subject self.now.variables self.now.attributes self.now.sets }
     {
         match subject {
             Subject::OfVariable { number } => self.variables.at(number as usize),
@@ -47,7 +47,7 @@ impl Tables {
     /// The numbers under an attribute of a class.
     #[inline(always)]
     fn at_attribute(&self, class: usize, field: usize) -> &[usize]
-        ensures { result.now ≡ found (OfAttribute class field) self.now.variables self.now.attributes self.now.sets }
+        ensures { result.now ≡ place_found (OfAttribute class field) self.now.variables self.now.attributes self.now.sets }
     {
         self.attributes.at(class, field)
     }
@@ -55,7 +55,7 @@ impl Tables {
     /// The numbers under N. of a set.
     #[inline(always)]
     fn at_count(&self, set: usize) -> &[usize]
-        ensures { result.now ≡ found (OfCount set) self.now.variables self.now.attributes self.now.sets }
+        ensures { result.now ≡ place_found (OfCount set) self.now.variables self.now.attributes self.now.sets }
     {
         self.sets.at(set)
     }
@@ -70,7 +70,7 @@ impl Tables {
 
     /// Puts one number more under a subject. The error comes where memory was refused.
     fn add(&mut self, alloc: Global, subject: Subject, place: usize) -> Result<(), AllocError>
-        ensures { OnOk result ((s : TheSubject) → found s self.new.variables self.new.attributes self.new.sets ≡ (if same_subject subject s then found s self.old.variables self.old.attributes self.old.sets ++ place ∷ [] else found s self.old.variables self.old.attributes self.old.sets)) }
+        ensures { OnOk result ((s : TheSubject) → place_found s self.new.variables self.new.attributes self.new.sets ≡ (if same_subject subject s then place_found s self.old.variables self.old.attributes self.old.sets ++ place ∷ [] else place_found s self.old.variables self.old.attributes self.old.sets)) }
     {
         match subject {
             Subject::OfVariable { number } => self.variables.add(alloc, number as usize, place),
@@ -94,13 +94,13 @@ impl Model for About {
     ghost use Rattle.std.specs.Prelude.{◌≡◌, List};
     ghost use Rattle.ss_program.specs.declared.sections.Statistic.{Statistic};
     ghost use Rattle.ss_program.specs.declared.sections.Subject.{Subject};
-    ghost use Rattle.ss_stats_histories.specs.Places.{places, is_about, found};
+    ghost use Rattle.ss_stats_histories.specs.Places.{places, is_about, place_found};
 
     ghost Value = { List Statistic };
 
     ghost view = { λ a. a.statistics.items };
 
-    ghost invariant = { λ a. (s : Subject) → found s a.tables.variables a.tables.attributes a.tables.sets ≡ places (is_about s) a.statistics.items };
+    ghost invariant = { λ a. (s : Subject) → place_found s a.tables.variables a.tables.attributes a.tables.sets ≡ places (is_about s) a.statistics.items };
 }
 
 impl About {
@@ -151,7 +151,7 @@ impl About {
 
 // The places of the statistics of each subject.
 fn tables_of(alloc: Global, statistics: &[Statistic]) -> Result<Tables, AllocError>
-    ensures { IfOk result (λ t. (s : TheSubject) → found s t.variables t.attributes t.sets ≡ places (is_about s) statistics.now) }
+    ensures { IfOk result (λ t. (s : TheSubject) → place_found s t.variables t.attributes t.sets ≡ places (is_about s) statistics.now) }
 {
     let mut tables = Tables::new(alloc);
     for (place, statistic) in statistics.iter().enumerate() {

@@ -14,7 +14,7 @@ ghost use Rattle.ss_program.specs.declared.sections.Subject.{Subject as TheSubje
 ghost use Rattle.ss_program.specs.declared.sections.Subject.TheVariants.{OfVariable, OfAttribute, OfCount};
 ghost use Rattle.ss_picture.specs.Suited.{IsMean};
 ghost use Rattle.ss_meaning.specs.Values.{if_ok, sure};
-ghost use Rattle.ss_meaning.specs.Histories.{no_histories, starting, ending, all_noting, history_of, folded, renewed};
+ghost use Rattle.ss_meaning.specs.Histories.{no_histories, starting, ending, all_noting, history_of_subject, folded, renewed};
 ghost use Rattle.ss_stats_histories.specs.Records.{columns_of, statistics_of, rows_of, figured, mean_in, HasRooms, IsOnly, OwnsNone, Spares, Takes, is_up_to, why, renewed_where};
 ghost use Rattle.ss_stats_histories.specs.Each.{KeptUntil};
 ghost use Rattle.ss_stats_histories.specs.Places.{is_about, places as places_of};
@@ -255,7 +255,7 @@ impl Histories {
         now: i64,
     ) -> Option<Result<i64, FaultKind>>
         requires { self.now.latest ≤ℤ now }
-        ensures { if_ok (history_of statistic entity (columns_of self.now.rows)) (folded fold now) ≡ figured result }
+        ensures { if_ok (history_of_subject statistic entity (columns_of self.now.rows)) (folded fold now) ≡ figured result }
     {
         match self.kept.get(statistic) {
             Some(kept) => kept.figure(fold, entity, now),

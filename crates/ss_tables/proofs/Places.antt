@@ -6,8 +6,8 @@ use Rattle.std.specs.Cmp.Lexicographic.{bytes_decides}
 use Rattle.std.proofs.lemmas.List.Quantifiers.{position-Some}
 use Rattle.std.proofs.lemmas.Option.{slice_get-get_or}
 use Rattle.ss_tree.specs.Tree.{ProgramTree}
-use Rattle.ss_names_declarations.specs.Sayings.{NameBytes}
-use Rattle.ss_names.specs.declared.meaning.Meaning.{Meaning}
+use Rattle.ss_tree.specs.Names.{NameBytes}
+use Rattle.ss_names.specs.declared.meaning.GlobalMeaning.{GlobalMeaning}
 use Rattle.ss_names.specs.declared.names.NameId.{NameId}
 use Rattle.ss_names_declarations.specs.Firsts.{place_among, place_in, same_name}
 use Rattle.ss_names.specs.Laws.{NamesHaveOneEntry}
@@ -19,7 +19,7 @@ is_there names name n h =
     let same : name ≡ get_or names n [] = (bytes_decides name (get_or names n [])).0 p.1 in
     slice_get-get_or names n [] p.0 ∙ ap (λ x. Some x) (sym same)
 
-pub found_is_there : (found : Option NameId) (entries : List (NameBytes × Meaning)) (name : NameBytes) →
+pub found_is_there : (found : Option NameId) (entries : List (NameBytes × GlobalMeaning)) (name : NameBytes) →
     option_map (λ id. id.0) found ≡ place_in entries name → IfSome found (λ id. slice_get (keys_of entries) id.0 ≡ Some name)
 found_is_there None entries name h = tt
 found_is_there (Some id) entries name h = is_there (keys_of entries) name id.0 (sym h)

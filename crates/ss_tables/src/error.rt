@@ -2,10 +2,10 @@
 
 ghost use Rattle.std.specs.Prelude.{◌≡◌, Some};
 ghost use Rattle.ss_tables.specs.declared.error.TableError.TheVariants.{Memory};
-ghost use Rattle.ss_tables.specs.Tables.{Reports};
+ghost use Rattle.ss_tables.specs.Tables.{ReportsTableError};
 
 use ss_base::Line;
-use ss_tables_rules::{Broken, Rule};
+use ss_tables_rules::{BrokenDeclaration, DeclarationRule};
 use std::alloc::AllocError;
 use thiserror::Error;
 
@@ -56,19 +56,19 @@ impl From<AllocError> for TableError {
 }
 
 // The error of a program that breaks this rule first.
-pub(crate) fn error_of(broken: Broken) -> TableError
-    ensures { Reports result (Some broken) }
+pub(crate) fn error_of(broken: BrokenDeclaration) -> TableError
+    ensures { ReportsTableError result (Some broken) }
 {
     match broken.rule {
-        Rule::Twice => TableError::Twice(broken.line),
-        Rule::RealMode => TableError::RealMode(broken.line),
-        Rule::UnknownClass => TableError::UnknownClass(broken.line),
-        Rule::UnknownSet => TableError::UnknownSet(broken.line),
-        Rule::NoOwner => TableError::NoOwner(broken.line),
-        Rule::NoMember => TableError::NoMember(broken.line),
-        Rule::RankKey => TableError::RankKey(broken.line),
-        Rule::TallyTwice => TableError::TallyTwice(broken.line),
-        Rule::TooMany => TableError::TooMany(broken.line),
-        Rule::TieKey => TableError::TieKey(broken.line),
+        DeclarationRule::Twice => TableError::Twice(broken.line),
+        DeclarationRule::RealMode => TableError::RealMode(broken.line),
+        DeclarationRule::UnknownClass => TableError::UnknownClass(broken.line),
+        DeclarationRule::UnknownSet => TableError::UnknownSet(broken.line),
+        DeclarationRule::NoOwner => TableError::NoOwner(broken.line),
+        DeclarationRule::NoMember => TableError::NoMember(broken.line),
+        DeclarationRule::RankKey => TableError::RankKey(broken.line),
+        DeclarationRule::TallyTwice => TableError::TallyTwice(broken.line),
+        DeclarationRule::TooMany => TableError::TooMany(broken.line),
+        DeclarationRule::TieKey => TableError::TieKey(broken.line),
     }
 }

@@ -3,11 +3,11 @@
 ghost use Rattle.std.specs.Prelude.{◌≡◌, ◌<◌, length, map, slice_get, option_map, Some, None, IfSome, IfOk, IfErr, OnOk};
 ghost use Rattle.std.specs.Map.{keys_of};
 ghost use Rattle.ss_tree.specs.View.{view_program, view_section};
-ghost use Rattle.ss_tables_rules.specs.Broken.{refusal, refusal_by};
+ghost use Rattle.ss_tables_rules.specs.Broken.{refusal_of_declarations, refusal_by};
 ghost use Rattle.ss_names_declarations.specs.Firsts.{place_in};
 ghost use Rattle.ss_names.specs.Table.{declared};
 ghost use Rattle.ss_names_meaning.specs.Layouts.{layout};
-ghost use Rattle.ss_tables.specs.Tables.{AreTables, AreTablesOf, Reports};
+ghost use Rattle.ss_tables.specs.Tables.{AreTables, AreTablesOf, ReportsTableError};
 
 use crate::error::{TableError, error_of};
 use ss_base::Layout;
@@ -44,7 +44,7 @@ impl Model for Tables {
 fn names_of(alloc: Global, sayings: &[Saying], sections: &[Section]) -> Result<Names, TableError>
     ensures kept { OnOk result (refusal_by sayings.now (map view_section sections.now) ≡ None) }
     ensures made { IfOk result (λ names. names ≡ declared sayings.now) }
-    ensures refused { IfErr result (λ e. Reports e (refusal_by sayings.now (map view_section sections.now))) }
+    ensures refused { IfErr result (λ e. ReportsTableError e (refusal_by sayings.now (map view_section sections.now))) }
 {
     let seed = seed_of(sayings);
     match refusal_of(alloc, seed, sayings, sections)? {
@@ -61,7 +61,7 @@ impl Tables {
     /// with the line of the first place where it does; `Memory` where memory is refused.
     pub fn of(alloc: Global, program: &Program) -> Result<Tables, TableError>
         ensures made { IfOk result (λ t. AreTablesOf (view_program program.now) t) }
-        ensures refused { IfErr result (λ e. Reports e (refusal (view_program program.now))) }
+        ensures refused { IfErr result (λ e. ReportsTableError e (refusal_of_declarations (view_program program.now))) }
     {
         let sayings = sayings_of(alloc, program)?;
         let names = names_of(alloc, &sayings, &program.sections)?;

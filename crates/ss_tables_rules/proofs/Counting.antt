@@ -7,14 +7,15 @@ use Rattle.std.proofs.lemmas.List.{take_more}
 use Rattle.std.proofs.lemmas.List.Sums.{fold-append, sum_by-append, sum_by-cons}
 use Rattle.ss_base.specs.declared.line.Line.{Line}
 use Rattle.ss_names_declarations.specs.declared.saying.Saying.{Saying}
-use Rattle.ss_names_declarations.specs.Sayings.{NameBytes}
+use Rattle.ss_tree.specs.Names.{NameBytes}
 use Rattle.ss_names_declarations.specs.Firsts.{same_name}
 use Rattle.ss_tables_rules.specs.Laws.{LaterLinesGrow}
-use Rattle.ss_tables_rules.specs.Lines.{sooner, soonest, line_if, later_lines}
-use Rattle.ss_tables_rules.specs.TooMany.{attribute_class, is_of, is_past}
+use Rattle.ss_base.specs.Lines.{line_if}
+use Rattle.ss_tables_rules.specs.Lines.{sooner, soonest, later_lines}
+use Rattle.ss_tables_rules.specs.TooMany.{attribute_class, is_attribute_of, is_past}
 use Rattle.ss_tables_rules.specs.Topics.{line_of}
 use Rattle.ss_tables_rules.specs.declared.too_many.Counts.{Counts}
-use Rattle.ss_tables_rules.specs.Counts.{count_of, AreCounts, CountsOne}
+use Rattle.ss_tables_rules.specs.Counts.{attributes_counted, AreCounts, CountsOne}
 
 count_last : {A : Type 0} (p : A → Bool) (xs : List A) (x : A) (b : Bool) → p x ≡ b → count_by p (xs ++ x ∷ []) ≡ count_by p xs + cond b 1 0
 count_last p xs x b e =
@@ -25,22 +26,22 @@ other_class a b false e h = e
 other_class a b true e h =
     absurd (let back : same_name a b ≡ true = (bytes_decides a b).1 (sym ((bytes_decides b a).0 e)) in cc)
 
-counted_if : (says : List Saying) (s : Saying) (class other : NameBytes) (kept : NameBytes → ℕ) (same : Bool) → attribute_class s.said ≡ Some class → same_name class other ≡ same → ((c : NameBytes) → kept c ≡ min 64 (count_by (is_of c) says)) → cond same (min 64 (kept class + 1)) (kept other) ≡ min 64 (count_by (is_of other) (says ++ s ∷ []))
+counted_if : (says : List Saying) (s : Saying) (class other : NameBytes) (kept : NameBytes → ℕ) (same : Bool) → attribute_class s.said ≡ Some class → same_name class other ≡ same → ((c : NameBytes) → kept c ≡ min 64 (count_by (is_attribute_of c) says)) → cond same (min 64 (kept class + 1)) (kept other) ≡ min 64 (count_by (is_attribute_of other) (says ++ s ∷ []))
 counted_if says s class other kept true is_given e h =
     let is = (bytes_decides class other).0 e in
-    let P : NameBytes → Type 0 = λ c. min 64 (kept class + 1) ≡ min 64 (count_by (is_of c) (says ++ s ∷ [])) in
+    let P : NameBytes → Type 0 = λ c. min 64 (kept class + 1) ≡ min 64 (count_by (is_attribute_of c) (says ++ s ∷ [])) in
     let k = h class in
-    let n = count_last (is_of class) says s true (ap (λ o. option_eq same_name (Some class) o) is_given ∙ (bytes_decides class class).1 refl) in
-    let here : min 64 (kept class + 1) ≡ min 64 (count_by (is_of class) (says ++ s ∷ [])) = omega (arith, k, n) in
+    let n = count_last (is_attribute_of class) says s true (ap (λ o. option_eq same_name (Some class) o) is_given ∙ (bytes_decides class class).1 refl) in
+    let here : min 64 (kept class + 1) ≡ min 64 (count_by (is_attribute_of class) (says ++ s ∷ [])) = omega (arith, k, n) in
     subst P is here
 counted_if says s class other kept false is_given e h =
-    let n = count_last (is_of other) says s false (ap (λ o. option_eq same_name (Some other) o) is_given ∙ other_class class other (same_name other class) refl e) in
-    h other ∙ ap (min 64) (sym (add-zero (count_by (is_of other) says))) ∙ ap (min 64) (sym n)
+    let n = count_last (is_attribute_of other) says s false (ap (λ o. option_eq same_name (Some other) o) is_given ∙ other_class class other (same_name other class) refl e) in
+    h other ∙ ap (min 64) (sym (add-zero (count_by (is_attribute_of other) says))) ∙ ap (min 64) (sym n)
 
 -- an attribute of this class
 pub counted : (says : List Saying) (s : Saying) (class : NameBytes) (old new : Counts) → attribute_class s.said ≡ Some class → CountsOne class old new → AreCounts says old → AreCounts (says ++ s ∷ []) new
 counted says s class old new is_given one h =
-    λ other. one other ∙ counted_if says s class other (count_of old) (same_name class other) is_given refl h
+    λ other. one other ∙ counted_if says s class other (attributes_counted old) (same_name class other) is_given refl h
 
 -- ---- the next of some sayings
 

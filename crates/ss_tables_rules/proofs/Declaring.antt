@@ -7,12 +7,13 @@ use Rattle.std.specs.Cmp.Lexicographic.{bytes_decides}
 use Rattle.std.proofs.lemmas.List.{append-nil, flat_map_more}
 use Rattle.ss_base.specs.declared.line.Line.{Line}
 use Rattle.ss_names_declarations.specs.declared.saying.Saying.{Saying}
-use Rattle.ss_names_declarations.specs.Sayings.{NameBytes}
+use Rattle.ss_tree.specs.Names.{NameBytes}
 use Rattle.ss_tables_rules.specs.declared.globals.Standing.{Standing}
-use Rattle.ss_tables_rules.specs.declared.globals.Globals.{Globals}
+use Rattle.ss_tables_rules.specs.declared.globals.DeclaredNames.{DeclaredNames}
 use Rattle.ss_tables_rules.specs.Declarations.{Declaration, declares, standing_declared, standing_of, saying_declares}
-use Rattle.ss_tables_rules.specs.Globals.{IsGlobalsOf, Adds, found_in}
-use Rattle.ss_tables_rules.specs.Lines.{soonest, first_line, line_if}
+use Rattle.ss_tables_rules.specs.Globals.{IsGlobalsOf, AddsDeclarations, kind_by_name}
+use Rattle.ss_base.specs.Lines.{line_if}
+use Rattle.ss_tables_rules.specs.Lines.{soonest, first_line}
 use Rattle.ss_names_declarations.specs.Firsts.{same_name}
 use Rattle.ss_tables_rules.specs.Twice.{is_another, is_clash, declared_at, clashes}
 use Rattle.ss_tables_rules.proofs.Finding.{take_next, later_more, soonest_both}
@@ -62,14 +63,14 @@ clash_last ds d found old h e =
     ap first_line (sym (later_more declared_at is_clash ds d))
 
 -- a name that is declared first
-pub declared_new : (old new : Globals) (d : Declaration) → found_in old d.name ≡ None → new.map ≡ old.map ++ (d.name, d.standing) ∷ [] → new.clash ≡ old.clash → (ds : List Declaration) → IsGlobalsOf ds old → IsGlobalsOf (ds ++ d ∷ []) new
+pub declared_new : (old new : DeclaredNames) (d : Declaration) → kind_by_name old d.name ≡ None → new.map ≡ old.map ++ (d.name, d.standing) ∷ [] → new.clash ≡ old.clash → (ds : List Declaration) → IsGlobalsOf ds old → IsGlobalsOf (ds ++ d ∷ []) new
 declared_new old new d none is same ds h = record {
   standing = λ name. ap (lookup (same_name name)) is ∙ entry_last (same_name name) old.map d.name d.standing ∙ ap (λ o. option_or o (cond (same_name name d.name) (Some d.standing) None)) (h.standing name) ∙ sym (standing_last ds d name);
   clash = same ∙ clash_last ds d old.clash None h.clash (sym none ∙ h.standing d.name);
 }
 
 -- a name that is declared again
-pub declared_again : (old new : Globals) (d : Declaration) (known : Standing) → found_in old d.name ≡ Some known → new.map ≡ old.map → new.clash ≡ soonest old.clash (line_if (is_another (Some known) d.standing) d.line) → (ds : List Declaration) → IsGlobalsOf ds old → IsGlobalsOf (ds ++ d ∷ []) new
+pub declared_again : (old new : DeclaredNames) (d : Declaration) (known : Standing) → kind_by_name old d.name ≡ Some known → new.map ≡ old.map → new.clash ≡ soonest old.clash (line_if (is_another (Some known) d.standing) d.line) → (ds : List Declaration) → IsGlobalsOf ds old → IsGlobalsOf (ds ++ d ∷ []) new
 declared_again old new d known some same is ds h = record {
   standing = λ name. ap (lookup (same_name name)) same ∙ entry_known same_name (λ a b. (bytes_decides a b).0) old.map d.name name d.standing known (same_name name d.name) refl some ∙ ap (λ o. option_or o (cond (same_name name d.name) (Some d.standing) None)) (h.standing name) ∙ sym (standing_last ds d name);
   clash = is ∙ clash_last ds d old.clash (Some known) h.clash (sym some ∙ h.standing d.name);
@@ -77,18 +78,18 @@ declared_again old new d known some same is ds h = record {
 
 -- ---- several declarations
 
-pub declared_nothing : (g : Globals) (ds : List Declaration) → IsGlobalsOf ds g → IsGlobalsOf (ds ++ []) g
+pub declared_nothing : (g : DeclaredNames) (ds : List Declaration) → IsGlobalsOf ds g → IsGlobalsOf (ds ++ []) g
 declared_nothing g ds h = subst (λ (l : List Declaration). IsGlobalsOf l g) (sym (append-nil ds)) h
 
 -- the next of some sayings
-pub next_declared : (declare : Saying → List Declaration) (xs : List Saying) (i : ℕ) (x : Saying) (old new : Globals) → i < length xs → x ≡ get_or xs i x → IsGlobalsOf (flat_map declare (take i xs)) old → ((ds : List Declaration) → IsGlobalsOf ds old → IsGlobalsOf (ds ++ declare x) new) → IsGlobalsOf (flat_map declare (take (i + 1) xs)) new
+pub next_declared : (declare : Saying → List Declaration) (xs : List Saying) (i : ℕ) (x : Saying) (old new : DeclaredNames) → i < length xs → x ≡ get_or xs i x → IsGlobalsOf (flat_map declare (take i xs)) old → ((ds : List Declaration) → IsGlobalsOf ds old → IsGlobalsOf (ds ++ declare x) new) → IsGlobalsOf (flat_map declare (take (i + 1) xs)) new
 next_declared declare xs i x old new lt is h note =
     subst (λ (l : List Declaration). IsGlobalsOf l new) (flat_map_more declare [] (take i xs) x ∙ ap (flat_map declare) (sym (take_next xs i x lt is))) (note (flat_map declare (take i xs)) h)
 
 -- some, and then some more
-pub adds_both : (xs ys : List Declaration) (a b c : Globals) → Adds xs a b → Adds ys b c → Adds (xs ++ ys) a c
+pub adds_both : (xs ys : List Declaration) (a b c : DeclaredNames) → AddsDeclarations xs a b → AddsDeclarations ys b c → AddsDeclarations (xs ++ ys) a c
 adds_both xs ys a b c f g ds h = subst (λ (l : List Declaration). IsGlobalsOf l c) (append_assoc ds xs ys) (g (ds ++ xs) (f ds h))
 
 -- the attributes are those of the sayings
-pub same_declared : (g : Globals) (says : List Saying) (known is : NameBytes → Bool) → known ≡ is → IsGlobalsOf (flat_map (saying_declares known) says) g → IsGlobalsOf (flat_map (saying_declares is) says) g
+pub same_declared : (g : DeclaredNames) (says : List Saying) (known is : NameBytes → Bool) → known ≡ is → IsGlobalsOf (flat_map (saying_declares known) says) g → IsGlobalsOf (flat_map (saying_declares is) says) g
 same_declared g says known is e h = subst (λ (f : NameBytes → Bool). IsGlobalsOf (flat_map (saying_declares f) says) g) e h

@@ -3,7 +3,8 @@ use Rattle.std.proofs.Common.{◌≡◌, append_assoc, ℕ, ◌+◌, ◌<◌, Bo
 use Rattle.std.proofs.lemmas.List.{append-nil, take_more, flat_map_more}
 use Rattle.std.proofs.lemmas.List.Sums.{fold-append}
 use Rattle.ss_base.specs.declared.line.Line.{Line}
-use Rattle.ss_tables_rules.specs.Lines.{sooner, soonest, line_if, lines_where, lines_after, later_lines}
+use Rattle.ss_base.specs.Lines.{line_if}
+use Rattle.ss_tables_rules.specs.Lines.{sooner, soonest, lines_where, lines_after, later_lines}
 
 pub take_next : {A : Type 0} (xs : List A) (i : ℕ) (x : A) → i < length xs → x ≡ get_or xs i x → take (i + 1) xs ≡ take i xs ++ x ∷ []
 take_next xs i x lt is = take_more xs i x lt ∙ ap (λ y. take i xs ++ y ∷ []) (sym is)

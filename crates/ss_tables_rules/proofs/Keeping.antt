@@ -6,9 +6,9 @@ use Rattle.std.specs.Option.{option_eq}
 use Rattle.std.specs.Cmp.Lexicographic.{pointwise, bytes_decides}
 use Rattle.std.proofs.lemmas.Bool.{eqb-true}
 use Rattle.ss_names_declarations.specs.declared.saying.Saying.{Saying}
-use Rattle.ss_names_declarations.specs.Sayings.{NameBytes}
+use Rattle.ss_tree.specs.Names.{NameBytes}
 use Rattle.ss_tables_rules.specs.declared.topic.Topic.{Topic}
-use Rattle.ss_tables_rules.specs.Topics.{Thing, thing_of, same_thing, is_about, is_said_by, is_said}
+use Rattle.ss_tables_rules.specs.Topics.{Thing, thing_of, same_thing, has_topic, is_said_by, is_said}
 use Rattle.ss_tables_rules.specs.Things.{has_thing, with_thing, AreSaid}
 use Rattle.ss_tables_rules.proofs.Finding.{take_next}
 
@@ -61,18 +61,18 @@ has_more ts x t = one_more ts x t (has_thing ts x) refl
 
 -- ---- one saying more
 
-said_last : (topic : Topic) (says : List Saying) (s : Saying) (t : Thing) (about : Bool) → is_about topic s.said ≡ about → is_said topic (says ++ s ∷ []) t ≡ (is_said topic says t || (about && same_thing t (thing_of s)))
+said_last : (topic : Topic) (says : List Saying) (s : Saying) (t : Thing) (about : Bool) → has_topic topic s.said ≡ about → is_said topic (says ++ s ∷ []) t ≡ (is_said topic says t || (about && same_thing t (thing_of s)))
 said_last topic says s t about e =
     any_last (is_said_by topic t) says s ∙ ap (λ (b : Bool). is_said topic says t || (b && same_thing t (thing_of s))) e
 
 -- a saying about this
-pub noted : (topic : Topic) (s : Saying) (old new : List Thing) → is_about topic s.said ≡ true → new ≡ with_thing old (thing_of s) → (says : List Saying) → AreSaid topic says old → AreSaid topic (says ++ s ∷ []) new
+pub noted : (topic : Topic) (s : Saying) (old new : List Thing) → has_topic topic s.said ≡ true → new ≡ with_thing old (thing_of s) → (says : List Saying) → AreSaid topic says old → AreSaid topic (says ++ s ∷ []) new
 noted topic s old new e is says h =
     λ t. ap (λ (ts : List Thing). has_thing ts t) is ∙ has_more old (thing_of s) t ∙ ap (λ b. b || same_thing t (thing_of s)) (h t) ∙
     sym (said_last topic says s t true e)
 
 -- a saying about something else
-pub passed : (topic : Topic) (s : Saying) (old : List Thing) → is_about topic s.said ≡ false → (says : List Saying) → AreSaid topic says old → AreSaid topic (says ++ s ∷ []) old
+pub passed : (topic : Topic) (s : Saying) (old : List Thing) → has_topic topic s.said ≡ false → (says : List Saying) → AreSaid topic says old → AreSaid topic (says ++ s ∷ []) old
 passed topic s old e says h = λ t. h t ∙ or_none (is_said topic says t) ∙ sym (said_last topic says s t false e)
 
 -- the next of some sayings

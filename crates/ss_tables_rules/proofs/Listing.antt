@@ -1,7 +1,8 @@
 -- Lists of lines, one item at a time.
 use Rattle.std.proofs.Common.{◌≡◌, ℕ, ◌+◌, ◌<◌, Bool, List, ◌++◌, length, get_or, take, sym, ap, ◌∙◌}
 use Rattle.ss_base.specs.declared.line.Line.{Line}
-use Rattle.ss_tables_rules.specs.Lines.{line_if, later_lines, lines_where}
+use Rattle.ss_base.specs.Lines.{line_if}
+use Rattle.ss_tables_rules.specs.Lines.{later_lines, lines_where}
 use Rattle.ss_tables_rules.proofs.Finding.{take_next, where_more, later_more}
 
 -- one more item that a list of lines may hold

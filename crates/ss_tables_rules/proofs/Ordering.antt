@@ -3,28 +3,28 @@ use Rattle.std.proofs.Common.{◌≡◌, ℕ, ◌+◌, ◌<◌, List, [], ◌∷
 use Rattle.std.proofs.lemmas.List.{take_more}
 use Rattle.ss_tree.specs.Tree.{SectionTree}
 use Rattle.ss_names_declarations.specs.declared.saying.Saying.{Saying}
-use Rattle.ss_tables_rules.specs.declared.rule.Rule.{Rule}
-use Rattle.ss_tables_rules.specs.declared.rule.Broken.{Broken}
-use Rattle.ss_tables_rules.specs.Broken.{broken_by, broken_at, first_of, first_broken}
+use Rattle.ss_tables_rules.specs.declared.rule.DeclarationRule.{DeclarationRule}
+use Rattle.ss_tables_rules.specs.declared.rule.BrokenDeclaration.{BrokenDeclaration}
+use Rattle.ss_tables_rules.specs.Broken.{broken_by, broken_at, first_of_two, first_broken_rule}
 use Rattle.ss_tables_rules.specs.Lines.{first_line}
 
-first_none : (b : Option Broken) → first_of b None ≡ b
+first_none : (b : Option BrokenDeclaration) → first_of_two b None ≡ b
 first_none None = refl
 first_none (Some b) = refl
 
-first_assoc : (a b c : Option Broken) → first_of a (first_of b c) ≡ first_of (first_of a b) c
+first_assoc : (a b c : Option BrokenDeclaration) → first_of_two a (first_of_two b c) ≡ first_of_two (first_of_two a b) c
 first_assoc None b c = refl
 first_assoc (Some a) b c = refl
 
-rules_last : (says : List Saying) (sections : List SectionTree) (rules : List Rule) (rule : Rule) → first_broken says sections (rules ++ rule ∷ []) ≡ first_of (first_broken says sections rules) (broken_at rule (first_line (broken_by says sections rule)))
+rules_last : (says : List Saying) (sections : List SectionTree) (rules : List DeclarationRule) (rule : DeclarationRule) → first_broken_rule says sections (rules ++ rule ∷ []) ≡ first_of_two (first_broken_rule says sections rules) (broken_at rule (first_line (broken_by says sections rule)))
 rules_last says sections [] rule = first_none (broken_at rule (first_line (broken_by says sections rule)))
 rules_last says sections (r ∷ rs) rule =
-    ap (first_of (broken_at r (first_line (broken_by says sections r)))) (rules_last says sections rs rule) ∙
-    first_assoc (broken_at r (first_line (broken_by says sections r))) (first_broken says sections rs) (broken_at rule (first_line (broken_by says sections rule)))
+    ap (first_of_two (broken_at r (first_line (broken_by says sections r)))) (rules_last says sections rs rule) ∙
+    first_assoc (broken_at r (first_line (broken_by says sections r))) (first_broken_rule says sections rs) (broken_at rule (first_line (broken_by says sections rule)))
 
 -- the next rule
-pub next_rule : (says : List Saying) (sections : List SectionTree) (xs : List Rule) (i : ℕ) (d : Rule) (found new : Option Broken) → i < length xs → found ≡ first_broken says sections (take i xs) → new ≡ first_of found (broken_at (get_or xs i d) (first_line (broken_by says sections (get_or xs i d)))) → new ≡ first_broken says sections (take (i + 1) xs)
+pub next_rule : (says : List Saying) (sections : List SectionTree) (xs : List DeclarationRule) (i : ℕ) (d : DeclarationRule) (found new : Option BrokenDeclaration) → i < length xs → found ≡ first_broken_rule says sections (take i xs) → new ≡ first_of_two found (broken_at (get_or xs i d) (first_line (broken_by says sections (get_or xs i d)))) → new ≡ first_broken_rule says sections (take (i + 1) xs)
 next_rule says sections xs i d found new lt h n =
     let x = get_or xs i d in
-    n ∙ ap (λ (b : Option Broken). first_of b (broken_at x (first_line (broken_by says sections x)))) h ∙ sym (rules_last says sections (take i xs) x) ∙
-    ap (first_broken says sections) (sym (take_more xs i d lt))
+    n ∙ ap (λ (b : Option BrokenDeclaration). first_of_two b (broken_at x (first_line (broken_by says sections x)))) h ∙ sym (rules_last says sections (take i xs) x) ∙
+    ap (first_broken_rule says sections) (sym (take_more xs i d lt))

@@ -5,10 +5,10 @@ use Rattle.std.proofs.lemmas.Bool.{eqb-true, eq-eqb}
 use Rattle.ss_names_declarations.specs.declared.saying.Said.TheVariants as said
 use Rattle.ss_names_declarations.specs.declared.saying.SetRule.{SetRule}
 use Rattle.ss_names_declarations.specs.declared.saying.Saying.{Saying}
-use Rattle.ss_names_declarations.specs.Sayings.{NameBytes}
+use Rattle.ss_tree.specs.Names.{NameBytes}
 use Rattle.ss_tables_rules.specs.declared.topic.Topic.TheVariants as topics
 use Rattle.ss_tables_rules.specs.declared.rank_key.Ranks.{Ranks}
-use Rattle.ss_tables_rules.specs.Ranks.{is_foreign_to, members_of, AreRanks}
+use Rattle.ss_tables_rules.specs.Ranks.{is_foreign_to, ranked_members, AreRanks}
 use Rattle.ss_tables_rules.specs.RankKey.{is_foreign, defines, misranks}
 use Rattle.ss_tables_rules.specs.Topics.{thing_of, class_of}
 use Rattle.ss_tables_rules.proofs.Finding.{take_next}
@@ -27,9 +27,9 @@ either statement other f x old false e h =
     h ∙ or_none old ∙ sym (ap (λ b. old || (b && x)) (not_same statement other (nat_eq other statement) refl e))
 
 -- a set that a DEFINE names, whose members are of this class
-pub ranked : (all says : List Saying) (s : Saying) (statement : ℕ) (rule : SetRule) (class : NameBytes) (old new : Ranks) → s.said ≡ said.Discipline statement rule → class_of topics.Member all (thing_of s) ≡ Some class → ((other : ℕ) (key : Option NameBytes) → is_foreign_to (members_of new other) key ≡ cond (nat_eq statement other) (is_foreign_to (members_of old statement) key || is_foreign key (Some class)) (is_foreign_to (members_of old other) key)) → AreRanks all says old → AreRanks all (says ++ s ∷ []) new
+pub ranked : (all says : List Saying) (s : Saying) (statement : ℕ) (rule : SetRule) (class : NameBytes) (old new : Ranks) → s.said ≡ said.Discipline statement rule → class_of topics.Member all (thing_of s) ≡ Some class → ((other : ℕ) (key : Option NameBytes) → is_foreign_to (ranked_members new other) key ≡ cond (nat_eq statement other) (is_foreign_to (ranked_members old statement) key || is_foreign key (Some class)) (is_foreign_to (ranked_members old other) key)) → AreRanks all says old → AreRanks all (says ++ s ∷ []) new
 ranked all says s statement rule class old new is is_given add h =
-    λ other key. add other key ∙ either statement other (λ n. is_foreign_to (members_of old n) key) (is_foreign key (Some class)) (list_any (misranks all other key) says) (nat_eq statement other) refl (h other key) ∙
+    λ other key. add other key ∙ either statement other (λ n. is_foreign_to (ranked_members old n) key) (is_foreign key (Some class)) (list_any (misranks all other key) says) (nat_eq statement other) refl (h other key) ∙
     sym (any_last (misranks all other key) says s ∙ (λ i. list_any (misranks all other key) says || (defines other (is i) && is_foreign key (is_given i))))
 
 -- the next of some sayings

@@ -4,9 +4,9 @@ use Rattle.ss_base.specs.declared.line.Line.{Line}
 use Rattle.ss_tree.specs.Tree.{SectionTree, ProgramTree}
 use Rattle.ss_names_declarations.specs.declared.saying.Saying.{Saying}
 use Rattle.ss_names_declarations.specs.Sayings.{sayings}
-use Rattle.ss_tables_rules.specs.declared.rule.Rule.{Rule}
-use Rattle.ss_tables_rules.specs.declared.rule.Rule.TheVariants as rules
-use Rattle.ss_tables_rules.specs.declared.rule.Broken.{Broken}
+use Rattle.ss_tables_rules.specs.declared.rule.DeclarationRule.{DeclarationRule}
+use Rattle.ss_tables_rules.specs.declared.rule.DeclarationRule.TheVariants as rules
+use Rattle.ss_tables_rules.specs.declared.rule.BrokenDeclaration.{BrokenDeclaration}
 use Rattle.ss_tables_rules.specs.Lines.{first_line}
 use Rattle.ss_tables_rules.specs.Twice.{twice}
 use Rattle.ss_tables_rules.specs.RealMode.{real_mode}
@@ -20,7 +20,7 @@ use Rattle.ss_tables_rules.specs.TooMany.{too_many}
 use Rattle.ss_tables_rules.specs.TieKey.{tie_key}
 
 -- the lines where declarations and sections break a rule
-abbrev pub broken_by : List Saying → List SectionTree → Rule → List Line
+abbrev pub broken_by : List Saying → List SectionTree → DeclarationRule → List Line
 broken_by says sections rules.Twice = twice says
 broken_by says sections rules.RealMode = real_mode says sections
 broken_by says sections rules.UnknownClass = unknown_class says
@@ -33,13 +33,13 @@ broken_by says sections rules.TooMany = too_many says
 broken_by says sections rules.TieKey = tie_key says
 
 -- the lines where a program breaks a rule
-abbrev pub broken : Rule → ProgramTree → List Line
+abbrev pub broken : DeclarationRule → ProgramTree → List Line
 broken rule p = broken_by (sayings p) p.sections rule
 
 -- ---- the refusal
 
 -- the rules in the order of their numbers, 51 to 60
-abbrev pub in_order : List Rule
+abbrev pub in_order : List DeclarationRule
 in_order =
     rules.Twice
     ∷ rules.RealMode
@@ -54,24 +54,24 @@ in_order =
     ∷ []
 
 -- a rule with the line where it is broken first, where there is one
-abbrev pub broken_at : Rule → Option Line → Option Broken
+abbrev pub broken_at : DeclarationRule → Option Line → Option BrokenDeclaration
 broken_at rule None = None
 broken_at rule (Some line) = Some (record { rule = rule; line = line })
 
 -- the first of two, where there is one
-abbrev pub first_of : Option Broken → Option Broken → Option Broken
-first_of None rest = rest
-first_of (Some b) rest = Some b
+abbrev pub first_of_two : Option BrokenDeclaration → Option BrokenDeclaration → Option BrokenDeclaration
+first_of_two None rest = rest
+first_of_two (Some b) rest = Some b
 
 -- the first of these rules that is broken
-abbrev pub first_broken : List Saying → List SectionTree → List Rule → Option Broken
-first_broken says sections [] = None
-first_broken says sections (rule ∷ rules) =
-    first_of (broken_at rule (first_line (broken_by says sections rule))) (first_broken says sections rules)
+abbrev pub first_broken_rule : List Saying → List SectionTree → List DeclarationRule → Option BrokenDeclaration
+first_broken_rule says sections [] = None
+first_broken_rule says sections (rule ∷ rules) =
+    first_of_two (broken_at rule (first_line (broken_by says sections rule))) (first_broken_rule says sections rules)
 
-abbrev pub refusal_by : List Saying → List SectionTree → Option Broken
-refusal_by says sections = first_broken says sections in_order
+abbrev pub refusal_by : List Saying → List SectionTree → Option BrokenDeclaration
+refusal_by says sections = first_broken_rule says sections in_order
 
 -- the first rule that a program breaks, at the first line where it does; none where it breaks none
-abbrev pub refusal : ProgramTree → Option Broken
-refusal p = refusal_by (sayings p) p.sections
+abbrev pub refusal_of_declarations : ProgramTree → Option BrokenDeclaration
+refusal_of_declarations p = refusal_by (sayings p) p.sections

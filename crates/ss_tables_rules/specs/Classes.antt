@@ -4,10 +4,10 @@ use Rattle.std.specs.List.{find}
 use Rattle.std.specs.Option.{option_or}
 use Rattle.std.specs.Map.{lookup}
 use Rattle.ss_names_declarations.specs.declared.saying.Saying.{Saying}
-use Rattle.ss_names_declarations.specs.Sayings.{NameBytes}
+use Rattle.ss_tree.specs.Names.{NameBytes}
 use Rattle.ss_tables_rules.specs.declared.topic.Topic.{Topic}
 use Rattle.ss_tables_rules.specs.declared.classes.Classes.{Classes}
-use Rattle.ss_tables_rules.specs.Topics.{Thing, same_thing, is_said_by, class_in}
+use Rattle.ss_tables_rules.specs.Topics.{Thing, same_thing, is_said_by, class_declared}
 
 -- the entry of a thing
 abbrev pub kept_of : Classes → Thing → Option (Option NameBytes)
@@ -21,7 +21,7 @@ class_kept (Some class) = class
 -- the entry that a saying makes
 abbrev pub class_said : Option Saying → Option (Option NameBytes)
 class_said None = None
-class_said (Some s) = Some (class_in s.said)
+class_said (Some s) = Some (class_declared s.said)
 
 -- these are the classes that the first sayings about this give
 abbrev pub AreClasses : Topic → List Saying → Classes → Type 0

@@ -7,12 +7,12 @@ use Rattle.ss_tree.specs.declared.preamble.ClassKind.TheVariants as class_kinds
 use Rattle.ss_names_declarations.specs.declared.saying.Said.{Said}
 use Rattle.ss_names_declarations.specs.declared.saying.Said.TheVariants as said
 use Rattle.ss_names_declarations.specs.declared.saying.Saying.{Saying}
-use Rattle.ss_names_declarations.specs.Sayings.{NameBytes}
+use Rattle.ss_tree.specs.Names.{NameBytes}
 use Rattle.ss_tables_rules.specs.declared.topic.Topic.TheVariants as topics
 use Rattle.ss_tables_rules.specs.declared.globals.Standing.{Standing}
 use Rattle.ss_tables_rules.specs.declared.globals.Standing.TheVariants.{Variable, Class, Set, OfSet, Other}
 use Rattle.ss_names_declarations.specs.Firsts.{same_name}
-use Rattle.ss_tables_rules.specs.Topics.{global, is_said}
+use Rattle.ss_tables_rules.specs.Topics.{global_thing, is_said}
 
 -- a name that is declared, its kind, and the line
 pub record Declaration : Type 0 where
@@ -71,7 +71,7 @@ saying_declares is_attribute s = named_declares is_attribute s.line s.said s.nam
 
 -- whether a name is that of an attribute, wherever it is declared
 abbrev pub is_attribute : List Saying → NameBytes → Bool
-is_attribute says name = is_said topics.Attribute says (global name)
+is_attribute says name = is_said topics.Attribute says (global_thing name)
 
 -- what some sayings declare, in the order of the text
 abbrev pub declarations : List Saying → List Declaration

@@ -1,6 +1,7 @@
 -- The lines where a rule is broken, and the first of them.
 use Rattle.std.specs.Prelude.{nat_lt, Bool, true, false, List, [], ◌∷◌, ◌++◌, Option, Some, None, if◌then◌else◌}
 use Rattle.std.specs.List.{flat_map, fold}
+use Rattle.ss_base.specs.Lines.{line_if}
 use Rattle.ss_base.specs.declared.line.Line.{Line}
 
 -- the first in the text of what was found so far and a line
@@ -15,11 +16,6 @@ soonest found lines = fold sooner found lines
 -- the first in the text of some lines
 abbrev pub first_line : List Line → Option Line
 first_line lines = soonest None lines
-
--- a line, where the test holds
-abbrev pub line_if : Bool → Line → List Line
-line_if true line = line ∷ []
-line_if false line = []
 
 -- the lines of the items that pass a test
 abbrev pub lines_where : {A : Type 0} → (A → Line) → (A → Bool) → List A → List Line

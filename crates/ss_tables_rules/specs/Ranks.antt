@@ -4,7 +4,7 @@ use Rattle.std.specs.List.{list_any}
 use Rattle.std.specs.Option.{option_eq}
 use Rattle.std.specs.Map.{lookup}
 use Rattle.ss_names_declarations.specs.declared.saying.Saying.{Saying}
-use Rattle.ss_names_declarations.specs.Sayings.{NameBytes}
+use Rattle.ss_tree.specs.Names.{NameBytes}
 use Rattle.ss_tables_rules.specs.declared.rank_key.Members.{Members}
 use Rattle.ss_tables_rules.specs.declared.rank_key.Members.TheVariants.{One, Several}
 use Rattle.ss_tables_rules.specs.declared.rank_key.Ranks.{Ranks}
@@ -17,9 +17,9 @@ is_foreign_to None key = false
 is_foreign_to (Some (One class)) key = not (option_eq same_name (Some class) key)
 is_foreign_to (Some Several) key = true
 
-abbrev pub members_of : Ranks → ℕ → Option Members
-members_of r number = lookup (nat_eq number) r.map.entries
+abbrev pub ranked_members : Ranks → ℕ → Option Members
+ranked_members r number = lookup (nat_eq number) r.map.entries
 
 -- each DEFINE has the classes of its sets' members, as far as keys may be foreign to them
 abbrev pub AreRanks : List Saying → List Saying → Ranks → Type 0
-AreRanks all says r = (number : ℕ) (key : Option NameBytes) → is_foreign_to (members_of r number) key ≡ list_any (misranks all number key) says
+AreRanks all says r = (number : ℕ) (key : Option NameBytes) → is_foreign_to (ranked_members r number) key ≡ list_any (misranks all number key) says

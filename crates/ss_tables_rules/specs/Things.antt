@@ -2,9 +2,9 @@
 use Rattle.std.specs.Prelude.{◌≡◌, Bool, List, [], ◌∷◌, ◌++◌, if◌then◌else◌}
 use Rattle.std.specs.List.{list_any}
 use Rattle.ss_names_declarations.specs.declared.saying.Saying.{Saying}
-use Rattle.ss_names_declarations.specs.Sayings.{NameBytes}
+use Rattle.ss_tree.specs.Names.{NameBytes}
 use Rattle.ss_tables_rules.specs.declared.topic.Topic.{Topic}
-use Rattle.ss_tables_rules.specs.Topics.{Thing, global, same_thing, is_said}
+use Rattle.ss_tables_rules.specs.Topics.{Thing, global_thing, same_thing, is_said}
 
 -- whether a thing is among some
 abbrev pub has_thing : List Thing → Thing → Bool
@@ -20,4 +20,4 @@ AreSaid topic says things = (thing : Thing) → has_thing things thing ≡ is_sa
 
 -- whether a name of the whole program is among some things
 abbrev pub has_global : List Thing → NameBytes → Bool
-has_global things name = has_thing things (global name)
+has_global things name = has_thing things (global_thing name)

@@ -2,14 +2,14 @@
 use Rattle.std.specs.Prelude.{Bool, true, false, not, ◌&&◌, ◌||◌, List, ◌++◌, Option, Some, None}
 use Rattle.ss_base.specs.declared.line.Line.{Line}
 use Rattle.ss_names_declarations.specs.declared.saying.Saying.{Saying}
-use Rattle.ss_names_declarations.specs.Sayings.{NameBytes}
+use Rattle.ss_tree.specs.Names.{NameBytes}
 use Rattle.ss_tables_rules.specs.declared.topic.Topic.{Topic}
 use Rattle.ss_tables_rules.specs.declared.topic.Topic.TheVariants as topics
 use Rattle.ss_tables_rules.specs.declared.globals.Standing.{Standing}
 use Rattle.ss_tables_rules.specs.declared.globals.Standing.TheVariants as standings
 use Rattle.ss_tables_rules.specs.Declarations.{Declaration, declarations, standing_of}
 use Rattle.ss_tables_rules.specs.Lines.{lines_where, later_lines}
-use Rattle.ss_tables_rules.specs.Topics.{Thing, thing_of, line_of, is_about, is_said}
+use Rattle.ss_tables_rules.specs.Topics.{Thing, thing_of, line_of, has_topic, is_said}
 
 -- ---- names that are declared twice
 
@@ -35,7 +35,7 @@ clashes ds = later_lines declared_at is_clash ds
 
 -- a saying about this, of a thing that counts, of which an earlier one is
 abbrev pub is_again : Topic → (Thing → Bool) → List Saying → Saying → Bool
-is_again topic counts before s = is_about topic s.said && (counts (thing_of s) && is_said topic before (thing_of s))
+is_again topic counts before s = has_topic topic s.said && (counts (thing_of s) && is_said topic before (thing_of s))
 
 abbrev pub again : Topic → (Thing → Bool) → List Saying → List Line
 again topic counts says = later_lines line_of (is_again topic counts) says
@@ -58,7 +58,7 @@ may_be_hidden ds None = true
 may_be_hidden ds (Some name) = may_hide (standing_of ds name)
 
 abbrev pub hides : List Declaration → Saying → Bool
-hides ds s = (is_about topics.Parameter s.said || is_about topics.Local s.said) && not (may_be_hidden ds s.name)
+hides ds s = (has_topic topics.Parameter s.said || has_topic topics.Local s.said) && not (may_be_hidden ds s.name)
 
 abbrev pub hidings : List Saying → List Line
 hidings says = lines_where line_of (hides (declarations says)) says

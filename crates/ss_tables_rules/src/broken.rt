@@ -2,13 +2,13 @@
 
 ghost use Rattle.std.specs.Prelude.{◌≡◌, map, IfOk};
 ghost use Rattle.ss_tree.specs.View.{view_section};
-ghost use Rattle.ss_tables_rules.specs.Broken.{broken_by, broken_at, first_of, first_broken, refusal_by};
+ghost use Rattle.ss_tables_rules.specs.Broken.{broken_by, broken_at, first_of_two, first_broken_rule, refusal_by};
 ghost use Rattle.ss_tables_rules.specs.Declarations.{declarations};
 ghost use Rattle.ss_tables_rules.specs.Globals.{IsGlobalsOf};
 ghost use Rattle.ss_tables_rules.specs.Lines.{first_line};
 
-use crate::globals::{Globals, globals_of};
-use crate::rule::{Broken, Rule};
+use crate::globals::{DeclaredNames, globals_of};
+use crate::rule::{BrokenDeclaration, DeclarationRule};
 use crate::rules::{
     no_member, no_owner, rank_key, real_mode, tie_key, twice, unknown_class, unknown_set,
 };
@@ -22,8 +22,8 @@ use std::alloc::{AllocError, Global};
 /// The first line where a rule is broken.
 fn place_of(
     alloc: Global,
-    globals: &Globals,
-    rule: Rule,
+    globals: &DeclaredNames,
+    rule: DeclarationRule,
     sayings: &[Saying],
     sections: &[Section],
 ) -> Result<Option<Line>, AllocError>
@@ -31,40 +31,40 @@ fn place_of(
     ensures { IfOk result (λ line. line ≡ first_line (broken_by sayings.now (map view_section sections.now) rule)) }
 {
     match rule {
-        Rule::Twice => twice(alloc, globals, sayings),
-        Rule::RealMode => real_mode(alloc, globals, sayings, sections),
-        Rule::UnknownClass => unknown_class(alloc, globals.seed(), sayings),
-        Rule::UnknownSet => unknown_set(alloc, globals.seed(), sayings),
-        Rule::NoOwner => no_owner(alloc, globals.seed(), sayings),
-        Rule::NoMember => no_member(alloc, globals.seed(), sayings),
-        Rule::RankKey => rank_key(alloc, globals.seed(), sayings),
-        Rule::TallyTwice => tally_twice(alloc, globals.seed(), sayings),
-        Rule::TooMany => too_many(alloc, globals.seed(), sayings),
-        Rule::TieKey => tie_key(alloc, globals.seed(), sayings),
+        DeclarationRule::Twice => twice(alloc, globals, sayings),
+        DeclarationRule::RealMode => real_mode(alloc, globals, sayings, sections),
+        DeclarationRule::UnknownClass => unknown_class(alloc, globals.seed(), sayings),
+        DeclarationRule::UnknownSet => unknown_set(alloc, globals.seed(), sayings),
+        DeclarationRule::NoOwner => no_owner(alloc, globals.seed(), sayings),
+        DeclarationRule::NoMember => no_member(alloc, globals.seed(), sayings),
+        DeclarationRule::RankKey => rank_key(alloc, globals.seed(), sayings),
+        DeclarationRule::TallyTwice => tally_twice(alloc, globals.seed(), sayings),
+        DeclarationRule::TooMany => too_many(alloc, globals.seed(), sayings),
+        DeclarationRule::TieKey => tie_key(alloc, globals.seed(), sayings),
     }
 }
 
 /// A rule with the line where it is broken first.
-fn broken_at(rule: Rule, line: Option<Line>) -> Option<Broken>
+fn broken_at(rule: DeclarationRule, line: Option<Line>) -> Option<BrokenDeclaration>
     ensures { result ≡ broken_at rule line }
 {
     match line {
         None => None,
-        Some(line) => Some(Broken { rule, line }),
+        Some(line) => Some(BrokenDeclaration { rule, line }),
     }
 }
 
 /// What was found so far, or else a rule, where it is broken.
 fn or_broken(
     alloc: Global,
-    globals: &Globals,
-    rule: Rule,
+    globals: &DeclaredNames,
+    rule: DeclarationRule,
     sayings: &[Saying],
     sections: &[Section],
-    found: Option<Broken>,
-) -> Result<Option<Broken>, AllocError>
+    found: Option<BrokenDeclaration>,
+) -> Result<Option<BrokenDeclaration>, AllocError>
     requires { IsGlobalsOf (declarations sayings.now) globals.now }
-    ensures { IfOk result (λ b. b ≡ first_of found (broken_at rule (first_line (broken_by sayings.now (map view_section sections.now) rule)))) }
+    ensures { IfOk result (λ b. b ≡ first_of_two found (broken_at rule (first_line (broken_by sayings.now (map view_section sections.now) rule)))) }
 {
     match found {
         Some(broken) => Ok(Some(broken)),
@@ -76,15 +76,15 @@ fn or_broken(
 }
 
 /// The first of some rules that is broken.
-fn first_broken(
+fn first_broken_rule(
     alloc: Global,
-    globals: &Globals,
-    rules: &[Rule],
+    globals: &DeclaredNames,
+    rules: &[DeclarationRule],
     sayings: &[Saying],
     sections: &[Section],
-) -> Result<Option<Broken>, AllocError>
+) -> Result<Option<BrokenDeclaration>, AllocError>
     requires { IsGlobalsOf (declarations sayings.now) globals.now }
-    ensures { IfOk result (λ b. b ≡ first_broken sayings.now (map view_section sections.now) rules.now) }
+    ensures { IfOk result (λ b. b ≡ first_broken_rule sayings.now (map view_section sections.now) rules.now) }
 {
     let mut found = None;
     for rule in rules {
@@ -104,21 +104,21 @@ pub fn refusal_of(
     seed: Seed,
     sayings: &[Saying],
     sections: &[Section],
-) -> Result<Option<Broken>, AllocError>
+) -> Result<Option<BrokenDeclaration>, AllocError>
     ensures { IfOk result (λ b. b ≡ refusal_by sayings.now (map view_section sections.now)) }
 {
     let globals = globals_of(alloc, seed, sayings)?;
     let rules = [
-        Rule::Twice,
-        Rule::RealMode,
-        Rule::UnknownClass,
-        Rule::UnknownSet,
-        Rule::NoOwner,
-        Rule::NoMember,
-        Rule::RankKey,
-        Rule::TallyTwice,
-        Rule::TooMany,
-        Rule::TieKey,
+        DeclarationRule::Twice,
+        DeclarationRule::RealMode,
+        DeclarationRule::UnknownClass,
+        DeclarationRule::UnknownSet,
+        DeclarationRule::NoOwner,
+        DeclarationRule::NoMember,
+        DeclarationRule::RankKey,
+        DeclarationRule::TallyTwice,
+        DeclarationRule::TooMany,
+        DeclarationRule::TieKey,
     ];
-    first_broken(alloc, &globals, &rules, sayings, sections)
+    first_broken_rule(alloc, &globals, &rules, sayings, sections)
 }

@@ -4,7 +4,7 @@ ghost use Rattle.std.specs.Prelude.{◌≡◌, ◌++◌, ◌∷◌, [], List, On
 ghost use Rattle.ss_names_declarations.specs.declared.saying.Saying.{Saying};
 ghost use Rattle.ss_tables_rules.specs.Classes.{kept_of, class_kept, AreClasses, KeepsClass};
 
-use crate::topic::{Thing, Topic, class_in, is_about, thing_of};
+use crate::topic::{Thing, Topic, class_declared, has_topic, thing_of};
 use ss_base::Name;
 use ss_names_declarations::{Saying, Seed, Table};
 use std::alloc::{AllocError, Global};
@@ -57,8 +57,8 @@ impl Classes {
     fn note(&mut self, topic: Topic, saying: &Saying) -> Result<(), AllocError>
         ensures { OnOk result ((says : List Saying) → AreClasses topic says self.old → AreClasses topic (says ++ saying.now ∷ []) self.new) }
     {
-        if is_about(topic, &saying.said) {
-            self.add(thing_of(saying), class_in(&saying.said))?;
+        if has_topic(topic, &saying.said) {
+            self.add(thing_of(saying), class_declared(&saying.said))?;
         }
         Ok(())
     }

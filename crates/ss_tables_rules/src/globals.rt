@@ -5,10 +5,11 @@ ghost use Rattle.std.specs.List.{flat_map};
 ghost use Rattle.ss_tree.specs.declared.preamble.ClassKind.TheVariants as class_kinds;
 ghost use Rattle.ss_tables_rules.specs.declared.globals.Standing.TheVariants.{OfSet};
 ghost use Rattle.ss_tables_rules.specs.Declarations.{Declaration, declaration, derived, set_declares, class_declares, said_declares, saying_declares, declarations};
-ghost use Rattle.ss_tables_rules.specs.Lines.{soonest, line_if};
+ghost use Rattle.ss_base.specs.Lines.{line_if};
+ghost use Rattle.ss_tables_rules.specs.Lines.{soonest};
 ghost use Rattle.ss_tables_rules.specs.Things.{has_global};
 ghost use Rattle.ss_tables_rules.specs.Twice.{is_another, may_hide};
-ghost use Rattle.ss_tables_rules.specs.Globals.{IsGlobalsOf, Adds, found_in};
+ghost use Rattle.ss_tables_rules.specs.Globals.{IsGlobalsOf, AddsDeclarations, kind_by_name};
 
 use crate::lines::sooner_if;
 use crate::things::{Things, things_said};
@@ -60,16 +61,16 @@ pub fn may_hide(standing: Option<Standing>) -> bool
 /// The names that are declared, each with its kind by its first declaration, and the first line
 /// where one is declared as another thing.
 #[derive(Drop)]
-pub struct Globals {
+pub struct DeclaredNames {
     map: Table<Spelling, Standing>,
     clash: Option<Line>,
 }
 
-impl Globals {
-    fn new(alloc: Global, seed: Seed) -> Globals
+impl DeclaredNames {
+    fn new(alloc: Global, seed: Seed) -> DeclaredNames
         ensures { IsGlobalsOf [] result }
     {
-        Globals {
+        DeclaredNames {
             map: Table::new(alloc, seed),
             clash: None,
         }
@@ -88,21 +89,21 @@ impl Globals {
     }
 
     fn find(&self, name: Spelling) -> Option<Standing>
-        ensures { result ≡ found_in self.now name }
+        ensures { result ≡ kind_by_name self.now name }
     {
         self.map.get(&name).copied()
     }
 
     /// The kind of a name.
     pub(crate) fn standing(&self, name: &Name) -> Option<Standing>
-        ensures { result ≡ found_in self.now name.now }
+        ensures { result ≡ kind_by_name self.now name.now }
     {
         self.find(Spelling::of_name(name))
     }
 
     /// Declares a name.
     fn declare(&mut self, line: Line, standing: Standing, name: Spelling) -> Result<(), AllocError>
-        ensures { OnOk result (Adds (declaration line standing name ∷ []) self.old self.new) }
+        ensures { OnOk result (AddsDeclarations (declaration line standing name ∷ []) self.old self.new) }
     {
         match self.find(name) {
             None => {
@@ -116,13 +117,13 @@ impl Globals {
     }
 
     fn declare_derived(&mut self, line: Line, set: &Name, letter: u8) -> Result<(), AllocError>
-        ensures { OnOk result (Adds (derived line OfSet set.now letter ∷ []) self.old self.new) }
+        ensures { OnOk result (AddsDeclarations (derived line OfSet set.now letter ∷ []) self.old self.new) }
     {
         self.declare(line, Standing::OfSet, Spelling::derived(letter, set))
     }
 
     fn declare_set(&mut self, line: Line, set: &Name) -> Result<(), AllocError>
-        ensures { OnOk result (Adds (set_declares line set.now) self.old self.new) }
+        ensures { OnOk result (AddsDeclarations (set_declares line set.now) self.old self.new) }
     {
         self.declare(line, Standing::Set, Spelling::of_name(set))?;
         self.declare_derived(line, set, b'F')?;
@@ -135,7 +136,7 @@ impl Globals {
     }
 
     fn declare_class(&mut self, line: Line, kind: ClassKind, class: &Name) -> Result<(), AllocError>
-        ensures { OnOk result (Adds (class_declares line kind class.now) self.old self.new) }
+        ensures { OnOk result (AddsDeclarations (class_declares line kind class.now) self.old self.new) }
     {
         self.declare(line, Standing::Class, Spelling::of_name(class))?;
         match kind {
@@ -156,7 +157,7 @@ impl Globals {
         said: &Said,
         name: &Name,
     ) -> Result<(), AllocError>
-        ensures { OnOk result (Adds (said_declares (has_global attributes.now) line said.now name.now) self.old self.new) }
+        ensures { OnOk result (AddsDeclarations (said_declares (has_global attributes.now) line said.now name.now) self.old self.new) }
     {
         let spelling = Spelling::of_name(name);
         match said {
@@ -180,7 +181,7 @@ impl Globals {
 
     /// Declares what a saying declares.
     fn note(&mut self, attributes: &Things, saying: &Saying) -> Result<(), AllocError>
-        ensures { OnOk result (Adds (saying_declares (has_global attributes.now) saying.now) self.old self.new) }
+        ensures { OnOk result (AddsDeclarations (saying_declares (has_global attributes.now) saying.now) self.old self.new) }
     {
         match &saying.name {
             None => Ok(()),
@@ -195,10 +196,10 @@ fn globals_with(
     seed: Seed,
     attributes: &Things,
     sayings: &[Saying],
-) -> Result<Globals, AllocError>
+) -> Result<DeclaredNames, AllocError>
     ensures { IfOk result (IsGlobalsOf (flat_map (saying_declares (has_global attributes.now)) sayings.now)) }
 {
-    let mut globals = Globals::new(alloc, seed);
+    let mut globals = DeclaredNames::new(alloc, seed);
     for saying in sayings {
         globals.note(attributes, saying)?;
     }
@@ -209,7 +210,11 @@ fn globals_with(
 ///
 /// # Errors
 /// `AllocError` where memory is refused.
-pub fn globals_of(alloc: Global, seed: Seed, sayings: &[Saying]) -> Result<Globals, AllocError>
+pub fn globals_of(
+    alloc: Global,
+    seed: Seed,
+    sayings: &[Saying],
+) -> Result<DeclaredNames, AllocError>
     ensures { IfOk result (IsGlobalsOf (declarations sayings.now)) }
 {
     let attributes = things_said(alloc, seed, Topic::Attribute, sayings)?;

@@ -3,12 +3,12 @@
 ghost use Rattle.std.specs.Prelude.{◌≡◌, ◌++◌, List, OnOk, IfOk};
 ghost use Rattle.ss_names_declarations.specs.declared.saying.Saying.{Saying};
 ghost use Rattle.ss_tables_rules.specs.declared.topic.Topic.TheVariants as topics;
-ghost use Rattle.ss_tables_rules.specs.Lines.{line_if};
+ghost use Rattle.ss_base.specs.Lines.{line_if};
 ghost use Rattle.ss_tables_rules.specs.Things.{AreSaid};
-ghost use Rattle.ss_tables_rules.specs.TooMany.{classes, is_new_set, sets};
+ghost use Rattle.ss_tables_rules.specs.TooMany.{lines_of_classes, is_new_set, lines_of_sets};
 
 use crate::things::Things;
-use crate::topic::{Topic, is_about, thing_of};
+use crate::topic::{Topic, has_topic, thing_of};
 use ss_base::Line;
 use ss_names_declarations::{Saying, Seed};
 use std::alloc::{AllocError, Global};
@@ -28,13 +28,13 @@ fn push_if(lines: &mut Vec<Line>, test: bool, line: Line) -> Result<(), AllocErr
 /// # Errors
 /// `AllocError` where memory is refused.
 pub fn class_lines(alloc: Global, sayings: &[Saying]) -> Result<Vec<Line>, AllocError>
-    ensures { IfOk result (λ lines. lines.items ≡ classes sayings.now) }
+    ensures { IfOk result (λ lines. lines.items ≡ lines_of_classes sayings.now) }
 {
     let mut lines = Vec::new(alloc);
     for saying in sayings {
         push_if(
             &mut lines,
-            is_about(Topic::Class, &saying.said),
+            has_topic(Topic::Class, &saying.said),
             saying.line,
         )?;
     }
@@ -45,7 +45,7 @@ pub fn class_lines(alloc: Global, sayings: &[Saying]) -> Result<Vec<Line>, Alloc
 fn is_new_set(before: &Things, saying: &Saying) -> bool
     ensures { (says : List Saying) → AreSaid topics.Set says before.now → result ≡ is_new_set says saying.now }
 {
-    is_about(Topic::Set, &saying.said) && !before.has(thing_of(saying))
+    has_topic(Topic::Set, &saying.said) && !before.has(thing_of(saying))
 }
 
 /// The lines where the sets are named first, in the order of the sayings.
@@ -53,7 +53,7 @@ fn is_new_set(before: &Things, saying: &Saying) -> bool
 /// # Errors
 /// `AllocError` where memory is refused.
 pub fn set_lines(alloc: Global, seed: Seed, sayings: &[Saying]) -> Result<Vec<Line>, AllocError>
-    ensures { IfOk result (λ lines. lines.items ≡ sets sayings.now) }
+    ensures { IfOk result (λ lines. lines.items ≡ lines_of_sets sayings.now) }
 {
     let mut before = Things::new(alloc, seed);
     let mut lines = Vec::new(alloc);

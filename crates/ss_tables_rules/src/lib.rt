@@ -25,9 +25,9 @@ mod unknown_class;
 mod unknown_set;
 
 pub use broken::refusal_of;
-pub use globals::{Globals, globals_of};
+pub use globals::{DeclaredNames, globals_of};
 pub use kinds::{class_lines, set_lines};
 pub use lines::{sooner, sooner_if};
-pub use rule::{Broken, Rule};
+pub use rule::{BrokenDeclaration, DeclarationRule};
 pub use seed::seed_of;
 pub use topic::Topic;

@@ -1,7 +1,8 @@
 //! The first line of some.
 
 ghost use Rattle.std.specs.Prelude.{◌≡◌};
-ghost use Rattle.ss_tables_rules.specs.Lines.{sooner, soonest, line_if};
+ghost use Rattle.ss_base.specs.Lines.{line_if};
+ghost use Rattle.ss_tables_rules.specs.Lines.{sooner, soonest};
 
 use ss_base::Line;
 

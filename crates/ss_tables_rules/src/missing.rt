@@ -5,20 +5,20 @@ ghost use Rattle.ss_names_declarations.specs.declared.saying.Saying.{Saying};
 ghost use Rattle.ss_tables_rules.specs.Lines.{soonest, lines_where};
 ghost use Rattle.ss_tables_rules.specs.Missing.{missing};
 ghost use Rattle.ss_tables_rules.specs.Things.{has_thing};
-ghost use Rattle.ss_tables_rules.specs.Topics.{is_about, thing_of, line_of};
+ghost use Rattle.ss_tables_rules.specs.Topics.{has_topic, thing_of, line_of};
 
 use crate::lines::sooner_if;
 use crate::things::{Things, things_said};
-use crate::topic::{Topic, is_about, thing_of};
+use crate::topic::{Topic, has_topic, thing_of};
 use ss_base::Line;
 use ss_names_declarations::{Saying, Seed};
 use std::alloc::{AllocError, Global};
 
 /// Whether a saying is about this, of none of these things.
 fn is_of_none(topic: Topic, saying: &Saying, things: &Things) -> bool
-    ensures { result ≡ (is_about topic saying.now.said && not (has_thing things.now (thing_of saying.now))) }
+    ensures { result ≡ (has_topic topic saying.now.said && not (has_thing things.now (thing_of saying.now))) }
 {
-    is_about(topic, &saying.said) && !things.has(thing_of(saying))
+    has_topic(topic, &saying.said) && !things.has(thing_of(saying))
 }
 
 /// What was found so far, or the first line of a saying about the one, of a thing of which no saying is
@@ -44,7 +44,7 @@ fn missing_among(
     sayings: &[Saying],
     found: Option<Line>,
 ) -> Option<Line>
-    ensures { result ≡ soonest found (lines_where line_of (λ (s : Saying). is_about topic s.said && not (has_thing things.now (thing_of s))) sayings.now) }
+    ensures { result ≡ soonest found (lines_where line_of (λ (s : Saying). has_topic topic s.said && not (has_thing things.now (thing_of s))) sayings.now) }
 {
     let mut found = found;
     for saying in sayings {

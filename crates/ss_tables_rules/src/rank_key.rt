@@ -2,10 +2,10 @@
 
 ghost use Rattle.std.specs.Prelude.{◌≡◌, ◌||◌, ◌++◌, ◌∷◌, [], nat_eq, cond, ℕ, List, Option, OnOk, IfOk};
 ghost use Rattle.ss_names_declarations.specs.declared.saying.Saying.{Saying};
-ghost use Rattle.ss_names_declarations.specs.Sayings.{NameBytes};
+ghost use Rattle.ss_tree.specs.Names.{NameBytes};
 ghost use Rattle.ss_tables_rules.specs.declared.topic.Topic.TheVariants as topics;
 ghost use Rattle.ss_tables_rules.specs.Classes.{AreClasses};
-ghost use Rattle.ss_tables_rules.specs.Ranks.{is_foreign_to, members_of, AreRanks};
+ghost use Rattle.ss_tables_rules.specs.Ranks.{is_foreign_to, ranked_members, AreRanks};
 ghost use Rattle.ss_tables_rules.specs.Lines.{first_line};
 ghost use Rattle.ss_tables_rules.specs.RankKey.{is_foreign, is_misranked, rank_key};
 
@@ -68,14 +68,14 @@ impl Ranks {
     }
 
     fn members(&self, number: usize) -> Option<Members>
-        ensures { result ≡ members_of self.now number }
+        ensures { result ≡ ranked_members self.now number }
     {
         self.map.get(&number).copied()
     }
 
     /// Notes a set of the DEFINE of this number.
     fn add(&mut self, number: usize, class: Name) -> Result<(), AllocError>
-        ensures { OnOk result ((other : ℕ) (key : Option NameBytes) → is_foreign_to (members_of self.new other) key ≡ cond (nat_eq number other) (is_foreign_to (members_of self.old number) key || is_foreign key (Some class)) (is_foreign_to (members_of self.old other) key)) }
+        ensures { OnOk result ((other : ℕ) (key : Option NameBytes) → is_foreign_to (ranked_members self.new other) key ≡ cond (nat_eq number other) (is_foreign_to (ranked_members self.old number) key || is_foreign key (Some class)) (is_foreign_to (ranked_members self.old other) key)) }
     {
         let members = joined(&self.members(number), class);
         self.map.insert(number, members)?;

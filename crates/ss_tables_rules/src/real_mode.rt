@@ -11,7 +11,7 @@ ghost use Rattle.ss_tables_rules.specs.RealMode.{gives_mode, has_usual_mode, say
 ghost use Rattle.ss_tables_rules.specs.Things.{AreSaid};
 ghost use Rattle.ss_tables_rules.specs.Topics.{line_of};
 
-use crate::globals::Globals;
+use crate::globals::DeclaredNames;
 use crate::lines::sooner_if;
 use crate::missing::missing;
 use crate::things::{Things, things_said};
@@ -73,7 +73,7 @@ fn is_variable_role(role: Role) -> bool
 }
 
 /// Whether this is a name that isn't global and has no DEFINE in the section of this number.
-fn is_undefined(globals: &Globals, locals: &Things, number: usize, what: &Mentioned) -> bool
+fn is_undefined(globals: &DeclaredNames, locals: &Things, number: usize, what: &Mentioned) -> bool
     ensures { (says : List Saying) → IsGlobalsOf (declarations says) globals.now → AreSaid topics.Local says locals.now → result ≡ is_undefined says number what.now }
 {
     match what {
@@ -85,7 +85,7 @@ fn is_undefined(globals: &Globals, locals: &Things, number: usize, what: &Mentio
 }
 
 /// Whether a name in a statement of the section of this number lacks a mode.
-fn lacks_mode(globals: &Globals, locals: &Things, number: usize, mention: &Mention) -> bool
+fn lacks_mode(globals: &DeclaredNames, locals: &Things, number: usize, mention: &Mention) -> bool
     ensures { (says : List Saying) → IsGlobalsOf (declarations says) globals.now → AreSaid topics.Local says locals.now → result ≡ lacks_mode says number mention.now }
 {
     is_variable_role(mention.role)
@@ -94,7 +94,7 @@ fn lacks_mode(globals: &Globals, locals: &Things, number: usize, mention: &Menti
 
 /// What was found so far, or the first line of a name that lacks a mode in the section of this number.
 fn unmoded_among(
-    globals: &Globals,
+    globals: &DeclaredNames,
     locals: &Things,
     number: usize,
     mentions: &[Mention],
@@ -116,7 +116,7 @@ fn unmoded_among(
 /// What was found so far, or the first line of a name that lacks a mode in any section.
 fn unmoded_in(
     alloc: Global,
-    globals: &Globals,
+    globals: &DeclaredNames,
     locals: &Things,
     sections: &[Section],
     found: Option<Line>,
@@ -134,7 +134,7 @@ fn unmoded_in(
 /// What was found so far, or the first line of a name that has no DEFINE.
 fn unmoded(
     alloc: Global,
-    globals: &Globals,
+    globals: &DeclaredNames,
     sayings: &[Saying],
     sections: &[Section],
     found: Option<Line>,
@@ -170,7 +170,7 @@ fn unmoded(
 /// `AllocError` where memory is refused.
 pub fn real_mode(
     alloc: Global,
-    globals: &Globals,
+    globals: &DeclaredNames,
     sayings: &[Saying],
     sections: &[Section],
 ) -> Result<Option<Line>, AllocError>

@@ -4,7 +4,7 @@ use ss_base::Line;
 
 /// A rule on what a program declares.
 #[derive(Clone, Copy)]
-pub enum Rule {
+pub enum DeclarationRule {
     /// A name is declared once, and what may be said once is said once.
     Twice,
     /// Each name has a mode, which is not REAL.
@@ -29,7 +29,7 @@ pub enum Rule {
 
 /// A rule that is broken, and the first line of the text where it is.
 #[derive(Clone, Copy)]
-pub struct Broken {
-    pub rule: Rule,
+pub struct BrokenDeclaration {
+    pub rule: DeclarationRule,
     pub line: Line,
 }

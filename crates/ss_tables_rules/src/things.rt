@@ -5,7 +5,7 @@ ghost use Rattle.ss_names_declarations.specs.declared.saying.Saying.{Saying};
 ghost use Rattle.ss_tables_rules.specs.Topics.{thing_of};
 ghost use Rattle.ss_tables_rules.specs.Things.{has_thing, with_thing, AreSaid};
 
-use crate::topic::{Thing, Topic, is_about, thing_of};
+use crate::topic::{Thing, Topic, has_topic, thing_of};
 use ss_names_declarations::{Keys, Saying, Seed};
 use std::alloc::{AllocError, Global};
 use std::marker::Model;
@@ -52,7 +52,7 @@ impl Things {
     pub fn note(&mut self, topic: Topic, saying: &Saying) -> Result<(), AllocError>
         ensures { OnOk result ((says : List Saying) → AreSaid topic says self.old → AreSaid topic (says ++ saying.now ∷ []) self.new) }
     {
-        if is_about(topic, &saying.said) {
+        if has_topic(topic, &saying.said) {
             self.add(thing_of(saying))?;
         }
         Ok(())

@@ -5,7 +5,7 @@ ghost use Rattle.ss_names_declarations.specs.declared.saying.Saying.{Saying};
 ghost use Rattle.ss_tables_rules.specs.Lines.{soonest, first_line, later_lines};
 ghost use Rattle.ss_tables_rules.specs.TooMany.{past_most, attribute_class, is_past, too_many};
 ghost use Rattle.ss_tables_rules.specs.Topics.{line_of};
-ghost use Rattle.ss_tables_rules.specs.Counts.{count_of, AreCounts, CountsOne};
+ghost use Rattle.ss_tables_rules.specs.Counts.{attributes_counted, AreCounts, CountsOne};
 
 use crate::kinds::{class_lines, set_lines};
 use crate::laws::later_lines_grow;
@@ -65,7 +65,7 @@ impl Counts {
     }
 
     fn count(&self, class: &Name) -> usize
-        ensures { result ≡ count_of self.now class.now }
+        ensures { result ≡ attributes_counted self.now class.now }
     {
         match self.map.get(class) {
             None => 0,

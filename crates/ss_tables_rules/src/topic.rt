@@ -1,7 +1,7 @@
 //! The topic of a saying, and the thing that it is of.
 
 ghost use Rattle.std.specs.Prelude.{◌≡◌};
-ghost use Rattle.ss_tables_rules.specs.Topics.{is_about, section_of, thing_of, class_in};
+ghost use Rattle.ss_tables_rules.specs.Topics.{has_topic, section_of, thing_of, class_declared};
 
 use ss_base::Name;
 use ss_names_declarations::{Said, Saying};
@@ -51,8 +51,8 @@ pub enum Topic {
 pub type Thing = (usize, Option<Name>);
 
 /// Whether a saying has this topic.
-pub fn is_about(topic: Topic, said: &Said) -> bool
-    ensures { result ≡ is_about topic said.now }
+pub fn has_topic(topic: Topic, said: &Said) -> bool
+    ensures { result ≡ has_topic topic said.now }
 {
     match said {
         Said::Normally { .. } => matches!(topic, Topic::Normally),
@@ -103,8 +103,8 @@ pub fn thing_of(saying: &Saying) -> Thing
 }
 
 /// The class that a saying gives.
-pub fn class_in(said: &Said) -> Option<Name>
-    ensures { result ≡ class_in said.now }
+pub fn class_declared(said: &Said) -> Option<Name>
+    ensures { result ≡ class_declared said.now }
 {
     match said {
         Said::Attribute { class } => Some(*class),

@@ -7,22 +7,22 @@ ghost use Rattle.ss_tables_rules.specs.Declarations.{Declaration, declarations};
 ghost use Rattle.ss_tables_rules.specs.Globals.{IsGlobalsOf};
 ghost use Rattle.ss_tables_rules.specs.Lines.{soonest, first_line};
 ghost use Rattle.ss_tables_rules.specs.Things.{has_thing};
-ghost use Rattle.ss_tables_rules.specs.Topics.{is_about, thing_of, is_said};
+ghost use Rattle.ss_tables_rules.specs.Topics.{has_topic, thing_of, is_said};
 ghost use Rattle.ss_tables_rules.specs.Twice.{again, anything, sets_again, statements_again, classes_again, locals_again, repeats, hides, hidings, twice};
 
-use crate::globals::{Globals, may_hide};
+use crate::globals::{DeclaredNames, may_hide};
 use crate::lines::sooner_if;
 use crate::things::{Things, things_said};
-use crate::topic::{Topic, is_about, thing_of};
+use crate::topic::{Topic, has_topic, thing_of};
 use ss_base::Line;
 use ss_names_declarations::{Saying, Seed};
 use std::alloc::{AllocError, Global};
 
 /// Whether a saying is about this, of one of these things.
 pub fn is_of_one(topic: Topic, saying: &Saying, things: &Things) -> bool
-    ensures { result ≡ (is_about topic saying.now.said && has_thing things.now (thing_of saying.now)) }
+    ensures { result ≡ (has_topic topic saying.now.said && has_thing things.now (thing_of saying.now)) }
 {
-    is_about(topic, &saying.said) && things.has(thing_of(saying))
+    has_topic(topic, &saying.said) && things.has(thing_of(saying))
 }
 
 /// What was found so far, or the first line of a saying about this of a thing of which an earlier one is.
@@ -49,9 +49,9 @@ pub fn again(
 
 /// Whether a saying is about this, of a thing that is among both.
 fn is_of_both(topic: Topic, saying: &Saying, first: &Things, second: &Things) -> bool
-    ensures { result ≡ (is_about topic saying.now.said && (has_thing first.now (thing_of saying.now) && has_thing second.now (thing_of saying.now))) }
+    ensures { result ≡ (has_topic topic saying.now.said && (has_thing first.now (thing_of saying.now) && has_thing second.now (thing_of saying.now))) }
 {
-    is_about(topic, &saying.said) && (first.has(thing_of(saying)) && second.has(thing_of(saying)))
+    has_topic(topic, &saying.said) && (first.has(thing_of(saying)) && second.has(thing_of(saying)))
 }
 
 /// What was found so far, or the first line of a second saying about this, of one of these things.
@@ -175,14 +175,14 @@ fn repeats(
 }
 
 /// Whether a saying is about a parameter or a local variable that hides what may not be hidden.
-fn hides(globals: &Globals, saying: &Saying) -> bool
+fn hides(globals: &DeclaredNames, saying: &Saying) -> bool
     ensures { (ds : List Declaration) → IsGlobalsOf ds globals.now → result ≡ hides ds saying.now }
 {
     let said = &saying.said;
     match &saying.name {
         None => false,
         Some(name) => {
-            (is_about(Topic::Parameter, said) || is_about(Topic::Local, said))
+            (has_topic(Topic::Parameter, said) || has_topic(Topic::Local, said))
                 && !may_hide(globals.standing(name))
         }
     }
@@ -190,7 +190,7 @@ fn hides(globals: &Globals, saying: &Saying) -> bool
 
 /// What was found so far, or the first line where a parameter or a local variable hides what may not be
 /// hidden.
-fn hidings(globals: &Globals, sayings: &[Saying], found: Option<Line>) -> Option<Line>
+fn hidings(globals: &DeclaredNames, sayings: &[Saying], found: Option<Line>) -> Option<Line>
     ensures { IsGlobalsOf (declarations sayings.now) globals.now → result ≡ soonest found (hidings sayings.now) }
 {
     let mut found = found;
@@ -206,7 +206,7 @@ fn hidings(globals: &Globals, sayings: &[Saying], found: Option<Line>) -> Option
 /// `AllocError` where memory is refused.
 pub fn twice(
     alloc: Global,
-    globals: &Globals,
+    globals: &DeclaredNames,
     sayings: &[Saying],
 ) -> Result<Option<Line>, AllocError>
     requires { IsGlobalsOf (declarations sayings.now) globals.now }

@@ -69,23 +69,23 @@ abbrev pub AreFields : Layout → ℕ → List RankKey → Type 0
 AreFields l c ks = All (λ (k : RankKey). k.field < length (modes_of l c)) ks
 
 -- the keys of a discipline are fields of the class of the set's members
-abbrev pub Fits : Layout → ℕ → Discipline → Type 0
-Fits l s Fifo = Unit {0}
-Fits l s Lifo = Unit {0}
-Fits l s (Ranked ks) = AreFields l (member_class l s) ks
+abbrev pub FitsMembers : Layout → ℕ → Discipline → Type 0
+FitsMembers l s Fifo = Unit {0}
+FitsMembers l s Lifo = Unit {0}
+FitsMembers l s (Ranked ks) = AreFields l (member_class l s) ks
 
 -- how many members x passes
 abbrev pub passed : State → ℕ → List RankKey → ℤ → List ℕ → ℕ
 passed st c ks x [] = 0
 passed st c ks x (y ∷ ys) = cond (ranks_after st c ks (pos y) x) 0 (suc (passed st c ks x ys))
 
-abbrev pub owned_by : State → ℕ → Result ℕ FaultKind → List ℕ
-owned_by st s (Ok m) = members_of st.lists s m
-owned_by st s (Err e) = []
+abbrev pub members_owned_by : State → ℕ → Result ℕ FaultKind → List ℕ
+members_owned_by st s (Ok m) = members_of st.lists s m
+members_owned_by st s (Err e) = []
 
 -- the members of the set of an owner, none where there is no owner
 abbrev pub owned : State → ℕ → ℤ → List ℕ
-owned st s o = owned_by st s (owner st s o)
+owned st s o = members_owned_by st s (owner st s o)
 
 -- how many members filing by a discipline passes
 abbrev pub passed_by : State → Discipline → ℕ → ℤ → ℤ → ℕ

@@ -2,7 +2,7 @@
 
 use crate::cases::{Case, Part};
 use crate::content::Content;
-use crate::directive::{Head, Topic};
+use crate::directive::{DirectiveHead, DirectiveTopic};
 use crate::words::{first_word, named, number};
 use crate::wrong::Wrong;
 use std::alloc::{AllocError, Global};
@@ -103,14 +103,14 @@ impl<'a> Book<'a> {
     // Does what a directive says, in the line of this number.
     fn obey(&mut self, line: &'a str, number: u64) -> Result<(), Wrong> {
         let (word, rest) = first_word(line);
-        match Head::of(word)? {
-            Head::Text => self.begin_text(rest),
-            Head::Case => self.begin_case(rest, number),
-            Head::After => self.begin_with_text(rest),
-            Head::As => self.begin_as(rest),
-            Head::Line => self.begin_line(rest),
-            Head::Part(part) => self.begin_part(part, rest),
-            Head::Says(topic) => self.take_down(topic, rest),
+        match DirectiveHead::of(word)? {
+            DirectiveHead::Text => self.begin_text(rest),
+            DirectiveHead::Case => self.begin_case(rest, number),
+            DirectiveHead::After => self.begin_with_text(rest),
+            DirectiveHead::As => self.begin_as(rest),
+            DirectiveHead::Line => self.begin_line(rest),
+            DirectiveHead::Part(part) => self.begin_part(part, rest),
+            DirectiveHead::Says(topic) => self.take_down(topic, rest),
         }
     }
 
@@ -196,7 +196,7 @@ impl<'a> Book<'a> {
 
     // Records what a directive says of the case under way. Where there is none, what is wrong with the words
     // themselves comes first.
-    fn take_down(&mut self, topic: Topic, words: &'a str) -> Result<(), Wrong> {
+    fn take_down(&mut self, topic: DirectiveTopic, words: &'a str) -> Result<(), Wrong> {
         let alloc = self.alloc;
         match self.cases.last_mut() {
             Some(case) => case.take_down(topic, words),
@@ -262,13 +262,17 @@ fn begin_as_last(case: &mut Case<'_>, earlier: &[Case<'_>]) -> Result<(), Wrong>
 }
 
 // What is wrong with words that say something of no case.
-fn said_of_none(alloc: Global, topic: Topic, words: &str) -> Result<(), Wrong> {
+fn said_of_none(alloc: Global, topic: DirectiveTopic, words: &str) -> Result<(), Wrong> {
     let mut case = Case::new(alloc, "", 0);
     take_down_of_none(&mut case, topic, words)
 }
 
 // What is wrong with words about this case, which is none.
-fn take_down_of_none<'a>(case: &mut Case<'a>, topic: Topic, words: &'a str) -> Result<(), Wrong> {
+fn take_down_of_none<'a>(
+    case: &mut Case<'a>,
+    topic: DirectiveTopic,
+    words: &'a str,
+) -> Result<(), Wrong> {
     case.take_down(topic, words)?;
     Err(Wrong::NoCase)
 }

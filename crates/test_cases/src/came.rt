@@ -1,6 +1,6 @@
 //! What comes of a text, and whether that is wanted.
 
-use crate::ending::{Counts, Ending};
+use crate::ending::{Ending, TreeCounts};
 use std::{fmt, str};
 
 /// What comes of a text.
@@ -9,7 +9,7 @@ pub enum Came<'a> {
     /// This line of the program, or `ended`.
     Line(&'a str),
     /// A tree of so many statements and sections.
-    Tree(Counts),
+    Tree(TreeCounts),
     /// No rule is broken.
     Kept,
 }
@@ -34,7 +34,7 @@ impl Came<'_> {
     }
 
     // Whether it is a tree of so many statements and sections.
-    fn is_tree_of(self, wanted: Counts) -> bool {
+    fn is_tree_of(self, wanted: TreeCounts) -> bool {
         match self {
             Came::Tree(counts) => counts.is(wanted),
             _ => false,

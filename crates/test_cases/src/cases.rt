@@ -1,9 +1,9 @@
 //! Cases: a whole text each, and what is wanted of it.
 
 use crate::content::{LinePlace, place_of_line};
-use crate::directive::Topic;
+use crate::directive::DirectiveTopic;
 use crate::ending::Ending;
-use crate::words::{Call, StreamPlan, number, numbers, reader, short_numbers, writer};
+use crate::words::{SessionCall, StreamPlan, number, numbers, reader, short_numbers, writer};
 use crate::wrong::Wrong;
 use std::alloc::Global;
 
@@ -56,7 +56,7 @@ pub struct Case<'a> {
     rest: Vec<u8>,
     pub input: Vec<u8>,
     pub report: Vec<u8>,
-    pub calls: Vec<Call<'a>>,
+    pub calls: Vec<SessionCall<'a>>,
     pub ending: Option<Ending<'a>>,
     pub used: Option<u64>,
     pub cut_short: Option<Vec<u64>>,
@@ -102,22 +102,22 @@ impl<'a> Case<'a> {
     }
 
     /// Takes down what these words say of the case.
-    pub fn take_down(&mut self, topic: Topic, words: &'a str) -> Result<(), Wrong> {
+    pub fn take_down(&mut self, topic: DirectiveTopic, words: &'a str) -> Result<(), Wrong> {
         match topic {
-            Topic::Ticks => set_once(&mut self.ticks, numbers(self.alloc, words)),
-            Topic::Reader => set_once(&mut self.reader, reader(words)),
-            Topic::Writer => set_once(&mut self.writer, writer(words)),
-            Topic::Failures => set_once(&mut self.failures, number(words)),
-            Topic::Run => self.add_call(Call::of(words)),
-            Topic::Ending => set_once(&mut self.ending, Ending::of(words)),
-            Topic::Judge => set_once(&mut self.judge, Judge::of(words)),
-            Topic::Used => set_once(&mut self.used, number(words)),
-            Topic::Cut => set_once(&mut self.cut_short, short_numbers(self.alloc, words)),
+            DirectiveTopic::Ticks => set_once(&mut self.ticks, numbers(self.alloc, words)),
+            DirectiveTopic::Reader => set_once(&mut self.reader, reader(words)),
+            DirectiveTopic::Writer => set_once(&mut self.writer, writer(words)),
+            DirectiveTopic::Failures => set_once(&mut self.failures, number(words)),
+            DirectiveTopic::Run => self.add_call(SessionCall::of(words)),
+            DirectiveTopic::Ending => set_once(&mut self.ending, Ending::of(words)),
+            DirectiveTopic::Judge => set_once(&mut self.judge, Judge::of(words)),
+            DirectiveTopic::Used => set_once(&mut self.used, number(words)),
+            DirectiveTopic::Cut => set_once(&mut self.cut_short, short_numbers(self.alloc, words)),
         }
     }
 
     // Adds a call of the session.
-    fn add_call(&mut self, call: Result<Call<'a>, Wrong>) -> Result<(), Wrong> {
+    fn add_call(&mut self, call: Result<SessionCall<'a>, Wrong>) -> Result<(), Wrong> {
         self.calls.push(call?)?;
         Ok(())
     }

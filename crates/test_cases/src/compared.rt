@@ -3,8 +3,8 @@
 use crate::came::Came;
 use crate::cases::Case;
 use crate::found::{add_call, add_count, add_ending, add_line};
-use crate::streams::Streams;
-use crate::words::Call;
+use crate::streams::CaseStreams;
+use crate::words::SessionCall;
 use ss_base::Faulty;
 use std::alloc::AllocError;
 
@@ -24,7 +24,7 @@ pub fn compare_ending(
 /// wanted.
 pub fn compare_call(
     number: u64,
-    call: Call<'_>,
+    call: SessionCall<'_>,
     line: &str,
     found: &mut String,
 ) -> Result<(), AllocError> {
@@ -58,10 +58,10 @@ fn compare_count(
 /// Notes what a reader and a writer show that is not wanted: how often they failed, and the report.
 pub fn compare_streams(
     case: &Case<'_>,
-    streams: &Streams,
+    streams: &CaseStreams,
     found: &mut String,
 ) -> Result<(), AllocError> {
-    let Streams { reader, writer } = streams;
+    let CaseStreams { reader, writer } = streams;
     let failures = Faulty::faults(reader).saturating_add(Faulty::faults(writer));
     compare_count(case.failures(), failures, "failures", found)?;
     if writer.bytes() == case.report.as_slice() {

@@ -5,7 +5,7 @@ use crate::wrong::Wrong;
 
 /// What the first word of a directive means.
 #[derive(Clone, Copy)]
-pub enum Head {
+pub enum DirectiveHead {
     /// The content after it is a text of the name that follows.
     Text,
     /// A case of the name that follows begins.
@@ -19,12 +19,12 @@ pub enum Head {
     /// The content after it belongs to this part of the case.
     Part(Part),
     /// A property of the case.
-    Says(Topic),
+    Says(DirectiveTopic),
 }
 
 /// What a directive says of a case.
 #[derive(Clone, Copy)]
-pub enum Topic {
+pub enum DirectiveTopic {
     /// The pieces in which the ticks are handed out.
     Ticks,
     /// The one reader.
@@ -46,29 +46,29 @@ pub enum Topic {
 }
 
 /// The first words of directives.
-static HEADS: [(&str, Head); 17] = [
-    ("text", Head::Text),
-    ("case", Head::Case),
-    ("after", Head::After),
-    ("as", Head::As),
-    ("line", Head::Line),
-    ("model", Head::Part(Part::Model)),
-    ("input", Head::Part(Part::Input)),
-    ("report", Head::Part(Part::Report)),
-    ("ticks", Head::Says(Topic::Ticks)),
-    ("reader", Head::Says(Topic::Reader)),
-    ("writer", Head::Says(Topic::Writer)),
-    ("failures", Head::Says(Topic::Failures)),
-    ("run", Head::Says(Topic::Run)),
-    ("ending", Head::Says(Topic::Ending)),
-    ("judge", Head::Says(Topic::Judge)),
-    ("used", Head::Says(Topic::Used)),
-    ("cut", Head::Says(Topic::Cut)),
+static HEADS: [(&str, DirectiveHead); 17] = [
+    ("text", DirectiveHead::Text),
+    ("case", DirectiveHead::Case),
+    ("after", DirectiveHead::After),
+    ("as", DirectiveHead::As),
+    ("line", DirectiveHead::Line),
+    ("model", DirectiveHead::Part(Part::Model)),
+    ("input", DirectiveHead::Part(Part::Input)),
+    ("report", DirectiveHead::Part(Part::Report)),
+    ("ticks", DirectiveHead::Says(DirectiveTopic::Ticks)),
+    ("reader", DirectiveHead::Says(DirectiveTopic::Reader)),
+    ("writer", DirectiveHead::Says(DirectiveTopic::Writer)),
+    ("failures", DirectiveHead::Says(DirectiveTopic::Failures)),
+    ("run", DirectiveHead::Says(DirectiveTopic::Run)),
+    ("ending", DirectiveHead::Says(DirectiveTopic::Ending)),
+    ("judge", DirectiveHead::Says(DirectiveTopic::Judge)),
+    ("used", DirectiveHead::Says(DirectiveTopic::Used)),
+    ("cut", DirectiveHead::Says(DirectiveTopic::Cut)),
 ];
 
-impl Head {
+impl DirectiveHead {
     /// What this word means as the first of a directive.
-    pub fn of(word: &str) -> Result<Head, Wrong> {
+    pub fn of(word: &str) -> Result<DirectiveHead, Wrong> {
         for (spelled, head) in &HEADS {
             if *spelled == word {
                 return Ok(*head);

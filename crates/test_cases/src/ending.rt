@@ -8,20 +8,20 @@ use std::fmt;
 /// How many statements the preamble of a tree has, how many sections it has, and how many
 /// statements lie right in these.
 #[derive(Clone, Copy)]
-pub struct Counts {
+pub struct TreeCounts {
     pub preamble: u64,
     pub sections: u64,
     pub statements: u64,
 }
 
-impl Counts {
+impl TreeCounts {
     // The counts of a tree.
-    fn of(program: &Program) -> Counts {
+    fn of(program: &Program) -> TreeCounts {
         let mut statements: usize = 0;
         for section in &program.sections {
             statements = statements.saturating_add(section.body.len());
         }
-        Counts {
+        TreeCounts {
             preamble: program.preamble.len() as u64,
             sections: program.sections.len() as u64,
             statements: statements as u64,
@@ -29,16 +29,16 @@ impl Counts {
     }
 
     /// Whether these are the same.
-    pub fn is(self, other: Counts) -> bool {
+    pub fn is(self, other: TreeCounts) -> bool {
         self.preamble == other.preamble
             && self.sections == other.sections
             && self.statements == other.statements
     }
 }
 
-impl fmt::Display for Counts {
+impl fmt::Display for TreeCounts {
     fn fmt<W: fmt::Write>(&self, f: &mut fmt::Formatter<W>) -> fmt::Result {
-        let Counts {
+        let TreeCounts {
             preamble,
             sections,
             statements,
@@ -48,8 +48,8 @@ impl fmt::Display for Counts {
 }
 
 /// The counts of a tree.
-pub fn counted(program: &Program) -> Counts {
-    Counts::of(program)
+pub fn counted(program: &Program) -> TreeCounts {
+    TreeCounts::of(program)
 }
 
 /// How a case is to end.
@@ -60,7 +60,7 @@ pub enum Ending<'a> {
     /// With any tree.
     AnyTree,
     /// With a tree of so many statements and sections.
-    Tree(Counts),
+    Tree(TreeCounts),
     /// With no broken rule.
     Kept,
 }
@@ -100,7 +100,7 @@ fn other_ending(words: &str) -> Result<Ending<'_>, Wrong> {
 fn tree_of(words: &str) -> Result<Ending<'_>, Wrong> {
     let (preamble, rest) = first_word(words);
     let (sections, statements) = first_word(rest);
-    Ok(Ending::Tree(Counts {
+    Ok(Ending::Tree(TreeCounts {
         preamble: number(preamble)?,
         sections: number(sections)?,
         statements: number(statements)?,

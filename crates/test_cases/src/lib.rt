@@ -20,8 +20,8 @@ mod trial;
 mod words;
 mod wrong;
 
-pub use ending::{Counts, counted};
+pub use ending::{TreeCounts, counted};
 pub use files::try_files;
 pub use score::Score;
 pub use simulator::Simulator;
-pub use streams::Streams;
+pub use streams::CaseStreams;

@@ -5,8 +5,8 @@ use crate::cases::Case;
 use crate::compared::{compare_call, compare_streams, compare_used};
 use crate::found::add_no_session;
 use crate::simulator::Simulator;
-use crate::streams::Streams;
-use crate::words::Call;
+use crate::streams::CaseStreams;
+use crate::words::SessionCall;
 use std::alloc::{AllocError, Global};
 
 /// Runs a case as a session, if that can be started.
@@ -14,7 +14,7 @@ pub fn run_session<S: Simulator>(
     alloc: Global,
     simulator: &S,
     case: &Case<'_>,
-    streams: Streams,
+    streams: CaseStreams,
     found: &mut String,
 ) -> Result<(), AllocError> {
     match simulator.start(alloc, &case.model, streams) {
@@ -51,7 +51,7 @@ fn run_started<S: Simulator>(
 fn compare_closed(
     called: Result<(), AllocError>,
     case: &Case<'_>,
-    streams: &Streams,
+    streams: &CaseStreams,
     found: &mut String,
 ) -> Result<(), AllocError> {
     called?;
@@ -83,7 +83,7 @@ fn compare_stop<S: Simulator>(
     alloc: Global,
     simulator: &S,
     number: u64,
-    call: Call<'_>,
+    call: SessionCall<'_>,
     outcome: S::Outcome,
     found: &mut String,
 ) -> Result<(), AllocError> {

@@ -1,7 +1,7 @@
 //! What cases ask of a simulator.
 
-use crate::ending::Counts;
-use crate::streams::Streams;
+use crate::ending::TreeCounts;
+use crate::streams::CaseStreams;
 use std::alloc::{AllocError, Global};
 
 /// A simulator, as far as cases ask for it.
@@ -22,7 +22,7 @@ pub trait Simulator {
     fn ticks_used(&self, outcome: Self::Outcome) -> u64;
 
     /// The counts of the tree of a text, or what the lexer or the parser refuses.
-    fn tree(&self, alloc: Global, text: &[u8]) -> Result<Counts, Self::Outcome>;
+    fn tree(&self, alloc: Global, text: &[u8]) -> Result<TreeCounts, Self::Outcome>;
 
     /// What the lexer, the parser, the tables or the rules refuse of a text.
     fn refusal(&self, alloc: Global, text: &[u8]) -> Option<Self::Outcome>;
@@ -32,21 +32,21 @@ pub trait Simulator {
         &self,
         alloc: Global,
         text: &[u8],
-        streams: Streams,
+        streams: CaseStreams,
         pieces: &[u64],
-    ) -> (Self::Outcome, Streams);
+    ) -> (Self::Outcome, CaseStreams);
 
     /// A session of a text, or its refusal.
     fn start(
         &self,
         alloc: Global,
         text: &[u8],
-        streams: Streams,
+        streams: CaseStreams,
     ) -> Result<Self::Session, Self::Outcome>;
 
     /// Runs a session with so many ticks. The ticks used are those since its start.
     fn call(&self, session: &mut Self::Session, ticks: u64) -> Self::Outcome;
 
     /// The streams of a session, which ends with that.
-    fn close(&self, session: Self::Session) -> Streams;
+    fn close(&self, session: Self::Session) -> CaseStreams;
 }

@@ -10,16 +10,16 @@ const MORE_ROOM: usize = 65_536;
 
 /// A reader of a case's input, and a writer of its report.
 #[derive(Drop)]
-pub struct Streams {
+pub struct CaseStreams {
     pub reader: MemoryRead,
     pub writer: MemoryWrite,
 }
 
-impl Streams {
+impl CaseStreams {
     /// The streams of a case before its run.
-    pub fn new(alloc: Global, case: &Case<'_>, plan: Plan) -> Result<Streams, AllocError> {
+    pub fn new(alloc: Global, case: &Case<'_>, plan: Plan) -> Result<CaseStreams, AllocError> {
         let reader = MemoryRead::new(alloc, &case.input, plan)?;
-        Streams::of_reader(alloc, case, reader)
+        CaseStreams::of_reader(alloc, case, reader)
     }
 
     // The streams of a case with this reader.
@@ -27,10 +27,10 @@ impl Streams {
         alloc: Global,
         case: &Case<'_>,
         reader: MemoryRead,
-    ) -> Result<Streams, AllocError> {
+    ) -> Result<CaseStreams, AllocError> {
         let StreamPlan { plan, trouble } = case.writer();
         let room = case.report.len().saturating_add(MORE_ROOM);
         let writer = MemoryWrite::new(alloc, room, plan, trouble)?;
-        Ok(Streams { reader, writer })
+        Ok(CaseStreams { reader, writer })
     }
 }

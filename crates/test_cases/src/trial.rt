@@ -5,7 +5,7 @@ use crate::compared::{compare_streams, compare_used};
 use crate::judged::{compare_outcome, cut_short, judge_rules, judge_tree};
 use crate::session::run_session;
 use crate::simulator::Simulator;
-use crate::streams::Streams;
+use crate::streams::CaseStreams;
 use ss_base::Plan;
 use std::alloc::{AllocError, Global};
 use std::fmt;
@@ -116,7 +116,7 @@ fn run_with<S: Simulator>(
     plan: Plan,
     found: &mut String,
 ) -> Result<(), AllocError> {
-    let streams = Streams::new(alloc, case, plan)?;
+    let streams = CaseStreams::new(alloc, case, plan)?;
     if case.calls.is_empty() {
         run_whole(alloc, simulator, case, streams, found)
     } else {
@@ -129,7 +129,7 @@ fn run_whole<S: Simulator>(
     alloc: Global,
     simulator: &S,
     case: &Case<'_>,
-    streams: Streams,
+    streams: CaseStreams,
     found: &mut String,
 ) -> Result<(), AllocError> {
     let (outcome, streams) = simulator.run(alloc, &case.model, streams, case.pieces());
@@ -142,7 +142,7 @@ fn compare_run<S: Simulator>(
     simulator: &S,
     case: &Case<'_>,
     outcome: S::Outcome,
-    streams: &Streams,
+    streams: &CaseStreams,
     found: &mut String,
 ) -> Result<(), AllocError> {
     compare_outcome(alloc, simulator, case, outcome, found)?;

@@ -1,7 +1,7 @@
 //! What the words of directives mean.
 
 use crate::wrong::Wrong;
-use ss_base::{Plan, Trouble};
+use ss_base::{Plan, WriteFailure};
 use std::alloc::Global;
 
 /// The first word of some words, and the others.
@@ -70,7 +70,7 @@ fn size(word: &str) -> Result<usize, Wrong> {
 pub struct StreamPlan {
     pub plan: Plan,
     /// What goes wrong at a call of a writer; a reader's call answers an error.
-    pub trouble: Trouble,
+    pub trouble: WriteFailure,
 }
 
 impl StreamPlan {
@@ -78,7 +78,7 @@ impl StreamPlan {
     pub fn smooth(per_call: usize) -> StreamPlan {
         StreamPlan {
             plan: Plan::smooth(per_call),
-            trouble: Trouble::Error,
+            trouble: WriteFailure::Error,
         }
     }
 }
@@ -97,7 +97,7 @@ enum Start {
 struct Phrase {
     before: &'static str,
     after: &'static str,
-    trouble: Trouble,
+    trouble: WriteFailure,
     start: Start,
 }
 
@@ -105,7 +105,7 @@ struct Phrase {
 static READER_PHRASES: [Phrase; 1] = [Phrase {
     before: "fails from call ",
     after: "",
-    trouble: Trouble::Error,
+    trouble: WriteFailure::Error,
     start: Start::Call,
 }];
 
@@ -114,25 +114,25 @@ static WRITER_PHRASES: [Phrase; 4] = [
     Phrase {
         before: "fails from call ",
         after: "",
-        trouble: Trouble::Error,
+        trouble: WriteFailure::Error,
         start: Start::Call,
     },
     Phrase {
         before: "fails after ",
         after: " bytes",
-        trouble: Trouble::Error,
+        trouble: WriteFailure::Error,
         start: Start::Bytes,
     },
     Phrase {
         before: "takes nothing from call ",
         after: "",
-        trouble: Trouble::NoByte,
+        trouble: WriteFailure::NoByte,
         start: Start::Call,
     },
     Phrase {
         before: "takes nothing after ",
         after: " bytes",
-        trouble: Trouble::NoByte,
+        trouble: WriteFailure::NoByte,
         start: Start::Bytes,
     },
 ];
@@ -184,7 +184,7 @@ fn stream(words: &str, phrases: &[Phrase], wrong: Wrong) -> Result<StreamPlan, W
 
 /// A call of a session, and what it is to answer.
 #[derive(Clone, Copy)]
-pub struct Call<'a> {
+pub struct SessionCall<'a> {
     pub ticks: u64,
     /// The line of its stop, or `ended`.
     pub line: &'a str,
@@ -192,9 +192,9 @@ pub struct Call<'a> {
     pub used: Option<u64>,
 }
 
-impl<'a> Call<'a> {
+impl<'a> SessionCall<'a> {
     /// N LINE, or N LINE, used U.
-    pub fn of(words: &'a str) -> Result<Call<'a>, Wrong> {
+    pub fn of(words: &'a str) -> Result<SessionCall<'a>, Wrong> {
         match words.split_once(' ') {
             Some((ticks, answer)) => answered(number(ticks)?, answer),
             None => Err(Wrong::Run),
@@ -203,7 +203,7 @@ impl<'a> Call<'a> {
 }
 
 // LINE, or LINE, used U.
-fn answered(ticks: u64, answer: &str) -> Result<Call<'_>, Wrong> {
+fn answered(ticks: u64, answer: &str) -> Result<SessionCall<'_>, Wrong> {
     match answer.rsplit_once(", used ") {
         Some((line, used)) => call_of(ticks, line, Some(number(used)?)),
         None => call_of(ticks, answer, None),
@@ -211,9 +211,9 @@ fn answered(ticks: u64, answer: &str) -> Result<Call<'_>, Wrong> {
 }
 
 // A call, where it has a line.
-fn call_of(ticks: u64, line: &str, used: Option<u64>) -> Result<Call<'_>, Wrong> {
+fn call_of(ticks: u64, line: &str, used: Option<u64>) -> Result<SessionCall<'_>, Wrong> {
     if line.is_empty() {
         return Err(Wrong::Run);
     }
-    Ok(Call { ticks, line, used })
+    Ok(SessionCall { ticks, line, used })
 }

@@ -1,6 +1,6 @@
 //! The words for outcomes, refusals and listings, and a whole run whose memory is refused.
 
-use ss_base::{FaultKind, Line, MemoryRead, MemoryWrite, Plan, Trouble};
+use ss_base::{FaultKind, Line, MemoryRead, MemoryWrite, Plan, WriteFailure};
 use ss_engine::{Model, Outcome, Refusal, Stop, compile, outcome_line, outcome_status, simulate};
 use ss_sections::sections::Sections;
 use std::alloc::Global;
@@ -254,7 +254,7 @@ fn runs_well(alloc: Global, reader: MemoryRead, writer: MemoryWrite) -> bool {
 fn want_of_memory_is_never_a_wrong_answer(rt: HostRuntime) -> Result<(), Fail> {
     let alloc = rt.alloc();
     let reader = MemoryRead::new(alloc, b"5 7", Plan::smooth(1))?;
-    let writer = MemoryWrite::new(alloc, 2048, Plan::smooth(256), Trouble::Error)?;
+    let writer = MemoryWrite::new(alloc, 2048, Plan::smooth(256), WriteFailure::Error)?;
     assert!(rt; runs_well(alloc, reader, writer));
     Ok(())
 }

@@ -1,7 +1,7 @@
 use ss_base::{
     Alpha, ClassKind, ClassLayout, Discipline, FaultKind, Faulty, FaultyRead, FaultyWrite, Layout,
-    Line, MemoryRead, MemoryWrite, Mode, Owner, Plan, RankKey, RankKeys, Refused, SetLayout,
-    Trouble, Value, div_f, minus, mod_f, plus, times,
+    Line, MemoryRead, MemoryWrite, Mode, Owner, Plan, RankKey, RankKeys, Refused, SetLayout, Value,
+    WriteFailure, div_f, minus, mod_f, plus, times,
 };
 use std::alloc::{AllocError, Global};
 use std::cmp::Ordering;
@@ -395,7 +395,7 @@ static FAILED: Taken = Taken {
 #[test]
 fn a_failing_writer_over_memory_goes_by_its_plan(rt: HostRuntime) {
     let plan = Plan::wrong_after_bytes(9, 3);
-    let failing = MemoryWrite::new(rt.alloc(), 9, plan, Trouble::Error);
+    let failing = MemoryWrite::new(rt.alloc(), 9, plan, WriteFailure::Error);
     assert!(rt; end_so(failing, b"HELLO", &FAILED));
 }
 
@@ -411,6 +411,6 @@ fn a_stalling_writer_over_memory_goes_by_its_plan(rt: HostRuntime) {
         times: 2,
         ..Plan::wrong_from_call(1, 2)
     };
-    let stalling = MemoryWrite::new(rt.alloc(), 2, plan, Trouble::NoByte);
+    let stalling = MemoryWrite::new(rt.alloc(), 2, plan, WriteFailure::NoByte);
     assert!(rt; end_so(stalling, b"XY", &STALLED));
 }

@@ -1,7 +1,7 @@
 ghost use Rattle.std.specs.Prelude.{◌≡◌, true};
 ghost use Rattle.ss_picture.specs.Suited.{Suits, EachSuits};
 
-use ss_base::{Alpha, Faulty, FaultyWrite, MemoryWrite, Plan, Trouble, Value};
+use ss_base::{Alpha, Faulty, FaultyWrite, MemoryWrite, Plan, Value, WriteFailure};
 use ss_picture::{Field, Item, Picture, Sink, SinkError};
 use std::alloc::{AllocError, Global};
 use std::io;
@@ -297,7 +297,7 @@ fn sends_to(writer: MemoryWrite, wanted: &Sent) -> bool {
 }
 
 // Whether a sink to a writer over memory does, which goes by this plan.
-fn sends(alloc: Global, plan: Plan, trouble: Trouble, wanted: &Sent) -> bool {
+fn sends(alloc: Global, plan: Plan, trouble: WriteFailure, wanted: &Sent) -> bool {
     match MemoryWrite::new(alloc, 64, plan, trouble) {
         Ok(writer) => sends_to(writer, wanted),
         Err(_) => false,
@@ -313,7 +313,7 @@ static BY_BYTES: Sent = Sent {
 
 #[test]
 fn a_byte_per_write(rt: HostRuntime) {
-    assert!(rt; sends(rt.alloc(), Plan::smooth(1), Trouble::Error, &BY_BYTES));
+    assert!(rt; sends(rt.alloc(), Plan::smooth(1), WriteFailure::Error, &BY_BYTES));
 }
 
 static BROKEN_OFF: Sent = Sent {
@@ -326,7 +326,7 @@ static BROKEN_OFF: Sent = Sent {
 #[test]
 fn three_bytes_and_then_an_error(rt: HostRuntime) {
     let plan = Plan::wrong_after_bytes(2, 3);
-    assert!(rt; sends(rt.alloc(), plan, Trouble::Error, &BROKEN_OFF));
+    assert!(rt; sends(rt.alloc(), plan, WriteFailure::Error, &BROKEN_OFF));
 }
 
 // Writes that take no byte, so many from the second call on.
@@ -348,7 +348,14 @@ static STALLED: Sent = Sent {
 
 #[test]
 fn a_thousand_writes_of_no_byte(rt: HostRuntime) {
-    assert!(rt; sends(rt.alloc(), stalling(u64::MAX), Trouble::NoByte, &STALLED));
+    assert!(rt;
+        sends(
+            rt.alloc(),
+            stalling(u64::MAX),
+            WriteFailure::NoByte,
+            &STALLED
+        )
+    );
 }
 
 static NEARLY_STALLED: Sent = Sent {
@@ -360,7 +367,14 @@ static NEARLY_STALLED: Sent = Sent {
 
 #[test]
 fn nearly_a_thousand_writes_of_no_byte(rt: HostRuntime) {
-    assert!(rt; sends(rt.alloc(), stalling(999), Trouble::NoByte, &NEARLY_STALLED));
+    assert!(rt;
+        sends(
+            rt.alloc(),
+            stalling(999),
+            WriteFailure::NoByte,
+            &NEARLY_STALLED
+        )
+    );
 }
 
 // It takes a byte at each thousandth call, and none at those between.

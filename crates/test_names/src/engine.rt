@@ -2,7 +2,7 @@
 
 use ss_engine::{
     Counted, FaultKind, Faulty, FaultyRead, FaultyWrite, Line, MemoryRead, MemoryWrite, Model,
-    Outcome, Plan, Refusal, Session, Stop, Trouble, compile, outcome_line, outcome_status,
+    Outcome, Plan, Refusal, Session, Stop, WriteFailure, compile, outcome_line, outcome_status,
     simulate,
 };
 use std::alloc::{AllocError, Global};
@@ -22,7 +22,7 @@ static TOO_FEW: &[u8] = b"PREAMBLE NORMALLY, MODE IS INTEGER END\nMAIN\nREAD X\n
 
 // A report of at most 100 bytes.
 fn report(alloc: Global) -> Result<MemoryWrite, AllocError> {
-    MemoryWrite::new(alloc, 100, Plan::smooth(4096), Trouble::Error)
+    MemoryWrite::new(alloc, 100, Plan::smooth(4096), WriteFailure::Error)
 }
 
 // The result of a run with these data, and whether the report is this.
@@ -77,7 +77,7 @@ fn has_failed<W: FaultyWrite>(writer: &W) -> bool {
 fn a_writer_fails(rt: HostRuntime) -> Result<(), Fail> {
     let data = Counted::new(b"".as_slice());
     let plan = Plan::wrong_after_bytes(4096, 3);
-    let report = MemoryWrite::new(rt.alloc(), 100, plan, Trouble::Error)?;
+    let report = MemoryWrite::new(rt.alloc(), 100, plan, WriteFailure::Error)?;
     let (outcome, _data, report) = simulate(rt.alloc(), THREE, data, report, &[3]);
     assert_eq!(rt; outcome, Outcome::Stopped(Stop::Output, 2));
     assert_eq!(rt; report.bytes(), b"1\n2".as_slice());

@@ -1,7 +1,7 @@
 //! From a text to its report, layer by layer.
 
 use crate::layers::jobs;
-use ss_base::{Counted, Line, MemoryWrite, Plan, Trouble};
+use ss_base::{Counted, Line, MemoryWrite, Plan, WriteFailure};
 use ss_check::{CheckError, Checked, check};
 use ss_code::code::Code;
 use ss_code::error::CodeError;
@@ -135,7 +135,7 @@ fn lines(text: &[u8]) -> usize {
 fn ran(alloc: Global, code: Code, wanted: &[u8]) -> Result<(Stop, u64, bool), AllocError> {
     let mut machine = Machine::new(alloc, code)?;
     let mut source = Source::new(Counted::new(b"".as_slice()));
-    let report = MemoryWrite::new(alloc, 100, Plan::smooth(4096), Trouble::Error)?;
+    let report = MemoryWrite::new(alloc, 100, Plan::smooth(4096), WriteFailure::Error)?;
     let mut sink = Sink::new(report);
     let stop = machine.run(1_000_000, &mut source, &mut sink);
     let used = machine.used();

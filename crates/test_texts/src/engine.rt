@@ -7,7 +7,7 @@ use ss_lex::{Tokens, tokens};
 use ss_parse::parse;
 use ss_tree::release::release_tree;
 use std::alloc::{AllocError, Global};
-use test_cases::{Counts, Simulator, Streams, counted};
+use test_cases::{CaseStreams, Simulator, TreeCounts, counted};
 
 /// The engine.
 pub struct Engine;
@@ -35,7 +35,7 @@ impl Simulator for Engine {
         }
     }
 
-    fn tree(&self, alloc: Global, text: &[u8]) -> Result<Counts, Outcome> {
+    fn tree(&self, alloc: Global, text: &[u8]) -> Result<TreeCounts, Outcome> {
         match tokens(alloc, text) {
             Ok(tokens) => tree_of(alloc, &tokens),
             Err(error) => Err(Outcome::Refused(of_lexer(error))),
@@ -56,19 +56,19 @@ impl Simulator for Engine {
         &self,
         alloc: Global,
         text: &[u8],
-        streams: Streams,
+        streams: CaseStreams,
         pieces: &[u64],
-    ) -> (Outcome, Streams) {
-        let Streams { reader, writer } = streams;
+    ) -> (Outcome, CaseStreams) {
+        let CaseStreams { reader, writer } = streams;
         let (outcome, reader, writer) = simulate(alloc, text, reader, writer, pieces);
-        (outcome, Streams { reader, writer })
+        (outcome, CaseStreams { reader, writer })
     }
 
     fn start(
         &self,
         alloc: Global,
         text: &[u8],
-        streams: Streams,
+        streams: CaseStreams,
     ) -> Result<Session<MemoryRead, MemoryWrite>, Outcome> {
         match compile(alloc, text) {
             Ok(model) => session_of(alloc, model, streams),
@@ -81,14 +81,14 @@ impl Simulator for Engine {
         Outcome::Stopped(stop, session.used())
     }
 
-    fn close(&self, session: Session<MemoryRead, MemoryWrite>) -> Streams {
+    fn close(&self, session: Session<MemoryRead, MemoryWrite>) -> CaseStreams {
         let (reader, writer) = session.close();
-        Streams { reader, writer }
+        CaseStreams { reader, writer }
     }
 }
 
 // The counts of the tree that tokens spell.
-fn tree_of(alloc: Global, tokens: &Tokens) -> Result<Counts, Outcome> {
+fn tree_of(alloc: Global, tokens: &Tokens) -> Result<TreeCounts, Outcome> {
     match parse(alloc, tokens) {
         Ok(program) => {
             let counts = counted(&program);
@@ -103,9 +103,9 @@ fn tree_of(alloc: Global, tokens: &Tokens) -> Result<Counts, Outcome> {
 fn session_of(
     alloc: Global,
     model: Model,
-    streams: Streams,
+    streams: CaseStreams,
 ) -> Result<Session<MemoryRead, MemoryWrite>, Outcome> {
-    let Streams { reader, writer } = streams;
+    let CaseStreams { reader, writer } = streams;
     match Session::start(alloc, model, reader, writer) {
         Ok(session) => Ok(session),
         Err(_) => Err(Outcome::Refused(Refusal::Memory)),

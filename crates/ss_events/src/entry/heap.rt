@@ -4,7 +4,7 @@ ghost use Rattle.std.specs.Ordering.{int_eq};
 ghost use Rattle.std.specs.List.{list_any};
 ghost use Rattle.std.specs.List.Sorted.{IsPermutation};
 ghost use Rattle.ss_events.specs.declared.entry.Entry.{Entry};
-ghost use Rattle.ss_events.specs.HeapEntries.{lines_of, notices_of, event_of, Removes, Leaves, AreAfterHeads};
+ghost use Rattle.ss_events.specs.HeapEntries.{heap_lines, notices_of, event_of, Removes, Leaves, AreAfterHeads};
 ghost use Rattle.ss_events.specs.HeapOrder.{IsFirstOf, IsFirstAmong};
 ghost use Rattle.ss_world.specs.Order.{comes_before};
 ghost use Rattle.ss_events.specs.Slots.{mark_of, plain_ranks, plain_numbers};
@@ -246,7 +246,7 @@ impl Heap {
     pub(crate) fn remove(&mut self, at: usize) -> (i64, i64)
         requires within { at < length self.old.entries }
         requires countable { self.old.moves + 1 < 2 ^ 64 }
-        ensures removed { Removes (lines_of self.old) (lines_of self.new) at result }
+        ensures removed { Removes (heap_lines self.old) (heap_lines self.new) at result }
         ensures comparisons { self.new.comparisons ≡ self.old.comparisons }
         ensures moves { self.new.moves ≡ self.old.moves + 1 }
     {
@@ -257,7 +257,7 @@ impl Heap {
     /// Takes out the entry of a notice where it follows another one, and says whether it did. If not, nothing has changed.
     pub(crate) fn remove_follower(&mut self, notice: i64) -> bool
         ensures found { result ≡ list_any (int_eq notice) (notices_of self.old.followers) }
-        ensures left { result ≡ true → Leaves (lines_of self.old) (lines_of self.new) notice }
+        ensures left { result ≡ true → Leaves (heap_lines self.old) (heap_lines self.new) notice }
         ensures counts { (self.new.comparisons ≡ self.old.comparisons) × (self.new.moves ≡ self.old.moves) }
         ensures kept { result ≡ false → self.new ≡ self.old }
     {

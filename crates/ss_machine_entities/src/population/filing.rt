@@ -8,7 +8,7 @@ ghost use Rattle.ss_machine_entities.specs.Answered.{meant};
 ghost use Rattle.ss_records.specs.Sets.{count_in, filed_first, filed_last, filed_before, filed_after, removed};
 ghost use Rattle.ss_records.specs.Skimming.{IsSkimmed};
 ghost use Rattle.ss_records.specs.State.{modes_of};
-ghost use Rattle.ss_sets.specs.Disciplines.{Fits, filed, first_removed, last_removed, member_test};
+ghost use Rattle.ss_sets.specs.Disciplines.{FitsMembers, filed, first_removed, last_removed, member_test};
 
 use crate::population::Population;
 use crate::trouble::{Trouble, or_trouble};
@@ -23,7 +23,7 @@ impl Population {
     fn fits(&self, discipline: &Discipline, set: usize) -> bool
         requires set { set < length self.now.layout.sets }
         ensures value { result ≡ is_fit self.now.layout set discipline.now }
-        ensures keys { IsTrue result → Fits self.now.layout set discipline.now }
+        ensures keys { IsTrue result → FitsMembers self.now.layout set discipline.now }
     {
         fits(self.heap.layout(), set, discipline)
     }
@@ -58,7 +58,7 @@ impl Population {
         x: i64,
     ) -> Result<(), FaultKind>
         requires set { set < length self.old.layout.sets }
-        requires keys { Fits self.old.layout set discipline.now }
+        requires keys { FitsMembers self.old.layout set discipline.now }
         ensures { MatchResult result (λ _. filed self.old discipline.now set o x ≡ Ok self.new) (λ e. (filed self.old discipline.now set o x ≡ Err e) × (self.new ≡ self.old)) }
     {
         file(&mut self.heap, discipline, set, o, x)

@@ -2,23 +2,23 @@
 
 ghost use Rattle.std.specs.Prelude.{◌≡◌, None, map};
 ghost use Rattle.ss_tree.specs.View.{view_clause, view_order, view_preamble};
-ghost use Rattle.ss_parse_expressions.specs.Reading.{Gives, word, begins, expect, following, closed, maybe_list, begins_by, begins_more, taken, in_table};
+ghost use Rattle.ss_parse_expressions.specs.Reading.{GivesReading, word, begins, expect, after_dropped, closed, maybe_list, begins_by, begins_more, taken, in_table};
 ghost use Rattle.ss_lex.specs.declared.word.Word.TheVariants.{Include, Variable};
 ghost use Rattle.ss_parse_expressions.specs.ReadWords.{begins_name, names};
 ghost use Rattle.ss_parse.specs.SpelledPreambles.{group_after};
-ghost use Rattle.ss_parse_expressions.specs.WordTables.{mode_of, rank_of, statistic_of};
+ghost use Rattle.ss_parse_expressions.specs.WordTables.{mode_of_word, rank_of, statistic_of};
 ghost use Rattle.ss_parse.specs.ReadPreambles.{then_rank, keys, statistic_kind, found, clause, begins_clause, clause_list, clauses, ranking, order, permanent_at, temporary_at, notices_at, every_at, normally_at, system_at, define_end, define_at, priority_at, break_at, statistics_at, preamble_at, begins_preamble, preamble_in, preambles, whole_preamble};
 
 use ss_base::{Line, Name};
 use ss_lex::{Symbol, Token, TokenKind, Word};
-use ss_parse_expressions::classes::{Class, skip_class};
+use ss_parse_expressions::classes::{WordClass, skip_class};
 use ss_parse_expressions::failure::Failure;
 use ss_parse_expressions::names::{begins_name, items, name, names};
 use ss_parse_expressions::steps::{alone, beside};
 use ss_parse_expressions::tokens::{
     after_first, begins_symbol, begins_word, expect_word, skip_separator, skip_word, syntax,
 };
-use ss_parse_expressions::words::{mode_of, rank_of, statistic_of};
+use ss_parse_expressions::words::{mode_of_word, rank_of, statistic_of};
 use ss_parse_statements::statements::{begins_noisy, expect_noisy};
 use ss_tree::preamble::{
     ClassKind, Clause, Key, Mode, PreambleStatement, SetOrder, Statistic, StatisticKind, Weighting,
@@ -27,12 +27,12 @@ use std::alloc::Global;
 
 /// A mode.
 fn mode(tokens: &[Token]) -> Result<(Mode, &[Token]), Failure>
-    ensures { Gives (λ x. (x.0, x.1.now)) result (taken (in_table mode_of) tokens.now) }
+    ensures { GivesReading (λ x. (x.0, x.1.now)) result (taken (in_table mode_of_word) tokens.now) }
 {
     match tokens {
         [] => Err(syntax(tokens)),
         [first, rest @ ..] => match &first.kind {
-            TokenKind::Word(word) => match mode_of(*word) {
+            TokenKind::Word(word) => match mode_of_word(*word) {
                 Some(mode) => Ok((mode, rest)),
                 None => Err(syntax(tokens)),
             },
@@ -43,7 +43,7 @@ fn mode(tokens: &[Token]) -> Result<(Mode, &[Token]), Failure>
 
 /// The end of a DEFINE of variables: a mode.
 pub fn variable_mode(tokens: &[Token]) -> Result<(Mode, &[Token]), Failure>
-    ensures { Gives (λ x. (x.0, x.1.now)) result (closed (taken (in_table mode_of)) (expect (word Variable)) tokens.now) }
+    ensures { GivesReading (λ x. (x.0, x.1.now)) result (closed (taken (in_table mode_of_word)) (expect (word Variable)) tokens.now) }
 {
     let (mode, rest) = mode(tokens)?;
     let rest = expect_word(rest, Word::Variable)?;
@@ -52,12 +52,12 @@ pub fn variable_mode(tokens: &[Token]) -> Result<(Mode, &[Token]), Failure>
 
 /// Whether a mode is first.
 fn begins_mode(tokens: &[Token]) -> bool
-    ensures { result ≡ begins_by (in_table mode_of) tokens.now }
+    ensures { result ≡ begins_by (in_table mode_of_word) tokens.now }
 {
     match tokens {
         [] => false,
         [first, ..] => match &first.kind {
-            TokenKind::Word(word) => mode_of(*word).is_some(),
+            TokenKind::Word(word) => mode_of_word(*word).is_some(),
             _ => false,
         },
     }
@@ -65,7 +65,7 @@ fn begins_mode(tokens: &[Token]) -> bool
 
 /// HIGH or LOW.
 fn rank(tokens: &[Token]) -> Result<(bool, &[Token]), Failure>
-    ensures { Gives (λ x. (x.0, x.1.now)) result (taken (in_table rank_of) tokens.now) }
+    ensures { GivesReading (λ x. (x.0, x.1.now)) result (taken (in_table rank_of) tokens.now) }
 {
     match tokens {
         [] => Err(syntax(tokens)),
@@ -82,7 +82,7 @@ fn rank(tokens: &[Token]) -> Result<(bool, &[Token]), Failure>
 /// A clause of an EVERY.
 #[tactic(auto, unfolding(crate::specs::ReadPreambles::clause))]
 fn clause(alloc: Global, tokens: &[Token]) -> Result<(Clause, &[Token]), Failure>
-    ensures { Gives (λ x. (view_clause x.0, x.1.now)) result (clause tokens.now) }
+    ensures { GivesReading (λ x. (view_clause x.0, x.1.now)) result (clause tokens.now) }
 {
     if begins_word(tokens, Word::Has) {
         let (names, rest) = items(alloc, skip_word(tokens, Word::Has))?;
@@ -101,7 +101,7 @@ fn clause(alloc: Global, tokens: &[Token]) -> Result<(Clause, &[Token]), Failure
 
 /// THEN BY, and HIGH or LOW.
 fn then_rank(tokens: &[Token]) -> Result<(bool, &[Token]), Failure>
-    ensures { Gives (λ x. (x.0, x.1.now)) result (then_rank tokens.now) }
+    ensures { GivesReading (λ x. (x.0, x.1.now)) result (then_rank tokens.now) }
 {
     let rest = expect_noisy(tokens, Word::Then)?;
     let rest = expect_word(rest, Word::By)?;
@@ -111,27 +111,27 @@ fn then_rank(tokens: &[Token]) -> Result<(bool, &[Token]), Failure>
 /// Keys, the further ones after THEN BY.
 #[tactic(auto, unfolding(crate::specs::ReadPreambles::key))]
 fn keys(alloc: Global, tokens: &[Token]) -> Result<(Vec<Key>, &[Token]), Failure>
-    ensures { Gives (λ x. (x.0.items, x.1.now)) result (keys tokens.now) }
+    ensures { GivesReading (λ x. (x.0.items, x.1.now)) result (keys tokens.now) }
 {
     let (high, from) = rank(tokens)?;
     let first = name(from)?;
     let mut all = alone(alloc, Key { high, name: first })?;
     let mut rest = after_first(from);
     'more: while begins_noisy(rest, Word::Then) {
-        let (higher, following) = then_rank(rest)?;
-        let next = name(following)?;
+        let (higher, after_dropped) = then_rank(rest)?;
+        let next = name(after_dropped)?;
         all.push(Key {
             high: higher,
             name: next,
         })?;
-        rest = after_first(following);
+        rest = after_first(after_dropped);
     }
     Ok((all, rest))
 }
 
 /// The word for the kind of a statistic.
 fn measure(tokens: &[Token]) -> Result<(StatisticKind, &[Token]), Failure>
-    ensures { Gives (λ x. (x.0, x.1.now)) result (taken (in_table statistic_of) tokens.now) }
+    ensures { GivesReading (λ x. (x.0, x.1.now)) result (taken (in_table statistic_of) tokens.now) }
 {
     match tokens {
         [] => Err(syntax(tokens)),
@@ -147,7 +147,7 @@ fn measure(tokens: &[Token]) -> Result<(StatisticKind, &[Token]), Failure>
 
 /// AS and the kind of a statistic.
 fn statistic_kind(tokens: &[Token]) -> Result<(StatisticKind, &[Token]), Failure>
-    ensures { Gives (λ x. (x.0, x.1.now)) result (statistic_kind tokens.now) }
+    ensures { GivesReading (λ x. (x.0, x.1.now)) result (statistic_kind tokens.now) }
 {
     let rest = expect_word(tokens, Word::As)?;
     measure(skip_word(rest, Word::The))
@@ -164,7 +164,7 @@ fn begins_more_statistics(tokens: &[Token]) -> bool
 /// Statistics with separators between.
 #[tactic(auto, unfolding(crate::specs::ReadPreambles::statistic))]
 fn found(alloc: Global, tokens: &[Token]) -> Result<(Vec<Statistic>, &[Token]), Failure>
-    ensures { Gives (λ x. (x.0.items, x.1.now)) result (found tokens.now) }
+    ensures { GivesReading (λ x. (x.0.items, x.1.now)) result (found tokens.now) }
 {
     let first = name(tokens)?;
     let (kind, mut rest) = statistic_kind(after_first(tokens))?;
@@ -205,7 +205,7 @@ fn begins_more_clauses(tokens: &[Token]) -> bool
 
 /// Clauses with separators between.
 fn clause_list(alloc: Global, tokens: &[Token]) -> Result<(Vec<Clause>, &[Token]), Failure>
-    ensures { Gives (λ x. (map view_clause x.0.items, x.1.now)) result (clause_list tokens.now) }
+    ensures { GivesReading (λ x. (map view_clause x.0.items, x.1.now)) result (clause_list tokens.now) }
 {
     let (first, mut rest) = clause(alloc, tokens)?;
     let mut all = alone(alloc, first)?;
@@ -219,7 +219,7 @@ fn clause_list(alloc: Global, tokens: &[Token]) -> Result<(Vec<Clause>, &[Token]
 
 /// The clauses of an EVERY, if there are any.
 fn clauses(alloc: Global, tokens: &[Token]) -> Result<(Vec<Clause>, &[Token]), Failure>
-    ensures { Gives (λ x. (map view_clause x.0.items, x.1.now)) result (clauses tokens.now) }
+    ensures { GivesReading (λ x. (map view_clause x.0.items, x.1.now)) result (clauses tokens.now) }
 {
     if begins_clause(tokens) {
         clause_list(alloc, tokens)
@@ -230,7 +230,7 @@ fn clauses(alloc: Global, tokens: &[Token]) -> Result<(Vec<Clause>, &[Token]), F
 
 /// The ranking of a set, after SET.
 fn ranking(alloc: Global, tokens: &[Token]) -> Result<(SetOrder, &[Token]), Failure>
-    ensures { Gives (λ x. (view_order x.0, x.1.now)) result (ranking tokens.now) }
+    ensures { GivesReading (λ x. (view_order x.0, x.1.now)) result (ranking tokens.now) }
 {
     if !begins_word(tokens, Word::Ranked) {
         return Ok((SetOrder::Fifo, tokens));
@@ -243,7 +243,7 @@ fn ranking(alloc: Global, tokens: &[Token]) -> Result<(SetOrder, &[Token]), Fail
 /// How a set is ordered.
 #[tactic(auto, unfolding(crate::specs::ReadPreambles::order))]
 fn order(alloc: Global, tokens: &[Token]) -> Result<(SetOrder, &[Token]), Failure>
-    ensures { Gives (λ x. (view_order x.0, x.1.now)) result (order tokens.now) }
+    ensures { GivesReading (λ x. (view_order x.0, x.1.now)) result (order tokens.now) }
 {
     if begins_word(tokens, Word::Fifo) {
         let rest = expect_word(skip_word(tokens, Word::Fifo), Word::Set)?;
@@ -260,7 +260,7 @@ fn order(alloc: Global, tokens: &[Token]) -> Result<(SetOrder, &[Token]), Failur
 /// The rest of PERMANENT ENTITIES, after its first word.
 #[tactic(auto, unfolding(crate::specs::ReadPreambles::permanent_at))]
 fn permanent(line: Line, tokens: &[Token]) -> Result<(PreambleStatement, &[Token]), Failure>
-    ensures { Gives (λ x. (view_preamble x.0, x.1.now)) result (permanent_at line tokens.now) }
+    ensures { GivesReading (λ x. (view_preamble x.0, x.1.now)) result (permanent_at line tokens.now) }
 {
     let rest = expect_word(tokens, Word::Entities)?;
     Ok((PreambleStatement::PermanentEntities { line }, rest))
@@ -269,7 +269,7 @@ fn permanent(line: Line, tokens: &[Token]) -> Result<(PreambleStatement, &[Token
 /// The rest of TEMPORARY ENTITIES, after its first word.
 #[tactic(auto, unfolding(crate::specs::ReadPreambles::temporary_at))]
 fn temporary(line: Line, tokens: &[Token]) -> Result<(PreambleStatement, &[Token]), Failure>
-    ensures { Gives (λ x. (view_preamble x.0, x.1.now)) result (temporary_at line tokens.now) }
+    ensures { GivesReading (λ x. (view_preamble x.0, x.1.now)) result (temporary_at line tokens.now) }
 {
     let rest = expect_word(tokens, Word::Entities)?;
     Ok((PreambleStatement::TemporaryEntities { line }, rest))
@@ -277,7 +277,7 @@ fn temporary(line: Line, tokens: &[Token]) -> Result<(PreambleStatement, &[Token
 
 /// The classes that EVENT NOTICES includes, if there are any.
 fn included(alloc: Global, tokens: &[Token]) -> Result<(Vec<Name>, &[Token]), Failure>
-    ensures { Gives (λ x. (x.0.items, x.1.now)) result (maybe_list (begins (word Include)) (following (expect (word Include)) names) tokens.now) }
+    ensures { GivesReading (λ x. (x.0.items, x.1.now)) result (maybe_list (begins (word Include)) (after_dropped (expect (word Include)) names) tokens.now) }
 {
     if !begins_word(tokens, Word::Include) {
         return Ok((Vec::new(alloc), tokens));
@@ -292,7 +292,7 @@ fn notices(
     line: Line,
     tokens: &[Token],
 ) -> Result<(PreambleStatement, &[Token]), Failure>
-    ensures { Gives (λ x. (view_preamble x.0, x.1.now)) result (notices_at line tokens.now) }
+    ensures { GivesReading (λ x. (view_preamble x.0, x.1.now)) result (notices_at line tokens.now) }
 {
     let rest = expect_word(tokens, Word::Notices)?;
     let (included, rest) = included(alloc, rest)?;
@@ -307,7 +307,7 @@ fn every(
     line: Line,
     tokens: &[Token],
 ) -> Result<(PreambleStatement, &[Token]), Failure>
-    ensures { Gives (λ x. (view_preamble x.0, x.1.now)) result (every_at group line tokens.now) }
+    ensures { GivesReading (λ x. (view_preamble x.0, x.1.now)) result (every_at group line tokens.now) }
 {
     match group {
         None => Err(syntax(tokens)),
@@ -328,7 +328,7 @@ fn every(
 /// The rest of NORMALLY, after its first word.
 #[tactic(auto, unfolding(crate::specs::ReadPreambles::normally_at))]
 fn normally(line: Line, tokens: &[Token]) -> Result<(PreambleStatement, &[Token]), Failure>
-    ensures { Gives (λ x. (view_preamble x.0, x.1.now)) result (normally_at line tokens.now) }
+    ensures { GivesReading (λ x. (view_preamble x.0, x.1.now)) result (normally_at line tokens.now) }
 {
     let rest = expect_noisy(tokens, Word::Mode)?;
     let rest = expect_word(rest, Word::Is)?;
@@ -343,7 +343,7 @@ fn system(
     line: Line,
     tokens: &[Token],
 ) -> Result<(PreambleStatement, &[Token]), Failure>
-    ensures { Gives (λ x. (view_preamble x.0, x.1.now)) result (system_at line tokens.now) }
+    ensures { GivesReading (λ x. (view_preamble x.0, x.1.now)) result (system_at line tokens.now) }
 {
     let rest = expect_word(tokens, Word::System)?;
     let rest = expect_word(rest, Word::Owns)?;
@@ -358,7 +358,7 @@ fn define_end(
     names: Vec<Name>,
     tokens: &[Token],
 ) -> Result<(PreambleStatement, &[Token]), Failure>
-    ensures { Gives (λ x. (view_preamble x.0, x.1.now)) result (define_end line names.items tokens.now) }
+    ensures { GivesReading (λ x. (view_preamble x.0, x.1.now)) result (define_end line names.items tokens.now) }
 {
     if begins_mode(tokens) {
         let (names, (mode, rest)) = beside(names, variable_mode(tokens))?;
@@ -379,11 +379,11 @@ fn define(
     line: Line,
     tokens: &[Token],
 ) -> Result<(PreambleStatement, &[Token]), Failure>
-    ensures { Gives (λ x. (view_preamble x.0, x.1.now)) result (define_at line tokens.now) }
+    ensures { GivesReading (λ x. (view_preamble x.0, x.1.now)) result (define_at line tokens.now) }
 {
     let (names, rest) = names(alloc, tokens)?;
     let (names, rest) = beside(names, expect_word(rest, Word::As))?;
-    define_end(alloc, line, names, skip_class(rest, Class::Article))
+    define_end(alloc, line, names, skip_class(rest, WordClass::Article))
 }
 
 /// The rest of PRIORITY ORDER, after its first word.
@@ -393,7 +393,7 @@ fn priority(
     line: Line,
     tokens: &[Token],
 ) -> Result<(PreambleStatement, &[Token]), Failure>
-    ensures { Gives (λ x. (view_preamble x.0, x.1.now)) result (priority_at line tokens.now) }
+    ensures { GivesReading (λ x. (view_preamble x.0, x.1.now)) result (priority_at line tokens.now) }
 {
     let rest = expect_word(tokens, Word::Order)?;
     let rest = expect_word(rest, Word::Is)?;
@@ -408,7 +408,7 @@ fn break_form(
     line: Line,
     tokens: &[Token],
 ) -> Result<(PreambleStatement, &[Token]), Failure>
-    ensures { Gives (λ x. (view_preamble x.0, x.1.now)) result (break_at line tokens.now) }
+    ensures { GivesReading (λ x. (view_preamble x.0, x.1.now)) result (break_at line tokens.now) }
 {
     let class = name(tokens)?;
     let rest = expect_word(after_first(tokens), Word::Ties)?;
@@ -425,7 +425,7 @@ fn statistics(
     weighting: Weighting,
     tokens: &[Token],
 ) -> Result<(PreambleStatement, &[Token]), Failure>
-    ensures { Gives (λ x. (view_preamble x.0, x.1.now)) result (statistics_at line weighting tokens.now) }
+    ensures { GivesReading (λ x. (view_preamble x.0, x.1.now)) result (statistics_at line weighting tokens.now) }
 {
     let (statistics, rest) = found(alloc, tokens)?;
     let (statistics, rest) = beside(statistics, expect_word(rest, Word::Of))?;
@@ -448,7 +448,7 @@ fn statement_rest(
     word: Word,
     tokens: &[Token],
 ) -> Result<(PreambleStatement, &[Token]), Failure>
-    ensures { Gives (λ x. (view_preamble x.0, x.1.now)) result (preamble_at group line word tokens.now) }
+    ensures { GivesReading (λ x. (view_preamble x.0, x.1.now)) result (preamble_at group line word tokens.now) }
 {
     match word {
         Word::Permanent => permanent(line, tokens),
@@ -498,7 +498,7 @@ fn preamble_statement(
     group: Option<ClassKind>,
     tokens: &[Token],
 ) -> Result<(PreambleStatement, &[Token]), Failure>
-    ensures { Gives (λ x. (view_preamble x.0, x.1.now)) result (preamble_in group tokens.now) }
+    ensures { GivesReading (λ x. (view_preamble x.0, x.1.now)) result (preamble_in group tokens.now) }
 {
     match tokens {
         [] => Err(syntax(tokens)),
@@ -526,7 +526,7 @@ fn preamble_statements(
     alloc: Global,
     tokens: &[Token],
 ) -> Result<(Vec<PreambleStatement>, &[Token]), Failure>
-    ensures { Gives (λ x. (map view_preamble x.0.items, x.1.now)) result (preambles None tokens.now) }
+    ensures { GivesReading (λ x. (map view_preamble x.0.items, x.1.now)) result (preambles None tokens.now) }
 {
     let mut all = Vec::new(alloc);
     let mut group: Option<ClassKind> = None;
@@ -546,7 +546,7 @@ pub fn preamble(
     alloc: Global,
     tokens: &[Token],
 ) -> Result<(Vec<PreambleStatement>, &[Token]), Failure>
-    ensures { Gives (λ x. (map view_preamble x.0.items, x.1.now)) result (whole_preamble tokens.now) }
+    ensures { GivesReading (λ x. (map view_preamble x.0.items, x.1.now)) result (whole_preamble tokens.now) }
 {
     if !begins_word(tokens, Word::Preamble) {
         return Ok((Vec::new(alloc), tokens));

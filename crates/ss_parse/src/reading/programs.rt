@@ -1,16 +1,16 @@
 //! Programs.
 
 ghost use Rattle.std.specs.Prelude.{◌≡◌, map};
-ghost use Rattle.ss_parse_expressions.specs.Shapes.{first_line};
+ghost use Rattle.ss_parse_expressions.specs.Shapes.{first_token_line};
 ghost use Rattle.ss_tree.specs.View.{view_definition, view_kind, view_statement, view_section, view_program};
-ghost use Rattle.ss_parse_expressions.specs.Reading.{Gives, word, begins, expect, following, maybe_list, rows};
+ghost use Rattle.ss_parse_expressions.specs.Reading.{GivesReading, word, begins, expect, after_dropped, maybe_list, rows};
 ghost use Rattle.ss_parse_expressions.specs.ReadWords.{names};
-ghost use Rattle.ss_parse.specs.ReadPrograms.{begins_section, saving, routine_kind, event_kind, kind_at, variables, definition, definitions, body_in, section_at, section_in, program_in, program_of};
+ghost use Rattle.ss_parse.specs.ReadPrograms.{begins_section, saving, routine_kind, event_kind, kind_after, variables, definition, definitions, body_in, section_at, section_in, program_in, program_of};
 
 use crate::reading::preambles::{preamble, variable_mode};
 use ss_base::{Line, Name};
 use ss_lex::{Token, TokenKind, Word};
-use ss_parse_expressions::classes::{Class, skip_class};
+use ss_parse_expressions::classes::{WordClass, skip_class};
 use ss_parse_expressions::failure::Failure;
 use ss_parse_expressions::names::{name, names};
 use ss_parse_expressions::nesting::levels;
@@ -24,7 +24,7 @@ use std::alloc::Global;
 
 /// The line of the first token, or 0.
 fn line_at(tokens: &[Token]) -> Line
-    ensures { result ≡ first_line tokens.now }
+    ensures { result ≡ first_token_line tokens.now }
 {
     match tokens {
         [] => Line(0),
@@ -38,7 +38,7 @@ fn names_after(
     tokens: &[Token],
     wanted: Word,
 ) -> Result<(Vec<Name>, &[Token]), Failure>
-    ensures { Gives (λ x. (x.0.items, x.1.now)) result (maybe_list (begins (word wanted)) (following (expect (word wanted)) names) tokens.now) }
+    ensures { GivesReading (λ x. (x.0.items, x.1.now)) result (maybe_list (begins (word wanted)) (after_dropped (expect (word wanted)) names) tokens.now) }
 {
     if !begins_word(tokens, wanted) {
         return Ok((Vec::new(alloc), tokens));
@@ -49,7 +49,7 @@ fn names_after(
 /// Whether SAVING THE EVENT NOTICE is first.
 #[tactic(auto, unfolding(crate::specs::ReadPrograms::saving))]
 fn saving(tokens: &[Token]) -> Result<(bool, &[Token]), Failure>
-    ensures { Gives (λ x. (x.0, x.1.now)) result (saving tokens.now) }
+    ensures { GivesReading (λ x. (x.0, x.1.now)) result (saving tokens.now) }
 {
     if !begins_word(tokens, Word::Saving) {
         return Ok((false, tokens));
@@ -63,9 +63,9 @@ fn saving(tokens: &[Token]) -> Result<(bool, &[Token]), Failure>
 /// The rest of the header of a routine, after its first word.
 #[tactic(auto, unfolding(crate::specs::ReadPrograms::routine_kind))]
 fn routine(alloc: Global, tokens: &[Token]) -> Result<(SectionKind, &[Token]), Failure>
-    ensures { Gives (λ x. (view_kind x.0, x.1.now)) result (routine_kind tokens.now) }
+    ensures { GivesReading (λ x. (view_kind x.0, x.1.now)) result (routine_kind tokens.now) }
 {
-    let rest = skip_class(tokens, Class::Towards);
+    let rest = skip_class(tokens, WordClass::Towards);
     let name = name(rest)?;
     let (given, rest) = names_after(alloc, after_first(rest), Word::Given)?;
     let yielding = names_after(alloc, rest, Word::Yielding);
@@ -81,7 +81,7 @@ fn routine(alloc: Global, tokens: &[Token]) -> Result<(SectionKind, &[Token]), F
 /// The rest of the header of an event routine, after its first word.
 #[tactic(auto, unfolding(crate::specs::ReadPrograms::event_kind))]
 fn event(alloc: Global, tokens: &[Token]) -> Result<(SectionKind, &[Token]), Failure>
-    ensures { Gives (λ x. (view_kind x.0, x.1.now)) result (event_kind tokens.now) }
+    ensures { GivesReading (λ x. (view_kind x.0, x.1.now)) result (event_kind tokens.now) }
 {
     let name = name(tokens)?;
     let (given, rest) = names_after(alloc, after_first(tokens), Word::Given)?;
@@ -100,7 +100,7 @@ fn section_kind(
     word: Word,
     tokens: &[Token],
 ) -> Result<(SectionKind, &[Token]), Failure>
-    ensures { Gives (λ x. (view_kind x.0, x.1.now)) result (kind_at word tokens.now) }
+    ensures { GivesReading (λ x. (view_kind x.0, x.1.now)) result (kind_after word tokens.now) }
 {
     match word {
         Word::Main => Ok((SectionKind::Main, tokens)),
@@ -113,11 +113,11 @@ fn section_kind(
 /// Names and their mode, after DEFINE.
 #[tactic(auto, unfolding(crate::specs::ReadPrograms::variables))]
 fn variables(alloc: Global, tokens: &[Token]) -> Result<(Vec<Name>, Mode, &[Token]), Failure>
-    ensures { Gives (λ x. ((x.0.items, x.1), x.2.now)) result (variables tokens.now) }
+    ensures { GivesReading (λ x. ((x.0.items, x.1), x.2.now)) result (variables tokens.now) }
 {
     let (names, rest) = names(alloc, tokens)?;
     let (names, rest) = beside(names, expect_word(rest, Word::As))?;
-    let mode = variable_mode(skip_class(rest, Class::Article));
+    let mode = variable_mode(skip_class(rest, WordClass::Article));
     let (names, (mode, rest)) = beside(names, mode)?;
     Ok((names, mode, rest))
 }
@@ -125,7 +125,7 @@ fn variables(alloc: Global, tokens: &[Token]) -> Result<(Vec<Name>, Mode, &[Toke
 /// A DEFINE at the head of a section's body.
 #[tactic(auto, unfolding(crate::specs::ReadPrograms::definition_at))]
 fn definition(alloc: Global, tokens: &[Token]) -> Result<(LocalDefinition, &[Token]), Failure>
-    ensures { Gives (λ x. (view_definition x.0, x.1.now)) result (definition tokens.now) }
+    ensures { GivesReading (λ x. (view_definition x.0, x.1.now)) result (definition tokens.now) }
 {
     let line = line_at(tokens);
     let rest = expect_word(tokens, Word::Define)?;
@@ -135,7 +135,7 @@ fn definition(alloc: Global, tokens: &[Token]) -> Result<(LocalDefinition, &[Tok
 
 /// The DEFINEs at the head of a section's body.
 fn definitions(alloc: Global, tokens: &[Token]) -> Result<(Vec<LocalDefinition>, &[Token]), Failure>
-    ensures { Gives (λ x. (map view_definition x.0.items, x.1.now)) result (definitions tokens.now) }
+    ensures { GivesReading (λ x. (map view_definition x.0.items, x.1.now)) result (definitions tokens.now) }
 {
     let mut all = Vec::new(alloc);
     let mut rest = tokens;
@@ -153,7 +153,7 @@ fn body(
     tokens: &[Token],
     room: u8,
 ) -> Result<(Vec<LocalDefinition>, Vec<Statement>, &[Token]), Failure>
-    ensures { Gives (λ x. ((map view_definition x.0.items, map view_statement x.1.items), x.2.now)) result (body_in room tokens.now) }
+    ensures { GivesReading (λ x. ((map view_definition x.0.items, map view_statement x.1.items), x.2.now)) result (body_in room tokens.now) }
 {
     let (definitions, rest) = definitions(alloc, tokens)?;
     let (definitions, (body, rest)) = beside(definitions, statements(alloc, rest, room))?;
@@ -170,7 +170,7 @@ fn section_rest(
     tokens: &[Token],
     room: u8,
 ) -> Result<(Section, &[Token]), Failure>
-    ensures { Gives (λ x. (view_section x.0, x.1.now)) result (section_at room line word tokens.now) }
+    ensures { GivesReading (λ x. (view_section x.0, x.1.now)) result (section_at room line word tokens.now) }
 {
     let (kind, rest) = section_kind(alloc, word, tokens)?;
     let (kind, (definitions, body, rest)) = beside(kind, body(alloc, rest, room))?;
@@ -185,7 +185,7 @@ fn section_rest(
 
 /// A section.
 fn section(alloc: Global, tokens: &[Token], room: u8) -> Result<(Section, &[Token]), Failure>
-    ensures { Gives (λ x. (view_section x.0, x.1.now)) result (section_in room tokens.now) }
+    ensures { GivesReading (λ x. (view_section x.0, x.1.now)) result (section_in room tokens.now) }
 {
     match tokens {
         [] => Err(syntax(tokens)),
@@ -211,7 +211,7 @@ fn begins_section(tokens: &[Token]) -> bool
 
 /// The sections of a program.
 fn sections(alloc: Global, tokens: &[Token], room: u8) -> Result<(Vec<Section>, &[Token]), Failure>
-    ensures { Gives (λ x. (map view_section x.0.items, x.1.now)) result (rows begins_section (section_in room) tokens.now) }
+    ensures { GivesReading (λ x. (map view_section x.0.items, x.1.now)) result (rows begins_section (section_in room) tokens.now) }
 {
     let mut all = Vec::new(alloc);
     let mut rest = tokens;
@@ -226,7 +226,7 @@ fn sections(alloc: Global, tokens: &[Token], room: u8) -> Result<(Vec<Section>, 
 /// A program, where this many levels of nesting, a statement's own among them, may be opened.
 #[tactic(auto, unfolding(crate::specs::ReadPrograms::program_in))]
 fn parts(alloc: Global, tokens: &[Token], room: u8) -> Result<(Program, &[Token]), Failure>
-    ensures { Gives (λ x. (view_program x.0, x.1.now)) result (program_in room tokens.now) }
+    ensures { GivesReading (λ x. (view_program x.0, x.1.now)) result (program_in room tokens.now) }
 {
     let (preamble, rest) = preamble(alloc, tokens)?;
     let (preamble, (sections, rest)) = beside(preamble, sections(alloc, rest, room))?;
@@ -236,7 +236,7 @@ fn parts(alloc: Global, tokens: &[Token], room: u8) -> Result<(Program, &[Token]
 /// A program to the end of the tokens.
 #[tactic(auto, unfolding(crate::specs::ReadPrograms::program_of))]
 pub fn program(alloc: Global, tokens: &[Token]) -> Result<Program, Failure>
-    ensures { Gives view_program result (program_of 64 tokens.now) }
+    ensures { GivesReading view_program result (program_of 64 tokens.now) }
 {
     let (program, rest) = parts(alloc, tokens, levels() + 1)?;
     match rest {

@@ -1,15 +1,15 @@
 use Rattle.std.proofs.Common.{ap, ◌∙◌}
 use Rattle.ss_tree.specs.View.{view_program}
-use Rattle.ss_check_rules.specs.Refusal.{refusal}
+use Rattle.ss_check_rules.specs.Refusal.{refusal_of_uses}
 use Rattle.ss_check_scopes.specs.WholeOf.{whole_in}
 use Rattle.ss_tables.proofs.Refused.{refused_so}
-use Rattle.ss_check.specs.Checking.{Reports}
+use Rattle.ss_check.specs.Checking.{ReportsCheckError}
 use Rattle.ss_check.proofs.Kept.{becomes, found_with, not_missing, small, typed}
 use Rattle.ss_check.proofs.checking.judged.Goals as goal
 
 pub returns-in_err-locals-clause-refused : goal.returns-in_err-locals-clause-refused
 returns-in_err-locals-clause-refused c =
-    refused_so Reports c.from_residual.result c.in_err-locals.field-0.0 _ _ c.from_residual.ensures.1 c.in_err-locals.ensures.refused (ap (λ w. refusal w (view_program c.args.program.now)) c.requires.whole)
+    refused_so ReportsCheckError c.from_residual.result c.in_err-locals.field-0.0 _ _ c.from_residual.ensures.1 c.in_err-locals.ensures.refused (ap (λ w. refusal_of_uses w (view_program c.args.program.now)) c.requires.whole)
 
 pub new-requires : goal.new-requires
 new-requires c =

@@ -81,7 +81,7 @@ resolve_terms-returns-in_err-operand g t c left =
 
 pub resolve_terms-loop-tree-preserved : goal.resolve_terms-loop-tree-preserved
 resolve_terms-loop-tree-preserved g t c =
-    terms_next (g.S.Scope.context c.args.scope.now) c.args.trees.now c.loop-tree.tree-index c.tree-item.result c.loop-tree.operations.items c.push.new.self.items _ c.loop-tree-test.true c.tree-item.is c.in_ok-push.ensures.items c.operator_of.ensures c.loop-tree.invariant c.in_ok-operand.ensures
+    terms_next (g.S.Scope.context c.args.scope.now) c.args.trees.now c.loop-tree.tree-index c.tree-item.result c.loop-tree.operations.items c.push.new.self.items _ c.loop-tree-test.true c.tree-item.is c.in_ok-push.ensures.items c.resolved_operator.ensures c.loop-tree.invariant c.in_ok-operand.ensures
 
 pub resolve_two-returns-in_err-left-in-len2 : goal.resolve_two-returns-in_err-left-in-len2
 resolve_two-returns-in_err-left-in-len2 g t c =

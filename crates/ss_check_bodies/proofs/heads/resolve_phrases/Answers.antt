@@ -1,18 +1,18 @@
 use Rattle.ss_tree.specs.View.{view_phrase}
 use Rattle.ss_program.specs.View.{view_phrase as phrase_seen}
-use Rattle.ss_names_meaning.specs.Heads.{phrase}
+use Rattle.ss_names_meaning.specs.Heads.{resolved_phrase}
 use Rattle.ss_names_meaning.proofs.Each.{no_items, each_fails, each_next}
 use Rattle.ss_names_meaning.proofs.Steps.{failed}
 use Rattle.ss_check_bodies.proofs.heads.resolve_phrases.Goals as goal
 
 pub loop-tree-init : goal.loop-tree-init
-loop-tree-init g c = no_items (phrase (g.S.Scope.context c.args.scope.now)) phrase_seen c.new-resolved.result.items c.new-resolved.ensures.items
+loop-tree-init g c = no_items (resolved_phrase (g.S.Scope.context c.args.scope.now)) phrase_seen c.new-resolved.result.items c.new-resolved.ensures.items
 
 pub returns-in_err-one : goal.returns-in_err-one
 returns-in_err-one g c =
     failed _ c.from_residual.result c.in_err-one.field-0.0 _ c.from_residual.ensures.1
-    (each_fails (phrase (g.S.Scope.context c.args.scope.now)) view_phrase c.args.trees.now c.loop-tree.tree-index c.tree-item.result c.in_err-one.field-0.0 c.loop-tree-test.true c.tree-item.is c.in_err-one.ensures)
+    (each_fails (resolved_phrase (g.S.Scope.context c.args.scope.now)) view_phrase c.args.trees.now c.loop-tree.tree-index c.tree-item.result c.in_err-one.field-0.0 c.loop-tree-test.true c.tree-item.is c.in_err-one.ensures)
 
 pub loop-tree-preserved : goal.loop-tree-preserved
 loop-tree-preserved g c =
-    each_next (phrase (g.S.Scope.context c.args.scope.now)) view_phrase phrase_seen c.args.trees.now c.loop-tree.tree-index c.tree-item.result c.loop-tree.resolved.items c.push.new.self.items c.in_ok-one.one c.loop-tree-test.true c.tree-item.is c.in_ok-push.ensures.items c.loop-tree.invariant c.in_ok-one.ensures
+    each_next (resolved_phrase (g.S.Scope.context c.args.scope.now)) view_phrase phrase_seen c.args.trees.now c.loop-tree.tree-index c.tree-item.result c.loop-tree.resolved.items c.push.new.self.items c.in_ok-one.one c.loop-tree-test.true c.tree-item.is c.in_ok-push.ensures.items c.loop-tree.invariant c.in_ok-one.ensures

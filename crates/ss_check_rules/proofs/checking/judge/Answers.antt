@@ -3,7 +3,7 @@ use Rattle.std.proofs.Math.Path.{fun_ext}
 use Rattle.std.proofs.lemmas.Simd.{map-map}
 use Rattle.ss_tree.specs.declared.program.Section.{Section}
 use Rattle.ss_tree.specs.View.{view_program, view_section}
-use Rattle.ss_names_uses.specs.Mentions.{NameBytes}
+use Rattle.ss_tree.specs.Names.{NameBytes}
 use Rattle.ss_check_rules.specs.Events.{event_names, lacks_event}
 use Rattle.ss_check_rules.specs.Once.{with_names}
 use Rattle.ss_check_rules.specs.Refusal.{first_broken, lines_in, rules_in_order}

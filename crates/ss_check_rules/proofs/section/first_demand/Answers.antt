@@ -5,7 +5,7 @@ use Rattle.ss_base.specs.declared.line.Line.{Line}
 use Rattle.ss_names_uses.specs.declared.demand.Demand.{Demand}
 use Rattle.ss_names_uses.specs.declared.demand.Noted.{Noted}
 use Rattle.ss_names_uses.specs.Noted.{noted_demands}
-use Rattle.ss_check_rules.specs.Lines.{first_of, demand_line, demand_lines}
+use Rattle.ss_check_rules.specs.Lines.{first_of_lines, demand_line, demand_lines}
 use Rattle.ss_check_rules.specs.Refusal.{demand_breaks}
 use Rattle.ss_check_rules.specs.Seen.{uses_seen}
 use Rattle.ss_check_rules.proofs.Firsts.{flat_twice, next_first_plain}
@@ -21,6 +21,6 @@ returns g c =
     let items = c.noted-noted-items.result.now in
     let lines : Noted → List Line = λ (n : Noted). demand_lines breaks (noted_demands n) in
     let whole : take c.loop-noted.noted-index items ≡ items = take_all c.loop-noted.noted-index items (omega (arith, c.loop-noted-test.false)) in
-    c.loop-noted.invariant ∙ ap (λ (ns : List Noted). first_of (flat_map lines ns)) whole ∙
-    sym (ap first_of (flat_twice (demand_line breaks) noted_demands items)) ∙
-    ap (λ (ds : List Demand). first_of (demand_lines breaks ds)) c.noted-noted-items.ensures
+    c.loop-noted.invariant ∙ ap (λ (ns : List Noted). first_of_lines (flat_map lines ns)) whole ∙
+    sym (ap first_of_lines (flat_twice (demand_line breaks) noted_demands items)) ∙
+    ap (λ (ds : List Demand). first_of_lines (demand_lines breaks ds)) c.noted-noted-items.ensures

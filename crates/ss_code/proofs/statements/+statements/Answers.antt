@@ -2,7 +2,7 @@ use Rattle.std.proofs.Common.{◌≡◌, ℕ, List, [], ◌∷◌, refl, ◌+◌
 use Rattle.std.proofs.lemmas.Result.{on_ok_weaker}
 use Rattle.ss_program.specs.View.{view_expression, view_place, view_target, view_when, view_restart, view_item, view_condition, view_guard, view_phrase, view_head, view_statement, view_body}
 use Rattle.ss_program.specs.Views.{view_if_made, view_loop_made, view_for_made, view_find_made}
-use Rattle.ss_code_instructions.specs.Translation.{reads_code, creates_code, schedule_new_code, schedule_code, restarts_code, if_code, loop_code, for_code, find_code, phrases_code, lines_of, statement_code, statement_prints, block_code, block_prints}
+use Rattle.ss_code_instructions.specs.Translation.{reads_code, creates_code, schedule_new_code, schedule_code, restarts_code, if_code, loop_code, for_code, find_code, phrases_code, print_lines, statement_code, statement_prints, block_code, block_prints}
 use Rattle.ss_code.proofs.Emitted.{failed, emitted, unprinted, let_seen, change_seen, simulate_seen, return_seen, stop_seen, create_seen, destroy_seen, file_seen, remove_end_seen, remove_seen, cancel_seen, skip_seen, call_seen, read_seen, create_every_seen, schedule_new_seen, schedule_seen, reset_seen, print_seen, called, printed}
 use Rattle.ss_code.proofs.statements.+statements.Goals as goal
 
@@ -311,9 +311,9 @@ pub emit_statement-returns-in-Print-clause-prints : goal.emit_statement-returns-
 emit_statement-returns-in-Print-clause-prints t c =
     let i = c.in-Print in
     let old = c.args.prints.now.items in
-    let same : lines_of (map view_item c.deref-in-Print.result.now) (map (λ line. line.items) c.deref-in-Print-2.result.now) ∷ [] ≡ statement_prints (view_statement c.args.s.now) =
-    ap (λ ls. lines_of (map view_item c.deref-in-Print.result.now) (map (λ line. line.items) ls) ∷ []) c.deref-in-Print-2.ensures.value
-    ∙ ap (λ xs. lines_of (map view_item xs) (map (λ line. line.items) i.lines.items) ∷ []) c.deref-in-Print.ensures.value
+    let same : print_lines (map view_item c.deref-in-Print.result.now) (map (λ line. line.items) c.deref-in-Print-2.result.now) ∷ [] ≡ statement_prints (view_statement c.args.s.now) =
+    ap (λ ls. print_lines (map view_item c.deref-in-Print.result.now) (map (λ line. line.items) ls) ∷ []) c.deref-in-Print-2.ensures.value
+    ∙ ap (λ xs. print_lines (map view_item xs) (map (λ line. line.items) i.lines.items) ∷ []) c.deref-in-Print.ensures.value
     ∙ sym (ap (λ s. statement_prints (view_statement s)) i.is ∙ ap statement_prints (print_seen i.line i.items i.lines)) in
     on_ok_weaker c.emit_print.result (λ q. q ∙ ap (λ k. old ++ k) same) c.emit_print.ensures.prints
 

@@ -1,23 +1,23 @@
 use Rattle.std.proofs.Common.{◌≡◌, ℕ, ℤ, ◌∷◌, ◌++◌, ◌∙◌, ap, length, List, IsPermutation, sym, subst, arith}
 use Rattle.std.proofs.lemmas.List.Sorted.{IsPermutation-append_left, IsPermutation-cons, IsPermutation-trans}
 use Rattle.ss_events.specs.declared.entry.Entry.{Entry}
-use Rattle.ss_events.specs.HeapEntries.{HeapEntries, Lines, Removes, lines_of, all_of}
+use Rattle.ss_events.specs.HeapEntries.{HeapEntries, Lines, Removes, heap_lines, all_of}
 use Rattle.ss_events.proofs.Sifts.{take_work}
 use Rattle.ss_events.proofs.Taken.{removed_few, removed_heap, removed_end, removed_all}
 use Rattle.ss_events.proofs.sift.take_out.Goals as goal
 
 -- what went, of the entries that there were
-went : (old anew : HeapEntries) (mid : Lines) (at : ℕ) (event : ℤ × ℤ) → anew ≡ record old { comparisons = 0; moves = 0 } → Removes (lines_of anew) mid at event → Removes (lines_of old) mid at event
-went old anew mid at event is r = subst (λ (h : HeapEntries). Removes (lines_of h) mid at event) is r
+went : (old anew : HeapEntries) (mid : Lines) (at : ℕ) (event : ℤ × ℤ) → anew ≡ record old { comparisons = 0; moves = 0 } → Removes (heap_lines anew) mid at event → Removes (heap_lines old) mid at event
+went old anew mid at event is r = subst (λ (h : HeapEntries). Removes (heap_lines h) mid at event) is r
 
 pub returns-then-at-len-clause-order : goal.returns-then-at-len-clause-order
 returns-then-at-len-clause-order c =
-    let r = went c.args.heap.now c.reset_counts.new.self (lines_of c.remove-event.new.self) c.args.at c.remove-event.result c.reset_counts.ensures c.remove-event.ensures.removed in
-    c.mend.ensures.mends.heap (removed_heap (lines_of c.args.heap.now) (lines_of c.remove-event.new.self) c.args.at c.remove-event.result c.requires.within r c.requires.order)
+    let r = went c.args.heap.now c.reset_counts.new.self (heap_lines c.remove-event.new.self) c.args.at c.remove-event.result c.reset_counts.ensures c.remove-event.ensures.removed in
+    c.mend.ensures.mends.heap (removed_heap (heap_lines c.args.heap.now) (heap_lines c.remove-event.new.self) c.args.at c.remove-event.result c.requires.within r c.requires.order)
 
 pub returns-then-at-len-clause-taken : goal.returns-then-at-len-clause-taken
 returns-then-at-len-clause-taken c =
-    let r = went c.args.heap.now c.reset_counts.new.self (lines_of c.remove-event.new.self) c.args.at c.remove-event.result c.reset_counts.ensures c.remove-event.ensures.removed in
+    let r = went c.args.heap.now c.reset_counts.new.self (heap_lines c.remove-event.new.self) c.args.at c.remove-event.result c.reset_counts.ensures c.remove-event.ensures.removed in
     let mid = c.remove-event.new.self in
     let new = c.mend.new.heap in
     let others : IsPermutation (mid.entries ++ mid.followers) (new.entries ++ new.followers)
@@ -27,30 +27,30 @@ returns-then-at-len-clause-taken c =
       there = r.there;
       is = r.is;
       rest = IsPermutation-trans (all_of c.args.heap.now) (r.entry ∷ all_of mid) (r.entry ∷ all_of new)
-          (removed_all (lines_of c.args.heap.now) (lines_of mid) c.args.at c.remove-event.result c.requires.within r) (IsPermutation-cons r.entry (all_of mid) (all_of new) others);
+          (removed_all (heap_lines c.args.heap.now) (heap_lines mid) c.args.at c.remove-event.result c.requires.within r) (IsPermutation-cons r.entry (all_of mid) (all_of new) others);
     }
 
 pub returns-then-at-len-clause-work : goal.returns-then-at-len-clause-work
 returns-then-at-len-clause-work c =
     let anew = c.reset_counts.ensures in
-    let r = went c.args.heap.now c.reset_counts.new.self (lines_of c.remove-event.new.self) c.args.at c.remove-event.result anew c.remove-event.ensures.removed in
+    let r = went c.args.heap.now c.reset_counts.new.self (heap_lines c.remove-event.new.self) c.args.at c.remove-event.result anew c.remove-event.ensures.removed in
     take_work c.remove-event.new.self c.mend.new.heap (length c.args.heap.now.entries)
     (c.remove-event.ensures.comparisons ∙ ap (λ h. h.comparisons) anew)
     (omega (arith, c.remove-event.ensures.moves, ap (λ h. h.moves) anew))
-    (removed_few (lines_of c.args.heap.now) (lines_of c.remove-event.new.self) c.args.at c.remove-event.result c.requires.within r)
+    (removed_few (heap_lines c.args.heap.now) (heap_lines c.remove-event.new.self) c.args.at c.remove-event.result c.requires.within r)
     c.mend.ensures.cost
 
 pub returns-else-at-len-clause-order : goal.returns-else-at-len-clause-order
 returns-else-at-len-clause-order c =
-    let r = went c.args.heap.now c.reset_counts.new.self (lines_of c.remove-event.new.self) c.args.at c.remove-event.result c.reset_counts.ensures c.remove-event.ensures.removed in
-    removed_end (lines_of c.args.heap.now) (lines_of c.remove-event.new.self) c.args.at c.remove-event.result c.requires.within r (omega (arith, c.if-at-len.false, c.len.ensures)) c.requires.order
+    let r = went c.args.heap.now c.reset_counts.new.self (heap_lines c.remove-event.new.self) c.args.at c.remove-event.result c.reset_counts.ensures c.remove-event.ensures.removed in
+    removed_end (heap_lines c.args.heap.now) (heap_lines c.remove-event.new.self) c.args.at c.remove-event.result c.requires.within r (omega (arith, c.if-at-len.false, c.len.ensures)) c.requires.order
 
 pub returns-else-at-len-clause-taken : goal.returns-else-at-len-clause-taken
 returns-else-at-len-clause-taken c =
-    let r = went c.args.heap.now c.reset_counts.new.self (lines_of c.remove-event.new.self) c.args.at c.remove-event.result c.reset_counts.ensures c.remove-event.ensures.removed in
+    let r = went c.args.heap.now c.reset_counts.new.self (heap_lines c.remove-event.new.self) c.args.at c.remove-event.result c.reset_counts.ensures c.remove-event.ensures.removed in
     record {
       entry = r.entry;
       there = r.there;
       is = r.is;
-      rest = removed_all (lines_of c.args.heap.now) (lines_of c.remove-event.new.self) c.args.at c.remove-event.result c.requires.within r;
+      rest = removed_all (heap_lines c.args.heap.now) (heap_lines c.remove-event.new.self) c.args.at c.remove-event.result c.requires.within r;
     }

@@ -3,11 +3,11 @@ use Rattle.ss_lex.specs.declared.token.Token.{Token}
 use Rattle.ss_lex.specs.declared.error.LexError.{LexError}
 use Rattle.ss_lex.specs.declared.error.LexError.TheVariants.{Memory}
 use Rattle.ss_lex.specs.Refusals.{line_refusal}
-use Rattle.ss_lex.specs.Reading.{pieces, IsRead, IsLineRead, IsLineRefused}
+use Rattle.ss_lex.specs.Reading.{pieces, IsCodeLineRead, IsLineRead, IsLineRefused}
 use Rattle.ss_lex.proofs.Reading.{code_read, code_refused, picture_read}
 use Rattle.ss_lex.proofs.text.read_line.Goals as goal
 
-read : (bytes : List ℕ) (start line left due : ℕ) (old new : List Token) (result : Result ℕ LexError) → due ≡ 0 → IfOk result (λ d. IsRead bytes start line left old new d) → IfOk result (IsLineRead bytes start line left due old new)
+read : (bytes : List ℕ) (start line left due : ℕ) (old new : List Token) (result : Result ℕ LexError) → due ≡ 0 → IfOk result (λ d. IsCodeLineRead bytes start line left old new d) → IfOk result (IsLineRead bytes start line left due old new)
 read bytes start line left due old new (Ok d) z h = subst (λ (n : ℕ). IsLineRead bytes start line left n old new d) (sym z) (code_read bytes start line left old new d h)
 read bytes start line left due old new (Err e) z h = tt
 

@@ -1,7 +1,7 @@
 use Rattle.std.proofs.Common.{arith, ◌≡◌, suc, ◌-◌, ◌+◌, ◌++◌, List, ap, sym, ◌∙◌}
 use Rattle.ss_base.specs.declared.value.Value.{Value}
 use Rattle.ss_base.specs.declared.value.Value.TheVariants.{Whole}
-use Rattle.ss_meaning.specs.Events.{attributes}
+use Rattle.ss_meaning.specs.Events.{attributes_given}
 use Rattle.ss_meaning.specs.Values.{turned}
 use Rattle.ss_machine_world.specs.Seen.{with_seen}
 use Rattle.ss_machine_events.proofs.Taking.{unread, read_on}
@@ -20,4 +20,4 @@ loop-field-preserved c = λ s.
     let d = c.in-Ok.ensures in
     c.loop-field.invariant s ∙ read_on class field x (with_seen s e) c.loop-field.values.items (count - field) (count - (field + 1)) d.0 more
     (d.2 s)
-    ∙ ap (λ (us : List Value). turned (λ ws. us ++ ws) (attributes class (field + 1) (count - (field + 1)) x (with_seen s e))) (sym d.1)
+    ∙ ap (λ (us : List Value). turned (λ ws. us ++ ws) (attributes_given class (field + 1) (count - (field + 1)) x (with_seen s e))) (sym d.1)

@@ -4,7 +4,7 @@ use Rattle.ss_base.specs.declared.value.Value.TheVariants.{Whole}
 use Rattle.ss_meaning.specs.Loops.{range_of, greatest}
 use Rattle.ss_code_instructions.specs.declared.instruction.Instruction.TheVariants.{Begin}
 use Rattle.ss_code_instructions.specs.States.{To, did, past, core_of as core_with}
-use Rattle.ss_code_instructions.specs.Machine.{act, begins}
+use Rattle.ss_code_instructions.specs.Machine.{act, begin_range}
 use Rattle.ss_machine_frames.specs.Frames.{Stacked, frames_seen}
 use Rattle.ss_machine_frames.specs.Ranged.{range_said, ranged}
 use Rattle.ss_machine_instructions.specs.Holding.{store_of, frames_of, core_of, IsOutcome}
@@ -27,7 +27,7 @@ returns-in_ok-push_bounds-in-Ok c = λ code input.
     let least : int_min b.limit greatest ≡ b.limit = c.in-Ok.ensures.limit in
     let goes = past c.args.skip (int_le b.first b.limit) place in
     let whole = ap (λ (s : Stacked). act code (Begin c.args.skip c.args.line) (core_of (with_operands old s) input)) e ∙
-    ap (λ r. did c.args.line r (λ r. begins c.args.skip r three.here (core_of one input))) said ∙
+    ap (λ r. did c.args.line r (λ r. begin_range c.args.skip r three.here (core_of one input))) said ∙
     ap (λ z. To (core_with (past c.args.skip (int_le b.first z) place) (Whole b.first ∷ Whole b.step ∷ Whole z ∷ three.here) (frames_of one) (store_of one input))) least ∙
     ap (λ (s : Stacked). To (core_with goes s.here (frames_seen old.frames s.below old.locals.below) (store_of old input))) (sym c.in_ok-push_bounds-in-Ok.ensures) ∙
     ap (λ t. To (core_with (past c.args.skip t place) c.push_bounds.new.self.here (frames_of (with_operands old c.push_bounds.new.self)) (store_of old input))) (sym c.has_items-holds.ensures) in

@@ -6,7 +6,7 @@ use Rattle.ss_meaning.specs.Entities.{class_at, is_permanent, made_count}
 use Rattle.ss_meaning.specs.Loops.{Range, indices, greatest}
 use Rattle.ss_machine_entities.specs.Answered.{to_meaning}
 use Rattle.ss_code_instructions.specs.States.{To, did, past, core_of as core_with}
-use Rattle.ss_code_instructions.specs.Machine.{begins}
+use Rattle.ss_code_instructions.specs.Machine.{begin_range}
 use Rattle.ss_machine_frames.specs.Frames.{Stacked, frames_seen}
 use Rattle.ss_machine_frames.specs.Ranged.{range_said}
 use Rattle.ss_machine_instructions.specs.Holding.{store_of, frames_of, core_of, IsOutcome}
@@ -42,7 +42,7 @@ returns-in_ok-push_bounds-in-Ok c = λ code input.
     let said : indices class s ≡ Ok (range_said b) = indices_ok (is_permanent (class_at class s)) (pos (made_count class s)) n (c.number_made.ensures s ∙ ap to_meaning c.in-Ok.is) ∙ ap (λ r. Ok r) (sym bounds) in
     let least : int_min b.limit greatest ≡ b.limit = c.indices-bounds.ensures.limit in
     let goes = past skip (int_le b.first b.limit) place in
-    let whole = ap (λ r. did c.args.line r (λ r. begins skip r old.operands.here (core_of old input))) said ∙
+    let whole = ap (λ r. did c.args.line r (λ r. begin_range skip r old.operands.here (core_of old input))) said ∙
     ap (λ z. To (core_with (past skip (int_le b.first z) place) (Whole b.first ∷ Whole b.step ∷ Whole z ∷ old.operands.here) (frames_of old) s)) least ∙
     ap (λ (t : Stacked). To (core_with goes t.here (frames_seen old.frames t.below old.locals.below) s)) (sym c.in_ok-push_bounds-in-Ok.ensures) ∙
     ap (λ t. To (core_with (past skip t place) c.push_bounds.new.self.here (frames_of (with_operands old c.push_bounds.new.self)) s)) (sym c.has_items-holds.ensures) in

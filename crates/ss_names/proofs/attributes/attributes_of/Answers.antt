@@ -1,6 +1,6 @@
 use Rattle.std.proofs.Common.{◌≡◌, ℕ, List, length, take, sym, subst}
 use Rattle.std.specs.List.{flat_map, fold}
-use Rattle.ss_names_declarations.specs.Sayings.{NameBytes}
+use Rattle.ss_tree.specs.Names.{NameBytes}
 use Rattle.ss_names.specs.Entities.{AreAttributes, attribute_by}
 use Rattle.ss_names_declarations.specs.Firsts.{firsts, with_first}
 use Rattle.ss_names.proofs.Fields.{firsts_more, row_count}

@@ -2,7 +2,7 @@ use Rattle.std.proofs.Common.{rules, ◌≡◌, ◌++◌, ◌∷◌, [], length,
 use Rattle.ss_tree.specs.View.{view_expression, view_term}
 use Rattle.ss_names_uses.specs.declared.demand.Aspect.TheVariants.{Integer, Count, ArgumentCount}
 use Rattle.ss_names_uses.specs.Demands.{demand, in_number, in_term}
-use Rattle.ss_names_uses.specs.Noted.{asked, of_place}
+use Rattle.ss_names_uses.specs.Noted.{number_if_asked, of_place}
 use Rattle.ss_names_uses.proofs.DemandRows.{in_named_made, in_call_made, in_product_made, in_sum_made, both_noted, next_noted}
 use Rattle.ss_names_uses.proofs.expression_demands.+demanding.Goals as goal
 
@@ -23,7 +23,7 @@ note_in-returns-in_ok-note_place-in-Named t c =
 pub note_in-returns-in_ok-note-in-Call : goal.note_in-returns-in_ok-note-in-Call
 note_in-returns-in_ok-note-in-Call t c =
     let counted : c.len.result ≡ length c.in-Call.arguments.items = search rules in
-    let first = asked c.args.as_number c.args.line Integer in
+    let first = number_if_asked c.args.as_number c.args.line Integer in
     let own = demand c.args.line (Count c.len.result) (ArgumentCount c.in-Call.function) ∷ [] in
     let noted : c.note.new.into ≡ c.args.into.now ++ (first ++ own) =
     both_noted c.args.into.now c.note_asked-in-Call.new.into c.note.new.into first own c.in_ok-note_asked-in-Call.ensures c.in_ok-note-in-Call.ensures in
@@ -31,7 +31,7 @@ note_in-returns-in_ok-note-in-Call t c =
 
 pub note_in-returns-in_ok-note_in-in-Product : goal.note_in-returns-in_ok-note_in-in-Product
 note_in-returns-in_ok-note_in-in-Product t c =
-    let first = asked c.args.as_number c.args.line Integer in
+    let first = number_if_asked c.args.as_number c.args.line Integer in
     let own = in_number c.args.line (view_expression c.in-Product.first.value) in
     let noted : c.note_in-in-Product.new.into ≡ c.args.into.now ++ (first ++ own) =
     both_noted c.args.into.now c.note_asked-in-Product.new.into c.note_in-in-Product.new.into first own c.in_ok-note_asked-in-Product.ensures (rw c.deref-in-Product.ensures at c.in_ok-note_in-in-Product.ensures) in
@@ -39,7 +39,7 @@ note_in-returns-in_ok-note_in-in-Product t c =
 
 pub note_in-returns-in_ok-note_in-in-Sum : goal.note_in-returns-in_ok-note_in-in-Sum
 note_in-returns-in_ok-note_in-in-Sum t c =
-    let first = asked c.args.as_number c.args.line Integer in
+    let first = number_if_asked c.args.as_number c.args.line Integer in
     let own = in_number c.args.line (view_expression c.in-Sum.first.value) in
     let noted : c.note_in-in-Sum.new.into ≡ c.args.into.now ++ (first ++ own) =
     both_noted c.args.into.now c.note_asked-in-Sum.new.into c.note_in-in-Sum.new.into first own c.in_ok-note_asked-in-Sum.ensures (rw c.deref-in-Sum.ensures at c.in_ok-note_in-in-Sum.ensures) in

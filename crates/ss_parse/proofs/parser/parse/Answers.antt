@@ -1,6 +1,6 @@
 use Rattle.std.proofs.Common.{◌≡◌, ℕ, ◌<◌, List, ap, subst, ◌∙◌, Err}
 use Rattle.ss_lex.specs.declared.token.Token.{Token}
-use Rattle.ss_parse_expressions.specs.declared.failure.Fault.{Fault}
+use Rattle.ss_parse_expressions.specs.declared.failure.ParseFault.{ParseFault}
 use Rattle.ss_tree.specs.View.{view_program}
 use Rattle.ss_parse.specs.SpelledPrograms.{Spell}
 use Rattle.ss_parse_expressions.specs.Openers.{openers}
@@ -18,9 +18,9 @@ returns-in-Ok-clause-found c = subst (λ (ts : List Token). Spell ts 64 (view_pr
 pub returns-in-Syntax-clause-refused : goal.returns-in-Syntax-clause-refused
 returns-in-Syntax-clause-refused c =
     let failed : program_of 64 c.list-list.result.now ≡ Err c.in-Err-Refused.fault = rw c.in-Err-Refused.field-0-is at c.in-Err-Refused.ensures in
-    subst (λ (ts : List Token). (levels : ℕ) → Without_tree ts levels) c.list-list.ensures (none_at_all _ (failed ∙ ap (λ (f : Fault). Err f) c.in-Syntax.is))
+    subst (λ (ts : List Token). (levels : ℕ) → Without_tree ts levels) c.list-list.ensures (none_at_all _ (failed ∙ ap (λ (f : ParseFault). Err f) c.in-Syntax.is))
 
 pub returns-in-TooDeep-clause-refused : goal.returns-in-TooDeep-clause-refused
 returns-in-TooDeep-clause-refused c =
     let failed : program_of 64 c.list-list.result.now ≡ Err c.in-Err-Refused.fault = rw c.in-Err-Refused.field-0-is at c.in-Err-Refused.ensures in
-    subst (λ (ts : List Token). Without_tree ts 64 × (64 < openers ts)) c.list-list.ensures (none_of_64 _ (failed ∙ ap (λ (f : Fault). Err f) c.in-TooDeep.is))
+    subst (λ (ts : List Token). Without_tree ts 64 × (64 < openers ts)) c.list-list.ensures (none_of_64 _ (failed ∙ ap (λ (f : ParseFault). Err f) c.in-TooDeep.is))

@@ -1,11 +1,11 @@
 use Rattle.std.proofs.Common.{◌≡◌, length}
 use Rattle.ss_parse_expressions.specs.Reading.{rows, begins_more, skip_separator}
-use Rattle.ss_parse_expressions.specs.ReadWords.{begins_item, item, items}
+use Rattle.ss_parse_expressions.specs.ReadWords.{begins_item, articled_name, items}
 use Rattle.ss_parse_expressions.proofs.Rows.{with_front}
 use Rattle.ss_parse_expressions.proofs.names.items.Given as goal
 
 abbrev pub invariant-more : goal.invariant-more
-invariant-more l = with_front l.all.items (rows (begins_more begins_item) (λ r. item (skip_separator r)) l.rest) ≡ items l.tokens
+invariant-more l = with_front l.all.items (rows (begins_more begins_item) (λ r. articled_name (skip_separator r)) l.rest) ≡ items l.tokens
 
 abbrev pub decreases-more : goal.decreases-more
 decreases-more l = length l.rest

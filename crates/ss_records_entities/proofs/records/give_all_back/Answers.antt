@@ -3,7 +3,7 @@ use Rattle.ss_base.specs.declared.layout.Owner.TheVariants.{Class}
 use Rattle.ss_records_blocks.specs.Cells.{IsNumber, word_of}
 use Rattle.ss_records_blocks.specs.Places.{living}
 use Rattle.ss_records_words.specs.Places.{lying, class_at}
-use Rattle.ss_records_words.specs.Reading.{plain, class_of}
+use Rattle.ss_records_words.specs.Reading.{plain, class_in_words}
 use Rattle.ss_records_blocks.specs.Pages.{in_page}
 use Rattle.ss_records_blocks.proofs.Paging.{quot, rem}
 use Rattle.ss_records_entities.proofs.Living.{Left, living_drop, rows_held, is_there, left_given, left_past}
@@ -25,7 +25,7 @@ pub block_words-words-requires : goal.block_words-words-requires
 block_words-words-requires c = λ k e.
     let g = is_there _ c.in-Some.place c.in-Some.ensures in
     let same : c.number-class.result ≡ k = class_is e in
-    let is : c.number-class.result ≡ class_at c.args.blocks.now.cells c.in-Some.place = sym (ap plain c.number-class.ensures) ∙ ap class_of (c.loop-i.invariant.left.kept c.loop-i.i c.in-Some.place (omega arith) g) in
+    let is : c.number-class.result ≡ class_at c.args.blocks.now.cells c.in-Some.place = sym (ap plain c.number-class.ensures) ∙ ap class_in_words (c.loop-i.invariant.left.kept c.loop-i.i c.in-Some.place (omega arith) g) in
     subst (λ n. n < length c.args.layout.now.classes) (sym is ∙ same) (c.requires.kept.classes c.loop-i.i c.in-Some.place (inl g))
 
 pub loop-i-preserved : goal.loop-i-preserved

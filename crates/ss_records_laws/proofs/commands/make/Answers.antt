@@ -3,10 +3,10 @@ use Rattle.std.specs.Prelude.{IfOk, OnOk}
 use Rattle.ss_records_laws.specs.declared.commands.Command.TheVariants.{CreateAll}
 use Rattle.ss_world.specs.State.{destroyed, assigned, timed}
 use Rattle.ss_world.specs.Sets.{filed_first, filed_last, filed_before, filed_after, removed}
-use Rattle.ss_records_laws.specs.Commands.{FitsCommand, done, answer_in, state_in, answer_of, after_command}
+use Rattle.ss_records_laws.specs.Commands.{FitsCommand, done_with_state, answer_in, state_in, answer_of, after_command}
 use Rattle.ss_records_laws.proofs.Outcomes.{outcome_is, is_left}
 use Rattle.ss_records_laws.proofs.commands.make.Goals as goal
-use Rattle.ss_records_laws.proofs.commands.make.Goals.{After-make_all, After-outcome_of, After-outcome_of-in-SetValue, After-outcome_of-in-SetTime, After-outcome_of-in-FileFirst, After-outcome_of-in-FileLast, After-outcome_of-in-FileBefore, After-outcome_of-in-FileAfter, After-outcome_of-in-Remove}
+use Rattle.ss_records_laws.proofs.commands.make.Goals.{After-make_all, After-answer_without_value, After-answer_without_value-in-SetValue, After-answer_without_value-in-SetTime, After-answer_without_value-in-FileFirst, After-answer_without_value-in-FileLast, After-answer_without_value-in-FileBefore, After-answer_without_value-in-FileAfter, After-answer_without_value-in-Remove}
 
 pub make_one-requires : goal.make_one-requires
 make_one-requires c = subst (FitsCommand c.args.heap.now.state.layout) c.in-Create.is c.requires
@@ -41,18 +41,18 @@ destroy-requires-clause-class c = (subst (FitsCommand c.args.heap.now.state.layo
 pub destroy-requires-clause-kind : goal.destroy-requires-clause-kind
 destroy-requires-clause-kind c = (subst (FitsCommand c.args.heap.now.state.layout) c.in-Destroy.is c.requires).1
 
-the-r-Destroy : (c : After-outcome_of) → to_z w64 (of_z w64 c.in-Destroy.r) ≡ c.in-Destroy.r
+the-r-Destroy : (c : After-answer_without_value) → to_z w64 (of_z w64 c.in-Destroy.r) ≡ c.in-Destroy.r
 the-r-Destroy c = search rules
 
 pub returns-in-Destroy-clause-answer : goal.returns-in-Destroy-clause-answer
 returns-in-Destroy-clause-answer c =
     let s = c.args.heap.now.state in
-    c.outcome_of.ensures ∙ outcome_is c.destroy.result (destroyed s c.in-Destroy.class (to_z w64 (of_z w64 c.in-Destroy.r))) s c.destroy.new.self.state c.destroy.ensures.done ∙ (λ i. answer_in (done (destroyed s c.in-Destroy.class (the-r-Destroy c i)))) ∙ ap (λ z. answer_of z s) (sym c.in-Destroy.is)
+    c.answer_without_value.ensures ∙ outcome_is c.destroy.result (destroyed s c.in-Destroy.class (to_z w64 (of_z w64 c.in-Destroy.r))) s c.destroy.new.self.state c.destroy.ensures.done ∙ (λ i. answer_in (done_with_state (destroyed s c.in-Destroy.class (the-r-Destroy c i)))) ∙ ap (λ z. answer_of z s) (sym c.in-Destroy.is)
 
 pub returns-in-Destroy-clause-ok : goal.returns-in-Destroy-clause-ok
 returns-in-Destroy-clause-ok c =
     let s = c.args.heap.now.state in
-    is_left c.destroy.result (destroyed s c.in-Destroy.class (to_z w64 (of_z w64 c.in-Destroy.r))) s c.destroy.new.self.state c.destroy.ensures.done ∙ (λ i. state_in s (done (destroyed s c.in-Destroy.class (the-r-Destroy c i)))) ∙ ap (λ z. after_command z s) (sym c.in-Destroy.is)
+    is_left c.destroy.result (destroyed s c.in-Destroy.class (to_z w64 (of_z w64 c.in-Destroy.r))) s c.destroy.new.self.state c.destroy.ensures.done ∙ (λ i. state_in s (done_with_state (destroyed s c.in-Destroy.class (the-r-Destroy c i)))) ∙ ap (λ z. after_command z s) (sym c.in-Destroy.is)
 
 pub returns-in-Destroy-clause-err : goal.returns-in-Destroy-clause-err
 returns-in-Destroy-clause-err c = tt
@@ -63,37 +63,37 @@ set_value-requires-clause-class c = (subst (FitsCommand c.args.heap.now.state.la
 pub set_value-requires-clause-mode : goal.set_value-requires-clause-mode
 set_value-requires-clause-mode c = (subst (FitsCommand c.args.heap.now.state.layout) c.in-SetValue.is c.requires).1
 
-the-r-SetValue : (c : After-outcome_of-in-SetValue) → to_z w64 (of_z w64 c.in-SetValue.r) ≡ c.in-SetValue.r
+the-r-SetValue : (c : After-answer_without_value-in-SetValue) → to_z w64 (of_z w64 c.in-SetValue.r) ≡ c.in-SetValue.r
 the-r-SetValue c = search rules
 
 pub returns-in-SetValue-clause-answer : goal.returns-in-SetValue-clause-answer
 returns-in-SetValue-clause-answer c =
     let s = c.args.heap.now.state in
-    c.outcome_of-in-SetValue.ensures ∙ outcome_is c.set_value.result (assigned s c.in-SetValue.class c.in-SetValue.field (to_z w64 (of_z w64 c.in-SetValue.r)) c.in-SetValue.value) s c.set_value.new.self.state c.set_value.ensures.done ∙ (λ i. answer_in (done (assigned s c.in-SetValue.class c.in-SetValue.field (the-r-SetValue c i) c.in-SetValue.value))) ∙ ap (λ z. answer_of z s) (sym c.in-SetValue.is)
+    c.answer_without_value-in-SetValue.ensures ∙ outcome_is c.set_value.result (assigned s c.in-SetValue.class c.in-SetValue.field (to_z w64 (of_z w64 c.in-SetValue.r)) c.in-SetValue.value) s c.set_value.new.self.state c.set_value.ensures.done ∙ (λ i. answer_in (done_with_state (assigned s c.in-SetValue.class c.in-SetValue.field (the-r-SetValue c i) c.in-SetValue.value))) ∙ ap (λ z. answer_of z s) (sym c.in-SetValue.is)
 
 pub returns-in-SetValue-clause-ok : goal.returns-in-SetValue-clause-ok
 returns-in-SetValue-clause-ok c =
     let s = c.args.heap.now.state in
-    is_left c.set_value.result (assigned s c.in-SetValue.class c.in-SetValue.field (to_z w64 (of_z w64 c.in-SetValue.r)) c.in-SetValue.value) s c.set_value.new.self.state c.set_value.ensures.done ∙ (λ i. state_in s (done (assigned s c.in-SetValue.class c.in-SetValue.field (the-r-SetValue c i) c.in-SetValue.value))) ∙ ap (λ z. after_command z s) (sym c.in-SetValue.is)
+    is_left c.set_value.result (assigned s c.in-SetValue.class c.in-SetValue.field (to_z w64 (of_z w64 c.in-SetValue.r)) c.in-SetValue.value) s c.set_value.new.self.state c.set_value.ensures.done ∙ (λ i. state_in s (done_with_state (assigned s c.in-SetValue.class c.in-SetValue.field (the-r-SetValue c i) c.in-SetValue.value))) ∙ ap (λ z. after_command z s) (sym c.in-SetValue.is)
 
 pub returns-in-SetValue-clause-err : goal.returns-in-SetValue-clause-err
 returns-in-SetValue-clause-err c = tt
 
-the-r-SetTime : (c : After-outcome_of-in-SetTime) → to_z w64 (of_z w64 c.in-SetTime.r) ≡ c.in-SetTime.r
+the-r-SetTime : (c : After-answer_without_value-in-SetTime) → to_z w64 (of_z w64 c.in-SetTime.r) ≡ c.in-SetTime.r
 the-r-SetTime c = search rules
 
-the-time-SetTime : (c : After-outcome_of-in-SetTime) → to_z w64 (of_z w64 c.in-SetTime.time) ≡ c.in-SetTime.time
+the-time-SetTime : (c : After-answer_without_value-in-SetTime) → to_z w64 (of_z w64 c.in-SetTime.time) ≡ c.in-SetTime.time
 the-time-SetTime c = search rules
 
 pub returns-in-SetTime-clause-answer : goal.returns-in-SetTime-clause-answer
 returns-in-SetTime-clause-answer c =
     let s = c.args.heap.now.state in
-    c.outcome_of-in-SetTime.ensures ∙ outcome_is c.set_time_a.result (timed s (to_z w64 (of_z w64 c.in-SetTime.r)) (to_z w64 (of_z w64 c.in-SetTime.time))) s c.set_time_a.new.self.state c.set_time_a.ensures.done ∙ (λ i. answer_in (done (timed s (the-r-SetTime c i) (the-time-SetTime c i)))) ∙ ap (λ z. answer_of z s) (sym c.in-SetTime.is)
+    c.answer_without_value-in-SetTime.ensures ∙ outcome_is c.set_time_a.result (timed s (to_z w64 (of_z w64 c.in-SetTime.r)) (to_z w64 (of_z w64 c.in-SetTime.time))) s c.set_time_a.new.self.state c.set_time_a.ensures.done ∙ (λ i. answer_in (done_with_state (timed s (the-r-SetTime c i) (the-time-SetTime c i)))) ∙ ap (λ z. answer_of z s) (sym c.in-SetTime.is)
 
 pub returns-in-SetTime-clause-ok : goal.returns-in-SetTime-clause-ok
 returns-in-SetTime-clause-ok c =
     let s = c.args.heap.now.state in
-    is_left c.set_time_a.result (timed s (to_z w64 (of_z w64 c.in-SetTime.r)) (to_z w64 (of_z w64 c.in-SetTime.time))) s c.set_time_a.new.self.state c.set_time_a.ensures.done ∙ (λ i. state_in s (done (timed s (the-r-SetTime c i) (the-time-SetTime c i)))) ∙ ap (λ z. after_command z s) (sym c.in-SetTime.is)
+    is_left c.set_time_a.result (timed s (to_z w64 (of_z w64 c.in-SetTime.r)) (to_z w64 (of_z w64 c.in-SetTime.time))) s c.set_time_a.new.self.state c.set_time_a.ensures.done ∙ (λ i. state_in s (done_with_state (timed s (the-r-SetTime c i) (the-time-SetTime c i)))) ∙ ap (λ z. after_command z s) (sym c.in-SetTime.is)
 
 pub returns-in-SetTime-clause-err : goal.returns-in-SetTime-clause-err
 returns-in-SetTime-clause-err c = tt
@@ -101,21 +101,21 @@ returns-in-SetTime-clause-err c = tt
 pub file_first-requires : goal.file_first-requires
 file_first-requires c = record { set = subst (FitsCommand c.args.heap.now.state.layout) c.in-FileFirst.is c.requires }
 
-the-owner-FileFirst : (c : After-outcome_of-in-FileFirst) → to_z w64 (of_z w64 c.in-FileFirst.owner) ≡ c.in-FileFirst.owner
+the-owner-FileFirst : (c : After-answer_without_value-in-FileFirst) → to_z w64 (of_z w64 c.in-FileFirst.owner) ≡ c.in-FileFirst.owner
 the-owner-FileFirst c = search rules
 
-the-member-FileFirst : (c : After-outcome_of-in-FileFirst) → to_z w64 (of_z w64 c.in-FileFirst.member) ≡ c.in-FileFirst.member
+the-member-FileFirst : (c : After-answer_without_value-in-FileFirst) → to_z w64 (of_z w64 c.in-FileFirst.member) ≡ c.in-FileFirst.member
 the-member-FileFirst c = search rules
 
 pub returns-in-FileFirst-clause-answer : goal.returns-in-FileFirst-clause-answer
 returns-in-FileFirst-clause-answer c =
     let s = c.args.heap.now.state in
-    c.outcome_of-in-FileFirst.ensures ∙ outcome_is c.file_first.result (filed_first s c.in-FileFirst.set (to_z w64 (of_z w64 c.in-FileFirst.owner)) (to_z w64 (of_z w64 c.in-FileFirst.member))) s c.file_first.new.self.state c.file_first.ensures.done ∙ (λ i. answer_in (done (filed_first s c.in-FileFirst.set (the-owner-FileFirst c i) (the-member-FileFirst c i)))) ∙ ap (λ z. answer_of z s) (sym c.in-FileFirst.is)
+    c.answer_without_value-in-FileFirst.ensures ∙ outcome_is c.file_first.result (filed_first s c.in-FileFirst.set (to_z w64 (of_z w64 c.in-FileFirst.owner)) (to_z w64 (of_z w64 c.in-FileFirst.member))) s c.file_first.new.self.state c.file_first.ensures.done ∙ (λ i. answer_in (done_with_state (filed_first s c.in-FileFirst.set (the-owner-FileFirst c i) (the-member-FileFirst c i)))) ∙ ap (λ z. answer_of z s) (sym c.in-FileFirst.is)
 
 pub returns-in-FileFirst-clause-ok : goal.returns-in-FileFirst-clause-ok
 returns-in-FileFirst-clause-ok c =
     let s = c.args.heap.now.state in
-    is_left c.file_first.result (filed_first s c.in-FileFirst.set (to_z w64 (of_z w64 c.in-FileFirst.owner)) (to_z w64 (of_z w64 c.in-FileFirst.member))) s c.file_first.new.self.state c.file_first.ensures.done ∙ (λ i. state_in s (done (filed_first s c.in-FileFirst.set (the-owner-FileFirst c i) (the-member-FileFirst c i)))) ∙ ap (λ z. after_command z s) (sym c.in-FileFirst.is)
+    is_left c.file_first.result (filed_first s c.in-FileFirst.set (to_z w64 (of_z w64 c.in-FileFirst.owner)) (to_z w64 (of_z w64 c.in-FileFirst.member))) s c.file_first.new.self.state c.file_first.ensures.done ∙ (λ i. state_in s (done_with_state (filed_first s c.in-FileFirst.set (the-owner-FileFirst c i) (the-member-FileFirst c i)))) ∙ ap (λ z. after_command z s) (sym c.in-FileFirst.is)
 
 pub returns-in-FileFirst-clause-err : goal.returns-in-FileFirst-clause-err
 returns-in-FileFirst-clause-err c = tt
@@ -123,21 +123,21 @@ returns-in-FileFirst-clause-err c = tt
 pub file_last-requires : goal.file_last-requires
 file_last-requires c = record { set = subst (FitsCommand c.args.heap.now.state.layout) c.in-FileLast.is c.requires }
 
-the-owner-FileLast : (c : After-outcome_of-in-FileLast) → to_z w64 (of_z w64 c.in-FileLast.owner) ≡ c.in-FileLast.owner
+the-owner-FileLast : (c : After-answer_without_value-in-FileLast) → to_z w64 (of_z w64 c.in-FileLast.owner) ≡ c.in-FileLast.owner
 the-owner-FileLast c = search rules
 
-the-member-FileLast : (c : After-outcome_of-in-FileLast) → to_z w64 (of_z w64 c.in-FileLast.member) ≡ c.in-FileLast.member
+the-member-FileLast : (c : After-answer_without_value-in-FileLast) → to_z w64 (of_z w64 c.in-FileLast.member) ≡ c.in-FileLast.member
 the-member-FileLast c = search rules
 
 pub returns-in-FileLast-clause-answer : goal.returns-in-FileLast-clause-answer
 returns-in-FileLast-clause-answer c =
     let s = c.args.heap.now.state in
-    c.outcome_of-in-FileLast.ensures ∙ outcome_is c.file_last.result (filed_last s c.in-FileLast.set (to_z w64 (of_z w64 c.in-FileLast.owner)) (to_z w64 (of_z w64 c.in-FileLast.member))) s c.file_last.new.self.state c.file_last.ensures.done ∙ (λ i. answer_in (done (filed_last s c.in-FileLast.set (the-owner-FileLast c i) (the-member-FileLast c i)))) ∙ ap (λ z. answer_of z s) (sym c.in-FileLast.is)
+    c.answer_without_value-in-FileLast.ensures ∙ outcome_is c.file_last.result (filed_last s c.in-FileLast.set (to_z w64 (of_z w64 c.in-FileLast.owner)) (to_z w64 (of_z w64 c.in-FileLast.member))) s c.file_last.new.self.state c.file_last.ensures.done ∙ (λ i. answer_in (done_with_state (filed_last s c.in-FileLast.set (the-owner-FileLast c i) (the-member-FileLast c i)))) ∙ ap (λ z. answer_of z s) (sym c.in-FileLast.is)
 
 pub returns-in-FileLast-clause-ok : goal.returns-in-FileLast-clause-ok
 returns-in-FileLast-clause-ok c =
     let s = c.args.heap.now.state in
-    is_left c.file_last.result (filed_last s c.in-FileLast.set (to_z w64 (of_z w64 c.in-FileLast.owner)) (to_z w64 (of_z w64 c.in-FileLast.member))) s c.file_last.new.self.state c.file_last.ensures.done ∙ (λ i. state_in s (done (filed_last s c.in-FileLast.set (the-owner-FileLast c i) (the-member-FileLast c i)))) ∙ ap (λ z. after_command z s) (sym c.in-FileLast.is)
+    is_left c.file_last.result (filed_last s c.in-FileLast.set (to_z w64 (of_z w64 c.in-FileLast.owner)) (to_z w64 (of_z w64 c.in-FileLast.member))) s c.file_last.new.self.state c.file_last.ensures.done ∙ (λ i. state_in s (done_with_state (filed_last s c.in-FileLast.set (the-owner-FileLast c i) (the-member-FileLast c i)))) ∙ ap (λ z. after_command z s) (sym c.in-FileLast.is)
 
 pub returns-in-FileLast-clause-err : goal.returns-in-FileLast-clause-err
 returns-in-FileLast-clause-err c = tt
@@ -145,24 +145,24 @@ returns-in-FileLast-clause-err c = tt
 pub file_before-requires : goal.file_before-requires
 file_before-requires c = record { set = subst (FitsCommand c.args.heap.now.state.layout) c.in-FileBefore.is c.requires }
 
-the-owner-FileBefore : (c : After-outcome_of-in-FileBefore) → to_z w64 (of_z w64 c.in-FileBefore.owner) ≡ c.in-FileBefore.owner
+the-owner-FileBefore : (c : After-answer_without_value-in-FileBefore) → to_z w64 (of_z w64 c.in-FileBefore.owner) ≡ c.in-FileBefore.owner
 the-owner-FileBefore c = search rules
 
-the-member-FileBefore : (c : After-outcome_of-in-FileBefore) → to_z w64 (of_z w64 c.in-FileBefore.member) ≡ c.in-FileBefore.member
+the-member-FileBefore : (c : After-answer_without_value-in-FileBefore) → to_z w64 (of_z w64 c.in-FileBefore.member) ≡ c.in-FileBefore.member
 the-member-FileBefore c = search rules
 
-the-beside-FileBefore : (c : After-outcome_of-in-FileBefore) → to_z w64 (of_z w64 c.in-FileBefore.beside) ≡ c.in-FileBefore.beside
+the-beside-FileBefore : (c : After-answer_without_value-in-FileBefore) → to_z w64 (of_z w64 c.in-FileBefore.beside) ≡ c.in-FileBefore.beside
 the-beside-FileBefore c = search rules
 
 pub returns-in-FileBefore-clause-answer : goal.returns-in-FileBefore-clause-answer
 returns-in-FileBefore-clause-answer c =
     let s = c.args.heap.now.state in
-    c.outcome_of-in-FileBefore.ensures ∙ outcome_is c.file_before.result (filed_before s c.in-FileBefore.set (to_z w64 (of_z w64 c.in-FileBefore.owner)) (to_z w64 (of_z w64 c.in-FileBefore.member)) (to_z w64 (of_z w64 c.in-FileBefore.beside))) s c.file_before.new.self.state c.file_before.ensures.done ∙ (λ i. answer_in (done (filed_before s c.in-FileBefore.set (the-owner-FileBefore c i) (the-member-FileBefore c i) (the-beside-FileBefore c i)))) ∙ ap (λ z. answer_of z s) (sym c.in-FileBefore.is)
+    c.answer_without_value-in-FileBefore.ensures ∙ outcome_is c.file_before.result (filed_before s c.in-FileBefore.set (to_z w64 (of_z w64 c.in-FileBefore.owner)) (to_z w64 (of_z w64 c.in-FileBefore.member)) (to_z w64 (of_z w64 c.in-FileBefore.beside))) s c.file_before.new.self.state c.file_before.ensures.done ∙ (λ i. answer_in (done_with_state (filed_before s c.in-FileBefore.set (the-owner-FileBefore c i) (the-member-FileBefore c i) (the-beside-FileBefore c i)))) ∙ ap (λ z. answer_of z s) (sym c.in-FileBefore.is)
 
 pub returns-in-FileBefore-clause-ok : goal.returns-in-FileBefore-clause-ok
 returns-in-FileBefore-clause-ok c =
     let s = c.args.heap.now.state in
-    is_left c.file_before.result (filed_before s c.in-FileBefore.set (to_z w64 (of_z w64 c.in-FileBefore.owner)) (to_z w64 (of_z w64 c.in-FileBefore.member)) (to_z w64 (of_z w64 c.in-FileBefore.beside))) s c.file_before.new.self.state c.file_before.ensures.done ∙ (λ i. state_in s (done (filed_before s c.in-FileBefore.set (the-owner-FileBefore c i) (the-member-FileBefore c i) (the-beside-FileBefore c i)))) ∙ ap (λ z. after_command z s) (sym c.in-FileBefore.is)
+    is_left c.file_before.result (filed_before s c.in-FileBefore.set (to_z w64 (of_z w64 c.in-FileBefore.owner)) (to_z w64 (of_z w64 c.in-FileBefore.member)) (to_z w64 (of_z w64 c.in-FileBefore.beside))) s c.file_before.new.self.state c.file_before.ensures.done ∙ (λ i. state_in s (done_with_state (filed_before s c.in-FileBefore.set (the-owner-FileBefore c i) (the-member-FileBefore c i) (the-beside-FileBefore c i)))) ∙ ap (λ z. after_command z s) (sym c.in-FileBefore.is)
 
 pub returns-in-FileBefore-clause-err : goal.returns-in-FileBefore-clause-err
 returns-in-FileBefore-clause-err c = tt
@@ -170,24 +170,24 @@ returns-in-FileBefore-clause-err c = tt
 pub file_after-requires : goal.file_after-requires
 file_after-requires c = record { set = subst (FitsCommand c.args.heap.now.state.layout) c.in-FileAfter.is c.requires }
 
-the-owner-FileAfter : (c : After-outcome_of-in-FileAfter) → to_z w64 (of_z w64 c.in-FileAfter.owner) ≡ c.in-FileAfter.owner
+the-owner-FileAfter : (c : After-answer_without_value-in-FileAfter) → to_z w64 (of_z w64 c.in-FileAfter.owner) ≡ c.in-FileAfter.owner
 the-owner-FileAfter c = search rules
 
-the-member-FileAfter : (c : After-outcome_of-in-FileAfter) → to_z w64 (of_z w64 c.in-FileAfter.member) ≡ c.in-FileAfter.member
+the-member-FileAfter : (c : After-answer_without_value-in-FileAfter) → to_z w64 (of_z w64 c.in-FileAfter.member) ≡ c.in-FileAfter.member
 the-member-FileAfter c = search rules
 
-the-beside-FileAfter : (c : After-outcome_of-in-FileAfter) → to_z w64 (of_z w64 c.in-FileAfter.beside) ≡ c.in-FileAfter.beside
+the-beside-FileAfter : (c : After-answer_without_value-in-FileAfter) → to_z w64 (of_z w64 c.in-FileAfter.beside) ≡ c.in-FileAfter.beside
 the-beside-FileAfter c = search rules
 
 pub returns-in-FileAfter-clause-answer : goal.returns-in-FileAfter-clause-answer
 returns-in-FileAfter-clause-answer c =
     let s = c.args.heap.now.state in
-    c.outcome_of-in-FileAfter.ensures ∙ outcome_is c.file_after.result (filed_after s c.in-FileAfter.set (to_z w64 (of_z w64 c.in-FileAfter.owner)) (to_z w64 (of_z w64 c.in-FileAfter.member)) (to_z w64 (of_z w64 c.in-FileAfter.beside))) s c.file_after.new.self.state c.file_after.ensures.done ∙ (λ i. answer_in (done (filed_after s c.in-FileAfter.set (the-owner-FileAfter c i) (the-member-FileAfter c i) (the-beside-FileAfter c i)))) ∙ ap (λ z. answer_of z s) (sym c.in-FileAfter.is)
+    c.answer_without_value-in-FileAfter.ensures ∙ outcome_is c.file_after.result (filed_after s c.in-FileAfter.set (to_z w64 (of_z w64 c.in-FileAfter.owner)) (to_z w64 (of_z w64 c.in-FileAfter.member)) (to_z w64 (of_z w64 c.in-FileAfter.beside))) s c.file_after.new.self.state c.file_after.ensures.done ∙ (λ i. answer_in (done_with_state (filed_after s c.in-FileAfter.set (the-owner-FileAfter c i) (the-member-FileAfter c i) (the-beside-FileAfter c i)))) ∙ ap (λ z. answer_of z s) (sym c.in-FileAfter.is)
 
 pub returns-in-FileAfter-clause-ok : goal.returns-in-FileAfter-clause-ok
 returns-in-FileAfter-clause-ok c =
     let s = c.args.heap.now.state in
-    is_left c.file_after.result (filed_after s c.in-FileAfter.set (to_z w64 (of_z w64 c.in-FileAfter.owner)) (to_z w64 (of_z w64 c.in-FileAfter.member)) (to_z w64 (of_z w64 c.in-FileAfter.beside))) s c.file_after.new.self.state c.file_after.ensures.done ∙ (λ i. state_in s (done (filed_after s c.in-FileAfter.set (the-owner-FileAfter c i) (the-member-FileAfter c i) (the-beside-FileAfter c i)))) ∙ ap (λ z. after_command z s) (sym c.in-FileAfter.is)
+    is_left c.file_after.result (filed_after s c.in-FileAfter.set (to_z w64 (of_z w64 c.in-FileAfter.owner)) (to_z w64 (of_z w64 c.in-FileAfter.member)) (to_z w64 (of_z w64 c.in-FileAfter.beside))) s c.file_after.new.self.state c.file_after.ensures.done ∙ (λ i. state_in s (done_with_state (filed_after s c.in-FileAfter.set (the-owner-FileAfter c i) (the-member-FileAfter c i) (the-beside-FileAfter c i)))) ∙ ap (λ z. after_command z s) (sym c.in-FileAfter.is)
 
 pub returns-in-FileAfter-clause-err : goal.returns-in-FileAfter-clause-err
 returns-in-FileAfter-clause-err c = tt
@@ -195,21 +195,21 @@ returns-in-FileAfter-clause-err c = tt
 pub remove-requires : goal.remove-requires
 remove-requires c = record { set = subst (FitsCommand c.args.heap.now.state.layout) c.in-Remove.is c.requires }
 
-the-owner-Remove : (c : After-outcome_of-in-Remove) → to_z w64 (of_z w64 c.in-Remove.owner) ≡ c.in-Remove.owner
+the-owner-Remove : (c : After-answer_without_value-in-Remove) → to_z w64 (of_z w64 c.in-Remove.owner) ≡ c.in-Remove.owner
 the-owner-Remove c = search rules
 
-the-member-Remove : (c : After-outcome_of-in-Remove) → to_z w64 (of_z w64 c.in-Remove.member) ≡ c.in-Remove.member
+the-member-Remove : (c : After-answer_without_value-in-Remove) → to_z w64 (of_z w64 c.in-Remove.member) ≡ c.in-Remove.member
 the-member-Remove c = search rules
 
 pub returns-in-Remove-clause-answer : goal.returns-in-Remove-clause-answer
 returns-in-Remove-clause-answer c =
     let s = c.args.heap.now.state in
-    c.outcome_of-in-Remove.ensures ∙ outcome_is c.remove.result (removed s c.in-Remove.set (to_z w64 (of_z w64 c.in-Remove.owner)) (to_z w64 (of_z w64 c.in-Remove.member))) s c.remove.new.self.state c.remove.ensures.done ∙ (λ i. answer_in (done (removed s c.in-Remove.set (the-owner-Remove c i) (the-member-Remove c i)))) ∙ ap (λ z. answer_of z s) (sym c.in-Remove.is)
+    c.answer_without_value-in-Remove.ensures ∙ outcome_is c.remove.result (removed s c.in-Remove.set (to_z w64 (of_z w64 c.in-Remove.owner)) (to_z w64 (of_z w64 c.in-Remove.member))) s c.remove.new.self.state c.remove.ensures.done ∙ (λ i. answer_in (done_with_state (removed s c.in-Remove.set (the-owner-Remove c i) (the-member-Remove c i)))) ∙ ap (λ z. answer_of z s) (sym c.in-Remove.is)
 
 pub returns-in-Remove-clause-ok : goal.returns-in-Remove-clause-ok
 returns-in-Remove-clause-ok c =
     let s = c.args.heap.now.state in
-    is_left c.remove.result (removed s c.in-Remove.set (to_z w64 (of_z w64 c.in-Remove.owner)) (to_z w64 (of_z w64 c.in-Remove.member))) s c.remove.new.self.state c.remove.ensures.done ∙ (λ i. state_in s (done (removed s c.in-Remove.set (the-owner-Remove c i) (the-member-Remove c i)))) ∙ ap (λ z. after_command z s) (sym c.in-Remove.is)
+    is_left c.remove.result (removed s c.in-Remove.set (to_z w64 (of_z w64 c.in-Remove.owner)) (to_z w64 (of_z w64 c.in-Remove.member))) s c.remove.new.self.state c.remove.ensures.done ∙ (λ i. state_in s (done_with_state (removed s c.in-Remove.set (the-owner-Remove c i) (the-member-Remove c i)))) ∙ ap (λ z. after_command z s) (sym c.in-Remove.is)
 
 pub returns-in-Remove-clause-err : goal.returns-in-Remove-clause-err
 returns-in-Remove-clause-err c = tt

@@ -2,7 +2,7 @@ use Rattle.std.proofs.Common.{rules, ◌≡◌, ◌≤◌, take, length, Ok, Err
 use Rattle.ss_base.specs.declared.fault.FaultKind.TheVariants.{EndOfData, BadData}
 use Rattle.ss_input.specs.declared.source.Missed.TheVariants.{Fault, Input}
 use Rattle.ss_input.specs.declared.source.Source.{Source}
-use Rattle.ss_input.specs.Blocks.{first_of}
+use Rattle.ss_input.specs.Blocks.{first_input_byte}
 use Rattle.ss_input.specs.Words.{next_word, word_at}
 use Rattle.ss_input.specs.Inputs.{Reaches, Reads, Finds, source_block}
 use Rattle.ss_input.proofs.Reached.{too_many_found, none_found, word_found, too_long_found, finds_so}
@@ -22,7 +22,7 @@ pub returns-then-is_none-clause-fault : goal.returns-then-is_none-clause-fault
 returns-then-is_none-clause-fault g c kind e =
     let same : EndOfData ≡ kind = cc in
     let reached : Reaches g.R.FaultyRead.remaining c.args.self.now c.reach_word.new.self = search rules in
-    let none : first_of (source_block c.reach_word.new.self).left ≡ None = search rules in
+    let none : first_input_byte (source_block c.reach_word.new.self).left ≡ None = search rules in
     subst (λ k. Finds g.R.FaultyRead.remaining c.args.self.now c.reach_word.new.self (λ input. next_word input ≡ Err k)) same
     (finds_so g.R.FaultyRead.remaining c.args.self.now c.reach_word.new.self _ _ (λ input q. ap word_at q) (none_found g.R.FaultyRead.remaining c.args.self.now c.reach_word.new.self reached reached.small none))
 
@@ -33,7 +33,7 @@ pub returns-in-Ok-Some-clause-read : goal.returns-in-Ok-Some-clause-read
 returns-in-Ok-Some-clause-read g c count e =
     let same : c.in-Ok-Some.count ≡ count = cc in
     let reached : Reaches g.R.FaultyRead.remaining c.args.self.now c.reach_word.new.self = search rules in
-    let some : first_of (source_block c.reach_word.new.self).left ≡ None → ⊥ = search rules in
+    let some : first_input_byte (source_block c.reach_word.new.self).left ≡ None → ⊥ = search rules in
     let p = c.in-Ok-Some.ensures.passed c.in-Ok-Some.count (ap Ok c.in-Ok-Some.field-0-is) in
     let long : length (take c.in-Ok-Some.count c.pass_word.new.word) ≤ 64 = search rules in
     let new : Source g.row.R.Denot = record { block = c.pass_word.new.block; gap = 0; missed = c.reach_word.new.self.missed } in
@@ -44,7 +44,7 @@ pub returns-in-Ok-None-clause-fault : goal.returns-in-Ok-None-clause-fault
 returns-in-Ok-None-clause-fault g c kind e =
     let same : BadData ≡ kind = cc in
     let reached : Reaches g.R.FaultyRead.remaining c.args.self.now c.reach_word.new.self = search rules in
-    let some : first_of (source_block c.reach_word.new.self).left ≡ None → ⊥ = search rules in
+    let some : first_input_byte (source_block c.reach_word.new.self).left ≡ None → ⊥ = search rules in
     let new : Source g.row.R.Denot = record { block = c.pass_word.new.block; gap = c.reach_word.new.self.gap; missed = c.reach_word.new.self.missed } in
     subst (λ k. Finds g.R.FaultyRead.remaining c.args.self.now new (λ input. next_word input ≡ Err k)) same
     (too_long_found g.R.FaultyRead.remaining c.args.self.now c.reach_word.new.self new reached reached.small some (c.in-Ok-None.ensures.too_long (ap Ok c.in-Ok-None.field-0-is)))

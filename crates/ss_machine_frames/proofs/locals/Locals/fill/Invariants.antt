@@ -1,5 +1,5 @@
 use Rattle.std.proofs.Common.{◌≡◌, ◌++◌, take}
-use Rattle.ss_meaning.specs.Store.{firsts}
+use Rattle.ss_meaning.specs.Store.{first_values}
 use Rattle.ss_machine_frames.proofs.locals.Locals.fill.Given as goal
 
 abbrev pub invariant-loop-value : goal.invariant-loop-value
@@ -8,4 +8,4 @@ invariant-loop-value l =
 
 abbrev pub invariant-loop-mode : goal.invariant-loop-mode
 invariant-loop-mode l =
-    l.self ≡ record { below = l.fn.self.below; here = l.fn.self.here ++ (l.given ++ firsts (take l.mode-index l.others)) }
+    l.self ≡ record { below = l.fn.self.below; here = l.fn.self.here ++ (l.given ++ first_values (take l.mode-index l.others)) }

@@ -1,11 +1,11 @@
 use Rattle.std.proofs.Common.{ap, ◌∙◌}
 use Rattle.ss_base.specs.Plain.{PlainLayout}
 use Rattle.ss_machine_entities.specs.Layouts.{class_in}
-use Rattle.ss_machine_world.specs.Seen.{Seen, mode_at}
+use Rattle.ss_machine_world.specs.Seen.{Seen, mode_of_field}
 use Rattle.ss_machine_world.proofs.Once.{mode_is}
 use Rattle.ss_machine_world.proofs.scene.Scene.mode.Goals as goal
 
 pub returns : goal.returns
 returns c =
     let there = c.layout.ensures ∙ ap (λ (e : Seen). e.heap.layout) c.self.view_is in
-    c.field_mode.ensures ∙ mode_is (class_in c.layout.result.now c.args.class) c.args.field ∙ ap (λ (l : PlainLayout). mode_at l c.args.class c.args.field) there
+    c.field_mode.ensures ∙ mode_is (class_in c.layout.result.now c.args.class) c.args.field ∙ ap (λ (l : PlainLayout). mode_of_field l c.args.class c.args.field) there

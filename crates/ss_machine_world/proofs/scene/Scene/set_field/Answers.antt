@@ -3,7 +3,7 @@ use Rattle.ss_world.specs.State.{State, assigned}
 use Rattle.ss_base.specs.declared.value.Value.TheVariants.{Whole}
 use Rattle.ss_meaning.specs.Places.{is_of_mode, assigned_attribute}
 use Rattle.ss_machine_entities.specs.declared.trouble.Trouble.TheVariants.{Fault}
-use Rattle.ss_machine_world.specs.Seen.{Seen, Notes, mode_at}
+use Rattle.ss_machine_world.specs.Seen.{Seen, Notes, mode_of_field}
 use Rattle.ss_machine_world.proofs.Noting.{assigned_notes, assigned_not}
 use Rattle.ss_machine_world.proofs.Once.{set_misfit}
 use Rattle.ss_machine_world.proofs.scene.Scene.set_field.Goals as goal
@@ -19,7 +19,7 @@ returns-in-Ok c =
     let same : to_z w64 (of_z w64 n) ≡ n = search rules in
     let e : Seen = record { disciplines = i.disciplines.items; notices = i.notices.items; statistics = i.timeline.histories.statistics; heap = i.population; time = i.timeline.time; pending = i.timeline.pending; histories = i.timeline.histories.rows } in
     let mid : Seen = record e { heap = c.set_value.new.self } in
-    let fits : is_of_mode v (mode_at e.heap.layout class field) ≡ true = subst (λ (s : Seen). is_of_mode v (mode_at s.heap.layout class field) ≡ true) (sym c.self.view_is) (sym c.fits.ensures ∙ c.if-not-fits.false) in
+    let fits : is_of_mode v (mode_of_field e.heap.layout class field) ≡ true = subst (λ (s : Seen). is_of_mode v (mode_of_field s.heap.layout class field) ≡ true) (sym c.self.view_is) (sym c.fits.ensures ∙ c.if-not-fits.false) in
     let done : assigned e.heap class field n v ≡ Ok mid.heap = subst (λ (z : ℤ). assigned e.heap class field z v ≡ Ok mid.heap) same c.in-Ok.ensures in
     subst (λ (old : Seen). Notes (assigned_attribute class field (Whole n) v) old c.note_attribute.new.self c.note_attribute.result) c.self.view_is
     (assigned_notes class field n v e mid c.note_attribute.new.self c.note_attribute.result fits done refl c.note_attribute.ensures)
@@ -30,7 +30,7 @@ returns-in-Err c =
     let i = c.self.inside in
     let same : to_z w64 (of_z w64 n) ≡ n = search rules in
     let e : Seen = record { disciplines = i.disciplines.items; notices = i.notices.items; statistics = i.timeline.histories.statistics; heap = i.population; time = i.timeline.time; pending = i.timeline.pending; histories = i.timeline.histories.rows } in
-    let fits : is_of_mode v (mode_at e.heap.layout class field) ≡ true = subst (λ (s : Seen). is_of_mode v (mode_at s.heap.layout class field) ≡ true) (sym c.self.view_is) (sym c.fits.ensures ∙ c.if-not-fits.false) in
+    let fits : is_of_mode v (mode_of_field e.heap.layout class field) ≡ true = subst (λ (s : Seen). is_of_mode v (mode_of_field s.heap.layout class field) ≡ true) (sym c.self.view_is) (sym c.fits.ensures ∙ c.if-not-fits.false) in
     let no : assigned e.heap class field n v ≡ Err c.in-Err.kind = subst (λ (z : ℤ). assigned e.heap class field z v ≡ Err c.in-Err.kind) same c.in-Err.ensures.0 in
     subst (λ (old : Seen). Notes (assigned_attribute class field (Whole n) v) old (record e { heap = c.set_value.new.self }) (Err (Fault c.in-Err.kind))) c.self.view_is
     (λ s. assigned_not class field n v e c.in-Err.kind s fits no, λ k same not. ap (λ (h : State). record e { heap = h }) c.in-Err.ensures.1)

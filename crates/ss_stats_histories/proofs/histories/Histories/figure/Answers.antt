@@ -3,7 +3,7 @@ use Rattle.std.proofs.lemmas.Int.{ints}
 use Rattle.std.proofs.lemmas.Option.{slice_get_past}
 use Rattle.std.proofs.lemmas.Bool.{ltb-true}
 use Rattle.ss_meaning.specs.Values.{if_ok}
-use Rattle.ss_meaning.specs.Histories.{history_of, folded}
+use Rattle.ss_meaning.specs.Histories.{history_of_subject, folded}
 use Rattle.ss_stats_histories.specs.Records.{Records, columns_of, figured}
 use Rattle.ss_stats_histories.proofs.Tables.{at_index}
 use Rattle.ss_stats_histories.proofs.Noted.{figure_there, figure_nowhere}
@@ -15,11 +15,11 @@ returns-in-Some c =
     let x : to_z w64 (of_z w64 c.args.entity) ≡ c.args.entity = omega (arith, ints) in
     let g = rw c.deref.ensures.value at c.in-Some.ensures.lookup in
     let e = rw (n, x) at c.figure.ensures in
-    sym (ap (λ (r : Records). if_ok (history_of c.args.statistic c.args.entity (columns_of r.rows)) (folded c.args.fold c.args.now)) c.self.view_is) ∙
+    sym (ap (λ (r : Records). if_ok (history_of_subject c.args.statistic c.args.entity (columns_of r.rows)) (folded c.args.fold c.args.now)) c.self.view_is) ∙
     figure_there c.args.fold c.args.entity c.args.now c.self.inside.kept.items c.args.statistic c.in-Some.kept.now (at_index c.self.inside.kept.items c.args.statistic c.in-Some.kept.now (ltb-true _ _ (sym g.0)) g.1) ∙ sym (ap figured e)
 
 pub returns-in-None : goal.returns-in-None
 returns-in-None c =
     let g = rw c.deref.ensures.value at c.in-None.ensures.lookup in
-    sym (ap (λ (r : Records). if_ok (history_of c.args.statistic c.args.entity (columns_of r.rows)) (folded c.args.fold c.args.now)) c.self.view_is) ∙
+    sym (ap (λ (r : Records). if_ok (history_of_subject c.args.statistic c.args.entity (columns_of r.rows)) (folded c.args.fold c.args.now)) c.self.view_is) ∙
     figure_nowhere c.args.fold c.args.entity c.args.now c.self.inside.kept.items c.args.statistic (slice_get_past c.self.inside.kept.items c.args.statistic g.3)

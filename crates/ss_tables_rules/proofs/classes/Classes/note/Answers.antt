@@ -4,7 +4,7 @@ use Rattle.ss_tables_rules.proofs.classes.Classes.note.Goals as goal
 
 pub returns-in_ok-add : goal.returns-in_ok-add
 returns-in_ok-add c =
-    class_noted c.args.topic c.args.saying.now c.args.self.now c.add.new.self _ _ (sym c.is_about.ensures ∙ c.if-is_about.true) c.thing_of.ensures c.class_in.ensures c.in_ok-add.ensures
+    class_noted c.args.topic c.args.saying.now c.args.self.now c.add.new.self _ _ (sym c.has_topic.ensures ∙ c.if-has_topic.true) c.thing_of.ensures c.class_declared.ensures c.in_ok-add.ensures
 
-pub returns-else-is_about : goal.returns-else-is_about
-returns-else-is_about c = class_passed c.args.topic c.args.saying.now c.args.self.now (sym c.is_about.ensures ∙ c.if-is_about.false)
+pub returns-else-has_topic : goal.returns-else-has_topic
+returns-else-has_topic c = class_passed c.args.topic c.args.saying.now c.args.self.now (sym c.has_topic.ensures ∙ c.if-has_topic.false)

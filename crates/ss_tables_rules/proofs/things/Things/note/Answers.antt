@@ -5,4 +5,4 @@ use Rattle.ss_tables_rules.proofs.things.Things.note.Goals as goal
 
 pub returns-in_ok-add : goal.returns-in_ok-add
 returns-in_ok-add c =
-    noted c.args.topic c.args.saying.now c.args.self.now c.add.new.self (sym c.is_about.ensures ∙ c.if-is_about.true) (c.in_ok-add.ensures ∙ ap (with_thing c.args.self.now) c.thing_of.ensures)
+    noted c.args.topic c.args.saying.now c.args.self.now c.add.new.self (sym c.has_topic.ensures ∙ c.if-has_topic.true) (c.in_ok-add.ensures ∙ ap (with_thing c.args.self.now) c.thing_of.ensures)

@@ -1,8 +1,8 @@
 use Rattle.std.proofs.Common.{map}
 use Rattle.ss_tree.specs.View.{view_section}
-use Rattle.ss_tables_rules.specs.declared.rule.Rule.TheVariants.{Twice}
+use Rattle.ss_tables_rules.specs.declared.rule.DeclarationRule.TheVariants.{Twice}
 use Rattle.ss_tables_rules.proofs.Ordering.{next_rule}
-use Rattle.ss_tables_rules.proofs.broken.first_broken.Goals as goal
+use Rattle.ss_tables_rules.proofs.broken.first_broken_rule.Goals as goal
 
 pub loop-rule-preserved : goal.loop-rule-preserved
 loop-rule-preserved c =

@@ -2,7 +2,7 @@ use Rattle.std.proofs.Common.{◌∙◌, sym}
 use Rattle.ss_tree.specs.View.{view_expression, view_term}
 use Rattle.ss_tree.specs.Views.{view_sum_made}
 use Rattle.ss_parse_expressions.proofs.Lists.{sum_of_some}
-use Rattle.ss_parse_expressions.proofs.expressions.sum_of.Goals as goal
+use Rattle.ss_parse_expressions.proofs.expressions.sum_of_terms.Goals as goal
 
 pub returns : goal.returns
 returns c =

@@ -1,8 +1,9 @@
 use Rattle.std.proofs.Common.{◌++◌, ◌∷◌, [], cond, is_some, refl, sym, ap, ◌∙◌}
 use Rattle.ss_tables_rules.specs.Declarations.{declaration}
-use Rattle.ss_tables_rules.specs.Lines.{soonest, line_if}
+use Rattle.ss_base.specs.Lines.{line_if}
+use Rattle.ss_tables_rules.specs.Lines.{soonest}
 use Rattle.ss_tables_rules.proofs.Declaring.{declared_new, declared_again}
-use Rattle.ss_tables_rules.proofs.globals.Globals.declare.Goals as goal
+use Rattle.ss_tables_rules.proofs.globals.DeclaredNames.declare.Goals as goal
 
 pub returns-in_ok-insert_new-in-None : goal.returns-in_ok-insert_new-in-None
 returns-in_ok-insert_new-in-None c =

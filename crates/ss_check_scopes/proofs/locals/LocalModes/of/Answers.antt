@@ -3,14 +3,15 @@ use Rattle.std.specs.List.{flat_map}
 use Rattle.ss_tree.specs.declared.program.LocalDefinition.{LocalDefinition}
 use Rattle.ss_tree.specs.View.{view_definition, view_section}
 use Rattle.ss_names_uses.specs.declared.mention.Mention.{Mention}
-use Rattle.ss_names_uses.specs.Mentions.{NameBytes, mentions}
+use Rattle.ss_tree.specs.Names.{NameBytes}
+use Rattle.ss_names_uses.specs.Mentions.{mentions}
 use Rattle.ss_tree.specs.declared.preamble.Mode.{Mode}
 use Rattle.std.specs.Prelude.{Option}
 use Rattle.ss_names_declarations.specs.Firsts.{firsts}
 use Rattle.ss_check_scopes.specs.Locals.{all_defined, local_mentioned, moded}
 use Rattle.ss_check_scopes.specs.Whole.{is_global}
 use Rattle.ss_check_scopes.proofs.Entering.{moded_found}
-use Rattle.ss_check_scopes.proofs.locals.Locals.of.Goals as goal
+use Rattle.ss_check_scopes.proofs.locals.LocalModes.of.Goals as goal
 
 pub returns : goal.returns
 returns g c =

@@ -1,17 +1,17 @@
 use Rattle.std.proofs.Common.{[], ◌∷◌, subst}
 use Rattle.ss_tables_rules.specs.declared.globals.Standing.TheVariants.{Set, OfSet}
-use Rattle.ss_names_declarations.specs.Sayings.{NameBytes}
+use Rattle.ss_tree.specs.Names.{NameBytes}
 use Rattle.ss_tables_rules.specs.Declarations.{declaration, derived}
-use Rattle.ss_tables_rules.specs.Globals.{Adds}
+use Rattle.ss_tables_rules.specs.Globals.{AddsDeclarations}
 use Rattle.ss_tables_rules.proofs.Declaring.{adds_both}
-use Rattle.ss_tables_rules.proofs.globals.Globals.declare_set.Goals as goal
+use Rattle.ss_tables_rules.proofs.globals.DeclaredNames.declare_set.Goals as goal
 
 pub returns : goal.returns
 returns c =
     let set = c.args.set.now in
     let line = c.args.line in
-    let first : Adds (declaration line Set set ∷ []) c.args.self.now c.declare.new.self =
-    subst (λ (n : NameBytes). Adds (declaration line Set n ∷ []) c.args.self.now c.declare.new.self) c.of_name.ensures c.in_ok-declare.ensures in
+    let first : AddsDeclarations (declaration line Set set ∷ []) c.args.self.now c.declare.new.self =
+    subst (λ (n : NameBytes). AddsDeclarations (declaration line Set n ∷ []) c.args.self.now c.declare.new.self) c.of_name.ensures c.in_ok-declare.ensures in
     let f = derived line OfSet set 70 in
     let l = derived line OfSet set 76 in
     let n = derived line OfSet set 78 in
