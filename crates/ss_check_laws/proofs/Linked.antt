@@ -38,7 +38,7 @@ use Rattle.ss_check_rules.specs.Unknown.{is_watched_here}
 use Rattle.ss_program.specs.declared.expression.SetQuery.TheVariants.{MemberCount}
 use Rattle.ss_program.specs.declared.expression.Variable.TheVariants as variables
 use Rattle.ss_program.specs.declared.statement.Counted.{Counted}
-use Rattle.ss_program.specs.WellTyped.{Scope, owner_of}
+use Rattle.ss_program.specs.WellTyped.{Scope, owner_of_set}
 use Rattle.ss_names_meaning.specs.Answers.{◌>>=◌}
 use Rattle.ss_names_meaning.specs.declared.meaning.ClassMeant.{ClassMeant}
 use Rattle.ss_names_meaning.specs.declared.meaning.Meaning.{Meaning}
@@ -248,7 +248,7 @@ module _ (t : Table) (signatures : List Signed) (is : IsTable t) (k : IsKept t) 
           (goes (slice_get t.sets n) (λ x. asked t locals derived.MemberCount n x) set referent p
           (goes set.owner (λ x. of_owner t locals MemberCount n x) o referent q r))
 
-      by : (set : Set) → slice_get t.sets n ≡ Some set → (o : Owner) → set.owner ≡ Some o → owner_of s.program n ≡ Some o → Subjected name
+      by : (set : Set) → slice_get t.sets n ≡ Some set → (o : Owner) → set.owner ≡ Some o → owner_of_set s.program n ≡ Some o → Subjected name
       by set p owners.System q r = (
         knowns.MemberCount TheProgram,
         meanings.OfSystemSet MemberCount n,

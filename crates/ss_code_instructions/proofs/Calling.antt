@@ -12,7 +12,7 @@ use Rattle.ss_meaning.specs.Events.{Beginning, Coming, next_event, begun}
 use Rattle.ss_meaning.specs.Parts.{World, Returned, Stopped, Faulted, OutOfTicks, Wrong, Outcome, WentOn, Left, Part, and_then, then_nothing, needed, looked, tick_from}
 use Rattle.ss_meaning.specs.Statements.{Calls, effects}
 use Rattle.ss_meaning.specs.Meaning.{with_locals, come_back, enclosed, routine_called, event_routine, begin, event_taken, calls, Fault}
-use Rattle.ss_code_instructions.specs.States.{Called, ARoutine, AnEvent, Frame, Core, State, Stuck, core_of, did, fit, with_taken}
+use Rattle.ss_code_instructions.specs.States.{Called, ARoutine, AnEvent, Frame, Core, MachineState, Stuck, core_of, did, fit, with_taken}
 use Rattle.ss_code_instructions.specs.Machine.{Entry, Code, enter_with, enter_if, enter, take_event, act, is_due, when_due, with_rest, step_at}
 use Rattle.ss_code_instructions.specs.Translation.{block_code, section_code, block_prints}
 use Rattle.ss_code_instructions.proofs.Steps.{HasAt, has_front, has_back, Reaches, reaches_on, at, arrive, landed, Ticks, onwards, ends, ticks_reach}
@@ -102,12 +102,12 @@ pub record Linked (code : Code) (p : Program) : Type 0 where
 -- ## Into a routine, and back
 
 module _ (code : Code) where
-  landed_back : (f : Frame) (fs : List Frame) (w : World) (s : State) (o : Option (List Value)) → Reaches code s (landed o f fs w) → Reaches code s (arrive (λ us w. at f.back (us ++ f.operands) fs w) fs (and_then (needed o w) (λ vs w. WentOn vs (with_locals f.locals w))))
+  landed_back : (f : Frame) (fs : List Frame) (w : World) (s : MachineState) (o : Option (List Value)) → Reaches code s (landed o f fs w) → Reaches code s (arrive (λ us w. at f.back (us ++ f.operands) fs w) fs (and_then (needed o w) (λ vs w. WentOn vs (with_locals f.locals w))))
   landed_back f fs w s None g = g
   landed_back f fs w s (Some us) g = g
 
   -- a body, and the way back
-  back_run : (n p : ℕ) (f : Frame) (frames : List Frame) (s : State) (o : Outcome (Unit {0})) → slice_get code.instructions p ≡ Some i.Leave → Reaches code s (arrive (λ u w. at p [] (f ∷ frames) w) (f ∷ frames) o) → Reaches code s (arrive (λ us w. at f.back (us ++ f.operands) frames w) frames (come_back f.first f.count f.locals o))
+  back_run : (n p : ℕ) (f : Frame) (frames : List Frame) (s : MachineState) (o : Outcome (Unit {0})) → slice_get code.instructions p ≡ Some i.Leave → Reaches code s (arrive (λ u w. at p [] (f ∷ frames) w) (f ∷ frames) o) → Reaches code s (arrive (λ us w. at f.back (us ++ f.operands) frames w) frames (come_back f.first f.count f.locals o))
   back_run n p f frames s (WentOn u w) has g =
       landed_back f frames w s (yielded f.first f.count w.store.locals) (reaches_on g (leave_run code n p [] f frames w has (yielded f.first f.count w.store.locals) refl))
   back_run n p f frames s (Left Returned w) has g = landed_back f frames w s (yielded f.first f.count w.store.locals) g
@@ -170,7 +170,7 @@ module _ (code : Code) where
             sides false t = stuck_so (acts (Some entry) (q ∙ ap Some link.is) ∙ ap (λ b. enter_if b entry (ARoutine routine) count vs stack core w.store) t)
 
     -- an event, whose fault has the line of its routine
-    nothing_yielded : (s : State) (t q : ℕ) (rest : List Value) (frames : List Frame) (o : Outcome (List Value)) → IfWentOn (λ us. 0 ≡ length us) o → Ticks code s t (arrive (λ us w. at q (us ++ rest) frames w) frames o) → Ticks code s t (arrive (λ u w. at q rest frames w) frames (then_nothing o))
+    nothing_yielded : (s : MachineState) (t q : ℕ) (rest : List Value) (frames : List Frame) (o : Outcome (List Value)) → IfWentOn (λ us. 0 ≡ length us) o → Ticks code s t (arrive (λ us w. at q (us ++ rest) frames w) frames o) → Ticks code s t (arrive (λ u w. at q rest frames w) frames (then_nothing o))
     nothing_yielded s t q rest frames (WentOn [] w) such g = g
     nothing_yielded s t q rest frames (WentOn (v ∷ us) w) such g = absurd (omega (arith, such))
     nothing_yielded s t q rest frames (Left e w) such g = g

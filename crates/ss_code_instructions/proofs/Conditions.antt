@@ -16,7 +16,7 @@ use Rattle.ss_meaning.specs.Expressions.{value, member_value, owner_value, unles
 use Rattle.ss_meaning.specs.Parts.{World, WentOn, looked, look}
 use Rattle.ss_code_instructions.specs.States.{To, did, core_of, with_top, past}
 use Rattle.ss_code_instructions.specs.Machine.{Code}
-use Rattle.ss_code_instructions.specs.Translation.{owner_code, is_system, test_code, tests_code, alternatives_code, condition_code, negated_code, guard_code, guards_code}
+use Rattle.ss_code_instructions.specs.Translation.{owner_code, is_the_system, test_code, tests_code, alternatives_code, condition_code, negated_code, guard_code, guards_code}
 use Rattle.ss_code_instructions.specs.Running.{Underway}
 use Rattle.ss_code_instructions.proofs.Steps.{Reaches, here, at}
 use Rattle.ss_code_instructions.proofs.Parts.{Lands, same, done, put_on, onto, seq_look, above, alike, look_lands, sure_lands, looks_then}
@@ -25,7 +25,7 @@ use Rattle.ss_code_instructions.proofs.Branching.{both_lands, either_lands, not_
 
 module _ (code : Code) (n : ℕ) where
   -- an owner, and a look at its set
-  pub owner_look : {A : Type 0} {land : A → ℕ → ℕ} {after : A → List Value → List Value} (l : Line) (owner : SetOwner) (below : List Value → List Value) (c : Bool → List Instruction) (g : Option Value → Store → OkOr A Trouble) → ((system : Bool) (o : Option Value) → Owned system o → Lands code n (λ s. owner_on o (below s)) (c system) land after (look l (g o))) → Lands code n below (owner_code l owner ++ c (is_system owner)) land after (look l (λ s. if_ok (owner_value owner s) (λ o. g o s)))
+  pub owner_look : {A : Type 0} {land : A → ℕ → ℕ} {after : A → List Value → List Value} (l : Line) (owner : SetOwner) (below : List Value → List Value) (c : Bool → List Instruction) (g : Option Value → Store → OkOr A Trouble) → ((system : Bool) (o : Option Value) → Owned system o → Lands code n (λ s. owner_on o (below s)) (c system) land after (look l (g o))) → Lands code n below (owner_code l owner ++ c (is_the_system owner)) land after (look l (λ s. if_ok (owner_value owner s) (λ o. g o s)))
   owner_look l owner below c g r = alike code n (λ w. looks_then code l (owner_value owner w.store) g w) (owner_seq code n l owner below c (λ o. look l (g o)) r)
 
   pub test_lands : (l : Line) (skip : ℕ) (t : Test) → Lands code n same (test_code l skip t) (past skip) done (look l (passed t))

@@ -25,7 +25,7 @@ use Rattle.ss_meaning.specs.Parts.{World, WentOn, Part, and_then, looked, look, 
 use Rattle.ss_meaning.specs.Statements.{give_to, give_each, change_by, read_word, read_each, print, create_every, destroy, file, remove, remove_end, schedule_new, schedule, cancel, restart_each}
 use Rattle.ss_code_instructions.specs.States.{Frame, Moved, Sends, did, fit, core_of, with_taken, take_off, with_top, with_filing, onward}
 use Rattle.ss_code_instructions.specs.Machine.{Code, act, is_due, when_due, with_rest, changed}
-use Rattle.ss_code_instructions.specs.Translation.{expression_code, values_code, member_code, owner_code, is_system, spot_code, destination_of, give_code, gives_code, reads_code, creates_code, filing_of, beside_code, file_code, when_code, schedule_new_code, schedule_code, restarts_code}
+use Rattle.ss_code_instructions.specs.Translation.{expression_code, values_code, member_code, owner_code, is_the_system, spot_code, destination_of, give_code, gives_code, reads_code, creates_code, filing_of, beside_code, file_code, when_code, schedule_new_code, schedule_code, restarts_code}
 use Rattle.ss_code_instructions.proofs.Steps.{Reaches, here, at, arrive}
 use Rattle.ss_code_instructions.proofs.Parts.{Lands, Runs, at_end, same, done, put_on, onto, take_them, seq, seq_such, seq_look, above, none, alike, look_lands, change_runs, get_runs, goes, rests, sticks, fit_did}
 use Rattle.ss_code_instructions.proofs.Expressions.{owner_on, Spotted, spot_on, value_runs, values_run, values_length, entity_runs, member_runs, owner_seq, any_seq, spot_seq, turned_then}
@@ -141,7 +141,7 @@ module _ (code : Code) (n : ℕ) where
   pub file_runs : (l : Line) (set : ℕ) (e : Expression) (position : Position) (owner : SetOwner) → Runs code n same (file_code l set e position owner) done (file l set e position owner)
   file_runs l set e position owner =
       seq code n (member_runs code n l set e) (λ x.
-      filing_seq l set position (put_on x) (λ kind. owner_code l owner ++ i.File kind set (is_system owner) l ∷ []) (λ f w. and_then (look l (owner_value owner) w) (λ o. change l (filed_in f set x o))) (λ kind f hf.
+      filing_seq l set position (put_on x) (λ kind. owner_code l owner ++ i.File kind set (is_the_system owner) l ∷ []) (λ f w. and_then (look l (owner_value owner) w) (λ o. change l (filed_in f set x o))) (λ kind f hf.
       owner_seq code n l owner (λ s. filing_on f (x ∷ s)) (λ system. i.File kind set system l ∷ []) (λ o. change l (filed_in f set x o)) (λ system o h.
       change_runs code n (i.File kind set system l) l (λ s. owner_on o (filing_on f (x ∷ s))) done (filed_in f set x o) refl
       (λ place stack frames s.
@@ -149,14 +149,14 @@ module _ (code : Code) (n : ℕ) where
       h.by (filing_on f (x ∷ stack)) (λ o above. with_filing kind above (λ f over. with_top over (λ x rest. did l (filed_in f set x o s) (λ s'. onward rest c s'))))
       ∙ hf.by (x ∷ stack) (λ f over. with_top over (λ x rest. did l (filed_in f set x o s) (λ s'. onward rest c s')))))))
 
-  pub remove_runs : (l : Line) (set : ℕ) (e : Expression) (owner : SetOwner) → Runs code n same (member_code l set e ++ (owner_code l owner ++ i.Remove set (is_system owner) l ∷ [])) done (remove l set e owner)
+  pub remove_runs : (l : Line) (set : ℕ) (e : Expression) (owner : SetOwner) → Runs code n same (member_code l set e ++ (owner_code l owner ++ i.Remove set (is_the_system owner) l ∷ [])) done (remove l set e owner)
   remove_runs l set e owner =
       seq code n (member_runs code n l set e) (λ x.
       owner_seq code n l owner (put_on x) (λ system. i.Remove set system l ∷ []) (λ o. change l (removed_from set x o)) (λ system o h.
       change_runs code n (i.Remove set system l) l (λ s. owner_on o (x ∷ s)) done (removed_from set x o) refl
       (λ place stack frames s. h.by (x ∷ stack) (λ o above. with_top above (λ x rest. did l (removed_from set x o s) (λ s'. onward rest (core_of place (owner_on o (x ∷ stack)) frames s) s'))))))
 
-  pub remove_end_runs : (l : Line) (end : End) (set : ℕ) (owner : SetOwner) → Runs code n same (owner_code l owner ++ i.RemoveEnd end set (is_system owner) l ∷ []) put_on (remove_end l end set owner)
+  pub remove_end_runs : (l : Line) (end : End) (set : ℕ) (owner : SetOwner) → Runs code n same (owner_code l owner ++ i.RemoveEnd end set (is_the_system owner) l ∷ []) put_on (remove_end l end set owner)
   remove_end_runs l end set owner =
       owner_seq code n l owner same (λ system. i.RemoveEnd end set system l ∷ []) (λ o. get l (removed_at end set o)) (λ system o h.
       get_runs code n (i.RemoveEnd end set system l) l (owner_on o) put_on (removed_at end set o) refl

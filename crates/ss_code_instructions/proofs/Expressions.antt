@@ -17,9 +17,9 @@ use Rattle.ss_meaning.specs.Events.{clock}
 use Rattle.ss_meaning.specs.Statistics.{figure}
 use Rattle.ss_meaning.specs.Expressions.{value, values, value_if_any, looked_at, entity_value, member_value, owner_value, spot}
 use Rattle.ss_meaning.specs.Parts.{World, Part, and_then, looked, look}
-use Rattle.ss_code_instructions.specs.States.{Frame, State, Moved, To, did, core_of, take_off, with_taken, with_owner, with_spot}
+use Rattle.ss_code_instructions.specs.States.{Frame, MachineState, Moved, To, did, core_of, take_off, with_taken, with_owner, with_spot}
 use Rattle.ss_code_instructions.specs.Machine.{Code, act, is_due}
-use Rattle.ss_code_instructions.specs.Translation.{expression_code, values_code, entity_code, member_code, owner_code, is_system, any_code, is_absent, members_cells, destination_of, spot_code}
+use Rattle.ss_code_instructions.specs.Translation.{expression_code, values_code, entity_code, member_code, owner_code, is_the_system, any_code, is_absent, members_cells, destination_of, spot_code}
 use Rattle.ss_code_instructions.proofs.Steps.{Reaches, at, arrive}
 use Rattle.ss_code_instructions.proofs.Parts.{Lands, Runs, at_end, IfWentOn, same, put_on, onto, seq, seq_look, above, none, alike, look_lands, sure_lands}
 
@@ -41,7 +41,7 @@ module _ (code : Code) (n : ℕ) where
         subst (λ o. Reaches code (at place (before stack) frames w) o) (arrives (λ b w'. at (land b (place + length c)) (after b stack) frames w') frames w (f w.store)) (r.by place stack frames w has le);
   }
     where
-      arrives : (k : B → World → State) (frames : List Frame) (w : World) (o : OkOr A Trouble) → arrive (λ a w'. k (g a) w') frames (looked l o w) ≡ arrive k frames (looked l (turned g o) w)
+      arrives : (k : B → World → MachineState) (frames : List Frame) (w : World) (o : OkOr A Trouble) → arrive (λ a w'. k (g a) w') frames (looked l o w) ≡ arrive k frames (looked l (turned g o) w)
       arrives k frames w (Ok a) = refl
       arrives k frames w (Err (Fails kind)) = refl
       arrives k frames w (Err Misfit) = refl
@@ -128,7 +128,7 @@ pub record Spotted (to : Destination) (p : Spot) : Type 0 where
 
 module _ (code : Code) (n : ℕ) where
   -- an owner, and what follows
-  pub owner_seq : {A : Type 0} {land : A → ℕ → ℕ} {after : A → List Value → List Value} (l : Line) (owner : SetOwner) (below : List Value → List Value) (c : Bool → List Instruction) (m : Option Value → Part A) → ((system : Bool) (o : Option Value) → Owned system o → Lands code n (λ s. owner_on o (below s)) (c system) land after (m o)) → Lands code n below (owner_code l owner ++ c (is_system owner)) land after (λ w. and_then (look l (owner_value owner) w) m)
+  pub owner_seq : {A : Type 0} {land : A → ℕ → ℕ} {after : A → List Value → List Value} (l : Line) (owner : SetOwner) (below : List Value → List Value) (c : Bool → List Instruction) (m : Option Value → Part A) → ((system : Bool) (o : Option Value) → Owned system o → Lands code n (λ s. owner_on o (below s)) (c system) land after (m o)) → Lands code n below (owner_code l owner ++ c (is_the_system owner)) land after (λ w. and_then (look l (owner_value owner) w) m)
   owner_seq l TheSystem below c m r = r true None owned_system
   owner_seq l (Entity e) below c m r =
       alike code n (λ w. turned_then l (value e w.store) Some m w)

@@ -4,13 +4,13 @@ use Rattle.std.specs.Prelude.{slice_get}
 use Rattle.ss_base.specs.declared.value.Value.{Value}
 use Rattle.ss_code_instructions.specs.declared.instruction.Instruction.{Instruction}
 use Rattle.ss_meaning.specs.Parts.{World, Part, Next, Again, Over, go_on, loop}
-use Rattle.ss_code_instructions.specs.States.{Frame, State, core_of}
+use Rattle.ss_code_instructions.specs.States.{Frame, MachineState, core_of}
 use Rattle.ss_code_instructions.specs.Machine.{Code, is_due}
 use Rattle.ss_code_instructions.proofs.Steps.{Reaches, here, at, arrive, Ticks}
 use Rattle.ss_code_instructions.proofs.Parts.{ticked, tick_run, out_run}
 
 -- where a turn leads: to where the next one begins, or to an end of the loop
-abbrev pub turned : {C A : Type 0} → (C → List Value → List Value) → ℕ → (A → ℕ) → List Value → List Frame → Next C A → World → State
+abbrev pub turned : {C A : Type 0} → (C → List Value → List Value) → ℕ → (A → ℕ) → List Value → List Frame → Next C A → World → MachineState
 turned hold p to stack frames (Again c) w = at p (hold c stack) frames w
 turned hold p to stack frames (Over a) w = at (to a) stack frames w
 

@@ -16,11 +16,11 @@ use Rattle.ss_meaning.specs.Places.{InVariable, written}
 use Rattle.ss_meaning.specs.Sets.{known_owner, is_none, begun, begun_at, coming, goes_on}
 use Rattle.ss_meaning.specs.Expressions.{value, value_if_any, member_value, owner_value, owner_looked_at}
 use Rattle.ss_meaning.specs.Parts.{World, WentOn, Part, and_then, then_nothing, choose, looked, look, Again, Over, loop}
-use Rattle.ss_meaning.specs.Loops.{Turn, GoesOn, EndsLoop, IsFound, phrases, visit, Range, items, over_items, step_number, range_of, range, indices, Outset, from_member, outset, next_member, member_turn, over_members, over}
+use Rattle.ss_meaning.specs.Loops.{Turn, GoesOn, EndsLoop, IsFound, phrases, visit, Range, items, over_items, step_number, range_of, range, indices, Outset, from_member, loop_outset, next_member, member_turn, over_members, over}
 use Rattle.ss_code_instructions.specs.States.{Frame, To, did, core_of, past, onward}
 use Rattle.ss_code_instructions.specs.Machine.{Code, backwards}
 use Rattle.ss_code_instructions.specs.Running.{Underway}
-use Rattle.ss_code_instructions.specs.Translation.{owner_code, is_system, member_code, phrases_code, items_code, range_code, outset_code, members_cells, members_code, for_code, loop_cells, find_code}
+use Rattle.ss_code_instructions.specs.Translation.{owner_code, is_the_system, member_code, phrases_code, items_code, range_code, outset_code, members_cells, members_code, for_code, loop_cells, find_code}
 use Rattle.ss_code_instructions.proofs.Steps.{HasAt, has_front, has_back, Reaches, here, at, arrive, join, follow}
 use Rattle.ss_code_instructions.proofs.Parts.{Lands, Runs, at_end, IfWentOn, same, done, seq_look, above, alike, look_lands, move_lands, ticked, did_run, found_due, join_such}
 use Rattle.ss_code_instructions.proofs.Branching.{jumps}
@@ -52,23 +52,23 @@ found_went P l (Err (Fails k)) w h = tt
 found_went P l (Err Misfit) w h = tt
 
 -- whose set a FOR goes over
-owner_found : (owner : SetOwner) (s : Store) → IfFound (Owned (is_system owner)) (owner_value owner s)
+owner_found : (owner : SetOwner) (s : Store) → IfFound (Owned (is_the_system owner)) (owner_value owner s)
 owner_found TheSystem s = owned_system
 owner_found (Entity e) s = found_made (Owned false) (value e s) Some owned_entity
 
-looked_found : (set : ℕ) (owner : SetOwner) (s : Store) → IfFound (Owned (is_system owner)) (owner_looked_at set owner s)
-looked_found set owner s = found_then (Owned (is_system owner)) (Owned (is_system owner)) (owner_value owner s) _ (owner_found owner s) (λ o h. found_made (Owned (is_system owner)) (known_owner set o s) _ (λ k. h))
+looked_found : (set : ℕ) (owner : SetOwner) (s : Store) → IfFound (Owned (is_the_system owner)) (owner_looked_at set owner s)
+looked_found set owner s = found_then (Owned (is_the_system owner)) (Owned (is_the_system owner)) (owner_value owner s) _ (owner_found owner s) (λ o h. found_made (Owned (is_the_system owner)) (known_owner set o s) _ (λ k. h))
 
 abbrev OfOwner : SetOwner → Outset → Type 0
-OfOwner owner b = Owned (is_system owner) b.owner
+OfOwner owner b = Owned (is_the_system owner) b.owner
 
-outset_found : (start : Start) (reverse : Bool) (set : ℕ) (owner : SetOwner) (s : Store) → IfFound (OfOwner owner) (outset start reverse set owner s)
+outset_found : (start : Start) (reverse : Bool) (set : ℕ) (owner : SetOwner) (s : Store) → IfFound (OfOwner owner) (loop_outset start reverse set owner s)
 outset_found AtEnd reverse set owner s =
-    found_then (Owned (is_system owner)) (OfOwner owner) (owner_value owner s) _ (owner_found owner s) (λ o h. found_made (OfOwner owner) (begun reverse set o s) _ (λ x. h))
+    found_then (Owned (is_the_system owner)) (OfOwner owner) (owner_value owner s) _ (owner_found owner s) (λ o h. found_made (OfOwner owner) (begun reverse set o s) _ (λ x. h))
 outset_found (From e) reverse set owner s =
-    found_then (Owned (is_system owner)) (OfOwner owner) (owner_looked_at set owner s) _ (looked_found set owner s) (λ o h. found_any (OfOwner owner) (member_value set e s) _ (λ y. found_made (OfOwner owner) (begun_at reverse false set y o s) _ (λ x. h)))
+    found_then (Owned (is_the_system owner)) (OfOwner owner) (owner_looked_at set owner s) _ (looked_found set owner s) (λ o h. found_any (OfOwner owner) (member_value set e s) _ (λ y. found_made (OfOwner owner) (begun_at reverse false set y o s) _ (λ x. h)))
 outset_found (After e) reverse set owner s =
-    found_then (Owned (is_system owner)) (OfOwner owner) (owner_looked_at set owner s) _ (looked_found set owner s) (λ o h. found_any (OfOwner owner) (member_value set e s) _ (λ y. found_made (OfOwner owner) (begun_at reverse true set y o s) _ (λ x. h)))
+    found_then (Owned (is_the_system owner)) (OfOwner owner) (owner_looked_at set owner s) _ (looked_found set owner s) (λ o h. found_any (OfOwner owner) (member_value set e s) _ (λ y. found_made (OfOwner owner) (begun_at reverse true set y o s) _ (λ x. h)))
 
 module _ (code : Code) (n : ℕ) where
   -- the step of a FOR
@@ -168,7 +168,7 @@ module _ (code : Code) (n : ℕ) where
       second (Ok b) = refl
       second (Err t) = refl
 
-  from_lands : (l : Line) (skip : ℕ) (after reverse : Bool) (set : ℕ) (owner : SetOwner) (e : Expression) → Lands code n same (owner_code l owner ++ (i.LookOwner set (is_system owner) l ∷ (member_code l set e ++ i.BeginAt reverse after set (is_system owner) skip l ∷ []))) (outset_land skip) hold_outset (look l (from_member after reverse set owner e))
+  from_lands : (l : Line) (skip : ℕ) (after reverse : Bool) (set : ℕ) (owner : SetOwner) (e : Expression) → Lands code n same (owner_code l owner ++ (i.LookOwner set (is_the_system owner) l ∷ (member_code l set e ++ i.BeginAt reverse after set (is_the_system owner) skip l ∷ []))) (outset_land skip) hold_outset (look l (from_member after reverse set owner e))
   from_lands l skip after reverse set owner e =
       alike code n (λ w. looked_twice l (owner_value owner w.store) (λ o. known_owner set o w.store) (λ o. o) (λ o. if_ok (member_value set e w.store) (λ y. made_into (λ x. record { first = x; owner = o }) (begun_at reverse after set y o w.store))) w)
       (owner_look code n l owner same (λ system. i.LookOwner set system l ∷ (member_code l set e ++ i.BeginAt reverse after set system skip l ∷ []))
@@ -182,7 +182,7 @@ module _ (code : Code) (n : ℕ) where
       turned_lands code n (i.BeginAt reverse after set system skip l) l (λ s. y ∷ owner_on o s) (outset_land skip) hold_outset (begun_at reverse after set y o) (λ x. record { first = x; owner = o }) refl
       (λ place stack frames s. h.by stack (λ o' rest. did l (begun_at reverse after set y o' s) (λ x. To (core_of (past skip (not (is_none x)) (place + 1)) (Whole x ∷ owner_on o stack) frames s))))))))
 
-  outset_lands : (l : Line) (skip set : ℕ) (owner : SetOwner) (start : Start) (reverse : Bool) → Lands code n same (outset_code l skip set owner start reverse) (outset_land skip) hold_outset (look l (outset start reverse set owner))
+  outset_lands : (l : Line) (skip set : ℕ) (owner : SetOwner) (start : Start) (reverse : Bool) → Lands code n same (outset_code l skip set owner start reverse) (outset_land skip) hold_outset (look l (loop_outset start reverse set owner))
   outset_lands l skip set owner AtEnd reverse =
       owner_look code n l owner same (λ system. i.BeginSet reverse set system skip l ∷ []) (λ o s. made_into (λ x. record { first = x; owner = o }) (begun reverse set o s)) (λ system o h.
       turned_lands code n (i.BeginSet reverse set system skip l) l (owner_on o) (outset_land skip) hold_outset (begun reverse set o) (λ x. record { first = x; owner = o }) refl
@@ -214,13 +214,13 @@ module _ (code : Code) (n : ℕ) where
         (λ b up w' fewer. ranged_run code n l x turn m found r b up p end stack frames w' (has_back code.instructions place front rest has) size hf (omega (arith, fewer, le)))
     over_run (Members x set owner start reverse) place end stack frames w has len hf le =
         let front = outset_code l (length turn + 2) set owner start reverse in
-        let rest = members_code l x set (is_system owner) reverse turn in
+        let rest = members_code l x set (is_the_system owner) reverse turn in
         let p = place + length front in
-        let size : p + 1 + length turn ≡ end = omega (arith, len, length-append front rest, length-append turn (i.NextMember set (is_system owner) (length turn + 1) l ∷ (i.Forget (members_cells (is_system owner)) ∷ []))) in
-        join_such (OfOwner owner) (at place stack frames w) (λ (b : Outset) w'. at (past (length turn + 2) (not (is_none b.first)) p) (hold_outset b stack) frames w') (λ b w'. at (past_loop found b end) stack frames w') frames (look l (outset start reverse set owner) w) (over_members n l set reverse (visit l x m))
-        (found_went (OfOwner owner) l (outset start reverse set owner w.store) w (outset_found start reverse set owner w.store))
+        let size : p + 1 + length turn ≡ end = omega (arith, len, length-append front rest, length-append turn (i.NextMember set (is_the_system owner) (length turn + 1) l ∷ (i.Forget (members_cells (is_the_system owner)) ∷ []))) in
+        join_such (OfOwner owner) (at place stack frames w) (λ (b : Outset) w'. at (past (length turn + 2) (not (is_none b.first)) p) (hold_outset b stack) frames w') (λ b w'. at (past_loop found b end) stack frames w') frames (look l (loop_outset start reverse set owner) w) (over_members n l set reverse (visit l x m))
+        (found_went (OfOwner owner) l (loop_outset start reverse set owner w.store) w (outset_found start reverse set owner w.store))
         ((outset_lands l (length turn + 2) set owner start reverse).by place stack frames w (has_front code.instructions place front rest has) le)
-        (λ b h w' fewer. members_run l x set reverse (is_system owner) b.owner h turn m found r p end stack frames (has_back code.instructions place front rest has) size hf b.first w' (omega (arith, fewer, le)))
+        (λ b h w' fewer. members_run l x set reverse (is_the_system owner) b.owner h turn m found r p end stack frames (has_back code.instructions place front rest has) size hf b.first w' (omega (arith, fewer, le)))
 
     -- the end of a FOR
     pub for_forgets : (head : Head) (place end : ℕ) → HasAt code.instructions place (for_code l head turn) → place + length (for_code l head turn) ≡ end + 2 → slice_get code.instructions (end + 1) ≡ Some (i.Forget (loop_cells head))
@@ -236,15 +236,15 @@ module _ (code : Code) (n : ℕ) where
         subst (λ p. slice_get code.instructions p ≡ Some (i.Forget 3)) e (has_back code.instructions (place + length front + 1) turn _ (has_back code.instructions place front rest has).1).1.0
     for_forgets (Members x set owner start reverse) place end has len =
         let front = outset_code l (length turn + 2) set owner start reverse in
-        let rest = members_code l x set (is_system owner) reverse turn in
-        let e : place + length front + 1 + length turn + 1 ≡ end + 1 = omega (arith, len, length-append front rest, length-append turn (i.NextMember set (is_system owner) (length turn + 1) l ∷ (i.Forget (members_cells (is_system owner)) ∷ []))) in
-        subst (λ p. slice_get code.instructions p ≡ Some (i.Forget (members_cells (is_system owner)))) e (has_back code.instructions (place + length front + 1) turn _ (has_back code.instructions place front rest has).1).1.0
+        let rest = members_code l x set (is_the_system owner) reverse turn in
+        let e : place + length front + 1 + length turn + 1 ≡ end + 1 = omega (arith, len, length-append front rest, length-append turn (i.NextMember set (is_the_system owner) (length turn + 1) l ∷ (i.Forget (members_cells (is_the_system owner)) ∷ []))) in
+        subst (λ p. slice_get code.instructions p ≡ Some (i.Forget (members_cells (is_the_system owner)))) e (has_back code.instructions (place + length front + 1) turn _ (has_back code.instructions place front rest has).1).1.0
 
     -- a FOR is at least its tick, its turn and its end long
     pub for_long : (head : Head) → 2 ≤ length (for_code l head turn)
     for_long (Numbers x a b c) = omega (arith, length-append (range_code l (length turn + 2) a b c) (items_code l x turn), length-append turn (i.Next (length turn + 1) ∷ (i.Forget 3 ∷ [])))
     for_long (Each x class) = omega (arith, length-append turn (i.Next (length turn + 1) ∷ (i.Forget 3 ∷ [])))
-    for_long (Members x set owner start reverse) = omega (arith, length-append (outset_code l (length turn + 2) set owner start reverse) (members_code l x set (is_system owner) reverse turn), length-append turn (i.NextMember set (is_system owner) (length turn + 1) l ∷ (i.Forget (members_cells (is_system owner)) ∷ [])))
+    for_long (Members x set owner start reverse) = omega (arith, length-append (outset_code l (length turn + 2) set owner start reverse) (members_code l x set (is_the_system owner) reverse turn), length-append turn (i.NextMember set (is_the_system owner) (length turn + 1) l ∷ (i.Forget (members_cells (is_the_system owner)) ∷ [])))
 
   -- a body as the turn of a FOR
   body_lands : (found : ℕ) {c : List Instruction} {m : Part (Unit {0})} → Runs code n same c done m → Lands code n same c (leads found) done (λ w. and_then (m w) (λ _. WentOn GoesOn))

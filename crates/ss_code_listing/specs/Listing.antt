@@ -7,8 +7,8 @@ use Rattle.ss_code_listing.specs.declared.operand.Operand.TheVariants.{To}
 use Rattle.ss_code_listing.specs.Details.{padded, detail}
 
 -- where the routine of an event begins
-abbrev pub beginning : Entry → Operand
-beginning e = To e.place
+abbrev pub event_place : Entry → Operand
+event_place e = To e.place
 
 -- a line for each instruction, the first of them with this number: the number, a blank, and the instruction
 abbrev pub listed : List Entry → (events : List Operand) → (place : ℕ) → List Instruction → List ℕ
@@ -18,4 +18,4 @@ listed routines events place (instruction ∷ rest) =
 
 -- the listing of a program's code
 abbrev pub listing_of : Code → List ℕ
-listing_of code = listed code.routines (map beginning code.events) 0 code.instructions
+listing_of code = listed code.routines (map event_place code.events) 0 code.instructions

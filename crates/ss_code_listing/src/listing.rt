@@ -2,7 +2,7 @@
 
 ghost use Rattle.std.specs.Prelude.{◌≡◌, ◌++◌, codes, decimal, map, IfOk, OnOk};
 ghost use Rattle.ss_code_listing.specs.Details.{padded, detail};
-ghost use Rattle.ss_code_listing.specs.Listing.{beginning, listed};
+ghost use Rattle.ss_code_listing.specs.Listing.{event_place, listed};
 
 use crate::detail::{add_detail, add_padded};
 use crate::operand::Operand;
@@ -32,7 +32,7 @@ fn add_line(
 
 // Where the routines of the events begin.
 fn beginnings(alloc: Global, events: &[Entry]) -> Result<Vec<Operand>, AllocError>
-    ensures { IfOk result (λ made. made.items ≡ map beginning events.now) }
+    ensures { IfOk result (λ made. made.items ≡ map event_place events.now) }
 {
     let mut made = Vec::new(alloc);
     for event in events {
@@ -65,7 +65,7 @@ pub fn listing(
     events: &[Entry],
     instructions: &[Instruction],
 ) -> Result<Vec<u8>, AllocError>
-    ensures { IfOk result (λ text. text.items ≡ listed routines.now (map beginning events.now) 0 instructions.now) }
+    ensures { IfOk result (λ text. text.items ≡ listed routines.now (map event_place events.now) 0 instructions.now) }
 {
     let starts = beginnings(alloc, events)?;
     lines(alloc, routines, &starts, instructions)

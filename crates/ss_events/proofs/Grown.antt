@@ -9,20 +9,20 @@ use Rattle.ss_events.specs.declared.entry.Mark.{Mark}
 use Rattle.ss_events.specs.declared.entry.directory.Directory.{Directory}
 use Rattle.ss_events.specs.declared.entry.places.Slot.{Slot}
 use Rattle.ss_events.specs.declared.entry.places.HeapNode.{HeapNode}
-use Rattle.ss_events.specs.Slots.{no_entry, blank_slot, no_slot, no_node, following, not_plain, plain_ranks, plain_numbers, slot_at, node, mark_of, order_of, plain_entry, entry_in, entry_at, heads, followers, first_guess, second_guess, IsTaken, IsBefore, Leads, AreDistinct, AreLed, AreHeld}
-use Rattle.ss_events.proofs.Lines.{slot_at-same, slot_at-other, long_heads, head_at, same_heads, followers-placed, followers-pushed}
+use Rattle.ss_events.specs.Slots.{no_entry, blank_slot, no_slot, no_node, following, not_plain, plain_ranks, plain_numbers, slot_at, node, mark_of, order_of, plain_entry, entry_in, entry_at, heads, followers, first_guess, second_guess, IsTaken, IsBefore, IsGuess, AreDistinct, AreLed, AreHeld}
+use Rattle.ss_events.proofs.HeadsAndFollowers.{slot_at-same, slot_at-other, long_heads, head_at, same_heads, followers-placed, followers-pushed}
 use Rattle.ss_events.proofs.Marks.{in-plain, in_again, plain_mark, plain_differs}
 
 -- ---- a directory that leads to one slot more
 
 pub led_more : (count : ℕ) (slots : List Slot) (d g : Directory) (k : ℕ) → AreDistinct count slots → k < length slots → k < no_slot
-    → ((s : ℕ) → s < k → IsTaken count (slot_at slots s) → Leads d (slot_at slots s).notice s)
+    → ((s : ℕ) → s < k → IsTaken count (slot_at slots s) → IsGuess d (slot_at slots s).notice s)
     → IsTaken count (slot_at slots k)
-    → Leads g (slot_at slots k).notice k
-    → ((n : ℤ) (s : ℕ) → n ≢ (slot_at slots k).notice → s ≢ no_slot → Leads d n s → Leads g n s)
-    → (s : ℕ) → s < k + 1 → IsTaken count (slot_at slots s) → Leads g (slot_at slots s).notice s
+    → IsGuess g (slot_at slots k).notice k
+    → ((n : ℤ) (s : ℕ) → n ≢ (slot_at slots k).notice → s ≢ no_slot → IsGuess d n s → IsGuess g n s)
+    → (s : ℕ) → s < k + 1 → IsTaken count (slot_at slots s) → IsGuess g (slot_at slots s).notice s
 led_more count slots d g k distinct within small before taken noted others s lt is = ⊎_elim
-    (λ same. subst (λ n. Leads g (slot_at slots n).notice n) (sym same) noted)
+    (λ same. subst (λ n. IsGuess g (slot_at slots n).notice n) (sym same) noted)
     (λ other.
     others (slot_at slots s).notice s
     (λ one. other (distinct s k (omega (arith, lt, within)) within is taken one))
@@ -210,7 +210,7 @@ module _ (count free : ℕ) (slots : List Slot) (wholes : List Entry) (nodes : L
         (sym (ap (λ (x : Slot). x.notice) (old_slot_at s s_old)) ∙ same ∙ ap (λ (x : Slot). x.notice) (old_slot_at t t_old));
     led = λ s lt is.
         let old = taken_before s lt is in
-        subst (λ (x : Slot). Leads d x.notice s) (sym (old_slot_at s old)) (h.led s old (taken_so s old is));
+        subst (λ (x : Slot). IsGuess d x.notice s) (sym (old_slot_at s old)) (h.led s old (taken_so s old is));
   }
 
   pub heads-grown : heads count grown wholes grown_nodes ≡ heads count slots wholes nodes
@@ -476,7 +476,7 @@ module _ (count free : ℕ) (slots : List Slot) (wholes : List Entry) (nodes : L
           }
 
       module _ (fresh : (t : ℕ) → t < length slots → IsTaken count (slot_at slots t) → (slot_at slots t).notice ≢ y.notice)
-          (noted : Leads g y.notice s) (others : (n : ℤ) (t : ℕ) → n ≢ y.notice → t ≢ no_slot → Leads d n t → Leads g n t) where
+          (noted : IsGuess g y.notice s) (others : (n : ℤ) (t : ℕ) → n ≢ y.notice → t ≢ no_slot → IsGuess d n t → IsGuess g n t) where
         -- another slot has another notice
         new_there : (t : ℕ) → t < length put → t ≢ s → IsTaken (count + 1) (slot_at put t) → (slot_at put t).notice ≢ y.notice
         new_there t lt other taken e = fresh t (was_in t lt) (taken_then t (was_in t lt) other taken) (sym (ap (λ (x : Slot). x.notice) (there t other)) ∙ e)
@@ -497,11 +497,11 @@ module _ (count free : ℕ) (slots : List Slot) (wholes : List Entry) (nodes : L
 
         led_put : AreLed g (count + 1) put
         led_put t lt taken = ⊎_elim
-            (λ is. subst (λ (x : Slot). Leads g x.notice t) (sym (here t is)) (subst (Leads g y.notice) (sym is) noted))
+            (λ is. subst (λ (x : Slot). IsGuess g x.notice t) (sym (here t is)) (subst (IsGuess g y.notice) (sym is) noted))
             (λ other.
             let old = was_in t lt in
             let was = taken_then t old other taken in
-            subst (λ (x : Slot). Leads g x.notice t) (sym (there t other))
+            subst (λ (x : Slot). IsGuess g x.notice t) (sym (there t other))
             (others (slot_at slots t).notice t (fresh t old was) (λ e. omega (arith, e, old, h.small)) (h.led t old was)))
             (cases_eq t s)
 
@@ -551,7 +551,7 @@ module _ (count free : ℕ) (slots : List Slot) (wholes : List Entry) (nodes : L
 
 pub led_still : (count free : ℕ) (slots : List Slot) (wholes : List Entry) (nodes : List HeapNode) (d g : Directory) → AreHeld count free slots wholes nodes d → (n : ℤ)
     → ((u : ℕ) → u < length slots → IsTaken count (slot_at slots u) → (slot_at slots u).notice ≢ n)
-    → ((i : ℤ) (u : ℕ) → i ≢ n → u ≢ no_slot → Leads d i u → Leads g i u) → AreHeld count free slots wholes nodes g
+    → ((i : ℤ) (u : ℕ) → i ≢ n → u ≢ no_slot → IsGuess d i u → IsGuess g i u) → AreHeld count free slots wholes nodes g
 led_still count free slots wholes nodes d g h n fresh others =
     held-led count free slots wholes nodes d g h
     (λ s lt taken. others (slot_at slots s).notice s (fresh s lt taken) (λ e. omega (arith, e, lt, h.small)) (h.led s lt taken))
@@ -600,7 +600,7 @@ module _ (count free : ℕ) (slots : List Slot) (wholes : List Entry) (nodes : L
 
   module _ (n : ℤ) (y : Slot) (g : Directory)
       (fresh : (u : ℕ) → u < length slots → IsTaken count (slot_at slots u) → (slot_at slots u).notice ≢ n)
-      (noted : Leads g n t.slot) (others : (i : ℤ) (u : ℕ) → i ≢ n → u ≢ no_slot → Leads d i u → Leads g i u) where
+      (noted : IsGuess g n t.slot) (others : (i : ℤ) (u : ℕ) → i ≢ n → u ≢ no_slot → IsGuess d i u → IsGuess g i u) where
     -- a plain entry
     pub plain_put : (m : Mark) → m.order < plain_ranks * plain_numbers → y ≡ single n m count
         → Pushes count free slots (set slots t.slot y) wholes wholes nodes (set nodes count (record { mark = m; slot = t.slot })) g (plain_entry m n)

@@ -10,9 +10,9 @@ use Rattle.ss_events.specs.declared.entry.Entry.{Entry}
 use Rattle.ss_events.specs.declared.entry.directory.Directory.{Directory}
 use Rattle.ss_events.specs.declared.entry.places.Slot.{Slot}
 use Rattle.ss_events.specs.declared.entry.places.HeapNode.{HeapNode}
-use Rattle.ss_events.specs.Slots.{no_entry, no_slot, no_node, following, slot_at, node, mark_of, entry_in, entry_at, IsTaken, IsBefore, AreDistinct, AreLed, AreHeld, Leads, heads, followers, at_put, next_put}
+use Rattle.ss_events.specs.Slots.{no_entry, no_slot, no_node, following, slot_at, node, mark_of, entry_in, entry_at, IsTaken, IsBefore, AreDistinct, AreLed, AreHeld, IsGuess, heads, followers, at_put, next_put}
 use Rattle.ss_events.proofs.Marks.{in-plain, plain_differs}
-use Rattle.ss_events.proofs.Lines.{slot_at-same, slot_at-other, long_heads, head_at, same_heads, follower, followers-placed, followers-kept, followers-left}
+use Rattle.ss_events.proofs.HeadsAndFollowers.{slot_at-same, slot_at-other, long_heads, head_at, same_heads, follower, followers-placed, followers-kept, followers-left}
 use Rattle.ss_events.proofs.Fewer.{fewer_below}
 
 is_test : (a b : ℕ) → a ≡ b → (a == b) ≡ true
@@ -60,7 +60,7 @@ module _ (count free : ℕ) (slots : List Slot) (wholes : List Entry) (nodes : L
       (whole : (t : ℕ) → t ≢ s → slice_index_or vs t no_entry ≡ slice_index_or wholes t no_entry)
       (taken : (t : ℕ) → t < length slots → IsTaken n (slot_at now t) → (t ≢ s) × IsTaken count (slot_at slots t))
       (s_in : s < length slots) (s_taken : IsTaken count (slot_at slots s))
-      (others : (m : ℤ) (t : ℕ) → m ≢ (slot_at slots s).notice → t ≢ s → Leads d m t → Leads g m t) where
+      (others : (m : ℤ) (t : ℕ) → m ≢ (slot_at slots s).notice → t ≢ s → IsGuess d m t → IsGuess g m t) where
     pub entry-released : (t : ℕ) → t ≢ s → entry_at now vs t ≡ entry_at slots wholes t
     entry-released t other = λ i. entry_in (mark t other i) (notice t other i) (whole t other i)
 
@@ -82,7 +82,7 @@ module _ (count free : ℕ) (slots : List Slot) (wholes : List Entry) (nodes : L
     led-released t t_in is =
         let within : t < length slots = omega (arith, t_in, long) in
         let was = taken t within is in
-        subst (λ m. Leads g m t) (sym (notice t was.0))
+        subst (λ m. IsGuess g m t) (sym (notice t was.0))
         (others (slot_at slots t).notice t (λ e. was.0 (h.distinct t s within s_in was.1 s_taken e)) was.0 (h.led t within was.1))
 
   -- ---- a follower goes
@@ -391,7 +391,7 @@ module _ (count free : ℕ) (slots : List Slot) (wholes : List Entry) (nodes : L
         (λ k. of_other (sym (ap (λ (x : Slot). x.at) k.2) ∙ at) k.1) r')
         (another t other)
 
-    module _ (g : Directory) (others : (m : ℤ) (t : ℕ) → m ≢ (slot_at slots s).notice → t ≢ s → Leads d m t → Leads g m t) where
+    module _ (g : Directory) (others : (m : ℤ) (t : ℕ) → m ≢ (slot_at slots s).notice → t ≢ s → IsGuess d m t → IsGuess g m t) where
       -- the slots once it has gone
       pub held-left : AreHeld count (free + 1) left wholes left_nodes g
       held-left = record {
@@ -665,7 +665,7 @@ module _ (count free : ℕ) (slots : List Slot) (wholes : List Entry) (nodes : L
         })
         (moved_or_not u other)
 
-    module _ (g : Directory) (others : (m : ℤ) (t : ℕ) → m ≢ (slot_at slots head).notice → t ≢ head → Leads d m t → Leads g m t) where
+    module _ (g : Directory) (others : (m : ℤ) (t : ℕ) → m ≢ (slot_at slots head).notice → t ≢ head → IsGuess d m t → IsGuess g m t) where
       -- each slot then
       pub held-advanced : AreHeld count (free + 1) advanced wholes advanced_nodes g
       held-advanced = record {
@@ -763,7 +763,7 @@ module _ (count free : ℕ) (slots : List Slot) (wholes : List Entry) (nodes : L
           plain = b.plain;
         }
 
-    module _ (g : Directory) (others : (m : ℤ) (t : ℕ) → m ≢ (slot_at slots s).notice → t ≢ s → Leads d m t → Leads g m t) where
+    module _ (g : Directory) (others : (m : ℤ) (t : ℕ) → m ≢ (slot_at slots s).notice → t ≢ s → IsGuess d m t → IsGuess g m t) where
       -- each slot then
       pub held-dropped : AreHeld n (free + 1) slots vs nodes g
       held-dropped = record {

@@ -113,8 +113,8 @@ abbrev pub second_guess : Directory → ℤ → ℕ
 second_guess d notice = unwrap_or (lookup (int_eq notice) d.others.entries) no_slot
 
 -- the slot is one of the two that are named for the notice
-abbrev pub Leads : Directory → ℤ → ℕ → Type 0
-Leads d notice slot = (first_guess d notice ≡ slot) ⊎ (second_guess d notice ≡ slot)
+abbrev pub IsGuess : Directory → ℤ → ℕ → Type 0
+IsGuess d notice slot = (first_guess d notice ≡ slot) ⊎ (second_guess d notice ≡ slot)
 
 -- no two entries have one notice
 abbrev pub AreDistinct : ℕ → List Slot → Type 0
@@ -122,7 +122,7 @@ AreDistinct count slots = (s t : ℕ) → s < length slots → t < length slots 
 
 -- the directory leads to the notice of each
 abbrev pub AreLed : Directory → ℕ → List Slot → Type 0
-AreLed d count slots = (s : ℕ) → s < length slots → IsTaken count (slot_at slots s) → Leads d (slot_at slots s).notice s
+AreLed d count slots = (s : ℕ) → s < length slots → IsTaken count (slot_at slots s) → IsGuess d (slot_at slots s).notice s
 
 -- the entry in the slot p is the one before that in s: both are plain and come at one time, p before s
 pub record IsBefore (count : ℕ) (slots : List Slot) (p s : ℕ) : Type 0 where

@@ -20,12 +20,12 @@ use Rattle.ss_machine_entities.specs.declared.trouble.Unmade.TheVariants as unma
 use Rattle.ss_machine_entities.specs.Answered.{to_meaning, meant}
 use Rattle.ss_machine_world.specs.AtOnce.{Does}
 use Rattle.ss_machine_world.specs.Seen.{Seen, with_seen, Changes, Makes, Grows}
-use Rattle.ss_machine_events.specs.Scheduled.{Leads, Forms, Goes, Finds, put_there, lacking, key_ranked, key_meant, IsUntied, scheduled_known, scheduled_anew}
+use Rattle.ss_machine_events.specs.Scheduled.{ChangesInSteps, Forms, Goes, Finds, put_there, lacking, key_ranked, key_meant, IsUntied, scheduled_known, scheduled_anew}
 
 -- ## Steps
 
 -- one step and then a change
-pub leads_on : (f g : Store → OkOr Store Meant) (old mid new : Seen) (r : OkOr (Unit {0}) Trouble) → ((s : Store) → f (with_seen s old) ≡ Ok (with_seen s mid)) → Changes g mid new r → Leads (λ s. if_ok (f s) g) old new r
+pub leads_on : (f g : Store → OkOr Store Meant) (old mid new : Seen) (r : OkOr (Unit {0}) Trouble) → ((s : Store) → f (with_seen s old) ≡ Ok (with_seen s mid)) → Changes g mid new r → ChangesInSteps (λ s. if_ok (f s) g) old new r
 leads_on f g old mid new (Ok u) e h = λ s. ap (λ r. if_ok r g) (e s) ∙ h s
 leads_on f g old mid new (Err t) e h = λ s. ap (λ r. if_ok r g) (e s) ∙ h.0 s
 

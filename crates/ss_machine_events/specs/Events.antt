@@ -46,9 +46,9 @@ abbrev pub ties_at : List Notices → (rank : ℕ) → List RankKey
 ties_at es rank = ties_in (slice_get es rank)
 
 -- an event comes, and what is seen afterwards is as it begins; or none comes, and nothing changes
-abbrev pub Comes : (old new : Seen) → Option Event → Type 0
-Comes old new None = ((s : Store) → next_event (with_seen s old) ≡ None) × (new ≡ old)
-Comes old new (Some c) = (s : Store) → next_event (with_seen s old) ≡ Some (coming_meant c (ties_at new.notices c.rank) (with_seen s new))
+abbrev pub IsNextEvent : (old new : Seen) → Option Event → Type 0
+IsNextEvent old new None = ((s : Store) → next_event (with_seen s old) ≡ None) × (new ≡ old)
+IsNextEvent old new (Some c) = (s : Store) → next_event (with_seen s old) ≡ Some (coming_meant c (ties_at new.notices c.rank) (with_seen s new))
 
 -- what is seen once the notice that comes next was taken out, at its time
 abbrev pub passed : (time : ℤ) → Seen → Seen

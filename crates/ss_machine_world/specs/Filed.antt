@@ -57,14 +57,14 @@ abbrev pub TakesCount : (set place : ℕ) → (owner : ℤ) → Seen → Type 0
 TakesCount set place o e = IsOnly set place e.statistics × Takes (OfCount set) o e.time e.statistics (columns_of e.histories)
 
 -- what is done with the owner of a set, by its number
-abbrev pub with_owner : {B : Type 0} → (set : ℕ) → Option Value → (ℤ → Store → Result B Meant) → Store → Result B Meant
-with_owner set o go s = if_ok (owner_number set o s) (λ m. go m s)
+abbrev pub with_owner_number : {B : Type 0} → (set : ℕ) → Option Value → (ℤ → Store → Result B Meant) → Store → Result B Meant
+with_owner_number set o go s = if_ok (owner_number set o s) (λ m. go m s)
 
 -- other entities by an operation with an owner, whose number is answered
 abbrev pub Rehomes : (set : ℕ) → Option Value → (ℤ → Store → Result State Meant) → (old new : Seen) → Result Known Trouble → Type 0
 Rehomes set o f old new (Ok k) =
     ((s : Store) → (owner_number set o (with_seen s old) ≡ Ok k.number) × (f k.number (with_seen s old) ≡ Ok new.heap)) × (new ≡ record old { heap = new.heap })
-Rehomes set o f old new (Err t) = ((s : Store) → with_owner set o f (with_seen s old) ≡ to_meaning {A = State} (Err t)) × (new ≡ old)
+Rehomes set o f old new (Err t) = ((s : Store) → with_owner_number set o f (with_seen s old) ≡ to_meaning {A = State} (Err t)) × (new ≡ old)
 
 -- the numbers of the owner of a set and of an entity that may be a member of it
 abbrev pub both_known : (set : ℕ) → Value → Option Value → Store → Result (ℤ × ℤ) Meant

@@ -22,7 +22,7 @@ use Rattle.ss_world.specs.State.{Record, State, kind_of, kind_in, and_then, issu
 use Rattle.ss_world.specs.PendingNotice.{PendingNotice}
 use Rattle.ss_world.specs.SortKey.{SortKey}
 use Rattle.ss_world.specs.Order.{comes_before}
-use Rattle.ss_world.specs.PendingList.{PendingList, scheduling_limit, is_pending, without, earlier, least, with_entry, scheduled, cancelled}
+use Rattle.ss_world.specs.PendingList.{PendingList, scheduling_limit, is_pending, without_notice, earlier, least, with_entry, scheduled, cancelled}
 use Rattle.ss_program.specs.declared.expression.Variable.TheVariants.{Global}
 use Rattle.ss_program.specs.Program.{Event, Program}
 use Rattle.ss_program.specs.WellTyped.{WellTyped, field_mode, fields_of, kind_of as kind_said, is_created_singly, GoodKeys, GoodEvent, IsPlain}
@@ -249,7 +249,7 @@ module _ (p : Program) (typed : WellTyped p) (ms : List Mode) where
   cancelled_sane : (n : ℤ) (s : Store) → Fits p ms s → Sane (λ (q : PendingList). Every (λ (e : PendingNotice). IsNotice s.scene.heap e.notice) q.entries) (cancelled n s.scene.pending)
   cancelled_sane n s f = by (is_pending n s.scene.pending.entries)
     where
-      by : (b : Bool) → Sane (λ (q : PendingList). Every (λ (e : PendingNotice). IsNotice s.scene.heap e.notice) q.entries) (if b then Ok (record s.scene.pending { entries = without n s.scene.pending.entries }) else Err faults.NotScheduled)
+      by : (b : Bool) → Sane (λ (q : PendingList). Every (λ (e : PendingNotice). IsNotice s.scene.heap e.notice) q.entries) (if b then Ok (record s.scene.pending { entries = without_notice n s.scene.pending.entries }) else Err faults.NotScheduled)
       by true = every_filter (λ (e : PendingNotice). IsNotice s.scene.heap e.notice) (λ (e : PendingNotice). IsNotice s.scene.heap e.notice) (λ e. not (int_eq n e.notice)) s.scene.pending.entries f.sound.scene.pending (λ e h t. h)
       by false = tt
 
@@ -287,14 +287,14 @@ module _ (p : Program) (typed : WellTyped p) (ms : List Mode) where
           setting = f.sound.scene.setting;
           layout = f.sound.scene.layout;
           heap = f.sound.scene.heap;
-          pending = subst (λ o. Every (λ (i : PendingNotice). IsNotice s.scene.heap i.notice) (option_map_or (λ (i : PendingNotice). without i.notice s.scene.pending.entries) o [])) (sym q)
+          pending = subst (λ o. Every (λ (i : PendingNotice). IsNotice s.scene.heap i.notice) (option_map_or (λ (i : PendingNotice). without_notice i.notice s.scene.pending.entries) o [])) (sym q)
               (every_filter (λ (i : PendingNotice). IsNotice s.scene.heap i.notice) (λ (i : PendingNotice). IsNotice s.scene.heap i.notice) (λ i. not (int_eq e.notice i.notice)) s.scene.pending.entries f.sound.scene.pending (λ i h t. h));
           histories = f.sound.scene.histories;
         };
       };
       locals = f.locals;
     },
-    subst (λ o. Every (λ (i : PendingNotice). e.notice ≡ i.notice → ⊥) (option_map_or (λ (i : PendingNotice). without i.notice s.scene.pending.entries) o [])) (sym q)
+    subst (λ o. Every (λ (i : PendingNotice). e.notice ≡ i.notice → ⊥) (option_map_or (λ (i : PendingNotice). without_notice i.notice s.scene.pending.entries) o [])) (sym q)
         (every_filter (λ (i : PendingNotice). IsNotice s.scene.heap i.notice) (λ (i : PendingNotice). e.notice ≡ i.notice → ⊥) (λ i. not (int_eq e.notice i.notice)) s.scene.pending.entries f.sound.scene.pending (λ i h t same. apart_by i t same)),
   )
     where

@@ -15,7 +15,7 @@ use Rattle.ss_base.specs.declared.value.Value.TheVariants.{Whole, Text}
 use Rattle.ss_base.specs.declared.fault.FaultKind.TheVariants.{Overflow}
 use Rattle.ss_base.specs.Layout.{mode_of}
 use Rattle.ss_world.specs.State.{State, kind_of}
-use Rattle.ss_stats.specs.History.{History, is_full, with_value, restarted}
+use Rattle.ss_stats.specs.History.{History, is_full, with_noted_value, restarted}
 use Rattle.ss_program.specs.declared.sections.Subject.{Subject}
 use Rattle.ss_program.specs.declared.sections.Subject.TheVariants.{OfVariable, OfAttribute, OfCount}
 use Rattle.ss_program.specs.declared.sections.Statistic.{Statistic}
@@ -92,8 +92,8 @@ noting_fine x now v c q g = subst (λ o. Fine (KeepsColumn c) (noting_in x now v
   where
     by : (h : History) → Fine (KeepsColumn c) (noting_in x now v (Some h) c)
     by h =
-        fine_then (KeepsColumn c) (number_of v) (λ z. unless_fault (is_full h) Overflow (Ok (with_history x (with_value h now z) c))) (number_fine v q) (λ z u.
-        unless_fine (KeepsColumn c) (is_full h) Overflow (Ok (with_history x (with_value h now z) c)) (λ p. history_keeps x (with_value h now z) c))
+        fine_then (KeepsColumn c) (number_of v) (λ z. unless_fault (is_full h) Overflow (Ok (with_history x (with_noted_value h now z) c))) (number_fine v q) (λ z u.
+        unless_fine (KeepsColumn c) (is_full h) Overflow (Ok (with_history x (with_noted_value h now z) c)) (λ p. history_keeps x (with_noted_value h now z) c))
 
 none_there : (c : Column) → slice_get [] zero ≡ Some c → ⊥
 none_there c q = absurd cc

@@ -32,7 +32,7 @@ use Rattle.ss_meaning.specs.Events.{made_notice, filed_notice, rescheduled, unsc
 use Rattle.ss_meaning.specs.Statistics.{reset}
 use Rattle.ss_meaning.specs.Expressions.{value, values, items as items_meant, value_if_any, entity_value, member_value, owner_value, owner_looked_at, spot, filing, time_value, holds, all_pass}
 use Rattle.ss_meaning.specs.Parts.{World, Returned, Stopped, Faulted, OutOfTicks, Wrong, Outcome, WentOn, Left, Part, and_then, choose, look, get, tick_from, Again, Over, go_on, loop}
-use Rattle.ss_meaning.specs.Loops.{Turn, GoesOn, EndsLoop, IsFound, phrase, phrases, visit, items, after_turn, over_items, step_number, range_of, range, indices, Outset, from_member, outset, next_member, member_turn, over, guarded}
+use Rattle.ss_meaning.specs.Loops.{Turn, GoesOn, EndsLoop, IsFound, phrase, phrases, visit, items, after_turn, over_items, step_number, range_of, range, indices, Outset, from_member, loop_outset, next_member, member_turn, over, guarded}
 use Rattle.ss_meaning.specs.Statements.{give_to, give_each, change_by, with_input, read_word, read_each, print, create_every, file, remove, remove_end, schedule_new, schedule, next_due, event_turn, simulate, restart_each, Calls, effect, effects}
 use Rattle.ss_meaning.specs.Fitting.{Hold, Fits}
 use Rattle.ss_meaning.proofs.Fine.{Fine, There, Any, fine_then, fine_turned, sure_fine, fit_fine, unless_fine}
@@ -146,7 +146,7 @@ module _ (p : Program) (typed : WellTyped p) (ms : List Mode) (b : Bool) where
       fine_then (OutsetOk set) (member_value set e s) (λ y. turned (λ x. record { first = x; owner = o }) (begun_at reverse after set y o s)) (member_value_fine p typed ms b set e (set_of_owner p typed ms b set owner q) h s f) (λ y k.
       fine_turned (OutsetOk set) (λ x. record { first = x; owner = o }) (begun_at reverse after set y o s) (begun_at_fine p typed ms reverse after set y o s k g f) (λ x u. g)))
 
-  outset_fine : (start : Start) (reverse : Bool) (set : ℕ) (owner : SetOwner) → GoodStart here start → OwnerFits here set owner → (s : Store) → Fits p ms s → Fine (OutsetOk set) (outset start reverse set owner s)
+  outset_fine : (start : Start) (reverse : Bool) (set : ℕ) (owner : SetOwner) → GoodStart here start → OwnerFits here set owner → (s : Store) → Fits p ms s → Fine (OutsetOk set) (loop_outset start reverse set owner s)
   outset_fine AtEnd reverse set owner h q s f =
       fine_then (OutsetOk set) (owner_value owner s) (λ o. turned (λ x. record { first = x; owner = o }) (begun reverse set o s)) (owner_value_fine p typed ms b set owner q s f) (λ o g.
       fine_turned (OutsetOk set) (λ x. record { first = x; owner = o }) (begun reverse set o s) (begun_fine p typed ms reverse set o s g f) (λ x u. g))
@@ -168,7 +168,7 @@ module _ (p : Program) (typed : WellTyped p) (ms : List Mode) (b : Bool) where
   over_safe n l (Each x class) turn g h =
       safe_then {P = Any} (safe_look l (indices class) (indices_fine class g.1)) (λ r u. items_safe (visit l x turn) (items (suc n) r) (visit_safe l x turn g.0 h))
   over_safe n l (Members x set owner start reverse) turn g h =
-      safe_then {P = OutsetOk set} (safe_look l (outset start reverse set owner) (outset_fine start reverse set owner g.2 g.1)) (λ o q.
+      safe_then {P = OutsetOk set} (safe_look l (loop_outset start reverse set owner) (outset_fine start reverse set owner g.2 g.1)) (λ o q.
       safe_choose (is_none o.first) (safe_went false tt) (safe_loop (member_safe l set reverse o.owner (visit l x turn) q (visit_safe l x turn g.0 h)) n o.first))
 
   pub guarded_safe : (n : ℕ) (l : Line) (gs : List Guard) (body : Part (Unit {0})) → Every (λ (g : Guard). GoodCondition here g.condition) gs → Safe p ms Any body → Safe p ms Any (guarded n l gs body)

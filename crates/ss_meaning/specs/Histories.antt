@@ -8,7 +8,7 @@ use Rattle.ss_base.specs.declared.layout.Owner.{Owner}
 use Rattle.ss_base.specs.declared.layout.Owner.TheVariants.{System, Class}
 use Rattle.ss_base.specs.declared.layout.Layout.{Layout}
 use Rattle.ss_world.specs.Sets.{owner_kind}
-use Rattle.ss_stats.specs.History.{History, Tally, Accumulate, is_full, with_value, restarted, number_of as count_of, sum_of, mean_of, maximum_of, minimum_of}
+use Rattle.ss_stats.specs.History.{History, Tally, Accumulate, is_full, with_noted_value, restarted, number_of as count_of, sum_of, mean_of, maximum_of, minimum_of}
 use Rattle.ss_program.specs.declared.expression.Fold.{Fold}
 use Rattle.ss_program.specs.declared.expression.Fold.TheVariants.{Number, Sum, Maximum, Minimum}
 use Rattle.ss_program.specs.declared.sections.Subject.{Subject}
@@ -104,7 +104,7 @@ with_history x h c y = if int_eq x y then Some h else c y
 abbrev pub noting_in : (entity now : ℤ) → Value → Option History → Column → Result Column Trouble
 noting_in x now v None c = Err Misfit
 noting_in x now v (Some h) c =
-    if_ok (number_of v) (λ z. unless_fault (is_full h) Overflow (Ok (with_history x (with_value h now z) c)))
+    if_ok (number_of v) (λ z. unless_fault (is_full h) Overflow (Ok (with_history x (with_noted_value h now z) c)))
 
 abbrev pub noting : (entity now : ℤ) → Value → Column → Result Column Trouble
 noting x now v c = noting_in x now v (c x) c

@@ -102,11 +102,11 @@ from_member after reverse set owner e s =
     if_ok (owner_looked_at set owner s) (λ o. if_ok (member_value set e s) (λ y.
     turned (λ x. record { first = x; owner = o }) (begun_at reverse after set y o s)))
 
-abbrev pub outset : Start → (reverse : Bool) → (set : ℕ) → SetOwner → Store → Result Outset Trouble
-outset AtEnd reverse set owner s =
+abbrev pub loop_outset : Start → (reverse : Bool) → (set : ℕ) → SetOwner → Store → Result Outset Trouble
+loop_outset AtEnd reverse set owner s =
     if_ok (owner_value owner s) (λ o. turned (λ x. record { first = x; owner = o }) (begun reverse set o s))
-outset (From e) reverse set owner s = from_member false reverse set owner e s
-outset (After e) reverse set owner s = from_member true reverse set owner e s
+loop_outset (From e) reverse set owner s = from_member false reverse set owner e s
+loop_outset (After e) reverse set owner s = from_member true reverse set owner e s
 
 -- the next member, which was fixed before
 abbrev pub next_member : Line → (set : ℕ) → Option Value → (next : ℤ) → Turn → Part (Next ℤ Bool)
@@ -130,7 +130,7 @@ abbrev pub over : ℕ → Line → Head → Part Turn → Part Bool
 over n l (Numbers x a b c) turn w = and_then (look l (range a b c) w) (λ r. over_items (visit l x turn) (items (suc n) r))
 over n l (Each x class) turn w = and_then (look l (indices class) w) (λ r. over_items (visit l x turn) (items (suc n) r))
 over n l (Members x set owner start reverse) turn w =
-    and_then (look l (outset start reverse set owner) w) (over_members n l set reverse (visit l x turn))
+    and_then (look l (loop_outset start reverse set owner) w) (over_members n l set reverse (visit l x turn))
 
 -- a turn of a loop led by conditions, which are tested again after it
 abbrev pub guarded_turn : Line → List Guard → (body : Part (Unit {0})) → Unit {0} → Part (Next (Unit {0}) (Unit {0}))

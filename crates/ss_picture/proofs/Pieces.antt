@@ -9,7 +9,7 @@ use Rattle.ss_picture.specs.declared.field.Field.{Field}
 use Rattle.ss_picture.specs.declared.items.Item.{Item}
 use Rattle.ss_picture.specs.declared.items.Item.TheVariants.{Is, Mean}
 use Rattle.ss_picture.specs.Numerals.{whole_text, mean_text}
-use Rattle.ss_picture.specs.Pictures.{Piece, Literal, Slot, stars, field_at, decimals_at, characters, byte_before, pieces_after, pieces_of, fields_among, picture_fields, at_right, at_left, shown, joined, filled}
+use Rattle.ss_picture.specs.Pictures.{Piece, Literal, Slot, stars, leading_field, decimals_at, characters, byte_before, pieces_after, pieces_of, fields_among, picture_fields, at_right, at_left, shown, joined, filled}
 use Rattle.ss_picture.specs.Suited.{Suits, EachSuits}
 use Rattle.ss_picture.specs.Fields.{starts_among, starts}
 use Rattle.ss_picture.proofs.Stars.{chosen_some, field_some, length-characters_of, characters_at}
@@ -31,13 +31,13 @@ drop_less (suc n) x xs some = let less : suc n - 1 ≡ n = omega arith in ap (λ
 -- a byte that is no asterisk is put before the pieces of what follows it
 pub pieces_of_other : (byte : ℕ) (bytes : List ℕ) → byte ≢ 42 → pieces_of (byte ∷ bytes) ≡ byte_before byte (pieces_of bytes)
 pieces_of_other byte bytes other =
-    ap (λ test. cond test (Slot (field_at (byte ∷ bytes)) ∷ pieces_after ((field_at (byte ∷ bytes)).width - 1) bytes) (byte_before byte (pieces_after 0 bytes))) (ne_eqb byte 42 other)
+    ap (λ test. cond test (Slot (leading_field (byte ∷ bytes)) ∷ pieces_after ((leading_field (byte ∷ bytes)).width - 1) bytes) (byte_before byte (pieces_after 0 bytes))) (ne_eqb byte 42 other)
 
 -- an asterisk begins a field
-pub pieces_of_field : (bytes : List ℕ) → 0 < stars bytes → pieces_of bytes ≡ Slot (field_at bytes) ∷ pieces_of (drop (field_at bytes).width bytes)
+pub pieces_of_field : (bytes : List ℕ) → 0 < stars bytes → pieces_of bytes ≡ Slot (leading_field bytes) ∷ pieces_of (drop (leading_field bytes).width bytes)
 pieces_of_field [] some = absurd (omega arith)
 pieces_of_field (byte ∷ bytes) some =
-    let field : Field = field_at (byte ∷ bytes) in
+    let field : Field = leading_field (byte ∷ bytes) in
     let same = chosen_some (eqb byte 42) (suc (stars bytes)) some in
     ap (λ test. cond test (Slot field ∷ pieces_after (field.width - 1) bytes) (byte_before byte (pieces_after 0 bytes))) same
     ∙ ap (λ (rest : List Piece). Slot field ∷ rest) (pieces_after-drop (field.width - 1) bytes)
@@ -76,7 +76,7 @@ drop_none (suc n) = refl
 pub joined-pieces_after : (skipped : ℕ) (bytes : List ℕ) → joined (pieces_after skipped bytes) [] ≡ drop skipped bytes
 joined-pieces_after skipped [] = sym (drop_none skipped)
 joined-pieces_after zero (byte ∷ bytes) =
-    let field : Field = field_at (byte ∷ bytes) in
+    let field : Field = leading_field (byte ∷ bytes) in
     cond_both (eqb byte 42) (Slot field ∷ pieces_after (field.width - 1) bytes) (byte_before byte (pieces_after 0 bytes)) (λ front. joined front [] ≡ byte ∷ bytes)
     (λ same.
     let some : 0 < stars (byte ∷ bytes) = subst (λ test. 0 < cond test (suc (stars bytes)) 0) (sym same) (omega arith) in
@@ -105,7 +105,7 @@ wide-byte_before byte (Slot field ∷ rest) wide = wide
 pub wide-pieces_after : (skipped : ℕ) (bytes : List ℕ) → AreWide (pieces_after skipped bytes)
 wide-pieces_after skipped [] = tt
 wide-pieces_after zero (byte ∷ bytes) =
-    let field : Field = field_at (byte ∷ bytes) in
+    let field : Field = leading_field (byte ∷ bytes) in
     cond_both (eqb byte 42) (Slot field ∷ pieces_after (field.width - 1) bytes) (byte_before byte (pieces_after 0 bytes)) AreWide
     (λ same. (length-characters_of (stars (byte ∷ bytes)) (decimals_at (drop (stars (byte ∷ bytes)) (byte ∷ bytes))), wide-pieces_after (field.width - 1) bytes))
     (λ other. wide-byte_before byte (pieces_after 0 bytes) (wide-pieces_after 0 bytes))

@@ -33,8 +33,8 @@ field_of whole (suc more) = record { width = whole + suc (suc more); decimals = 
 
 -- the field that these bytes begin with: a maximal run of asterisks, and where a period and then an asterisk follow it
 -- directly, the period and the run after it too
-abbrev pub field_at : List ℕ → Field
-field_at bytes = field_of (stars bytes) (decimals_at (drop (stars bytes) bytes))
+abbrev pub leading_field : List ℕ → Field
+leading_field bytes = field_of (stars bytes) (decimals_at (drop (stars bytes) bytes))
 
 -- the characters of a field of a width and so many decimals
 abbrev pub characters_of : ℕ → ℕ → List ℕ
@@ -63,7 +63,7 @@ abbrev pub pieces_after : ℕ → List ℕ → List Piece
 pieces_after _ [] = []
 pieces_after zero (byte ∷ bytes) =
     if byte == asterisk
-    then Slot (field_at (byte ∷ bytes)) ∷ pieces_after ((field_at (byte ∷ bytes)).width - 1) bytes
+    then Slot (leading_field (byte ∷ bytes)) ∷ pieces_after ((leading_field (byte ∷ bytes)).width - 1) bytes
     else byte_before byte (pieces_after 0 bytes)
 pieces_after (suc more) (byte ∷ bytes) = pieces_after more bytes
 

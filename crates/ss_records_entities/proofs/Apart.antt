@@ -10,7 +10,7 @@ use Rattle.ss_records_blocks.specs.Cells.{Cells, words_at}
 use Rattle.ss_world.specs.State.{State, Members, and_then, of_class, entity, entity_of_kind, kind_of, numbered, indexed, number_in, members_of, owner_of}
 use Rattle.ss_world.specs.Sets.{member_in, member_class, Apart}
 use Rattle.ss_records_words.specs.Reading.{record_of}
-use Rattle.ss_records_words.specs.Places.{Directory, Lists, class_at}
+use Rattle.ss_records_words.specs.Places.{Directory, Lists, class_at_place}
 use Rattle.ss_records_words.specs.Kept.{Kept, IsPermanent, state_of, issued_place, numbered_place}
 use Rattle.ss_records_words.specs.Slotted.{IsOf}
 use Rattle.ss_records_blocks.proofs.Same.{same}
@@ -32,7 +32,7 @@ module _ (l : Layout) (cs : Cells) (sys : Ptr) (d : Directory) (ms : List Member
   st = state_of l cs d ms
 
   -- what an entity of a class is
-  pub entity_is : (c n i : ℕ) (p : Address) → n ≡ suc i → class_at cs p ≡ c → Lists d i p → entity st c (pos n) ≡ Ok (record_of l (words_at cs p.at))
+  pub entity_is : (c n i : ℕ) (p : Address) → n ≡ suc i → class_at_place cs p ≡ c → Lists d i p → entity st c (pos n) ≡ Ok (record_of l (words_at cs p.at))
   entity_is c n i p e k (inl m) =
       let kind = subst (λ b. IsPermanent (kind_of l b) → ⊥) k (K.kinds i p m) in
       let place : numbered_place d.numbers (pos n) ≡ Ok p = ap (λ z. numbered_place d.numbers (pos z)) e ∙ ap issued_place m in

@@ -10,7 +10,7 @@ use Rattle.ss_records_blocks.specs.declared.store.Address.{Address}
 use Rattle.ss_records_blocks.specs.Cells.{Cells, words_at}
 use Rattle.ss_world.specs.State.{State, Members, and_then, numbered, of_class, entity, entity_of_kind, kind_of, indexed, indexed_record, records_in}
 use Rattle.ss_records_words.specs.Reading.{record_of, records_at}
-use Rattle.ss_records_words.specs.Places.{Made, Directory, class_at}
+use Rattle.ss_records_words.specs.Places.{Made, Directory, class_at_place}
 use Rattle.ss_records_blocks.specs.Places.{row_in}
 use Rattle.ss_records_words.specs.Kept.{IsPermanent, state_of, place_or, indexed_place, numbered_place}
 use Rattle.ss_records_entities.specs.Parts.{IsKept, state, places, Found}
@@ -76,7 +76,7 @@ pub of_notices : (st : State) (k : ClassKind) (c : ℕ) (x : ℤ) → Notice ≡
 of_notices st k c x e = ap (λ z. entity_of_kind st z c x) (sym e)
 
 module _ (r : Records) (c : ℕ) (x : ℤ) (same : entity (state r) c x ≡ and_then (numbered (state r) x) (of_class c)) where
-  pub find_numbered : (v : Result Address FaultKind) → MatchResult v (λ p. (numbered_place r.directory.places x ≡ Ok p) × (class_at r.blocks.cells p ≡ c) × (and_then (numbered (state r) x) (of_class c) ≡ Ok (record_of r.layout (words_at r.blocks.cells p.at)))) (λ e. and_then (numbered (state r) x) (of_class c) ≡ Err e)
+  pub find_numbered : (v : Result Address FaultKind) → MatchResult v (λ p. (numbered_place r.directory.places x ≡ Ok p) × (class_at_place r.blocks.cells p ≡ c) × (and_then (numbered (state r) x) (of_class c) ≡ Ok (record_of r.layout (words_at r.blocks.cells p.at)))) (λ e. and_then (numbered (state r) x) (of_class c) ≡ Err e)
       → MatchResult v (λ p. Found r c x p) (λ e. entity (state r) c x ≡ Err e)
   find_numbered (Ok p) h =
       let t = there r.directory.places x p h.0 in

@@ -3,11 +3,11 @@ use Rattle.std.proofs.Common.{◌≡◌, Result, Ok, Err, sym, ap, ◌∙◌}
 use Rattle.std.specs.Prelude.{MatchResult}
 use Rattle.ss_base.specs.declared.fault.FaultKind.{FaultKind}
 use Rattle.ss_world.specs.State.{State}
-use Rattle.ss_records_laws.specs.Commands.{outcome_of, done, answer_in, state_in}
+use Rattle.ss_records_laws.specs.Commands.{outcome_of, done, answer_or_fault, state_in}
 
-pub outcome_is : (r : Result (Unit {0}) FaultKind) (f : Result State FaultKind) (s t : State) → MatchResult r (λ _. f ≡ Ok t) (λ e. (f ≡ Err e) × (t ≡ s)) → outcome_of r ≡ answer_in (done f)
-outcome_is (Ok u) f s t h = ap (λ z. answer_in (done z)) (sym h)
-outcome_is (Err e) f s t h = ap (λ z. answer_in (done z)) (sym h.0)
+pub outcome_is : (r : Result (Unit {0}) FaultKind) (f : Result State FaultKind) (s t : State) → MatchResult r (λ _. f ≡ Ok t) (λ e. (f ≡ Err e) × (t ≡ s)) → outcome_of r ≡ answer_or_fault (done f)
+outcome_is (Ok u) f s t h = ap (λ z. answer_or_fault (done z)) (sym h)
+outcome_is (Err e) f s t h = ap (λ z. answer_or_fault (done z)) (sym h.0)
 
 pub is_left : (r : Result (Unit {0}) FaultKind) (f : Result State FaultKind) (s t : State) → MatchResult r (λ _. f ≡ Ok t) (λ e. (f ≡ Err e) × (t ≡ s)) → t ≡ state_in s (done f)
 is_left (Ok u) f s t h = ap (λ z. state_in s (done z)) (sym h)

@@ -20,8 +20,8 @@ LeavesOthers call =
     (st t : State) (s : ℕ) (o x : ℤ) → call st s o x ≡ Ok t → (r m : ℕ) → ((s ≡ r) × (owner st s o ≡ Ok m) → ⊥) → members_of t.lists r m ≡ members_of st.lists r m
 
 -- a call on the set s of the owner o that goes well: x and o mean the entities n and m, and the members of the set of m are changed by `put`, with n
-abbrev pub Changes : (ℕ → List ℕ → List ℕ) → (State → ℕ → ℤ → ℤ → Result State FaultKind) → Type 0
-Changes put call =
+abbrev pub ChangesMembers : (ℕ → List ℕ → List ℕ) → (State → ℕ → ℤ → ℤ → Result State FaultKind) → Type 0
+ChangesMembers put call =
     (st t : State) (s : ℕ) (o x : ℤ) → call st s o x ≡ Ok t → (n : ℕ) × (m : ℕ) × (joiner st s x ≡ Ok n) × (owner st s o ≡ Ok m) × (members_of t.lists s m ≡ put n (members_of st.lists s m))
 
 -- what changes where x is put beside y, which is the entity k
@@ -87,9 +87,9 @@ commanded (FileAfter set o member beside) s = done (filed_after s set o member b
 commanded (Remove set o member) s = done (removed s set o member)
 
 -- the answer, or the fault
-abbrev pub answer_in : Result (Answer × State) FaultKind → Answer
-answer_in (Ok p) = p.0
-answer_in (Err kind) = Faulted kind
+abbrev pub answer_or_fault : Result (Answer × State) FaultKind → Answer
+answer_or_fault (Ok p) = p.0
+answer_or_fault (Err kind) = Faulted kind
 
 -- the state that is left: s where there is a fault
 abbrev pub state_in : State → Result (Answer × State) FaultKind → State
@@ -97,17 +97,17 @@ state_in s (Ok p) = p.1
 state_in s (Err kind) = s
 
 -- what a command answers
-abbrev pub answer_of : Command → State → Answer
-answer_of command s = answer_in (commanded command s)
+abbrev pub command_answer : Command → State → Answer
+command_answer command s = answer_or_fault (commanded command s)
 
 -- the state after a command: as it was where there is a fault
 abbrev pub after_command : Command → State → State
 after_command command s = state_in s (commanded command s)
 
 -- what each of some commands answers in turn
-abbrev pub answers_of : List Command → State → List Answer
-answers_of [] s = []
-answers_of (command ∷ commands) s = answer_of command s ∷ answers_of commands (after_command command s)
+abbrev pub command_answers : List Command → State → List Answer
+command_answers [] s = []
+command_answers (command ∷ commands) s = command_answer command s ∷ command_answers commands (after_command command s)
 
 -- the state after all of them
 abbrev pub after_commands : List Command → State → State

@@ -10,7 +10,7 @@ use Rattle.ss_base.specs.declared.value.Value.TheVariants.{Whole, Text}
 use Rattle.ss_base.specs.declared.layout.Owner.{Owner}
 use Rattle.ss_base.specs.declared.layout.Owner.TheVariants.{Class}
 use Rattle.ss_base.specs.declared.layout.Layout.{Layout}
-use Rattle.ss_stats.specs.History.{History, mean_of, is_full, with_value, restarted}
+use Rattle.ss_stats.specs.History.{History, mean_of, is_full, with_noted_value, restarted}
 use Rattle.ss_program.specs.declared.sections.Subject.{Subject}
 use Rattle.ss_program.specs.declared.sections.Statistic.{Statistic}
 use Rattle.ss_meaning.specs.Values.{Trouble, Misfit, if_ok, turned, due, sure, unless_fault}
@@ -125,7 +125,7 @@ unless None a = Ok a
 unless (Some e) a = Err (why e)
 
 kept_or_full : (b : Bool) (x now v : ℤ) (h : History) (c : Column) →
-    unless_fault b Overflow (Ok (with_history x (with_value h now v) c)) ≡ unless (if b then Some Full else None) (with_history x (if b then h else with_value h now v) c)
+    unless_fault b Overflow (Ok (with_history x (with_noted_value h now v) c)) ≡ unless (if b then Some Full else None) (with_history x (if b then h else with_noted_value h now v) c)
 kept_or_full true x now v h c = refl
 kept_or_full false x now v h c = refl
 

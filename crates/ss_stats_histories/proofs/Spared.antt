@@ -9,7 +9,7 @@ use Rattle.ss_program.specs.declared.sections.Subject.{Subject}
 use Rattle.ss_program.specs.declared.sections.Subject.TheVariants.{OfVariable, OfAttribute, OfCount}
 use Rattle.ss_meaning.specs.Histories.{home, same_owner, same_subject, starting, ending}
 use Rattle.ss_stats_histories.specs.Places.{is_about, places, cell_at}
-use Rattle.ss_stats_histories.specs.Records.{Recorded, Records, column_of, columns_of, statistics_of, rows_of, rooms_of, is_home, HasRooms, OwnsNone, Spares}
+use Rattle.ss_stats_histories.specs.Records.{Recorded, Records, column_of, columns_of, statistics_of, rows_of, rooms_of, is_home, HasRooms, OwnsNone, HasNoHistories}
 
 clash : true ≡ false → ⊥
 clash e = cc
@@ -67,7 +67,7 @@ module _ (l : Layout) (class : ℕ) (free : OwnsNone l class) where
   ends_spared x [] none = refl
   ends_spared x (k ∷ ks) none = let e : same_owner (home l k.statistic.subject) (Class class) ≡ false = first_not k ks none in rw e (ap (λ cs. column_of k.rows ∷ cs) (ends_spared x ks (later_none k ks none)))
 
-  pub spared : (ks : List Recorded) (r : Records) → ((c f : ℕ) → places (is_about (OfAttribute c f)) (statistics_of ks) ≡ []) → r.statistics ≡ statistics_of ks → r.rows ≡ rows_of ks → r.room ≡ rooms_of ks → Spares l class r
+  pub spared : (ks : List Recorded) (r : Records) → ((c f : ℕ) → places (is_about (OfAttribute c f)) (statistics_of ks) ≡ []) → r.statistics ≡ statistics_of ks → r.rows ≡ rows_of ks → r.room ≡ rooms_of ks → HasNoHistories l class r
   spared ks r none a b d = rw (a, b, d) (record { rooms = λ count. rooms_spared count ks none; starts = λ here now. starts_spared here now ks none; ends = λ x. ends_spared x ks none })
 
 -- an empty table has nothing

@@ -14,7 +14,7 @@ use Rattle.ss_program.specs.declared.expression.Fold.TheVariants.{Number, Sum, M
 use Rattle.ss_program.specs.declared.sections.Subject.{Subject}
 use Rattle.ss_program.specs.declared.sections.Subject.TheVariants.{OfCount}
 use Rattle.ss_program.specs.declared.sections.Statistic.{Statistic}
-use Rattle.ss_stats.specs.History.{History, last_moment, number_of, sum_of, mean_of, maximum_of, minimum_of, is_full, with_value, restarted}
+use Rattle.ss_stats.specs.History.{History, last_moment, number_of, sum_of, mean_of, maximum_of, minimum_of, is_full, with_noted_value, restarted}
 use Rattle.ss_meaning.specs.Values.{Trouble, Fails, Misfit, turned, due}
 use Rattle.ss_meaning.specs.Store.{Column}
 use Rattle.ss_meaning.specs.Histories.{history_of, with_history, all_noting, home, same_owner, starting, ending}
@@ -69,7 +69,7 @@ pub record Recorded : Type 0 where
 
 -- a history with one value more, unless it is full
 abbrev pub noted_value : (now value : ℤ) → History → History
-noted_value now z h = if is_full h then h else with_value h now z
+noted_value now z h = if is_full h then h else with_noted_value h now z
 
 -- histories of which that of an entity has one value more, where there is one that isn't full
 abbrev pub noted_to : (entity now value : ℤ) → Option History → Column → Column
@@ -111,7 +111,7 @@ abbrev pub OwnsNone : Layout → (class : ℕ) → Type 0
 OwnsNone l class = (set : ℕ) → home l (OfCount set) ≡ Class class → ⊥
 
 -- the entities of a class have no history: there is room for any number of them, and none starts or ends
-pub record Spares (l : Layout) (class : ℕ) (r : Records) : Type 0 where
+pub record HasNoHistories (l : Layout) (class : ℕ) (r : Records) : Type 0 where
   pub rooms : (count : ℤ) → HasRooms l (Class class) count r.statistics r.room
   pub starts : (here : ℤ → Bool) (now : ℤ) → starting l (Class class) here now r.statistics (columns_of r.rows) ≡ columns_of r.rows
   pub ends : (entity : ℤ) → ending l class entity r.statistics (columns_of r.rows) ≡ columns_of r.rows

@@ -74,10 +74,10 @@ pub struct Places {
 }
 
 impl Model for Places {
-    ghost use Rattle.ss_events.specs.HeapEntries.{Lines};
+    ghost use Rattle.ss_events.specs.HeapEntries.{HeadsAndFollowers};
     ghost use Rattle.ss_events.specs.Slots.{heads, followers, AreHeld};
 
-    ghost Value = { Lines };
+    ghost Value = { HeadsAndFollowers };
 
     ghost view = { λ p. record { heads = heads p.count p.slots.items p.entries.items p.nodes.items; followers = followers p.slots.items } };
 
