@@ -20,7 +20,7 @@ use Rattle.ss_check_rules.specs.Unknown.{has_value, is_watched_here}
 use Rattle.ss_check_rules.specs.Modes.{mode_in}
 use Rattle.ss_program.specs.declared.expression.Variable.{Variable}
 use Rattle.ss_program.specs.declared.expression.Variable.TheVariants.{Global}
-use Rattle.ss_program.specs.declared.statement.Counted.{Counted}
+use Rattle.ss_program.specs.declared.statement.CountedClass.{CountedClass}
 use Rattle.ss_program.specs.Program.{ToVariable, Routine}
 use Rattle.ss_program.specs.WellTyped.{Scope, mode_at, kind_of, fields_of, field_mode, owner_of_set, IsOwned, IsSet, IsAlone, IsOfEntities, HasSubject, TakesMode}
 use Rattle.ss_names_meaning.specs.declared.meaning.Meaning.{Meaning}
@@ -109,7 +109,7 @@ kind_said class_words.Temporary = class_kinds.Temporary
 kind_said class_words.EventNotice = class_kinds.Notice
 
 -- N. of a class, by its variable
-abbrev pub count_of : ClassMeant → (variable : ℕ) → Counted
+abbrev pub count_of : ClassMeant → (variable : ℕ) → CountedClass
 count_of referent variable = record { class = referent.class; variable = variable }
 
 -- a permanent class has its N.

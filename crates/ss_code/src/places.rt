@@ -9,7 +9,7 @@ use crate::emit::{emit_entity, emit_expression, emit_owner, put, system_owns};
 use ss_base::Line;
 use ss_code_instructions::instruction::{Destination, Instruction};
 use ss_program::expression::{Expression, SetOwner, Sign};
-use ss_program::statement::{Counted, End, Place, Target};
+use ss_program::statement::{CountedClass, End, Place, Target};
 use std::alloc::AllocError;
 
 /// What an instruction calls a place.
@@ -159,7 +159,7 @@ pub fn emit_create(
 pub fn emit_creates(
     code: &mut Vec<Instruction>,
     line: Line,
-    classes: &[Counted],
+    classes: &[CountedClass],
 ) -> Result<(), AllocError>
     ensures { OnOk result (code.new.items ≡ code.old.items ++ creates_code line classes.now) }
 {

@@ -13,7 +13,7 @@ use Rattle.ss_meaning.specs.Parts.{World, Returned, Stopped, Faulted, OutOfTicks
 use Rattle.ss_meaning.specs.Statements.{Calls, effects}
 use Rattle.ss_meaning.specs.Meaning.{with_locals, come_back, enclosed, routine_called, event_routine, begin, event_taken, calls, Fault}
 use Rattle.ss_code_instructions.specs.States.{Called, ARoutine, AnEvent, Frame, Core, MachineState, Stuck, core_of, did, fit, with_taken}
-use Rattle.ss_code_instructions.specs.Machine.{Entry, Code, enter_with, enter_if, enter, take_event, act, is_due, when_due, with_rest, step_at}
+use Rattle.ss_code_instructions.specs.Machine.{EntryPoint, Code, enter_with, enter_if, enter, take_event, act, is_due, when_due, with_rest, step_at}
 use Rattle.ss_code_instructions.specs.Translation.{block_code, section_code, block_prints}
 use Rattle.ss_code_instructions.proofs.Steps.{HasAt, has_front, has_back, Reaches, reaches_on, at, arrive, landed, Ticks, onwards, ends, ticks_reach}
 use Rattle.ss_code_instructions.proofs.Parts.{IfWentOn, onto, take_them, rests, sticks, with_core, ticked, pause_run, out_run}
@@ -76,20 +76,20 @@ calls_such p (suc n) routine count vs w = from w.ticks
 
 -- ## Where routines and events lie in the code
 
-pub record IsSection (code : Code) (body : Block) (given : List Mode) (yielding : ℕ) (others : List Mode) (e : Entry) : Type 0 where
+pub record IsSection (code : Code) (body : Block) (given : List Mode) (yielding : ℕ) (others : List Mode) (e : EntryPoint) : Type 0 where
   pub place : ℕ
   pub first : ℕ
   pub is : e ≡ record { place = place; given = given; yielding = yielding; others = others }
   pub here : HasAt code.instructions place (section_code first body)
   pub prints : HasAt code.prints first (block_prints body)
 
-abbrev pub RoutineAt : Code → Option Routine → Option Entry → Type 0
+abbrev pub RoutineAt : Code → Option Routine → Option EntryPoint → Type 0
 RoutineAt code None None = Unit {0}
 RoutineAt code (Some r) (Some e) = IsSection code r.body r.given (length r.yielding) (r.yielding ++ r.others) e
 RoutineAt code None (Some e) = ⊥
 RoutineAt code (Some r) None = ⊥
 
-abbrev pub EventAt : Code → Option Event → Option Entry → Type 0
+abbrev pub EventAt : Code → Option Event → Option EntryPoint → Type 0
 EventAt code None None = Unit {0}
 EventAt code (Some v) (Some e) = IsSection code v.body v.given 0 v.others e
 EventAt code None (Some e) = ⊥
@@ -117,10 +117,10 @@ module _ (code : Code) where
   back_run n p f frames s (Left Wrong w) has g = g
 
   -- a due instruction that enters a section: with a tick it goes into it, and comes back after the instruction
-  enclosed_run : (n : ℕ) (h : Calls) → CallsRun code n h → (body : Block) (given others : List Mode) (yielding : ℕ) (link : (e : Entry) × IsSection code body given yielding others e) (called : Called) (vs : List Value) (count : ℕ) (i : Instruction) (place : ℕ) (stack rest : List Value) (frames : List Frame) (s : Store) (w : World) → w.ticks ≤ n → slice_get code.instructions place ≡ Some i → is_due i ≡ true → act code i (core_of place stack frames s) ≡ enter_with (opened given others vs) (record { place = link.1.place; given = given; yielding = yielding; others = others }) called count rest (core_of place stack frames s) w.store → Ticks code (with_core (core_of place stack frames s) (ticked (suc w.ticks) w)) w.ticks (arrive (λ us w. at (place + 1) (us ++ rest) frames w) frames (enclosed given others (effects h n body) vs count w))
+  enclosed_run : (n : ℕ) (h : Calls) → CallsRun code n h → (body : Block) (given others : List Mode) (yielding : ℕ) (link : (e : EntryPoint) × IsSection code body given yielding others e) (called : Called) (vs : List Value) (count : ℕ) (i : Instruction) (place : ℕ) (stack rest : List Value) (frames : List Frame) (s : Store) (w : World) → w.ticks ≤ n → slice_get code.instructions place ≡ Some i → is_due i ≡ true → act code i (core_of place stack frames s) ≡ enter_with (opened given others vs) (record { place = link.1.place; given = given; yielding = yielding; others = others }) called count rest (core_of place stack frames s) w.store → Ticks code (with_core (core_of place stack frames s) (ticked (suc w.ticks) w)) w.ticks (arrive (λ us w. at (place + 1) (us ++ rest) frames w) frames (enclosed given others (effects h n body) vs count w))
   enclosed_run n h ok body given others yielding link called vs count i place stack rest frames s w le has due acts = opens (opened given others vs) acts
     where
-      entry : Entry
+      entry : EntryPoint
       entry = record { place = link.1.place; given = given; yielding = yielding; others = others }
 
       core : Core
@@ -140,13 +140,13 @@ module _ (code : Code) where
 
   -- what is called yields as many values as are wanted, or is stuck
   module _ (p : Program) (linked : Linked code p) where
-    routine_run : (n : ℕ) → CallsRun code n (calls p n) → (routine given count : ℕ) (vs : List Value) → given ≡ length vs → (o : Option Routine) (e : Option Entry) → slice_get code.routines routine ≡ e → RoutineAt code o e → (place : ℕ) (stack : List Value) (frames : List Frame) (w : World) → w.ticks ≤ n → slice_get code.instructions place ≡ Some (i.Call routine given count) → Ticks code (at place (onto vs stack) frames (ticked (suc w.ticks) w)) w.ticks (arrive (λ us w. at (place + 1) (us ++ stack) frames w) frames (routine_called o (calls p n) n vs count w))
+    routine_run : (n : ℕ) → CallsRun code n (calls p n) → (routine given count : ℕ) (vs : List Value) → given ≡ length vs → (o : Option Routine) (e : Option EntryPoint) → slice_get code.routines routine ≡ e → RoutineAt code o e → (place : ℕ) (stack : List Value) (frames : List Frame) (w : World) → w.ticks ≤ n → slice_get code.instructions place ≡ Some (i.Call routine given count) → Ticks code (at place (onto vs stack) frames (ticked (suc w.ticks) w)) w.ticks (arrive (λ us w. at (place + 1) (us ++ stack) frames w) frames (routine_called o (calls p n) n vs count w))
     routine_run n ok routine given count vs len o e q link place stack frames w le has = by o e q link
       where
         core : Core
         core = core_of place (onto vs stack) frames w.store
 
-        acts : (e : Option Entry) → slice_get code.routines routine ≡ e → act code (i.Call routine given count) core ≡ enter e (ARoutine routine) count vs stack core w.store
+        acts : (e : Option EntryPoint) → slice_get code.routines routine ≡ e → act code (i.Call routine given count) core ≡ enter e (ARoutine routine) count vs stack core w.store
         acts e q =
             ap (λ x. with_taken x (λ vs rest. enter (slice_get code.routines routine) (ARoutine routine) count vs rest core w.store)) (take_them vs stack given len)
             ∙ ap (λ e. enter e (ARoutine routine) count vs stack core w.store) q
@@ -154,13 +154,13 @@ module _ (code : Code) where
         stuck_so : act code (i.Call routine given count) core ≡ Stuck → Ticks code (at place (onto vs stack) frames (ticked (suc w.ticks) w)) w.ticks (arrive (λ us w. at (place + 1) (us ++ stack) frames w) frames (let o : Outcome (List Value) = Left Wrong w in o))
         stuck_so q = ends tt (sticks code (at place (onto vs stack) frames (ticked (suc w.ticks) w)) (i.Call routine given count) has (ap (with_rest w.report w.ticks) q))
 
-        by : (o : Option Routine) (e : Option Entry) → slice_get code.routines routine ≡ e → RoutineAt code o e → Ticks code (at place (onto vs stack) frames (ticked (suc w.ticks) w)) w.ticks (arrive (λ us w. at (place + 1) (us ++ stack) frames w) frames (routine_called o (calls p n) n vs count w))
+        by : (o : Option Routine) (e : Option EntryPoint) → slice_get code.routines routine ≡ e → RoutineAt code o e → Ticks code (at place (onto vs stack) frames (ticked (suc w.ticks) w)) w.ticks (arrive (λ us w. at (place + 1) (us ++ stack) frames w) frames (routine_called o (calls p n) n vs count w))
         by None None q link = stuck_so (acts None q)
         by None (Some e) q link = absurd link
         by (Some r) None q link = absurd link
         by (Some r) (Some e) q link = sides (count == length r.yielding) refl
           where
-            entry : Entry
+            entry : EntryPoint
             entry = record { place = link.place; given = r.given; yielding = length r.yielding; others = r.yielding ++ r.others }
 
             sides : (b : Bool) → (count == length r.yielding) ≡ b → Ticks code (at place (onto vs stack) frames (ticked (suc w.ticks) w)) w.ticks (arrive (λ us w. at (place + 1) (us ++ stack) frames w) frames (if b then enclosed r.given (r.yielding ++ r.others) (effects (calls p n) n r.body) vs count w else Left Wrong w))
@@ -194,12 +194,12 @@ module _ (code : Code) where
         begins c acts (Err Misfit) q = stuck_so (acts ∙ ap (λ r. did c.ranked.said.line r (λ b. enter (slice_get code.events b.rank) (AnEvent b.rank) 0 b.given stack core b.store)) q)
         begins c acts (Ok b) q = by (slice_get p.events b.rank) (slice_get code.events b.rank) refl (linked.events b.rank)
           where
-            enters : (e : Option Entry) → slice_get code.events b.rank ≡ e → act code i.TakeEvent core ≡ enter e (AnEvent b.rank) 0 b.given stack core b.store
+            enters : (e : Option EntryPoint) → slice_get code.events b.rank ≡ e → act code i.TakeEvent core ≡ enter e (AnEvent b.rank) 0 b.given stack core b.store
             enters e r =
                 acts ∙ ap (λ r. did c.ranked.said.line r (λ b. enter (slice_get code.events b.rank) (AnEvent b.rank) 0 b.given stack core b.store)) q
                 ∙ ap (λ e. enter e (AnEvent b.rank) 0 b.given stack core b.store) r
 
-            by : (o : Option Event) (e : Option Entry) → slice_get code.events b.rank ≡ e → EventAt code o e → Comes (event_routine o (calls p n) n b.given (record (ticked t w) { store = b.store }))
+            by : (o : Option Event) (e : Option EntryPoint) → slice_get code.events b.rank ≡ e → EventAt code o e → Comes (event_routine o (calls p n) n b.given (record (ticked t w) { store = b.store }))
             by None None r link = stuck_so (enters None r)
             by None (Some e) r link = absurd link
             by (Some v) None r link = absurd link

@@ -6,7 +6,7 @@ use Rattle.ss_base.specs.declared.value.Value.{Value}
 use Rattle.ss_base.specs.declared.value.Value.TheVariants.{Whole}
 use Rattle.ss_program.specs.declared.expression.Sign.{Sign}
 use Rattle.ss_program.specs.declared.statement.End.{End}
-use Rattle.ss_program.specs.declared.statement.Counted.{Counted}
+use Rattle.ss_program.specs.declared.statement.CountedClass.{CountedClass}
 use Rattle.ss_program.specs.Program.{Expression, SetOwner, Place, Target, Position, ByDiscipline, AsFirst, AsLast, BeforeMember, AfterMember, When, At, In, Now, Restart}
 use Rattle.ss_code_instructions.specs.declared.instruction.Destination.{Destination}
 use Rattle.ss_code_instructions.specs.declared.instruction.Filing.{Filing}
@@ -119,7 +119,7 @@ module _ (code : Code) (n : ℕ) where
 
   -- ## Entities and sets
 
-  pub creates_run : (l : Line) (cs : List Counted) → Runs code n same (creates_code l cs) done (create_every l cs)
+  pub creates_run : (l : Line) (cs : List CountedClass) → Runs code n same (creates_code l cs) done (create_every l cs)
   creates_run l [] = none code n tt
   creates_run l (c ∷ cs) = seq code n (change_runs code n (i.CreateAll c l) l same done (made_all c) refl (λ place stack frames s. refl)) (λ u. creates_run l cs)
 

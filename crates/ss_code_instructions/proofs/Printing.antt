@@ -3,8 +3,8 @@ use Rattle.std.proofs.Common.{◌≡◌, ℕ, suc, ◌+◌, true, false, List, [
 use Rattle.std.specs.Prelude.{slice_get, Result as OkOr, ℤ}
 use Rattle.ss_base.specs.declared.line.Line.{Line}
 use Rattle.ss_base.specs.declared.value.Value.{Value}
-use Rattle.ss_program.specs.Item.{Item as Shown}
-use Rattle.ss_program.specs.Item.TheVariants.{Is, Mean}
+use Rattle.ss_program.specs.FieldValue.{FieldValue as Shown}
+use Rattle.ss_program.specs.FieldValue.TheVariants.{Is, Mean}
 use Rattle.ss_program.specs.Program.{Expression, Item, AValue, AMean, AMeanOf}
 use Rattle.ss_code_instructions.specs.declared.instruction.Instruction.{Instruction}
 use Rattle.ss_code_instructions.specs.declared.instruction.Instruction.TheVariants as i

@@ -7,7 +7,7 @@ use Rattle.ss_program.specs.declared.head.GuardKind.{GuardKind}
 use Rattle.ss_program.specs.declared.head.GuardKind.TheVariants as guards
 use Rattle.ss_program.specs.declared.head.PhraseKind.{PhraseKind}
 use Rattle.ss_program.specs.declared.head.PhraseKind.TheVariants as kinds
-use Rattle.ss_program.specs.declared.statement.Counted.{Counted}
+use Rattle.ss_program.specs.declared.statement.CountedClass.{CountedClass}
 use Rattle.ss_program.specs.Program.{Expression, Constant, Fetch, Attribute, OfSystemSet, OfSet, OfMember, Clock, TimeOf, Figure, FigureOf, Signed, Absolute, Calculate, SetOwner, TheSystem, Entity, Test, Compare, DataEnded, Empty, Member, Condition, Head, Numbers, Members, Each, Start, AtEnd, From, After, Phrase, Guard, Place, ToVariable, ToAttribute, ToCount, Target, Position, ByDiscipline, AsFirst, AsLast, BeforeMember, AfterMember, When, At, In, Now, Restart, Item, AValue, AMean, AMeanOf, Statement, Let, Change, Call, Return, Stop, Read, Simulate, If, Loop, For, Find, Create, CreateEvery, Destroy, File, RemoveEnd, Remove, ScheduleNew, Schedule, Cancel, Reset, Print, Skip, Block, Done, Then, Routine, Event, Program}
 use Rattle.ss_code_instructions.specs.declared.instruction.Destination.{Destination}
 use Rattle.ss_code_instructions.specs.declared.instruction.Destination.TheVariants as destinations
@@ -18,7 +18,7 @@ use Rattle.ss_code_instructions.specs.declared.instruction.Instruction.TheVarian
 use Rattle.ss_meaning.specs.Meaning.{setting_of, tie_shapes}
 use Rattle.ss_code_instructions.specs.declared.item.ItemKind.{ItemKind}
 use Rattle.ss_code_instructions.specs.declared.item.ItemKind.TheVariants as shows
-use Rattle.ss_code_instructions.specs.Machine.{Entry, Lines, Code}
+use Rattle.ss_code_instructions.specs.Machine.{EntryPoint, Lines, Code}
 
 -- ## Expressions
 
@@ -204,7 +204,7 @@ reads_code l (t ∷ ts) = give_code l t.place (i.Read t.mode l ∷ []) ++ reads_
 
 -- ## Entities and sets
 
-abbrev pub creates_code : Line → List Counted → List Instruction
+abbrev pub creates_code : Line → List CountedClass → List Instruction
 creates_code l [] = []
 creates_code l (c ∷ cs) = i.CreateAll c l ∷ creates_code l cs
 
@@ -362,20 +362,20 @@ abbrev pub sections_code : ℕ → List Block → List Instruction
 sections_code first [] = []
 sections_code first (b ∷ bs) = section_code first b ++ sections_code (first + length (block_prints b)) bs
 
-abbrev pub routine_entry : (place : ℕ) → Routine → Entry
+abbrev pub routine_entry : (place : ℕ) → Routine → EntryPoint
 routine_entry place r = record { place = place; given = r.given; yielding = length r.yielding; others = r.yielding ++ r.others }
 
 -- an event yields nothing
-abbrev pub event_entry : (place : ℕ) → Event → Entry
+abbrev pub event_entry : (place : ℕ) → Event → EntryPoint
 event_entry place e = record { place = place; given = e.given; yielding = 0; others = e.others }
 
 -- where routines begin, the first of them at this place, after so many PRINTs
-abbrev pub routine_entries : (place first : ℕ) → List Routine → List Entry
+abbrev pub routine_entries : (place first : ℕ) → List Routine → List EntryPoint
 routine_entries place first [] = []
 routine_entries place first (r ∷ rs) =
     routine_entry place r ∷ routine_entries (place + length (section_code first r.body)) (first + length (block_prints r.body)) rs
 
-abbrev pub event_entries : (place first : ℕ) → List Event → List Entry
+abbrev pub event_entries : (place first : ℕ) → List Event → List EntryPoint
 event_entries place first [] = []
 event_entries place first (e ∷ es) =
     event_entry place e ∷ event_entries (place + length (section_code first e.body)) (first + length (block_prints e.body)) es

@@ -7,7 +7,7 @@ use Rattle.std.proofs.lemmas.Bool.{cases_Bool}
 use Rattle.std.proofs.lemmas.Bool.Decides.{nat_tests}
 use Rattle.std.proofs.lemmas.List.{length-map, get_or-map, get_or-set_other, get_or_default}
 use Rattle.ss_events.specs.declared.entry.Entry.{Entry}
-use Rattle.ss_events.specs.declared.entry.directory.Directory.{Directory}
+use Rattle.ss_events.specs.declared.entry.directory.SlotDirectory.{SlotDirectory}
 use Rattle.ss_events.specs.declared.entry.places.Slot.{Slot}
 use Rattle.ss_events.specs.declared.entry.places.HeapNode.{HeapNode}
 use Rattle.ss_events.specs.Slots.{no_entry, blank_slot, no_slot, no_node, following, slot_at, node, entry_at, AreHeld, IsGuess, heads, followers, exchanged, not_plain}
@@ -24,11 +24,11 @@ abbrev pub lines : ℕ → List Slot → List Entry → List HeapNode → HeadsA
 lines n ys vs us = record { heads = heads n ys vs us; followers = followers ys }
 
 -- an entry went out of the place k
-pub record Gone (old : HeadsAndFollowers) (k : ℕ) (e : Entry) (n f : ℕ) (ys : List Slot) (vs : List Entry) (us : List HeapNode) (g : Directory) : Type 0 where
+pub record Gone (old : HeadsAndFollowers) (k : ℕ) (e : Entry) (n f : ℕ) (ys : List Slot) (vs : List Entry) (us : List HeapNode) (g : SlotDirectory) : Type 0 where
   pub held : AreHeld n (f + 1) ys vs us g
   pub rest : (lines n ys vs us ≡ record old { heads = swap_remove old.heads k e }) ⊎ Advances old (lines n ys vs us) k
 
-pub gone_like : (old : HeadsAndFollowers) (k : ℕ) (e : Entry) (n m f l : ℕ) (ys xs : List Slot) (vs ws : List Entry) (us ss : List HeapNode) (g : Directory)
+pub gone_like : (old : HeadsAndFollowers) (k : ℕ) (e : Entry) (n m f l : ℕ) (ys xs : List Slot) (vs ws : List Entry) (us ss : List HeapNode) (g : SlotDirectory)
     → n ≡ m → f ≡ l → ys ≡ xs → vs ≡ ws → us ≡ ss → Gone old k e m l xs ws ss g → Gone old k e n f ys vs us g
 gone_like old k e n m f l ys xs vs ws us ss g n_is f_is ys_is vs_is us_is gone =
     subst (λ a. Gone old k e a f ys vs us g) (sym n_is)
@@ -45,7 +45,7 @@ cleared_by : (b : Bool) (ws vs : List Entry) (s : ℕ) (e : Entry) → vs ≡ co
 cleared_by true ws vs s e is t other = ap (λ l. get_or l t no_entry) is ∙ get_or-set_other ws s t e no_entry other
 cleared_by false ws vs s e is t other = ap (λ l. get_or l t no_entry) is
 
-module _ (count free : ℕ) (slots : List Slot) (wholes : List Entry) (nodes : List HeapNode) (d : Directory) (h : AreHeld count free slots wholes nodes d) (k : ℕ) (k_in : k < count) where
+module _ (count free : ℕ) (slots : List Slot) (wholes : List Entry) (nodes : List HeapNode) (d : SlotDirectory) (h : AreHeld count free slots wholes nodes d) (k : ℕ) (k_in : k < count) where
   abbrev pub seen : HeadsAndFollowers
   seen = lines count slots wholes nodes
 
@@ -79,7 +79,7 @@ module _ (count free : ℕ) (slots : List Slot) (wholes : List Entry) (nodes : L
       let same = ap (λ (u : HeapNode). u.slot) (read_node y y_is) in
       x_is ∙ ap (λ s. get_or slots s x) same ∙ get_or_default slots (node nodes k).slot x blank_slot out_slot
 
-  pub gone-advanced : (real : (slot_at slots (node nodes k).slot).next ≢ no_slot) (g : Directory)
+  pub gone-advanced : (real : (slot_at slots (node nodes k).slot).next ≢ no_slot) (g : SlotDirectory)
       → ((m : ℤ) (t : ℕ) → m ≢ (slot_at slots (node nodes k).slot).notice → t ≢ (node nodes k).slot → IsGuess d m t → IsGuess g m t)
       → Gone seen k out count free (advanced count free slots wholes nodes d h k k_in real) wholes (advanced_nodes count free slots wholes nodes d h k k_in real) g
   gone-advanced real g others = record {
@@ -91,7 +91,7 @@ module _ (count free : ℕ) (slots : List Slot) (wholes : List Entry) (nodes : L
     });
   }
 
-  pub gone-dropped : (n : ℕ) → count ≡ n + 1 → (slot_at slots (node nodes k).slot).next ≡ no_slot → (o : ℕ) (vs : List Entry) → vs ≡ cond (o == not_plain) (set wholes (node nodes k).slot no_entry) wholes → (g : Directory)
+  pub gone-dropped : (n : ℕ) → count ≡ n + 1 → (slot_at slots (node nodes k).slot).next ≡ no_slot → (o : ℕ) (vs : List Entry) → vs ≡ cond (o == not_plain) (set wholes (node nodes k).slot no_entry) wholes → (g : SlotDirectory)
       → ((m : ℤ) (t : ℕ) → m ≢ (slot_at slots (node nodes k).slot).notice → t ≢ (node nodes k).slot → IsGuess d m t → IsGuess g m t)
       → Gone seen k out n free (exchanged nodes slots k n) vs (swap nodes k n) g
   gone-dropped n one none o vs vs_is g others =

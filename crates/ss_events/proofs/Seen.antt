@@ -9,7 +9,7 @@ use Rattle.std.proofs.lemmas.Bool.Decides.{Decides-int_eq}
 use Rattle.std.proofs.lemmas.List.{length-map, get_or-map, get_or_default, get_or_past}
 use Rattle.ss_events.specs.declared.entry.Entry.{Entry}
 use Rattle.ss_events.specs.declared.entry.Mark.{Mark}
-use Rattle.ss_events.specs.declared.entry.directory.Directory.{Directory}
+use Rattle.ss_events.specs.declared.entry.directory.SlotDirectory.{SlotDirectory}
 use Rattle.ss_events.specs.declared.entry.places.Slot.{Slot}
 use Rattle.ss_events.specs.declared.entry.places.HeapNode.{HeapNode}
 use Rattle.ss_events.specs.HeapEntries.{HeadsAndFollowers, notices_of, event_of, IsLed, AreAfterHeads}
@@ -41,7 +41,7 @@ notice_of es k d within = get_or-map (λ (e : Entry). e.notice) es k d (pos 0) w
 pub long_notices : (es : List Entry) → length (notices_of es) ≡ length es
 long_notices es = length-map es (λ (e : Entry). e.notice)
 
-module _ (count free : ℕ) (slots : List Slot) (wholes : List Entry) (nodes : List HeapNode) (directory : Directory) (h : AreHeld count free slots wholes nodes directory) where
+module _ (count free : ℕ) (slots : List Slot) (wholes : List Entry) (nodes : List HeapNode) (directory : SlotDirectory) (h : AreHeld count free slots wholes nodes directory) where
   -- there are no more places than nodes
   pub few_places : count ≤ length nodes
   few_places = omega (arith, h.few)
@@ -266,7 +266,7 @@ record Precedes (count : ℕ) (slots : List Slot) (nodes : List HeapNode) (s k :
   pub time : (slot_at slots (node nodes k).slot).mark.time ≡ (slot_at slots s).mark.time
   pub order : (slot_at slots (node nodes k).slot).mark.order < (slot_at slots s).mark.order
 
-module _ (count free : ℕ) (slots : List Slot) (wholes : List Entry) (nodes : List HeapNode) (directory : Directory) (h : AreHeld count free slots wholes nodes directory) where
+module _ (count free : ℕ) (slots : List Slot) (wholes : List Entry) (nodes : List HeapNode) (directory : SlotDirectory) (h : AreHeld count free slots wholes nodes directory) where
   -- the head of a line, in no more steps than the order of a mark
   head_before : (fuel s : ℕ) → s < length slots → following ≤ (slot_at slots s).at → (slot_at slots s).mark.order < fuel → (k : ℕ) × Precedes count slots nodes s k
   head_before zero s within placed less = absurd (omega (arith, less))

@@ -6,7 +6,7 @@ use Rattle.std.proofs.lemmas.List.{length-set, same_lists}
 use Rattle.std.proofs.lemmas.List.Edits.{length-swap}
 use Rattle.ss_events.specs.declared.entry.Entry.{Entry}
 use Rattle.ss_events.specs.declared.entry.Mark.{Mark}
-use Rattle.ss_events.specs.declared.entry.directory.Directory.{Directory}
+use Rattle.ss_events.specs.declared.entry.directory.SlotDirectory.{SlotDirectory}
 use Rattle.ss_events.specs.declared.entry.places.Slot.{Slot}
 use Rattle.ss_events.specs.declared.entry.places.HeapNode.{HeapNode}
 use Rattle.ss_events.specs.Slots.{no_entry, no_slot, no_node, following, slot_at, node, mark_of, entry_in, entry_at, heads, followers, IsGuess, IsTaken, IsBefore, AreHeld, at_put, exchanged}
@@ -41,7 +41,7 @@ length-exchanged nodes slots a b =
     let i = (node nodes a).slot in
     length-set (at_put slots j a) i (moved (slot_at (at_put slots j a) i) b) ∙ length-set slots j (moved (slot_at slots j) a)
 
-module _ (count free : ℕ) (slots : List Slot) (wholes : List Entry) (nodes : List HeapNode) (d : Directory) (h : AreHeld count free slots wholes nodes d)
+module _ (count free : ℕ) (slots : List Slot) (wholes : List Entry) (nodes : List HeapNode) (d : SlotDirectory) (h : AreHeld count free slots wholes nodes d)
     (a b : ℕ) (a_in : a < count) (b_in : b < count) where
   abbrev first : ℕ
   first = (node nodes a).slot

@@ -13,8 +13,8 @@ use Rattle.ss_meaning.specs.Histories.{noted}
 use Rattle.ss_meaning.specs.Values.{Trouble as Meant, if_ok, turned, due, where_fit, unless_fault}
 use Rattle.ss_meaning.specs.Store.{Store}
 use Rattle.ss_meaning.specs.Sets.{Filing as MeantFiling, ByRule, Foremost, Hindmost, JustBefore, JustAfter, recounted, set_at, member, owner_number, filed_by, end_removed, from_or_after}
-use Rattle.ss_machine_world.specs.declared.filing.Filing.{Filing}
-use Rattle.ss_machine_world.specs.declared.filing.Filing.TheVariants.{ByDiscipline, First, Last, Before, After}
+use Rattle.ss_machine_world.specs.declared.filing.FilingPlace.{FilingPlace}
+use Rattle.ss_machine_world.specs.declared.filing.FilingPlace.TheVariants.{ByDiscipline, First, Last, Before, After}
 use Rattle.ss_machine_entities.specs.declared.known.Known.{Known}
 use Rattle.ss_machine_entities.specs.declared.known.Membership.{Membership}
 use Rattle.ss_machine_entities.specs.declared.trouble.Trouble.{Trouble}
@@ -23,7 +23,7 @@ use Rattle.ss_machine_entities.specs.Layouts.{set_in}
 use Rattle.ss_machine_world.specs.Seen.{Seen, with_seen}
 
 -- where a member is filed, in the terms of the meaning
-abbrev pub filing_meant : Filing → MeantFiling
+abbrev pub filing_meant : FilingPlace → MeantFiling
 filing_meant ByDiscipline = ByRule
 filing_meant First = Foremost
 filing_meant Last = Hindmost

@@ -12,8 +12,8 @@ use Rattle.ss_base.specs.declared.value.Value.TheVariants.{Whole, Text}
 use Rattle.ss_base.specs.Layout.{mode_of}
 use Rattle.ss_input.specs.Words.{is_ended}
 use Rattle.ss_picture.specs.declared.field.Field.{Field}
-use Rattle.ss_picture.specs.declared.items.Item.{Item as Shown}
-use Rattle.ss_picture.specs.declared.items.Item.TheVariants.{Is, Mean}
+use Rattle.ss_picture.specs.declared.items.FieldValue.{FieldValue as Shown}
+use Rattle.ss_picture.specs.declared.items.FieldValue.TheVariants.{Is, Mean}
 use Rattle.ss_program.specs.declared.expression.Sign.{Sign}
 use Rattle.ss_program.specs.declared.expression.Operator.{Operator}
 use Rattle.ss_program.specs.declared.condition.Relation.{Relation}

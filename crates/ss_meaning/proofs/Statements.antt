@@ -11,7 +11,7 @@ use Rattle.ss_base.specs.declared.layout.Mode.TheVariants.{Integer, Alpha}
 use Rattle.ss_base.specs.declared.value.Value.{Value}
 use Rattle.ss_base.specs.declared.value.Value.TheVariants.{Whole, Text}
 use Rattle.ss_base.specs.Layout.{mode_of}
-use Rattle.ss_picture.specs.declared.items.Item.{Item as Shown}
+use Rattle.ss_picture.specs.declared.items.FieldValue.{FieldValue as Shown}
 use Rattle.ss_picture.specs.Pictures.{picture_fields}
 use Rattle.ss_input.specs.Words.{Given, value_given, next_word, read_word as word_read, word_value, if_read, as_whole, as_text, number_read}
 use Rattle.ss_base.specs.Values.{text_of}
@@ -20,7 +20,7 @@ use Rattle.ss_program.specs.declared.expression.Variable.{Variable}
 use Rattle.ss_program.specs.declared.head.PhraseKind.{PhraseKind}
 use Rattle.ss_program.specs.declared.head.PhraseKind.TheVariants as kinds
 use Rattle.ss_program.specs.declared.statement.End.{End}
-use Rattle.ss_program.specs.declared.statement.Counted.{Counted}
+use Rattle.ss_program.specs.declared.statement.CountedClass.{CountedClass}
 use Rattle.ss_program.specs.Program.{Expression, SetOwner, Head, Numbers, Members, Each, Start, AtEnd, From, After, Phrase, Guard, Place, ToVariable, Target, Position, When, Restart, Item, Statement, Let, Change, Call, Return, Stop, Read, Simulate, If, Loop, For, Find, Create, CreateEvery, Destroy, File, RemoveEnd, Remove, ScheduleNew, Schedule, Cancel, Reset, Print, Skip, Block, Done, Then, Routine, Program}
 use Rattle.ss_program.specs.WellTyped.{Scope, WellTyped, HasMode, OwnerFits, GoodCondition, TakesMode, GoodStart, GoodHead, GoodPhrase, GoodPosition, GoodWhen, GoodGiven, GoodRestart, GoodPrint, Good, GoodBlock, kind_of as kind_said}
 use Rattle.ss_meaning.specs.Values.{if_ok, turned, due, sure, unless_fault, number_of, calculated, operator_of, take_all, lines_with, printed, empty_lines}
@@ -229,7 +229,7 @@ module _ (p : Program) (typed : WellTyped p) (ms : List Mode) (b : Bool) where
       fine_then Any (items_meant xs s) (λ ys. sure (printed pictures ys)) (items_fine p typed ms b (flat_map picture_fields pictures) xs g s f) (λ ys q. sure_fine Any (printed pictures ys) (printed_there pictures ys q)))) (λ bytes u.
       safe_send bytes)
 
-  every_safe : (l : Line) (cs : List Counted) → Every (Contains p.counts) cs → Safe p ms Any (create_every l cs)
+  every_safe : (l : Line) (cs : List CountedClass) → Every (Contains p.counts) cs → Safe p ms Any (create_every l cs)
   every_safe l [] g = record { by = λ w fits. (tt, fits) }
   every_safe l (c ∷ cs) g = safe_then {P = Any} (safe_change l (made_all c) (λ s f. made_all_fine p typed ms c s g.0 f)) (λ u v. every_safe l cs g.1)
 

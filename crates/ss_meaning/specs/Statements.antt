@@ -6,7 +6,7 @@ use Rattle.ss_base.specs.declared.layout.Mode.{Mode}
 use Rattle.ss_input.specs.Words.{Given, value_given}
 use Rattle.ss_program.specs.declared.expression.Sign.{Sign}
 use Rattle.ss_program.specs.declared.statement.End.{End}
-use Rattle.ss_program.specs.declared.statement.Counted.{Counted}
+use Rattle.ss_program.specs.declared.statement.CountedClass.{CountedClass}
 use Rattle.ss_program.specs.Program.{Expression, Item, SetOwner, Place, Target, Position, When, Restart, Statement, Let, Change, Call, Return, Stop, Read, Simulate, If, Loop, For, Find, Create, CreateEvery, Destroy, File, RemoveEnd, Remove, ScheduleNew, Schedule, Cancel, Reset, Print, Skip, Block, Done, Then}
 use Rattle.ss_meaning.specs.Values.{Trouble, if_ok, turned, due, sure, calculated, operator_of, printed, empty_lines}
 use Rattle.ss_meaning.specs.Store.{Store}
@@ -58,7 +58,7 @@ print l shown pictures w =
 
 -- ## Entities and sets
 
-abbrev pub create_every : Line → List Counted → Part (Unit {0})
+abbrev pub create_every : Line → List CountedClass → Part (Unit {0})
 create_every l [] w = WentOn tt w
 create_every l (c ∷ cs) w = and_then (change l (made_all c) w) (λ _. create_every l cs)
 

@@ -12,7 +12,7 @@ use ss_base::{Mode, Name};
 use ss_check_scopes::Locals;
 use ss_names::{Meaning as Global, Names};
 use ss_program::expression::Variable;
-use ss_program::statement::Counted;
+use ss_program::statement::CountedClass;
 use ss_tree::expression::Designator;
 
 // A global or derived name as a value or a target.
@@ -29,7 +29,7 @@ fn global_meaning(names: &Names, locals: &Locals, global: Global) -> Result<Mean
         }
         Global::Count { class, variable } => {
             Ok(Meaning::Count {
-                count: Counted { class, variable },
+                count: CountedClass { class, variable },
             })
         }
         Global::Attribute(number) => attribute(names, locals, number),

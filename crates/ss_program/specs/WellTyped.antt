@@ -17,7 +17,7 @@ use Rattle.ss_picture.specs.declared.field.Field.{Field}
 use Rattle.ss_picture.specs.Pictures.{picture_fields}
 use Rattle.ss_program.specs.declared.expression.Variable.{Variable}
 use Rattle.ss_program.specs.declared.expression.Variable.TheVariants.{Global, Local}
-use Rattle.ss_program.specs.declared.statement.Counted.{Counted}
+use Rattle.ss_program.specs.declared.statement.CountedClass.{CountedClass}
 use Rattle.ss_program.specs.declared.sections.Subject.{Subject}
 use Rattle.ss_program.specs.declared.sections.Subject.TheVariants.{OfVariable, OfAttribute, OfCount}
 use Rattle.ss_program.specs.declared.sections.Statistic.{Statistic}
@@ -223,7 +223,7 @@ GoodDiscipline p set Lifo = Unit {0}
 GoodDiscipline p set (Ranked keys) = GoodKeys p set.member keys
 
 -- N. of a class is that of a permanent one
-abbrev pub GoodCount : Program → Counted → Type 0
+abbrev pub GoodCount : Program → CountedClass → Type 0
 GoodCount p count = (kind_of p count.class ≡ Some Permanent) × (slice_get p.globals count.variable ≡ Some Integer)
 
 -- the subject of a statistic is there, and a whole number

@@ -16,7 +16,7 @@ use ss_records_blocks::placing::{give_places_back, place_all};
 use ss_records_blocks::row::{self, Row};
 use ss_records_blocks::{Address, Blocks, CLASS, Directory, PAGE};
 use ss_records_words::notes::Notes;
-use ss_records_words::plan::Plan;
+use ss_records_words::plan::LayoutPlan;
 use ss_records_words::shape::value_start;
 use ss_records_words::{attributes, laying, placing};
 use std::alloc::{AllocError, Global};
@@ -28,7 +28,7 @@ const LAST_NUMBER: u64 = 4611686018427387903;
 const MOST_ENTITIES: i64 = 1048576;
 
 pub struct Records {
-    pub layout: Plan,
+    pub layout: LayoutPlan,
     pub blocks: Blocks,
     pub notes: Notes,
     pub system: Address,
@@ -41,7 +41,7 @@ impl Records {
     pub fn new(alloc: Global, layout: Layout) -> Result<Records, AllocError>
         ensures { MatchResult result (λ r. IsKept r × (state r ≡ first_state layout)) (λ _. ⊤) }
     {
-        let layout = Plan::new(alloc, layout)?;
+        let layout = LayoutPlan::new(alloc, layout)?;
         let words = layout.block_words(Owner::System);
         let permanents = row::not_made(alloc, layout.classes());
         let tables = beside(layout, permanents)?;
@@ -501,7 +501,7 @@ impl Records {
 fn give_all_back(
     blocks: &mut Blocks,
     alloc: &Global,
-    layout: &Plan,
+    layout: &LayoutPlan,
     directory: &Directory,
     permanents: &[Row],
     notes: &Notes,
@@ -533,7 +533,7 @@ fn give_all_back(
 fn give_rows_back(
     blocks: &mut Blocks,
     alloc: &Global,
-    layout: &Plan,
+    layout: &LayoutPlan,
     permanents: &[Row],
     system: Address,
 )

@@ -10,12 +10,12 @@ use ss_base::Owner;
 use ss_records_blocks::row::Row;
 use ss_records_blocks::{Address, Blocks, Directory, NUMBER};
 use ss_records_words::notes::Notes;
-use ss_records_words::plan::Plan;
+use ss_records_words::plan::LayoutPlan;
 
 /// Whether the entity is in the set whose links begin at the word k of its block: a touch.
 pub fn filed_in(
     blocks: &mut Blocks,
-    layout: &Plan,
+    layout: &LayoutPlan,
     directory: &Directory,
     permanents: &[Row],
     notes: &Notes,
@@ -39,7 +39,7 @@ pub fn filed_in(
 /// Whether the entity has members in its set of the name s: a touch.
 pub fn owns_in(
     blocks: &mut Blocks,
-    layout: &Plan,
+    layout: &LayoutPlan,
     directory: &Directory,
     permanents: &[Row],
     notes: &Notes,
@@ -65,7 +65,7 @@ pub fn owns_in(
 #[inline(always)]
 pub fn in_a_set(
     blocks: &mut Blocks,
-    layout: &Plan,
+    layout: &LayoutPlan,
     directory: &Directory,
     permanents: &[Row],
     notes: &Notes,
@@ -99,7 +99,7 @@ pub fn in_a_set(
 #[inline(always)]
 pub fn owns_members(
     blocks: &mut Blocks,
-    layout: &Plan,
+    layout: &LayoutPlan,
     directory: &Directory,
     permanents: &[Row],
     notes: &Notes,

@@ -2,7 +2,7 @@
 use Rattle.std.proofs.Common.{◌≡◌, ℕ, zero, suc, ◌+◌, ◌<◌, List, [], ◌∷◌, ◌++◌, length, get_or, take, drop, Result, Ok, Err, refl, sym, ap, ◌∙◌, arith}
 use Rattle.std.specs.Prelude.{OnErr}
 use Rattle.ss_records_laws.specs.declared.commands.Command.{Command}
-use Rattle.ss_records_laws.specs.declared.commands.Answer.{Answer}
+use Rattle.ss_records_laws.specs.declared.commands.CommandAnswer.{CommandAnswer}
 use Rattle.ss_world.specs.State.{State}
 use Rattle.ss_records_laws.specs.Commands.{command_answer, after_command, command_answers, after_commands}
 
@@ -34,7 +34,7 @@ on_err (Ok a) p = tt
 on_err (Err e) p = p
 
 module _ (xs : List Command) (i : ℕ) (x : Command) (h : i < length xs) (e : x ≡ get_or xs i x) (s : State) where
-  pub given_next : (given : List Answer) → (given ++ command_answer x s ∷ []) ++ command_answers (drop (i + 1) xs) (after_command x s) ≡ given ++ command_answers (drop i xs) s
+  pub given_next : (given : List CommandAnswer) → (given ++ command_answer x s ∷ []) ++ command_answers (drop (i + 1) xs) (after_command x s) ≡ given ++ command_answers (drop i xs) s
   given_next given = joined given (command_answer x s) (command_answers (drop (i + 1) xs) (after_command x s)) ∙ ap (λ zs. given ++ command_answers zs s) (sym (drop_next xs i x h e))
 
   pub rest_next : after_commands (drop (i + 1) xs) (after_command x s) ≡ after_commands (drop i xs) s

@@ -10,8 +10,8 @@ use Rattle.ss_records_laws.specs.declared.commands.Command.TheVariants.{Create, 
 use Rattle.ss_world.specs.State.{State, Record, and_then, number_in, entity, notice, kind_of, is_made, is_filed, contains, members_of, in_a_set, owns_members, with_entity_of_kind, with_entity, with_value, with_time, with_created, with_made, LAST_NUMBER, MOST_ENTITIES, created_all, made_many, destroyed, let_go, assigned, timed}
 use Rattle.ss_world.specs.Sets.{joiner, owner, with_list_of, put_in, put_beside, taken_out, put_before, put_after, less, filed_first, filed_last, filed_before, filed_after, removed}
 use Rattle.ss_records_laws.specs.Commands.{done, state_in, after_command}
-use Rattle.ss_records_laws.specs.declared.commands.Answer.{Answer}
-use Rattle.ss_records_laws.specs.declared.commands.Answer.TheVariants.{Number}
+use Rattle.ss_records_laws.specs.declared.commands.CommandAnswer.{CommandAnswer}
+use Rattle.ss_records_laws.specs.declared.commands.CommandAnswer.TheVariants.{Number}
 
 -- where a call makes a state, its layout is that of s
 abbrev pub Keeps : State → Result State FaultKind → Type 0
@@ -31,7 +31,7 @@ keeps_done s (Ok t) h = h
 keeps_done s (Err e) h = refl
 
 -- whether a number is left or not
-keeps_created : (s t : State) (n : ℤ) (b : Bool) (e : FaultKind) → t.layout ≡ s.layout → (state_in s (and_then {A = ℤ × State} {B = Answer × State} (if b then Ok (n, t) else Err e) (λ p. Ok (Number p.0, p.1)))).layout ≡ s.layout
+keeps_created : (s t : State) (n : ℤ) (b : Bool) (e : FaultKind) → t.layout ≡ s.layout → (state_in s (and_then {A = ℤ × State} {B = CommandAnswer × State} (if b then Ok (n, t) else Err e) (λ p. Ok (Number p.0, p.1)))).layout ≡ s.layout
 keeps_created s t n true e h = h
 keeps_created s t n false e h = refl
 

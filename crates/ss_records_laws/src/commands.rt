@@ -113,7 +113,7 @@ pub enum Command {
 
 /// What a call of a heap answered.
 #[derive(Clone, Copy, PartialEq)]
-pub enum Answer {
+pub enum CommandAnswer {
     Done,
     /// The creation number of a new entity.
     Number(i64),
@@ -122,7 +122,7 @@ pub enum Answer {
 
 /// Makes calls in turn, and answers what each answered. A call that is refused with a fault leaves all as it was.
 /// Where memory is refused, the first of the calls were made, and no other.
-pub fn run(heap: &mut Heap, alloc: Global, commands: &[Command]) -> Result<Vec<Answer>, AllocError>
+pub fn run(heap: &mut Heap, alloc: Global, commands: &[Command]) -> Result<Vec<CommandAnswer>, AllocError>
     requires { All (FitsCommand heap.old.state.layout) commands.now }
     ensures answers { IfOk result (λ answers. answers.items ≡ command_answers commands.now heap.old.state) }
     ensures state { OnOk result (heap.new.state ≡ after_commands commands.now heap.old.state) }
@@ -166,7 +166,7 @@ fn fits(heap: &Heap, command: &Command) -> bool
 }
 
 // Makes one call.
-fn make(heap: &mut Heap, command: &Command) -> Result<Answer, AllocError>
+fn make(heap: &mut Heap, command: &Command) -> Result<CommandAnswer, AllocError>
     requires { FitsCommand heap.old.state.layout command.now }
     ensures answer { IfOk result (λ answer. answer ≡ command_answer command.now heap.old.state) }
     ensures ok { OnOk result (heap.new.state ≡ after_command command.now heap.old.state) }
@@ -207,38 +207,38 @@ fn make(heap: &mut Heap, command: &Command) -> Result<Answer, AllocError>
     }
 }
 
-fn make_one(heap: &mut Heap, class: usize) -> Result<Answer, AllocError>
+fn make_one(heap: &mut Heap, class: usize) -> Result<CommandAnswer, AllocError>
     requires { IsMadeSingly heap.old.state.layout class }
     ensures answer { IfOk result (λ answer. answer ≡ command_answer (Command.Create class) heap.old.state) }
     ensures ok { OnOk result (heap.new.state ≡ after_command (Command.Create class) heap.old.state) }
     ensures err { OnErr result (heap.new.state ≡ heap.old.state) }
 {
     match heap.create(class) {
-        Ok(number) => Ok(Answer::Number(number)),
-        Err(Refused::Fault(kind)) => Ok(Answer::Faulted(kind)),
+        Ok(number) => Ok(CommandAnswer::Number(number)),
+        Err(Refused::Fault(kind)) => Ok(CommandAnswer::Faulted(kind)),
         Err(Refused::Memory) => Err(AllocError),
     }
 }
 
-fn make_all(heap: &mut Heap, class: usize, n: i64) -> Result<Answer, AllocError>
+fn make_all(heap: &mut Heap, class: usize, n: i64) -> Result<CommandAnswer, AllocError>
     requires { IsMadeTogether heap.old.state.layout class }
     ensures answer { IfOk result (λ answer. answer ≡ command_answer (Command.CreateAll class n) heap.old.state) }
     ensures ok { OnOk result (heap.new.state ≡ after_command (Command.CreateAll class n) heap.old.state) }
     ensures err { OnErr result (heap.new.state ≡ heap.old.state) }
 {
     match heap.create_all(class, n) {
-        Ok(()) => Ok(Answer::Done),
-        Err(Refused::Fault(kind)) => Ok(Answer::Faulted(kind)),
+        Ok(()) => Ok(CommandAnswer::Done),
+        Err(Refused::Fault(kind)) => Ok(CommandAnswer::Faulted(kind)),
         Err(Refused::Memory) => Err(AllocError),
     }
 }
 
-fn outcome_of(outcome: Result<(), FaultKind>) -> Answer
+fn outcome_of(outcome: Result<(), FaultKind>) -> CommandAnswer
     ensures { result ≡ outcome_of outcome }
 {
     match outcome {
-        Ok(()) => Answer::Done,
-        Err(kind) => Answer::Faulted(kind),
+        Ok(()) => CommandAnswer::Done,
+        Err(kind) => CommandAnswer::Faulted(kind),
     }
 }
 

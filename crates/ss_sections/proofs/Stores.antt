@@ -16,7 +16,7 @@ use Rattle.ss_program.specs.declared.expression.Variable.{Variable}
 use Rattle.ss_program.specs.declared.expression.Variable.TheVariants.{Global, Local}
 use Rattle.ss_program.specs.declared.sections.Subject.{Subject}
 use Rattle.ss_program.specs.declared.sections.Subject.TheVariants.{OfVariable, OfAttribute, OfCount}
-use Rattle.ss_program.specs.declared.statement.Counted.{Counted}
+use Rattle.ss_program.specs.declared.statement.CountedClass.{CountedClass}
 use Rattle.ss_program.specs.declared.statement.End.{End}
 use Rattle.ss_meaning.specs.Values.{Trouble, Misfit, if_ok, turned, due, sure, where_fit, unless_fault, number_of, same_mode, calculated, operator_of}
 use Rattle.ss_meaning.specs.Store.{Store, with_heap, with_pending, with_histories, fetched, put_at, put}
@@ -93,7 +93,7 @@ attribute_alike class field x v s =
     (laid_due s.scene.heap (assigned s.scene.heap class field n v) (assigned_laid s.scene.heap class field n v)) (λ h p.
     heaped_alike (OfAttribute class field) n v s h p)))
 
-count_alike : (c : Counted) (v : Value) (s : Store) → Only (Alike s) (assigned_count c v s)
+count_alike : (c : CountedClass) (v : Value) (s : Store) → Only (Alike s) (assigned_count c v s)
 count_alike c v s =
     only_fit (Alike s) (is_permanent (class_at c.class s)) (unless_fault (is_made s.scene.heap c.class) CreatedTwice (assigned_variable (Global c.variable) v s))
     (only_unless (Alike s) (is_made s.scene.heap c.class) CreatedTwice (assigned_variable (Global c.variable) v s) (assigned_alike (Global c.variable) v s))
@@ -118,7 +118,7 @@ made_alike class s =
     only_fit (λ (b : Value × Store). Alike s b.1) (is_single (class_at class s)) (turned (with_new class s) (due (created s.scene.heap class)))
     (only_turned (λ (b : Value × Store). Alike s b.1) (with_new class s) (due (created s.scene.heap class)) (with_due s.scene.heap (created s.scene.heap class) (created_laid s.scene.heap class)) (λ b p. (refl, refl, p)))
 
-pub all_made_alike : (c : Counted) (s : Store) → Only (Alike s) (made_all c s)
+pub all_made_alike : (c : CountedClass) (s : Store) → Only (Alike s) (made_all c s)
 all_made_alike c s =
     only_each (Alike s) (sure (fetched (Global c.variable) s)) (λ v. if_ok (number_of v) (λ n. where_fit (is_permanent (class_at c.class s)) (turned (with_all c.class s) (due (created_all s.scene.heap c.class n))))) (λ v.
     only_each (Alike s) (number_of v) (λ n. where_fit (is_permanent (class_at c.class s)) (turned (with_all c.class s) (due (created_all s.scene.heap c.class n)))) (λ n.

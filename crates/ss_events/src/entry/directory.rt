@@ -16,17 +16,17 @@ const FEWEST_CELLS: usize = 16;
 /// A notice has a cell, whose number is its last binary digits: notices with numbers in turn have cells of their own.
 /// Where another notice has taken the cell, a map names the slot.
 #[derive(Drop)]
-pub struct Directory {
+pub struct SlotDirectory {
     cells: Vec<usize>,
     // The last digits, all set.
     mask: usize,
     others: HashMap<i64, usize>,
 }
 
-impl Directory {
+impl SlotDirectory {
     /// A directory without cells.
-    pub(crate) fn new(alloc: Global) -> Directory {
-        Directory {
+    pub(crate) fn new(alloc: Global) -> SlotDirectory {
+        SlotDirectory {
             cells: Vec::new(alloc),
             mask: 0,
             others: HashMap::new(alloc),
@@ -34,9 +34,9 @@ impl Directory {
     }
 
     /// A directory of so many cells, all of them free.
-    pub(crate) fn of_cells(alloc: Global, count: usize) -> Result<Directory, AllocError> {
+    pub(crate) fn of_cells(alloc: Global, count: usize) -> Result<SlotDirectory, AllocError> {
         let count = count.max(FEWEST_CELLS);
-        Ok(Directory {
+        Ok(SlotDirectory {
             cells: Vec::from_elem(alloc, FREE, count)?,
             mask: count - 1,
             others: HashMap::new(alloc),

@@ -6,7 +6,7 @@ use Rattle.ss_world.specs.State.{kind_of}
 use Rattle.ss_world.specs.Sets.{member_in, member_class}
 use Rattle.ss_records_words.specs.Plans.{is_permanent}
 use Rattle.ss_records_words.proofs.Planning.{set_within, bases_are}
-use Rattle.ss_records_words.proofs.plan.Plan.holds_permanent.Goals as goal
+use Rattle.ss_records_words.proofs.plan.LayoutPlan.holds_permanent.Goals as goal
 
 pub index-requires : goal.index-requires
 index-requires c =

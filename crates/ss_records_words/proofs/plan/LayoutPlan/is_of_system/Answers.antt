@@ -5,7 +5,7 @@ use Rattle.ss_records_blocks.proofs.Entries.{get_there}
 use Rattle.ss_world.specs.Sets.{owner_in, owner_kind}
 use Rattle.ss_records_words.specs.Plans.{is_system}
 use Rattle.ss_records_words.proofs.Planning.{set_within, bases_are}
-use Rattle.ss_records_words.proofs.plan.Plan.is_of_system.Goals as goal
+use Rattle.ss_records_words.proofs.plan.LayoutPlan.is_of_system.Goals as goal
 
 pub index-requires : goal.index-requires
 index-requires c =
