@@ -14,7 +14,7 @@ use Rattle.ss_meaning.specs.Store.{Store}
 use Rattle.ss_meaning.specs.Sets.{is_empty, is_in}
 use Rattle.ss_meaning.specs.Expressions.{value, member_value, owner_value, unless, passed, both, either, all_hold, holds, passes, all_pass}
 use Rattle.ss_meaning.specs.Parts.{World, WentOn, looked, look}
-use Rattle.ss_code_instructions.specs.States.{To, did, core_of, with_top, past}
+use Rattle.ss_code_instructions.specs.States.{To, did, core_with, with_top, past}
 use Rattle.ss_code_instructions.specs.Machine.{Code}
 use Rattle.ss_code_instructions.specs.Translation.{owner_code, is_the_system, test_code, tests_code, alternatives_code, condition_code, negated_code, guard_code, guards_code}
 use Rattle.ss_code_instructions.specs.Running.{Underway}
@@ -38,12 +38,12 @@ module _ (code : Code) (n : ℕ) where
   test_lands l skip (Empty negated set owner) =
       owner_look l owner same (λ system. i.TestEmpty negated set system skip l ∷ []) (λ o s. turned (unless negated) (is_empty set o s)) (λ system o h.
       turned_lands code n (i.TestEmpty negated set system skip l) l (owner_on o) (past skip) done (is_empty set o) (unless negated) refl
-      (λ place stack frames s. h.by stack (λ o rest. did l (is_empty set o s) (λ b. To (core_of (past skip (unless negated b) (place + 1)) rest frames s)))))
+      (λ place stack frames s. h.by stack (λ o rest. did l (is_empty set o s) (λ b. To (core_with (past skip (unless negated b) (place + 1)) rest frames s)))))
   test_lands l skip (Member negated set e owner) =
       seq_look code n l (member_value set e) (λ x s. if_ok (owner_value owner s) (λ o. turned (unless negated) (is_in set x o s))) (member_runs code n l set e) (λ x.
       owner_look l owner (put_on x) (λ system. i.TestMember negated set system skip l ∷ []) (λ o s. turned (unless negated) (is_in set x o s)) (λ system o h.
       turned_lands code n (i.TestMember negated set system skip l) l (λ s. owner_on o (x ∷ s)) (past skip) done (is_in set x o) (unless negated) refl
-      (λ place stack frames s. h.by (x ∷ stack) (λ o above. with_top above (λ x rest. did l (is_in set x o s) (λ b. To (core_of (past skip (unless negated b) (place + 1)) rest frames s)))))))
+      (λ place stack frames s. h.by (x ∷ stack) (λ o above. with_top above (λ x rest. did l (is_in set x o s) (λ b. To (core_with (past skip (unless negated b) (place + 1)) rest frames s)))))))
 
   -- no instruction: it holds
   holds_so : (skip : ℕ) → Lands code n same [] (past skip) done (WentOn true)

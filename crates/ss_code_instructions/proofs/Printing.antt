@@ -14,9 +14,9 @@ use Rattle.ss_meaning.specs.Values.{Trouble, Fails, Misfit, if_ok, turned, sure,
 use Rattle.ss_meaning.specs.Store.{Store}
 use Rattle.ss_meaning.specs.Statistics.{mean}
 use Rattle.ss_meaning.specs.Expressions.{value, mean_shown, items}
-use Rattle.ss_meaning.specs.Parts.{World, and_then, looked, look, send}
+use Rattle.ss_meaning.specs.Parts.{World, outcome_then, looked, look, send}
 use Rattle.ss_meaning.specs.Statements.{print}
-use Rattle.ss_code_instructions.specs.States.{Moved, Sends, did, fit, core_of, with_taken, take_off}
+use Rattle.ss_code_instructions.specs.States.{Moved, Sends, did, fit, core_with, with_taken, take_off}
 use Rattle.ss_code_instructions.specs.Machine.{Code, mean_item, item_before, shown_items}
 use Rattle.ss_code_instructions.specs.Translation.{expression_code, shown_code, values_taken, item_kind, lines_of}
 use Rattle.ss_code_instructions.proofs.Parts.{Runs, at_end, IfWentOn, same, done, put_on, onto, take_them, seq_such, seq_look, above, none, alike, look_lands, fit_did}
@@ -115,7 +115,7 @@ lines_meant xs pictures s =
     sym (if_twice (values_looked xs s) (λ vs. sure (shown_items (map item_kind xs) vs s)) (λ ys. sure (printed pictures ys)))
     ∙ ap (λ o. if_ok o (λ ys. sure (printed pictures ys))) (items_shown xs s)
 
-then_sent : {A : Type 0} (l : Line) (r : OkOr A Trouble) (g : A → Store → OkOr (List ℕ) Trouble) (w : World) → and_then (looked l r w) (λ a w. and_then (look l (g a) w) send) ≡ and_then (looked l (if_ok r (λ a. g a w.store)) w) send
+then_sent : {A : Type 0} (l : Line) (r : OkOr A Trouble) (g : A → Store → OkOr (List ℕ) Trouble) (w : World) → outcome_then (looked l r w) (λ a w. outcome_then (look l (g a) w) send) ≡ outcome_then (looked l (if_ok r (λ a. g a w.store)) w) send
 then_sent l (Ok a) g w = refl
 then_sent l (Err (Fails k)) g w = refl
 then_sent l (Err Misfit) g w = refl
@@ -148,10 +148,10 @@ module _ (code : Code) (n : ℕ) where
   pub print_runs : (l : Line) (first : ℕ) (xs : List Item) (pictures : List (List ℕ)) → slice_get code.prints first ≡ Some (lines_of xs pictures) → Runs code n same (shown_code l xs ++ i.Print first (values_taken xs) ∷ []) done (print l xs pictures)
   print_runs l first xs pictures has =
       let ks = map item_kind xs in
-      alike code n (λ w. then_sent l (values_looked xs w.store) (lines_shown ks pictures) w ∙ ap (λ o. and_then (looked l o w) send) (lines_meant xs pictures w.store))
+      alike code n (λ w. then_sent l (values_looked xs w.store) (lines_shown ks pictures) w ∙ ap (λ o. outcome_then (looked l o w) send) (lines_meant xs pictures w.store))
       (seq_such code n (λ vs. values_taken xs ≡ length vs) (taken_length l xs) (items_run l xs) (λ vs such.
       output_runs code n (i.Print first (values_taken xs)) l (onto vs) (lines_shown ks pictures vs) refl
       (λ place stack frames s.
-      ap (λ o. fit o (λ p. with_taken (take_off (values_taken xs) (onto vs stack) []) (λ vs rest. fit (shown_items p.items vs s) (λ ys. fit (printed p.pictures ys) (λ bytes. Sends bytes (core_of (place + 1) rest frames s)))))) has
-      ∙ ap (λ o. with_taken o (λ vs rest. fit (shown_items ks vs s) (λ ys. fit (printed pictures ys) (λ bytes. Sends bytes (core_of (place + 1) rest frames s))))) (take_them vs stack (values_taken xs) such)
-      ∙ fit_lines l (shown_items ks vs s) pictures (λ bytes. Sends bytes (core_of (place + 1) stack frames s)))))
+      ap (λ o. fit o (λ p. with_taken (take_off (values_taken xs) (onto vs stack) []) (λ vs rest. fit (shown_items p.items vs s) (λ ys. fit (printed p.pictures ys) (λ bytes. Sends bytes (core_with (place + 1) rest frames s)))))) has
+      ∙ ap (λ o. with_taken o (λ vs rest. fit (shown_items ks vs s) (λ ys. fit (printed pictures ys) (λ bytes. Sends bytes (core_with (place + 1) rest frames s))))) (take_them vs stack (values_taken xs) such)
+      ∙ fit_lines l (shown_items ks vs s) pictures (λ bytes. Sends bytes (core_with (place + 1) stack frames s)))))

@@ -8,7 +8,7 @@ use Rattle.ss_program.specs.Program.{Program}
 use Rattle.ss_meaning.specs.Meaning.{Ending, Ended as EndedThere, Fault as FaultThere, Paused as PausedThere, WentWrong, Run, meaning}
 use Rattle.ss_code_instructions.specs.States.{MachineState}
 use Rattle.ss_code_instructions.specs.Machine.{Code, Goes, Over, step}
-use Rattle.ss_code_instructions.specs.Running.{Underway, Ends, Behaves, result_at, result_of, start, steps, go_on as goes_on}
+use Rattle.ss_code_instructions.specs.Running.{Underway, Ends, Behaves, result_at, result_of, start, steps, after_one_step as goes_on}
 use Rattle.ss_code_instructions.specs.Laws.{EndingsStay, Grows, OnTheWay, OneTickFewer, Pauses, StepsGoOn}
 use Rattle.ss_machine.specs.Stop.{Stop}
 use Rattle.ss_machine.specs.Stop.TheVariants.{Ended, Fault, Paused, Memory, Output, Input, Failed}

@@ -6,7 +6,7 @@ use Rattle.ss_meaning.specs.Meaning.{Ending, Ended, Fault, Paused, WentWrong, Ru
 use Rattle.ss_code_instructions.specs.declared.instruction.Instruction.{Instruction}
 use Rattle.ss_code_instructions.specs.States.{MachineState, Moved, To, Sends, Rest, Stuck, Done, Breaks}
 use Rattle.ss_code_instructions.specs.Machine.{Code, Stepped, Goes, Over, NoStep, act, is_due, with_rest, when_due, step_at, step}
-use Rattle.ss_code_instructions.specs.Running.{Underway, Ends, Behaves, ended_at, go_on, result_at, start, steps}
+use Rattle.ss_code_instructions.specs.Running.{Underway, Ends, Behaves, ended_at, after_one_step, result_at, start, steps}
 use Rattle.ss_code_instructions.specs.Laws.{EndingsStay}
 
 -- a step that leaves at most so many ticks
@@ -43,7 +43,7 @@ same_run : (a b : Run) → Ends a ≡ Ends b → a ≡ b
 same_run a b e = cc
 
 module _ (code : Code) where
-  after : (o : Stepped) (m : ℕ) (s : MachineState) (r : Run) → Leaves s.ticks o → ((t : MachineState) → steps code m t ≡ Ends r → r.ticks ≤ t.ticks) → go_on o s (steps code m) ≡ Ends r → r.ticks ≤ s.ticks
+  after : (o : Stepped) (m : ℕ) (s : MachineState) (r : Run) → Leaves s.ticks o → ((t : MachineState) → steps code m t ≡ Ends r → r.ticks ≤ t.ticks) → after_one_step o s (steps code m) ≡ Ends r → r.ticks ≤ s.ticks
   after (Goes t) m s r l so e = omega (arith, l, so t e)
   after (Over k n) m s r l so e = let q : n ≡ r.ticks = ap (λ (x : Run). x.ticks) (same_run (ended_at s k n) r e) in omega (arith, l, q)
   after NoStep m s r l so e = absurd cc
@@ -54,7 +54,7 @@ module _ (code : Code) where
   ends_within (suc m) s r e =
       after (step code s) m s r (at_leaves (slice_get code.instructions s.core.place) code s) (λ t f. ends_within m t r f) e
 
-  both : (o : Stepped) (m k : ℕ) (s x : MachineState) (r : Run) → ((t : MachineState) → steps code m t ≡ Underway x → steps code k t ≡ Ends r → r.ticks ≤ x.ticks) → go_on o s (steps code m) ≡ Underway x → go_on o s (steps code k) ≡ Ends r → r.ticks ≤ x.ticks
+  both : (o : Stepped) (m k : ℕ) (s x : MachineState) (r : Run) → ((t : MachineState) → steps code m t ≡ Underway x → steps code k t ≡ Ends r → r.ticks ≤ x.ticks) → after_one_step o s (steps code m) ≡ Underway x → after_one_step o s (steps code k) ≡ Ends r → r.ticks ≤ x.ticks
   both (Goes t) m k s x r so e f = so t e f
   both (Over q n) m k s x r so e f = absurd cc
   both NoStep m k s x r so e f = absurd cc

@@ -15,7 +15,7 @@ use Rattle.ss_events.specs.Sifting.{IsLogarithmic}
 use Rattle.ss_events.specs.HeapOrder.{IsHeap}
 use Rattle.ss_world.specs.Order.{comes_before}
 use Rattle.ss_world.specs.PendingList.{PendingList, scheduling_limit, is_pending, without_notice, earlier, least, next, after_next}
-use Rattle.ss_events.specs.InOrder.{put, in_order, numbers_of, IsAgenda}
+use Rattle.ss_events.specs.InOrder.{put_in_order, in_order, numbers_of, IsAgenda}
 use Rattle.ss_events.proofs.EntryOrder.{entries_rank, tied_numbers}
 use Rattle.ss_events.proofs.Heaps.{first}
 use Rattle.ss_events.proofs.Sifts.{digits_mono}
@@ -34,17 +34,17 @@ or_swap true false c = refl
 or_swap false true c = refl
 or_swap false false c = refl
 
-pending-put : (notice : ℤ) (e : Entry) (es : List Entry) → is_pending notice (put e es) ≡ (int_eq notice e.notice || is_pending notice es)
-pending-put notice e [] = refl
-pending-put notice e (f ∷ fs) = ⊎_elim
+pending-put_in_order : (notice : ℤ) (e : Entry) (es : List Entry) → is_pending notice (put_in_order e es) ≡ (int_eq notice e.notice || is_pending notice es)
+pending-put_in_order notice e [] = refl
+pending-put_in_order notice e (f ∷ fs) = ⊎_elim
     (λ lt. ap (is_pending notice) (put_first e f fs lt))
-    (λ le. ap (is_pending notice) (put_later e f fs le) ∙ ap (λ b. int_eq notice f.notice || b) (pending-put notice e fs) ∙ or_swap (int_eq notice f.notice) (int_eq notice e.notice) (is_pending notice fs))
+    (λ le. ap (is_pending notice) (put_later e f fs le) ∙ ap (λ b. int_eq notice f.notice || b) (pending-put_in_order notice e fs) ∙ or_swap (int_eq notice f.notice) (int_eq notice e.notice) (is_pending notice fs))
     (cases_lt e.number f.number)
 
 pub pending-in_order : (notice : ℤ) (es : List Entry) → is_pending notice (in_order es) ≡ is_pending notice es
 unfolding in_order
 pending-in_order notice [] = refl
-pending-in_order notice (e ∷ es) = pending-put notice e (in_order es) ∙ ap (λ b. int_eq notice e.notice || b) (pending-in_order notice es)
+pending-in_order notice (e ∷ es) = pending-put_in_order notice e (in_order es) ∙ ap (λ b. int_eq notice e.notice || b) (pending-in_order notice es)
 
 pub any-notices : (notice : ℤ) (es : List Entry) → list_any (int_eq notice) (notices_of es) ≡ is_pending notice es
 any-notices notice [] = refl
@@ -60,11 +60,11 @@ without_notice-none notice (e ∷ es) a =
     ∙ ap (λ l. e ∷ l) (without_notice-none notice es (λ x m. a x (inr m)))
 
 -- one that has it was put among them
-without_notice-put : (notice : ℤ) (e : Entry) (es : List Entry) → int_eq notice e.notice ≡ true → without_notice notice (put e es) ≡ without_notice notice es
-without_notice-put notice e [] t = ap (λ b. cond (not b) (e ∷ []) []) t
-without_notice-put notice e (f ∷ fs) t = ⊎_elim
+without_notice-put_in_order : (notice : ℤ) (e : Entry) (es : List Entry) → int_eq notice e.notice ≡ true → without_notice notice (put_in_order e es) ≡ without_notice notice es
+without_notice-put_in_order notice e [] t = ap (λ b. cond (not b) (e ∷ []) []) t
+without_notice-put_in_order notice e (f ∷ fs) t = ⊎_elim
     (λ lt. ap (without_notice notice) (put_first e f fs lt) ∙ ap (λ b. cond (not b) (e ∷ without_notice notice (f ∷ fs)) (without_notice notice (f ∷ fs))) t)
-    (λ le. ap (without_notice notice) (put_later e f fs le) ∙ ap (λ l. cond (not (int_eq notice f.notice)) (f ∷ l) l) (without_notice-put notice e fs t))
+    (λ le. ap (without_notice notice) (put_later e f fs le) ∙ ap (λ l. cond (not (int_eq notice f.notice)) (f ∷ l) l) (without_notice-put_in_order notice e fs t))
     (cases_lt e.number f.number)
 
 -- the others have other notices
@@ -193,7 +193,7 @@ module _ (heads old : List Entry) (count : ℕ) (a : IsAgenda heads old count) w
     in_order-taken notice t =
         let others = others_apart x.notice new (IsDistinct-head int_eq x.notice (notices_of new) notices_before) in
         sym (without_notice-none notice (in_order new) (λ y m. int_eq_equiv.congr notice x.notice y.notice t ∙ others y (member-in_order new y m)))
-        ∙ sym (without_notice-put notice x (in_order new) t)
+        ∙ sym (without_notice-put_in_order notice x (in_order new) t)
         ∙ ap (without_notice notice) (sym (in_order-permutation old (x ∷ new) a.numbers p))
 
 -- ---- heads and followers that are the entries of a list

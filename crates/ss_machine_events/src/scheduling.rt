@@ -9,7 +9,7 @@ ghost use Rattle.ss_meaning.specs.Events.{time_at, not_past, endowed, prepared, 
 ghost use Rattle.ss_meaning.specs.Places.{assigned_attribute};
 ghost use Rattle.ss_meaning.specs.Values.{turned};
 ghost use Rattle.ss_machine_world.specs.AtOnce.{Does};
-ghost use Rattle.ss_machine_world.specs.Seen.{Looks, Notes, Makes, Grows, as_value};
+ghost use Rattle.ss_machine_world.specs.Seen.{Looks, Notes, Makes, ChangesWithMemory, as_value};
 ghost use Rattle.ss_machine_events.specs.Scheduled.{ChangesInSteps, Forms, Goes, Finds, AddsTie, IsTied, put_there, lacking, moment_of, time_after, result_of_filing, key_ranked, key_meant, number_as_value, settled, HasNoTies, IsUntied, scheduled_known, scheduled_anew};
 
 use ss_base::{FaultKind, RankKey, Refused, Value, plus};
@@ -540,7 +540,7 @@ fn key_known(
 // A notice is filed under a key, by its number.
 #[inline(always)]
 fn schedule_known(scene: &mut Scene, key: Key, known: Known) -> Result<(), Unmade>
-    ensures { Grows (scheduled_known key known.number) scene.old scene.new result }
+    ensures { ChangesWithMemory (scheduled_known key known.number) scene.old scene.new result }
 {
     settled(scene.timeline.schedule(key, known.number))
 }
@@ -554,7 +554,7 @@ fn file_pending(
     notice: Known,
     time: i64,
 ) -> Result<(), Unmade>
-    ensures { Grows (filed_notice class (Whole notice.number) time) scene.old scene.new result }
+    ensures { ChangesWithMemory (filed_notice class (Whole notice.number) time) scene.old scene.new result }
 {
     match scene.find_by_number(class, notice) {
         Err(trouble) => Err(lacking(trouble)),
@@ -568,7 +568,7 @@ fn file_pending(
 // Files a notice out of line, with the answer as one value.
 #[inline(never)]
 fn file_apart(scene: &mut Scene, alloc: Global, class: usize, notice: Known, time: i64) -> Filed
-    ensures { Grows (filed_notice class (Whole notice.number) time) scene.old scene.new (result_of_filing result) }
+    ensures { ChangesWithMemory (filed_notice class (Whole notice.number) time) scene.old scene.new (result_of_filing result) }
 {
     in_one(file_pending(scene, alloc, class, notice, time))
 }
@@ -611,7 +611,7 @@ pub fn file_known(
     notice: Known,
     time: i64,
 ) -> Result<(), Unmade>
-    ensures { Grows (filed_notice class (Whole notice.number) time) scene.old scene.new result }
+    ensures { ChangesWithMemory (filed_notice class (Whole notice.number) time) scene.old scene.new result }
 {
     if file_at_once(scene, class, notice, time) {
         return Ok(());
@@ -628,7 +628,7 @@ fn file_any(
     x: &Value,
     time: i64,
 ) -> Result<(), Unmade>
-    ensures { Grows (filed_notice class x.now time) scene.old scene.new result }
+    ensures { ChangesWithMemory (filed_notice class x.now time) scene.old scene.new result }
 {
     match x {
         Value::Whole(number) => {
@@ -648,7 +648,7 @@ pub fn file_notice(
     x: Value,
     time: i64,
 ) -> Result<(), Unmade>
-    ensures { Grows (filed_notice class x time) scene.old scene.new result }
+    ensures { ChangesWithMemory (filed_notice class x time) scene.old scene.new result }
 {
     file_any(scene, alloc, class, &x, time)
 }

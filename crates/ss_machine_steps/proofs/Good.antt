@@ -8,7 +8,7 @@ use Rattle.ss_meaning.specs.Laws.{NeverWrong}
 use Rattle.ss_code_instructions.specs.declared.instruction.Instruction.{Instruction}
 use Rattle.ss_code_instructions.specs.declared.instruction.Instruction.TheVariants.{Leave}
 use Rattle.ss_code_instructions.specs.States.{MachineState}
-use Rattle.ss_code_instructions.specs.Machine.{Code, Stepped as Stepping, Goes, Over, NoStep, step_at, step}
+use Rattle.ss_code_instructions.specs.Machine.{Code, Stepped, Goes, Over, NoStep, step_at, step}
 use Rattle.ss_code_instructions.specs.Running.{Underway, Behaves, Lands, start, steps}
 use Rattle.ss_code_instructions.specs.Translation.{block_code, routines_code, events_code}
 use Rattle.ss_code_instructions.specs.Laws.{CodeBehaves, JumpsLand, NeverStuck, StepsGoOn}
@@ -51,7 +51,7 @@ module _ (stuck : NeverStuck) (behaves : CodeBehaves) (wrong : NeverWrong) (on :
   never_at input n m s came q =
       ∥∥₁_elim good (hlevel props) (λ g. stuck g.0 code (subst (λ k. Behaves g.0 k) (sym g.2) (behaves g.0)) input n m s (wrong g.0 g.1 input n) came q)
 
-  by_step : (input : List ℕ) (n m : ℕ) (s : MachineState) → steps code m (start code input n) ≡ Underway s → (x : Stepping) → step code s ≡ x → IsLostAt x → ⊥
+  by_step : (input : List ℕ) (n m : ℕ) (s : MachineState) → steps code m (start code input n) ≡ Underway s → (x : Stepped) → step code s ≡ x → IsLostAt x → ⊥
   by_step input n m s came (Goes t) q lost =
       let past : length code.instructions ≤ t.core.place = omega (arith, small, lost) in
       never_at input n (m + 1) t (step_more on code m (start code input n) s t came q) (ap (λ o. step_at o code t) (slice_get_past code.instructions t.core.place past))

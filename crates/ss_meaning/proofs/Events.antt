@@ -30,7 +30,7 @@ use Rattle.ss_meaning.specs.Values.{if_ok, turned, due, sure, unless_fault, numb
 use Rattle.ss_meaning.specs.Store.{Notices, Store, with_heap, with_pending}
 use Rattle.ss_meaning.specs.Entities.{entity, attribute, made_one}
 use Rattle.ss_meaning.specs.Places.{assigned_attribute}
-use Rattle.ss_meaning.specs.Events.{Moment, AtTime, Later, AtOnce, not_past, time_at, endowed, with_time, prepared, made_notice, Ranked, ranked_from, ranked, ties_of, filed_notice, rescheduled, unscheduled, is_awaited, Beginning, attributes, saved_or_gone, Coming, at_event, ranked_as, coming_as, coming_with, next_event, begun}
+use Rattle.ss_meaning.specs.Events.{Moment, AtTime, Later, AtOnce, not_past, time_at, endowed, with_notice_time, prepared, made_notice, Ranked, ranked_from, ranked, ties_of, filed_notice, rescheduled, unscheduled, is_awaited, Beginning, attributes, saved_or_gone, Coming, at_event, ranked_as, coming_as, coming_with, next_event, event_begun}
 use Rattle.ss_meaning.specs.Meaning.{said_of}
 use Rattle.ss_meaning.specs.Fitting.{Hold, class_in, LivesAs, Lives, IsNotice, Fits}
 use Rattle.ss_meaning.proofs.Fine.{Fine, Sane, There, Any, fine_then, fine_turned, due_fine, any_due, sure_fine, unless_fine}
@@ -181,14 +181,14 @@ module _ (p : Program) (typed : WellTyped p) (ms : List Mode) where
       fine_then (Fits p ms) (assigned_attribute c k x v s) (endowed c (k + 1) x vs) (attribute_assigned_fine p typed ms c k n x v s (first_field c k n ns g) m here f) (λ t ft.
       endowed_fine c (k + 1) x vs ns t rest (later_fields c k n ns g) m ft)
 
-  with_time_fine : (x : Value) (t : ℤ) (s : Store) → mode_of x ≡ Integer → Fits p ms s → Fine (Fits p ms) (with_time x t s)
+  with_time_fine : (x : Value) (t : ℤ) (s : Store) → mode_of x ≡ Integer → Fits p ms s → Fine (Fits p ms) (with_notice_time x t s)
   with_time_fine x t s m f =
       fine_then (Fits p ms) (number_of x) (λ n. turned (with_heap s) (due (timed s.scene.heap n t))) (number_fine x m) (λ n u.
       fine_turned (Fits p ms) (with_heap s) (due (timed s.scene.heap n t)) (due_fine (Changed s.scene.heap) (timed s.scene.heap n t) (timed_sane s.scene.heap n t f.sound.scene.heap)) (λ h g. heap_fits p ms s h f g))
 
   prepared_fine : (c : ℕ) (x : Value) (vs : List Value) (ns : List Mode) (t : ℤ) (s : Store) → Hold vs ns → FieldsAre c 0 ns → mode_of x ≡ Integer → Fits p ms s → Fine (Fits p ms) (prepared c x vs t s)
   prepared_fine c x vs ns t s h g m f =
-      fine_then (Fits p ms) (endowed c 0 x vs s) (with_time x t) (endowed_fine c 0 x vs ns s h g m f) (λ r fr. with_time_fine x t r m fr)
+      fine_then (Fits p ms) (endowed c 0 x vs s) (with_notice_time x t) (endowed_fine c 0 x vs ns s h g m f) (λ r fr. with_time_fine x t r m fr)
 
   pub made_notice_fine : (c : ℕ) (vs : List Value) (ns : List Mode) (t : ℤ) (s : Store) → kind_said p c ≡ Some Notice → Hold vs ns → FieldsAre c 0 ns → Fits p ms s → Fine (λ b. (mode_of b.0 ≡ Integer) × Fits p ms b.1) (made_notice c vs t s)
   made_notice_fine c vs ns t s q h g f =
@@ -336,7 +336,7 @@ module _ (p : Program) (typed : WellTyped p) (ms : List Mode) where
     pub given : Hold b.given event.given
     pub fits : Fits p ms b.store
 
-  pub begun_fine : (c : Coming) → ComingAs c → Fine BegunAs (begun c)
+  pub begun_fine : (c : Coming) → ComingAs c → Fine BegunAs (event_begun c)
   begun_fine c ok =
       subst (λ (n : Notices). Fine BegunAs (if_ok (attributes n.class 0 n.given c.notice c.store) (λ vs. turned (λ t. record { rank = c.ranked.rank; given = vs; store = t }) (saved_or_gone n.saved n.class c.notice c.store)))) (sym ok.ranked.said)
       (fine_then BegunAs (attributes e.class 0 (length e.given) c.notice c.store) (λ vs. turned (λ t. record { rank = c.ranked.rank; given = vs; store = t }) (saved_or_gone e.saved e.class c.notice c.store))

@@ -79,18 +79,18 @@ number_of (Text t) = Err Misfit
 -- ## Numbers
 
 -- what an operator makes of two numbers
-abbrev pub made : Operator → ℤ → ℤ → Result ℤ FaultKind
-made Add x y = plus_of x y
-made Subtract x y = minus_of x y
-made Multiply x y = times_of x y
-made Quotient x y = quotient_of x y
-made Remainder x y = remainder_of x y
-made Least x y = Ok (int_min x y)
-made Greatest x y = Ok (int_max x y)
+abbrev pub computed : Operator → ℤ → ℤ → Result ℤ FaultKind
+computed Add x y = plus_of x y
+computed Subtract x y = minus_of x y
+computed Multiply x y = times_of x y
+computed Quotient x y = quotient_of x y
+computed Remainder x y = remainder_of x y
+computed Least x y = Ok (int_min x y)
+computed Greatest x y = Ok (int_max x y)
 
 -- an operator applied to two values
 abbrev pub calculated : Operator → Value → Value → Result Value Trouble
-calculated op (Whole x) (Whole y) = turned Whole (due (made op x y))
+calculated op (Whole x) (Whole y) = turned Whole (due (computed op x y))
 calculated op (Whole x) (Text t) = Err Misfit
 calculated op (Text s) (Whole y) = Err Misfit
 calculated op (Text s) (Text t) = Err Misfit

@@ -7,7 +7,7 @@ use Rattle.ss_meaning.specs.Store.{Store}
 use Rattle.ss_meaning.specs.Values.{lines_with, take_all}
 use Rattle.ss_machine_world.specs.Seen.{with_seen}
 use Rattle.ss_code_instructions.specs.declared.instruction.Instruction.TheVariants.{Print}
-use Rattle.ss_code_instructions.specs.States.{Taken, take_off, core_of as core_with}
+use Rattle.ss_code_instructions.specs.States.{Taken, take_off, core_with}
 use Rattle.ss_code_instructions.specs.Machine.{is_due, shown_items}
 use Rattle.ss_machine_instructions.specs.Holding.{core_of, frames_of, store_of}
 use Rattle.ss_machine_steps.specs.Sent.{TookPart}
