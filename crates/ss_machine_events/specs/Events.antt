@@ -51,8 +51,8 @@ IsNextEvent old new None = ((s : Store) → next_event (with_seen s old) ≡ Non
 IsNextEvent old new (Some c) = (s : Store) → next_event (with_seen s old) ≡ Some (coming_meant c (ties_at new.notices c.rank) (with_seen s new))
 
 -- what is seen once the notice that comes next was taken out, at its time
-abbrev pub passed : (time : ℤ) → Seen → Seen
-passed t e = record e { time = t; pending = after_next e.pending }
+abbrev pub time_passed : (time : ℤ) → Seen → Seen
+time_passed t e = record e { time = t; pending = after_next e.pending }
 
 -- the time of what comes next, or else the time now
 abbrev pub time_next : Option (ℤ × ℤ) → (now : ℤ) → ℤ

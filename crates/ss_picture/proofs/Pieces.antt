@@ -9,7 +9,7 @@ use Rattle.ss_picture.specs.declared.field.Field.{Field}
 use Rattle.ss_picture.specs.declared.items.FieldValue.{FieldValue}
 use Rattle.ss_picture.specs.declared.items.FieldValue.TheVariants.{Is, Mean}
 use Rattle.ss_picture.specs.Numerals.{whole_text, mean_text}
-use Rattle.ss_picture.specs.Pictures.{Piece, Literal, Slot, stars, leading_field, decimals_at, characters, byte_before, pieces_after, pieces_of, fields_among, picture_fields, at_right, at_left, shown, joined, filled}
+use Rattle.ss_picture.specs.Pictures.{Piece, Literal, Slot, stars, leading_field, decimals_at, characters, byte_before, pieces_after, pieces_of, fields_among, picture_fields, at_right, at_left, shown_characters, joined, filled}
 use Rattle.ss_picture.specs.Suited.{Suits, EachSuits}
 use Rattle.ss_picture.specs.Fields.{starts_among, starts}
 use Rattle.ss_picture.proofs.Stars.{chosen_some, field_some, length-characters_of, characters_at}
@@ -123,10 +123,10 @@ length-at_left own text =
     (λ fits. let within : length text ≤ length own = leb-true _ _ fits in simp (length-append, length-replicate) (omega arith))
     (λ _. refl)
 
-pub length-shown : (own : List ℕ) (decimals : ℕ) (item : FieldValue) → length (shown own decimals item) ≡ length own
-length-shown own decimals (Is (Whole number)) = length-at_right own (whole_text number)
-length-shown own decimals (Is (Text bytes)) = length-at_left own bytes
-length-shown own decimals (Mean sum number) = length-at_right own (mean_text decimals sum number)
+pub length-shown_characters : (own : List ℕ) (decimals : ℕ) (item : FieldValue) → length (shown_characters own decimals item) ≡ length own
+length-shown_characters own decimals (Is (Whole number)) = length-at_right own (whole_text number)
+length-shown_characters own decimals (Is (Text bytes)) = length-at_left own bytes
+length-shown_characters own decimals (Mean sum number) = length-at_right own (mean_text decimals sum number)
 
 -- ---- the place of a field
 
@@ -172,16 +172,16 @@ next_has_its_own before place (Slot field ∷ rest) [] k d wide at inside given 
 next_has_its_own before place (Slot field ∷ rest) (first ∷ items) zero d wide at inside given =
     part_between before (characters field) (joined rest []) place field.width at wide.0
 next_has_its_own before place (Slot field ∷ rest) (first ∷ items) (suc k) d wide at inside given =
-    let own : List ℕ = shown (characters field) field.decimals first in
+    let own : List ℕ = shown_characters (characters field) field.decimals first in
     let further : length (before ++ own) ≡ place + field.width =
-    length-append before own ∙ (ap (λ n. n + length own) at ∙ ap (λ n. place + n) (length-shown (characters field) field.decimals first ∙ wide.0))
+    length-append before own ∙ (ap (λ n. n + length own) at ∙ ap (λ n. place + n) (length-shown_characters (characters field) field.decimals first ∙ wide.0))
     in
     ap (λ line. take (get_or (fields_among rest) k d).width (drop (get_or (starts_among (place + field.width) rest) k 0) line)) (sym (append_assoc before own (joined rest (take k items))))
     ∙ next_has_its_own (before ++ own) (place + field.width) rest items k d wide.1 further (omega arith) (omega arith)
 
 -- what the next field shows of an item
 abbrev pub shown_in : Field → FieldValue → List ℕ
-shown_in field item = shown (characters field) field.decimals item
+shown_in field item = shown_characters (characters field) field.decimals item
 
 -- with one item more, the next field is written over
 pub joined_with_one_more : (before : List ℕ) (place : ℕ) (pieces : List Piece) (items : List FieldValue) (k : ℕ) (item : FieldValue) (d : Field)
@@ -204,7 +204,7 @@ joined_with_one_more before place (Slot field ∷ rest) (first ∷ items) zero i
 joined_with_one_more before place (Slot field ∷ rest) (first ∷ items) (suc k) item d wide at inside given is =
     let own : List ℕ = shown_in field first in
     let further : length (before ++ own) ≡ place + field.width =
-    length-append before own ∙ (ap (λ n. n + length own) at ∙ ap (λ n. place + n) (length-shown (characters field) field.decimals first ∙ wide.0))
+    length-append before own ∙ (ap (λ n. n + length own) at ∙ ap (λ n. place + n) (length-shown_characters (characters field) field.decimals first ∙ wide.0))
     in
     let step = joined_with_one_more (before ++ own) (place + field.width) rest items k item d wide.1 further (omega arith) (omega arith) is in
     let start : ℕ = get_or (starts_among (place + field.width) rest) k 0 in
@@ -255,7 +255,7 @@ read_known items known k read d is inside reads =
 pub fill_next : (picture line new : List ℕ) (items : List FieldValue) (k start : ℕ) (field : Field) (item : FieldValue)
     → k < length (picture_fields picture) → k < length items → line ≡ filled picture (take k items)
     → item ≡ get_or items k item → start ≡ get_or (starts picture) k 0 → field ≡ get_or (picture_fields picture) k field
-    → new ≡ shown (take (start + field.width - start) (drop start line)) field.decimals item
+    → new ≡ shown_characters (take (start + field.width - start) (drop start line)) field.decimals item
     → put_mid start (start + field.width - start) line new ≡ filled picture (take (k + 1) items)
 fill_next picture line new items k start field item inside given before is start_is field_is new_is =
     let step = filled_with_one_more picture items k item field inside given is in

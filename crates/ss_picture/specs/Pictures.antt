@@ -105,17 +105,17 @@ at_left own text = if_it_fits own text (text ++ blanks_beside (length own) text)
 
 -- what a field of these characters and so many decimals shows of an item: a whole number and a mean to the right, a mean
 -- with its decimals, a text to the left
-abbrev pub shown : List ℕ → ℕ → FieldValue → List ℕ
-shown own decimals (Is (Whole number)) = at_right own (whole_text number)
-shown own decimals (Is (Text bytes)) = at_left own bytes
-shown own decimals (Mean sum number) = at_right own (mean_text decimals sum number)
+abbrev pub shown_characters : List ℕ → ℕ → FieldValue → List ℕ
+shown_characters own decimals (Is (Whole number)) = at_right own (whole_text number)
+shown_characters own decimals (Is (Text bytes)) = at_left own bytes
+shown_characters own decimals (Mean sum number) = at_right own (mean_text decimals sum number)
 
 -- these pieces one after another, an item in each field; a field without an item stays as it is
 abbrev pub joined : List Piece → List FieldValue → List ℕ
 joined [] items = []
 joined (Literal bytes ∷ rest) items = bytes ++ joined rest items
 joined (Slot field ∷ rest) [] = characters field ++ joined rest []
-joined (Slot field ∷ rest) (item ∷ items) = shown (characters field) field.decimals item ++ joined rest items
+joined (Slot field ∷ rest) (item ∷ items) = shown_characters (characters field) field.decimals item ++ joined rest items
 
 -- the line of a picture with these items in its fields, without a line end
 unfoldable pub filled : List ℕ → List FieldValue → List ℕ

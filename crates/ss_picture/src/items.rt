@@ -1,5 +1,5 @@
 ghost use Rattle.std.specs.Prelude.{◌≡◌, ℕ, length, nat_le};
-ghost use Rattle.ss_picture.specs.Pictures.{at_right as right, at_left as left, shown};
+ghost use Rattle.ss_picture.specs.Pictures.{at_right as right, at_left as left, shown_characters};
 ghost use Rattle.ss_picture.specs.Suited.{Suits};
 ghost use Rattle.ss_picture.specs.declared.items.FieldValue.TheVariants.{Is};
 
@@ -22,7 +22,7 @@ pub enum FieldValue {
 // Writes an item to its field, which has so many decimals.
 pub(crate) fn fill_field(field: &mut [u8], decimals: usize, item: &FieldValue)
     requires { Suits decimals item.now }
-    ensures { field.new ≡ shown field.old decimals item.now }
+    ensures { field.new ≡ shown_characters field.old decimals item.now }
 {
     match item {
         FieldValue::Is(value) => fill_value(field, value),
@@ -33,7 +33,7 @@ pub(crate) fn fill_field(field: &mut [u8], decimals: usize, item: &FieldValue)
 // Writes a value to its field: a whole number to the right end, a text to the left.
 #[tactic(auto, using(crate::proofs::Decimal::whole_text_is_signed_decimal))]
 fn fill_value(field: &mut [u8], value: &Value)
-    ensures { (decimals : ℕ) → field.new ≡ shown field.old decimals (Is value.now) }
+    ensures { (decimals : ℕ) → field.new ≡ shown_characters field.old decimals (Is value.now) }
 {
     match value {
         Value::Whole(number) => at_right(field, Buffer::new().format(*number).as_bytes()),

@@ -14,9 +14,9 @@ abbrev pub row_at : List (List ℕ) → ℕ → List ℕ
 row_at rows k = row_or_empty (slice_get rows k)
 
 -- the places in a list of the items that pass a test
-abbrev pub places : {X : Type 0} → (X → Bool) → List X → List ℕ
-places test [] = []
-places test (x ∷ xs) = if test x then 0 ∷ map suc (places test xs) else map suc (places test xs)
+abbrev pub places_where : {X : Type 0} → (X → Bool) → List X → List ℕ
+places_where test [] = []
+places_where test (x ∷ xs) = if test x then 0 ∷ map suc (places_where test xs) else map suc (places_where test xs)
 
 -- whether a statistic is about a subject
 abbrev pub is_about : Subject → Statistic → Bool

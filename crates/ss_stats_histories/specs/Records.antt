@@ -18,7 +18,7 @@ use Rattle.ss_stats.specs.History.{History, last_moment, number_of, sum_of, mean
 use Rattle.ss_meaning.specs.Values.{Trouble, Fails, Misfit, turned, due}
 use Rattle.ss_meaning.specs.Store.{Column}
 use Rattle.ss_meaning.specs.Histories.{history_of, with_history, all_noting, home, same_owner, starting, ending}
-use Rattle.ss_stats_histories.specs.Places.{places, is_about}
+use Rattle.ss_stats_histories.specs.Places.{places_where, is_about}
 use Rattle.ss_stats_histories.specs.declared.unnoted.Unnoted.{Unnoted}
 use Rattle.ss_stats_histories.specs.declared.unnoted.Unnoted.TheVariants.{Full}
 use Rattle.ss_stats_histories.specs.declared.unnoted.Unnoted.TheVariants as unnoted
@@ -147,7 +147,7 @@ Takes subject x now ss cs = (n : ℤ) → (ds : List Column) × (all_noting subj
 
 -- the statistic at a place is the only one of N. of a set
 abbrev pub IsOnly : (set place : ℕ) → List Statistic → Type 0
-IsOnly set place ss = places (is_about (OfCount set)) ss ≡ place ∷ []
+IsOnly set place ss = places_where (is_about (OfCount set)) ss ≡ place ∷ []
 
 -- why a value is not noted
 abbrev pub why : Unnoted → Trouble

@@ -17,7 +17,7 @@ ghost use Rattle.ss_meaning.specs.Values.{if_ok, sure};
 ghost use Rattle.ss_meaning.specs.Histories.{no_histories, starting, ending, all_noting, history_of, folded, renewed};
 ghost use Rattle.ss_stats_histories.specs.Records.{columns_of, statistics_of, rows_of, figured, mean_in, HasRooms, IsOnly, OwnsNone, HasNoHistories, Takes, is_up_to, why, renewed_where};
 ghost use Rattle.ss_stats_histories.specs.Each.{KeptUntil};
-ghost use Rattle.ss_stats_histories.specs.Places.{is_about, places as places_of};
+ghost use Rattle.ss_stats_histories.specs.Places.{is_about, places_where as places_of};
 
 use crate::about::About;
 use crate::each;
