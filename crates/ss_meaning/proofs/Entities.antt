@@ -16,7 +16,7 @@ use Rattle.ss_base.specs.declared.layout.ClassLayout.{ClassLayout}
 use Rattle.ss_base.specs.declared.value.Value.{Value}
 use Rattle.ss_base.specs.declared.value.Value.TheVariants.{Whole, Text}
 use Rattle.ss_base.specs.Layout.{mode_of}
-use Rattle.ss_world.specs.State.{Record, State, kind_of, modes_of, known_in, no_value, entity as entity_in, time_in, assigned, created, created_all, destroyed, is_made, value_in}
+use Rattle.ss_world.specs.State.{Record, State, kind_of, modes_of, known_in, no_value, entity_in, time_in, assigned, created, created_all, destroyed, is_made, value_in}
 use Rattle.ss_world.specs.PendingNotice.{PendingNotice}
 use Rattle.ss_world.specs.PendingList.{is_pending}
 use Rattle.ss_program.specs.declared.expression.Variable.{Variable}

@@ -16,7 +16,7 @@ use Rattle.ss_base.specs.declared.layout.Discipline.TheVariants.{Fifo, Lifo, Ran
 use Rattle.ss_base.specs.declared.value.Value.{Value}
 use Rattle.ss_base.specs.declared.value.Value.TheVariants.{Whole, Text}
 use Rattle.ss_base.specs.Layout.{mode_of}
-use Rattle.ss_world.specs.State.{State, modes_of, members_of, entity as entity_in, number_in}
+use Rattle.ss_world.specs.State.{State, modes_of, members_of, entity_in, number_in}
 use Rattle.ss_world.specs.Sets.{member_class, owner_kind, owner_by as owner_of_kind, joiner, owner, first_in, last_in, count_in, next_in, previous_in, owner_of_member, filed_first, filed_last, filed_before, filed_after, removed}
 use Rattle.ss_world.specs.Disciplines.{member_test, filed}
 use Rattle.ss_program.specs.declared.expression.Fold.{Fold}

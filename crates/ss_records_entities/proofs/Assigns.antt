@@ -16,7 +16,7 @@ use Rattle.ss_base.specs.declared.layout.Layout.{Layout}
 use Rattle.ss_base.specs.Layout.{mode_of}
 use Rattle.ss_records_blocks.specs.declared.store.Address.{Address}
 use Rattle.ss_records_blocks.specs.Cells.{Word, number, Cells, IsNumber, MayBeNumber, words_at, word_of, word_at, with_word, put_word}
-use Rattle.ss_world.specs.State.{Record, State, Members, and_then, entity, numbered, of_notice, notice, value_in, time_in, number_in, kind_in, kind_of, modes_of, is_notice, with_value, with_time, with_indexed, with_entity, with_entity_of_kind, assigned, timed}
+use Rattle.ss_world.specs.State.{Record, State, Members, and_then, entity_in, numbered, of_notice, notice, value_in, time_in, number_in, kind_in, kind_of, modes_of, is_notice, with_value, with_time, with_indexed, with_entity, with_entity_of_kind, assigned, timed}
 use Rattle.ss_records_words.specs.Shape.{values_end, links_start}
 use Rattle.ss_records_words.specs.Reading.{plain, class_of, record_of, record_at, records_at, value_at, put_two, PutsValue}
 use Rattle.ss_records_blocks.specs.Writes.{Written}
@@ -131,7 +131,7 @@ module _ (l : Layout) (cs : Cells) (sys : Ptr) (d : Directory) (ms : List Member
     }
 
   -- the attribute f, whose words begin at k
-  module _ (c : ℕ) (is : class_at_place cs p ≡ c) (x : ℤ) (at : x ≡ pos (suc i)) (found : entity (state_of l cs d ms) c x ≡ Ok (record_of l (words_at cs p.at))) (f k : ℕ) (start : k ≡ 2 + 2 * f) where
+  module _ (c : ℕ) (is : class_at_place cs p ≡ c) (x : ℤ) (at : x ≡ pos (suc i)) (found : entity_in (state_of l cs d ms) c x ≡ Ok (record_of l (words_at cs p.at))) (f k : ℕ) (start : k ≡ 2 + 2 * f) where
     module _ (m : Mode) (mode : slice_get (modes_of l c) f ≡ Some m) where
       field_in : k + 1 < links_start l (class_at_place cs p)
       field_in = rw is (omega (arith, start, get_inside (modes_of l c) f m mode))

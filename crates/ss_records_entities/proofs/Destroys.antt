@@ -7,7 +7,7 @@ use Rattle.ss_base.specs.declared.layout.SetLayout.{SetLayout}
 use Rattle.ss_base.specs.declared.layout.Owner.TheVariants.{Class}
 use Rattle.ss_records_blocks.specs.declared.store.Address.{Address}
 use Rattle.ss_records_blocks.specs.Cells.{Cells, words_at, word_of, without_block}
-use Rattle.ss_world.specs.State.{Members, members_of, kind_of, and_then, entity, number_in, in_a_set, owns_members, let_go, destroyed}
+use Rattle.ss_world.specs.State.{Members, members_of, kind_of, and_then, entity_in, number_in, in_a_set, owns_members, let_go, destroyed}
 use Rattle.ss_records_words.specs.Shape.{block_words}
 use Rattle.ss_records_words.specs.Reading.{class_of, record_of, record_at, records_at}
 use Rattle.ss_records_words.specs.Kept.{Kept, Formed, IsPermanent, state_of}
@@ -117,7 +117,7 @@ module _ (l : Layout) (cs : Cells) (sys : Ptr) (d : Directory) (ms : List Member
   permanents_kept : map (records_at l ds) d.classes ≡ map (records_at l cs) d.classes
   permanents_kept = made_same l cs ds d.classes (λ j q h. ap (record_of l) (words_without cs p.at q.at (not_made j q h)))
 
-  pub is_destroyed : (c : ℕ) (x : ℤ) → x ≡ pos (suc i) → entity (state_of l cs d ms) c x ≡ Ok (record_of l (words_at cs p.at)) → in_a_set l.sets 0 ms c (suc i) ≡ false → owns_members l.sets 0 ms c (suc i) ≡ false
+  pub is_destroyed : (c : ℕ) (x : ℤ) → x ≡ pos (suc i) → entity_in (state_of l cs d ms) c x ≡ Ok (record_of l (words_at cs p.at)) → in_a_set l.sets 0 ms c (suc i) ≡ false → owns_members l.sets 0 ms c (suc i) ≡ false
       → destroyed (state_of l cs d ms) c x ≡ Ok (state_of l ds e ms)
   is_destroyed c x at found not_it none =
       let n : number_in x ≡ suc i = ap number_in at in
@@ -125,12 +125,12 @@ module _ (l : Layout) (cs : Cells) (sys : Ptr) (d : Directory) (ms : List Member
       ap (λ r. and_then r (λ r. let_go (state_of l cs d ms) c (number_in x))) found
       ∙ rw (n, not_it, none, k) (λ z. Ok (record (state_of l cs d ms) { records = sym records_destroyed z; permanents = sym permanents_kept z }))
 
-  pub in_a_set_is : (c : ℕ) (x : ℤ) → x ≡ pos (suc i) → entity (state_of l cs d ms) c x ≡ Ok (record_of l (words_at cs p.at)) → in_a_set l.sets 0 ms c (suc i) ≡ true → destroyed (state_of l cs d ms) c x ≡ Err InASet
+  pub in_a_set_is : (c : ℕ) (x : ℤ) → x ≡ pos (suc i) → entity_in (state_of l cs d ms) c x ≡ Ok (record_of l (words_at cs p.at)) → in_a_set l.sets 0 ms c (suc i) ≡ true → destroyed (state_of l cs d ms) c x ≡ Err InASet
   in_a_set_is c x at found is_it =
       let n : number_in x ≡ suc i = ap number_in at in
       ap (λ r. and_then r (λ r. let_go (state_of l cs d ms) c (number_in x))) found ∙ rw (n, is_it) refl
 
-  pub owns_members_is : (c : ℕ) (x : ℤ) → x ≡ pos (suc i) → entity (state_of l cs d ms) c x ≡ Ok (record_of l (words_at cs p.at)) → in_a_set l.sets 0 ms c (suc i) ≡ false → owns_members l.sets 0 ms c (suc i) ≡ true → destroyed (state_of l cs d ms) c x ≡ Err OwnsMembers
+  pub owns_members_is : (c : ℕ) (x : ℤ) → x ≡ pos (suc i) → entity_in (state_of l cs d ms) c x ≡ Ok (record_of l (words_at cs p.at)) → in_a_set l.sets 0 ms c (suc i) ≡ false → owns_members l.sets 0 ms c (suc i) ≡ true → destroyed (state_of l cs d ms) c x ≡ Err OwnsMembers
   owns_members_is c x at found not_it is_it =
       let n : number_in x ≡ suc i = ap number_in at in
       ap (λ r. and_then r (λ r. let_go (state_of l cs d ms) c (number_in x))) found ∙ rw (n, not_it, is_it) refl

@@ -12,7 +12,7 @@ use Rattle.ss_records_blocks.specs.declared.store.Address.{Address}
 use Rattle.ss_records_entities.specs.declared.records.Records.{Records}
 use Rattle.ss_records_blocks.specs.declared.links.Entry.{Entry}
 use Rattle.ss_records_blocks.specs.Cells.{number, link, IsNumber, words_at, word_at}
-use Rattle.ss_world.specs.State.{members_of, modes_of, entity, value_in}
+use Rattle.ss_world.specs.State.{members_of, modes_of, entity_in, value_in}
 use Rattle.ss_world.specs.Sets.{member_class}
 use Rattle.ss_world.specs.Disciplines.{value_or_zero}
 use Rattle.ss_world.specs.Lists.{head0, succ, In, Distinct}
@@ -61,7 +61,7 @@ module _ (r : Records) (K : IsKept r) (s : ℕ) (q : Entry) (j : Joins r s q) (f
   place = let a = entry_of r.blocks.cells (places r) class q.number j.is in
       (a.0, a.1, a.2, listed (places r) class a.0 a.1 a.3, a.4, j.lies ∙ ap (entity_at r.system.at (places r) class) a.2 ∙ ap place_in a.3)
 
-  its_entity : entity (state r) class (pos q.number) ≡ Ok (record_of r.layout (words_at r.blocks.cells place.1.at))
+  its_entity : entity_in (state r) class (pos q.number) ≡ Ok (record_of r.layout (words_at r.blocks.cells place.1.at))
   its_entity = entity_is r.layout r.blocks.cells r.system.at (places r) r.notes.lists K class q.number place.0 place.1 place.2 place.4 place.3
 
   pub is_number : IsNumber (word_at r.blocks.cells q.place.at k)

@@ -10,7 +10,7 @@ use Rattle.ss_records_entities.specs.declared.records.Records.{Records}
 use Rattle.ss_records_blocks.specs.declared.store.Address.{Address}
 use Rattle.ss_records_blocks.specs.declared.links.Entry.{Entry}
 use Rattle.ss_records_blocks.specs.Cells.{number, link, word_at}
-use Rattle.ss_world.specs.State.{entity, kind_of, members_of}
+use Rattle.ss_world.specs.State.{entity_in, kind_of, members_of}
 use Rattle.ss_world.specs.Sets.{member_class}
 use Rattle.ss_world.specs.Lists.{In}
 use Rattle.ss_records_blocks.specs.Places.{Numbers}
@@ -40,7 +40,7 @@ numbered_at ps few (negsuc k) fits i is p h = absurd (omega (arith, ints, few, f
 pub found_numbered : (r : Records) (K : IsKept r) (c : ℕ) (x : ℤ) (p : Address) → numbered_place r.directory.places x ≡ Ok p → class_at_place r.blocks.cells p ≡ c → Found r c x p
 found_numbered r K c x p h k =
     let t = there r.directory.places x p h in
-    record { index = t.0; is = t.1; entry = inl t.2; class = k; entity = ap (entity (state r) c) t.1 ∙ entity_is r.layout r.blocks.cells r.system.at (places r) r.notes.lists K c (suc t.0) t.0 p refl k (inl t.2) }
+    record { index = t.0; is = t.1; entry = inl t.2; class = k; entity = ap (entity_in (state r) c) t.1 ∙ entity_is r.layout r.blocks.cells r.system.at (places r) r.notes.lists K c (suc t.0) t.0 p refl k (inl t.2) }
 
 pub comes_and_goes : (k : ClassKind) → is_permanent k ≡ false → IsPermanent k → ⊥
 comes_and_goes Permanent e p = cc

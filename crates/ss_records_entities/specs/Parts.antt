@@ -3,7 +3,7 @@ use Rattle.std.specs.Prelude.{◌≡◌, ℕ, suc, ℤ, pos, List, ◌∷◌, �
 use Rattle.ss_records_blocks.specs.declared.store.Address.{Address}
 use Rattle.ss_records_entities.specs.declared.records.Records.{Records}
 use Rattle.ss_records_blocks.specs.declared.links.Entry.{Entry}
-use Rattle.ss_world.specs.State.{State, Heaped, entity, notice, members_of}
+use Rattle.ss_world.specs.State.{State, Heaped, entity_in, notice, members_of}
 use Rattle.ss_world.specs.Sets.{member_class, owner_kind}
 use Rattle.ss_world.specs.Lists.{head0, last_or}
 use Rattle.ss_records_blocks.specs.Cells.{words_at}
@@ -31,7 +31,7 @@ pub record Found (r : Records) (c : ℕ) (x : ℤ) (p : Address) : Type 0 where
   pub is : x ≡ pos (suc index)
   pub entry : Lists (places r) index p
   pub class : class_at_place r.blocks.cells p ≡ c
-  pub entity : entity (state r) c x ≡ Ok (record_of r.layout (words_at r.blocks.cells p.at))
+  pub entity : entity_in (state r) c x ≡ Ok (record_of r.layout (words_at r.blocks.cells p.at))
 
 -- p is the place of the notice x
 pub record FoundNotice (r : Records) (x : ℤ) (p : Address) : Type 0 where

@@ -1,6 +1,6 @@
 // Where the block of an entity lies, by its number.
 ghost use Rattle.std.specs.Prelude.{◌≡◌, ◌<◌, length, MatchResult, IfSome, Ok, Err, slice_get};
-ghost use Rattle.ss_world.specs.State.{entity, notice, numbered, and_then, of_class, kind_of, is_notice};
+ghost use Rattle.ss_world.specs.State.{entity_in, notice, numbered, and_then, of_class, kind_of, is_notice};
 ghost use Rattle.ss_records_blocks.specs.Cells.{words_at};
 ghost use Rattle.ss_records_words.specs.Reading.{record_of};
 ghost use Rattle.ss_records_blocks.specs.Places.{row_in};
@@ -53,7 +53,7 @@ impl Records {
     pub fn find(&self, class: usize, r: i64) -> Result<Address, FaultKind>
         requires kept { IsKept self.now }
         requires class { class < length self.now.layout.classes }
-        ensures found { MatchResult result (λ p. Found self.now class r p) (λ e. entity (state self.now) class r ≡ Err e) }
+        ensures found { MatchResult result (λ p. Found self.now class r p) (λ e. entity_in (state self.now) class r ≡ Err e) }
     {
         match self.layout.kind(class) {
             ClassKind::Permanent => self.indexed(class, r),
@@ -67,7 +67,7 @@ impl Records {
         requires kept { IsKept self.now }
         requires class { class < length self.now.layout.classes }
         requires kind { IsPermanent (kind_of self.now.layout class) → ⊥ }
-        ensures found { MatchResult result (λ p. Found self.now class r p) (λ e. entity (state self.now) class r ≡ Err e) }
+        ensures found { MatchResult result (λ p. Found self.now class r p) (λ e. entity_in (state self.now) class r ≡ Err e) }
     {
         self.of_class(class, r)
     }

@@ -10,7 +10,7 @@ use Rattle.ss_base.specs.declared.layout.Owner.TheVariants.{System, Class}
 use Rattle.ss_base.specs.Layout.{is_sound}
 use Rattle.ss_records_blocks.specs.declared.store.Address.{Address}
 use Rattle.ss_records_blocks.specs.Cells.{Word, number, Cells, IsNumber, words_at, word_of}
-use Rattle.ss_world.specs.State.{Record, State, Members, entity, kind_of, modes_of}
+use Rattle.ss_world.specs.State.{Record, State, Members, entity_in, kind_of, modes_of}
 use Rattle.ss_records_words.specs.Shape.{links_start, block_words}
 use Rattle.ss_records_words.specs.Reading.{record_at, records_at}
 use Rattle.ss_records_blocks.specs.Places.{Numbers, living_count}
@@ -24,7 +24,7 @@ is_here (Err e) = ⊥
 
 -- whether there is an entity n of a class
 abbrev pub IsLivingEntity : State → ℕ → ℕ → Type 0
-IsLivingEntity st c n = is_here (entity st c (pos n))
+IsLivingEntity st c n = is_here (entity_in st c (pos n))
 
 abbrev pub IsPermanent : ClassKind → Type 0
 IsPermanent Permanent = Unit {0}
