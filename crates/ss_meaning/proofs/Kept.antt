@@ -21,7 +21,8 @@ use Rattle.ss_program.specs.declared.sections.Subject.TheVariants.{OfVariable, O
 use Rattle.ss_program.specs.declared.sections.Statistic.{Statistic}
 use Rattle.ss_meaning.specs.Values.{sure, turned, unless_fault, number_of}
 use Rattle.ss_meaning.specs.Store.{Column}
-use Rattle.ss_meaning.specs.Histories.{same_subject, same_owner, home, at_start, begun_in, starting, ended_in, ending, with_history, noting_in, noting, all_noting, history_in, history_of, renewed}
+use Rattle.ss_base.specs.Layout.{same_owner}
+use Rattle.ss_meaning.specs.Histories.{same_subject, home, at_start, begun_in, starting, ended_in, ending, with_history, noting_in, noting, all_noting, history_in, history_of, renewed}
 use Rattle.ss_meaning.specs.Fitting.{made, IsIndex, living, LivesAs, Lives, BearsBy, Bears, Has, IsKept, HistoriesFit}
 use Rattle.ss_meaning.proofs.Fine.{Fine, Any, fine_then, fine_turned, unless_fine}
 use Rattle.ss_meaning.proofs.Heaps.{Same, Gone}

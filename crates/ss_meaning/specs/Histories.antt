@@ -4,6 +4,7 @@ use Rattle.std.specs.Ordering.{int_eq}
 use Rattle.ss_base.specs.declared.fault.FaultKind.TheVariants.{Overflow}
 use Rattle.ss_base.specs.declared.value.Value.{Value}
 use Rattle.ss_base.specs.declared.value.Value.TheVariants.{Whole}
+use Rattle.ss_base.specs.Layout.{same_owner}
 use Rattle.ss_base.specs.declared.layout.Owner.{Owner}
 use Rattle.ss_base.specs.declared.layout.Owner.TheVariants.{System, Class}
 use Rattle.ss_base.specs.declared.layout.Layout.{Layout}
@@ -37,12 +38,6 @@ abbrev pub home : Layout → Subject → Owner
 home l (OfVariable k) = System
 home l (OfAttribute class field) = Class class
 home l (OfCount set) = owner_kind l set
-
-abbrev pub same_owner : Owner → Owner → Bool
-same_owner System System = true
-same_owner System (Class d) = false
-same_owner (Class c) System = false
-same_owner (Class c) (Class d) = c == d
 
 -- a history as it starts, with the value 0
 abbrev pub at_start : Weighting → (now : ℤ) → History

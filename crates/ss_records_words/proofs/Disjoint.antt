@@ -11,7 +11,8 @@ use Rattle.ss_base.specs.declared.layout.Layout.{Layout}
 use Rattle.ss_records_blocks.specs.declared.store.Address.{Address}
 use Rattle.ss_records_blocks.specs.Cells.{Word, Cells, words_at, put_word}
 use Rattle.ss_world.specs.State.{Members}
-use Rattle.ss_records_words.specs.Shape.{links_start, owned_start, block_words, joins, owned_by, same_owner, count_before, count_sets}
+use Rattle.ss_base.specs.Layout.{same_owner}
+use Rattle.ss_records_words.specs.Shape.{links_start, owned_start, block_words, joins, owned_by, count_before, count_sets}
 use Rattle.ss_records_words.specs.Places.{Directory, listing, Lists, place_in, entity_at, owner_at, class_at_place}
 use Rattle.ss_records_words.specs.Kept.{Kept}
 use Rattle.ss_records_words.specs.Links.{Grounds, OfMember, OfOwner}

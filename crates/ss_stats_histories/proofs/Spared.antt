@@ -7,7 +7,8 @@ use Rattle.ss_base.specs.declared.layout.Owner.TheVariants.{System, Class}
 use Rattle.ss_base.specs.declared.layout.Layout.{Layout}
 use Rattle.ss_program.specs.declared.sections.Subject.{Subject}
 use Rattle.ss_program.specs.declared.sections.Subject.TheVariants.{OfVariable, OfAttribute, OfCount}
-use Rattle.ss_meaning.specs.Histories.{home, same_owner, same_subject, starting, ending}
+use Rattle.ss_base.specs.Layout.{same_owner}
+use Rattle.ss_meaning.specs.Histories.{home, same_subject, starting, ending}
 use Rattle.ss_stats_histories.specs.Places.{is_about, places_where, cell_at}
 use Rattle.ss_stats_histories.specs.Records.{Recorded, Records, column_of, columns_of, statistics_of, rows_of, rooms_of, is_home, HasRooms, OwnsNone, HasNoHistories}
 
