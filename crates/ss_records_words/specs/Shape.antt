@@ -1,6 +1,6 @@
 -- Where the words of a block are: class, number, two for each value, the time of a notice, then three words
 -- for each set that the class may join, then three for each set that it owns.
-use Rattle.std.specs.Prelude.{ℕ, zero, suc, ◌+◌, ◌*◌, Bool, true, ◌==◌, cond, List, [], ◌∷◌, length}
+use Rattle.std.specs.Prelude.{ℕ, zero, suc, ◌+◌, ◌*◌, Bool, ◌==◌, cond, List, [], ◌∷◌, length}
 use Rattle.ss_base.specs.Layout.{same_owner}
 use Rattle.ss_base.specs.declared.layout.Owner.{Owner}
 use Rattle.ss_base.specs.declared.layout.Owner.TheVariants.{System, Class}
