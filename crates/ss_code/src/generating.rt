@@ -33,7 +33,11 @@ fn joined(alloc: Global, first: &[Mode], second: &[Mode]) -> Result<Vec<Mode>, A
 }
 
 // A routine that begins at a place.
-fn entry_of_routine(alloc: Global, place: usize, routine: &Routine) -> Result<EntryPoint, AllocError>
+fn entry_of_routine(
+    alloc: Global,
+    place: usize,
+    routine: &Routine,
+) -> Result<EntryPoint, AllocError>
     ensures { IfOk result (λ entry. entry ≡ routine_entry place (view_routine routine.now)) }
 {
     let given = Vec::from_slice(alloc, &routine.given)?;

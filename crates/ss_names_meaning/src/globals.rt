@@ -70,7 +70,10 @@ fn counted_variable(
 }
 
 /// N. of each permanent class.
-pub(crate) fn resolve_counts(alloc: Global, names: &Names) -> Result<Vec<CountedClass>, ResolveError>
+pub(crate) fn resolve_counts(
+    alloc: Global,
+    names: &Names,
+) -> Result<Vec<CountedClass>, ResolveError>
     ensures { Gives (λ v. v.items) result (counts names.now) }
 {
     let mut resolved = Vec::new(alloc);

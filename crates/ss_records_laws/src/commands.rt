@@ -122,7 +122,11 @@ pub enum CommandAnswer {
 
 /// Makes calls in turn, and answers what each answered. A call that is refused with a fault leaves all as it was.
 /// Where memory is refused, the first of the calls were made, and no other.
-pub fn run(heap: &mut Heap, alloc: Global, commands: &[Command]) -> Result<Vec<CommandAnswer>, AllocError>
+pub fn run(
+    heap: &mut Heap,
+    alloc: Global,
+    commands: &[Command],
+) -> Result<Vec<CommandAnswer>, AllocError>
     requires { All (FitsCommand heap.old.state.layout) commands.now }
     ensures answers { IfOk result (λ answers. answers.items ≡ command_answers commands.now heap.old.state) }
     ensures state { OnOk result (heap.new.state ≡ after_commands commands.now heap.old.state) }

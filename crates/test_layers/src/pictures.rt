@@ -53,7 +53,13 @@ fn have_shapes(fields: &[Field], shapes: &[Shape]) -> bool {
 }
 
 // Whether a picture has these fields, and gives this line with these values.
-fn gives(alloc: Global, picture: &Picture, shapes: &[Shape], items: &[FieldValue], line: &[u8]) -> bool {
+fn gives(
+    alloc: Global,
+    picture: &Picture,
+    shapes: &[Shape],
+    items: &[FieldValue],
+    line: &[u8],
+) -> bool {
     let fields = picture.fields();
     if !have_shapes(fields, shapes) || fields.len() != items.len() || !are_plain(fields, items) {
         return false;
@@ -65,7 +71,13 @@ fn gives(alloc: Global, picture: &Picture, shapes: &[Shape], items: &[FieldValue
 }
 
 // Whether the picture of these bytes does.
-fn is_line(alloc: Global, bytes: &[u8], shapes: &[Shape], items: &[FieldValue], line: &[u8]) -> bool {
+fn is_line(
+    alloc: Global,
+    bytes: &[u8],
+    shapes: &[Shape],
+    items: &[FieldValue],
+    line: &[u8],
+) -> bool {
     match Picture::of(alloc, bytes) {
         Ok(picture) => gives(alloc, &picture, shapes, items, line),
         Err(_) => false,

@@ -1,7 +1,7 @@
 use crate::base::{ClassRow, laid_out};
 use ss_base::{Alpha, ClassKind, FaultKind, Layout, Mode, Owner, Refused, SetLayout, Value};
 use ss_records::Heap;
-use ss_records_laws::{CommandAnswer, Command};
+use ss_records_laws::{Command, CommandAnswer};
 use std::alloc::{AllocError, Global};
 use std::rt::HostRuntime;
 

@@ -191,7 +191,10 @@ fn a_tally_counts_and_sums(rt: HostRuntime) {
 // A picture with these items, one for each of its fields.
 fn filled(alloc: Global, picture: &Picture, number: i64) -> Result<Vec<u8>, AllocError> {
     match picture.fields() {
-        [field] if field.decimals == 0 => picture.fill(alloc, &[FieldValue::Is(Value::Whole(number))]),
+        [field] if field.decimals == 0 => picture.fill(
+            alloc,
+            &[FieldValue::Is(Value::Whole(number))],
+        ),
         _ => Err(AllocError),
     }
 }

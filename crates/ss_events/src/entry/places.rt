@@ -695,7 +695,12 @@ fn make_twice_the_cells(
 }
 
 // A directory of so many cells that leads to each slot that is taken.
-fn noted(alloc: Global, slots: &[Slot], count: usize, cells: usize) -> Result<SlotDirectory, AllocError>
+fn noted(
+    alloc: Global,
+    slots: &[Slot],
+    count: usize,
+    cells: usize,
+) -> Result<SlotDirectory, AllocError>
     requires { AreDistinct count slots.now }
     ensures { IfOk result (λ d. AreLed d count slots.now) }
 {
