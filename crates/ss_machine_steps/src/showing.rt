@@ -2,7 +2,7 @@
 
 ghost use Rattle.std.specs.Prelude.{◌≡◌, Some, None, drop, IfSome, OnOk, IsErrOf};
 ghost use Rattle.std.specs.List.{AllByRecursion};
-ghost use Rattle.ss_code_instructions.specs.Machine.{mean_item, shown_items};
+ghost use Rattle.ss_code_instructions.specs.Machine.{mean_item, values_shown};
 ghost use Rattle.ss_meaning.specs.Statistics.{mean};
 ghost use Rattle.ss_meaning.specs.Store.{Store};
 ghost use Rattle.ss_machine_world.specs.Seen.{with_seen};
@@ -98,9 +98,9 @@ pub(crate) fn show(
     values: &[Value],
     scene: &mut Scene,
 ) -> Result<(), Unshown>
-    ensures shown_items { OnOk result ((s : Store) → shown_items kinds.now values.now (with_seen s scene.old) ≡ Some items.new.items) }
+    ensures values_shown { OnOk result ((s : Store) → values_shown kinds.now values.now (with_seen s scene.old) ≡ Some items.new.items) }
     ensures printable { OnOk result (AllByRecursion IsPrintable items.new.items) }
-    ensures missing { IsErrOf result Unshown.Missing → (s : Store) → shown_items kinds.now values.now (with_seen s scene.old) ≡ None }
+    ensures missing { IsErrOf result Unshown.Missing → (s : Store) → values_shown kinds.now values.now (with_seen s scene.old) ≡ None }
     ensures same { scene.new ≡ scene.old }
 {
     items.clear();
