@@ -1,5 +1,5 @@
 -- Modes, and the classes that sets name.
-use Rattle.std.specs.Prelude.{ℕ, Bool, true, ◌&&◌, nat_le, nat_lt, pos, List, [], length, Option, Some, None, if◌then◌else◌}
+use Rattle.std.specs.Prelude.{ℕ, Bool, true, false, ◌&&◌, ◌==◌, nat_le, nat_lt, pos, List, [], length, Option, Some, None, if◌then◌else◌}
 use Rattle.std.specs.List.{list_all}
 use Rattle.ss_base.specs.declared.value.Value.{Value}
 use Rattle.ss_base.specs.declared.value.Value.TheVariants.{Whole, Text}
@@ -19,6 +19,13 @@ mode_of (Text _) = Alpha
 abbrev pub first_value : Mode → Value
 first_value Integer = Whole (pos 0)
 first_value Alpha = Text []
+
+-- whether two owners are one
+abbrev pub same_owner : Owner → Owner → Bool
+same_owner System System = true
+same_owner System (Class d) = false
+same_owner (Class c) System = false
+same_owner (Class c) (Class d) = c == d
 
 -- whether an owner is THE SYSTEM or one of so many classes
 abbrev pub owns_among : ℕ → Owner → Bool

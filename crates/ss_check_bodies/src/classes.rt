@@ -6,7 +6,7 @@ ghost use Rattle.ss_names_meaning.specs.Contexts.{counted, if_notice, if_permane
 
 use ss_base::{ClassKind, Name};
 use ss_names_meaning::{ClassMeant, ResolveError, Scope};
-use ss_program::statement::Counted;
+use ss_program::statement::CountedClass;
 use std::alloc::Global;
 
 // A class whose entities are made one by one.
@@ -67,12 +67,12 @@ pub(crate) fn permanent_class<S: Scope>(scope: &S, name: Name) -> Result<ClassMe
 }
 
 // A permanent class with its N.
-fn counted<S: Scope>(scope: &S, name: Name) -> Result<Counted, ResolveError>
+fn counted<S: Scope>(scope: &S, name: Name) -> Result<CountedClass, ResolveError>
     ensures { Gives (λ x. x) result (counted (S.context scope.now) name) }
 {
     let class = permanent_class(scope, name)?;
     match class.count {
-        Some(variable) => Ok(Counted {
+        Some(variable) => Ok(CountedClass {
             class: class.class,
             variable,
         }),
@@ -85,7 +85,7 @@ pub(crate) fn all_counted<S: Scope>(
     alloc: Global,
     scope: &S,
     trees: &[Name],
-) -> Result<Vec<Counted>, ResolveError>
+) -> Result<Vec<CountedClass>, ResolveError>
     ensures { Gives (λ v. v.items) result (each (counted (S.context scope.now)) trees.now) }
 {
     let mut resolved = Vec::new(alloc);

@@ -16,7 +16,7 @@ use Rattle.ss_check_scopes.specs.declared.known.Known.TheVariants as knowns
 use Rattle.ss_check_scopes.specs.Locals.{Moded}
 use Rattle.ss_check_scopes.specs.Whole.{Whole}
 use Rattle.ss_check_rules.specs.Unknown.{is_transient, is_known_notice, is_known_permanent}
-use Rattle.ss_program.specs.declared.statement.Counted.{Counted}
+use Rattle.ss_program.specs.declared.statement.CountedClass.{CountedClass}
 use Rattle.ss_program.specs.Program.{Fetch, ToVariable, Statement, Create, CreateEvery, Destroy, Cancel}
 use Rattle.ss_program.specs.WellTyped.{Scope, HasMode, TakesMode, kind_of_class, is_created_singly}
 use Rattle.ss_names_meaning.specs.declared.meaning.ClassMeant.{ClassMeant}
@@ -146,7 +146,7 @@ module _ (w : Whole) (locals : Moded) (c : Context) (s : Scope) (linked : Contex
       let referent = class.0 in
       let found : permanent_class c name ≡ Some referent = step (c.class name) (λ k. if_permanent k k.kind) referent referent class.1 (permanent_is referent referent.kind class.2.kind_meant) in
       let count = class.2.count_there in
-      let made : Counted = counted_class referent count.0 in (
+      let made : CountedClass = counted_class referent count.0 in (
         made,
         step (permanent_class c name) (λ k. k.count >>= λ v. Some (counted_class k v)) referent made found
             (step referent.count (λ v. Some (counted_class referent v)) count.0 made count.1 refl),

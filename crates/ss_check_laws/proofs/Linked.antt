@@ -37,8 +37,8 @@ use Rattle.ss_check_scopes.specs.WholeOf as whole
 use Rattle.ss_check_rules.specs.Unknown.{is_watched_here}
 use Rattle.ss_program.specs.declared.expression.SetQuery.TheVariants.{MemberCount}
 use Rattle.ss_program.specs.declared.expression.Variable.TheVariants as variables
-use Rattle.ss_program.specs.declared.statement.Counted.{Counted}
-use Rattle.ss_program.specs.WellTyped.{Scope, owner_of}
+use Rattle.ss_program.specs.declared.statement.CountedClass.{CountedClass}
+use Rattle.ss_program.specs.WellTyped.{Scope, owner_of_set}
 use Rattle.ss_names_meaning.specs.Answers.{◌>>=◌}
 use Rattle.ss_names_meaning.specs.declared.meaning.ClassMeant.{ClassMeant}
 use Rattle.ss_names_meaning.specs.declared.meaning.Meaning.{Meaning}
@@ -106,7 +106,7 @@ module _ (t : Table) (signatures : List Signed) (is : IsTable t) (k : IsValidTab
   count_linked : (class n : ℕ) (name : NameBytes) (v : VariableSaid) (c : Class) (kind : ClassWord) → slice_get (values_of t.variables) n ≡ Some v → v.kind ≡ kinds.OfClass class → slice_get (values_of t.classes) class ≡ Some c → c.kind ≡ kind → HasCount s kind (class_made class n name c)
   count_linked class n name v c class_words.Permanent e f g p =
       let next = k.said.counts_follow n class v c e f g p in
-      let count : Counted = record { class = class; variable = n + 1 } in
+      let count : CountedClass = record { class = class; variable = n + 1 } in
       (n + 1, following next.0 next.1 next.2, count_there t is k s.program h (n + 1) class next.0 count next.1 next.2 refl)
     where
       following : (v : VariableSaid) → slice_get (values_of t.variables) (n + 1) ≡ Some v → v.kind ≡ kinds.CountOf class → count_of_class t class n ≡ Some (n + 1)
@@ -248,7 +248,7 @@ module _ (t : Table) (signatures : List Signed) (is : IsTable t) (k : IsValidTab
           (goes (slice_get t.sets n) (λ x. asked t locals derived.MemberCount n x) set referent p
           (goes set.owner (λ x. of_owner t locals MemberCount n x) o referent q r))
 
-      by : (set : Set) → slice_get t.sets n ≡ Some set → (o : Owner) → set.owner ≡ Some o → owner_of s.program n ≡ Some o → Subjected name
+      by : (set : Set) → slice_get t.sets n ≡ Some set → (o : Owner) → set.owner ≡ Some o → owner_of_set s.program n ≡ Some o → Subjected name
       by set p owners.System q r = (
         knowns.MemberCount TheProgram,
         meanings.OfSystemSet MemberCount n,

@@ -11,7 +11,7 @@ use Rattle.ss_base.specs.declared.layout.Mode.TheVariants.{Integer}
 use Rattle.ss_base.specs.declared.layout.Discipline.{Discipline}
 use Rattle.ss_base.specs.Plain.{PlainClass, PlainLayout}
 use Rattle.ss_program.specs.declared.sections.Statistic.{Statistic}
-use Rattle.ss_program.specs.declared.statement.Counted.{Counted}
+use Rattle.ss_program.specs.declared.statement.CountedClass.{CountedClass}
 use Rattle.ss_check_laws.specs.Parameters as parameters
 use Rattle.ss_check_scopes.specs.Locals.{mode_of_local}
 use Rattle.ss_tree.specs.Tree as tree
@@ -159,7 +159,7 @@ module _ (p : tree.ProgramTree) (k : IsValidTable (table p)) (g : KeepsAllRules 
       }
 
 module _ (p : tree.ProgramTree) (k : IsValidTable (table p)) (g : KeepsAllRules (whole.whole_of p) p) (laws : Laws) where
-  laid_known : (l : PlainLayout) (o : List Discipline) (m : List Mode) (c : List Counted) (s : List Statistic) →
+  laid_known : (l : PlainLayout) (o : List Discipline) (m : List Mode) (c : List CountedClass) (s : List Statistic) →
       layout (table p) ≡ Some l → disciplines (table p) ≡ Some o → each (global_mode (table p)) (upto (length (table p).variables)) ≡ Some m → counts (table p) ≡ Some c →
       each (statistic_kept (table p)) (upto (length (table p).histories)) ≡ Some s → laid_out (table p) ≡ Some (record { layout = l; disciplines = o; globals = m; counts = c; statistics = s })
   laid_known l o m c s d e f i j = rw (d, e, f, i, j) refl

@@ -24,7 +24,7 @@ use Rattle.ss_program.specs.declared.expression.SetQuery.{SetQuery}
 use Rattle.ss_program.specs.declared.expression.Variable.{Variable}
 use Rattle.ss_program.specs.declared.sections.Statistic.{Statistic}
 use Rattle.ss_program.specs.declared.sections.Subject.TheVariants.{OfVariable, OfAttribute, OfCount}
-use Rattle.ss_program.specs.WellTyped.{Scope, HasSubject, IsAlone, IsOfEntities, owner_of}
+use Rattle.ss_program.specs.WellTyped.{Scope, HasSubject, IsAlone, IsOfEntities, owner_of_set}
 use Rattle.ss_names_meaning.specs.Answers.{◌>>=◌}
 use Rattle.ss_names_meaning.specs.declared.meaning.Meaning.{Meaning}
 use Rattle.ss_names_meaning.specs.declared.meaning.Meaning.TheVariants as meanings
@@ -65,7 +65,7 @@ module _ (t : Table) (signatures : List Signed) (is : IsTable t) (k : IsValidTab
       let same : known.0 ≡ set = cc in
       (at.0, at.1, subst (λ (x : Set). x.owner ≡ Some at.0.owner) same known.2, subst (λ (x : Set). x.member ≡ Some at.0.member) same known.3)
 
-  pub owner_there : (n : ℕ) (set : Set) → slice_get t.sets n ≡ Some set → (o : Owner) × (set.owner ≡ Some o) × (owner_of s.program n ≡ Some o)
+  pub owner_there : (n : ℕ) (set : Set) → slice_get t.sets n ≡ Some set → (o : Owner) × (set.owner ≡ Some o) × (owner_of_set s.program n ≡ Some o)
   owner_there n set e =
       let y = set_there n set e in
       (y.0.owner, y.2, ap (option_map (λ (l : SetLayout). l.owner)) y.1)
@@ -76,7 +76,7 @@ module _ (t : Table) (signatures : List Signed) (is : IsTable t) (k : IsValidTab
       let o = owner_there n set e in
       by o.0 o.1 o.2
     where
-      by : (o : Owner) → set.owner ≡ Some o → owner_of s.program n ≡ Some o → (referent : Meaning) × (of_set t locals query n set ≡ Some referent) × IsQuery (w t signatures is k s h locals modes) locals s (owner_holder t set.owner) referent
+      by : (o : Owner) → set.owner ≡ Some o → owner_of_set s.program n ≡ Some o → (referent : Meaning) × (of_set t locals query n set ≡ Some referent) × IsQuery (w t signatures is k s h locals modes) locals s (owner_holder t set.owner) referent
       by owners.System f g =
           (meanings.OfSystemSet query n, rw f refl, subst (λ o. IsQuery (w t signatures is k s h locals modes) locals s (owner_holder t o) (meanings.OfSystemSet query n)) (sym f) g)
       by (owners.Class class) f g =
@@ -109,7 +109,7 @@ module _ (t : Table) (signatures : List Signed) (is : IsTable t) (k : IsValidTab
       let o = owner_there n set e in
       by o.0 o.1 o.2
     where
-      by : (o : Owner) → set.owner ≡ Some o → owner_of s.program n ≡ Some o → (referent : SetMeant) × ((set.owner >>= λ o. set_owned t locals n o) ≡ Some referent) × IsSetOf (w t signatures is k s h locals modes) locals s (owner_holder t set.owner) referent
+      by : (o : Owner) → set.owner ≡ Some o → owner_of_set s.program n ≡ Some o → (referent : SetMeant) × ((set.owner >>= λ o. set_owned t locals n o) ≡ Some referent) × IsSetOf (w t signatures is k s h locals modes) locals s (owner_holder t set.owner) referent
       by owners.System f g =
           (OfSystem n, rw f refl, subst (λ o. IsSetOf (w t signatures is k s h locals modes) locals s (owner_holder t o) (OfSystem n)) (sym f) g)
       by (owners.Class class) f g =
@@ -146,12 +146,12 @@ module _ (t : Table) (signatures : List Signed) (is : IsTable t) (k : IsValidTab
       let same : OfAttribute x.3.0.class x.3.0.field ≡ x.0.subject = same_Some (OfAttribute x.3.0.class x.3.0.field) x.0.subject (ap (λ o. o >>= λ (a : Attribute). Some (OfAttribute a.class a.field)) (sym x.3.1) ∙ x.2) in
       (x.0, x.1, subst (IsOfEntities s.program) same tt)
 
-  pub count_alone : (i n : ℕ) (history : History) → slice_get t.histories i ≡ Some history → history.subject ≡ Some (subjects.MemberCount n) → owner_of s.program n ≡ Some owners.System → HasSubject s.program IsAlone i
+  pub count_alone : (i n : ℕ) (history : History) → slice_get t.histories i ≡ Some history → history.subject ≡ Some (subjects.MemberCount n) → owner_of_set s.program n ≡ Some owners.System → HasSubject s.program IsAlone i
   count_alone i n history e f g =
       let x = subject_kept i history (subjects.MemberCount n) e f in
       (x.0, x.1, subst (IsAlone s.program) (same_Some (OfCount n) x.0.subject x.2) g)
 
-  pub count_of_each : (i n class : ℕ) (history : History) → slice_get t.histories i ≡ Some history → history.subject ≡ Some (subjects.MemberCount n) → owner_of s.program n ≡ Some (owners.Class class) → HasSubject s.program IsOfEntities i
+  pub count_of_each : (i n class : ℕ) (history : History) → slice_get t.histories i ≡ Some history → history.subject ≡ Some (subjects.MemberCount n) → owner_of_set s.program n ≡ Some (owners.Class class) → HasSubject s.program IsOfEntities i
   count_of_each i n class history e f g =
       let x = subject_kept i history (subjects.MemberCount n) e f in
       (x.0, x.1, subst (IsOfEntities s.program) (same_Some (OfCount n) x.0.subject x.2) (class, g))
@@ -192,7 +192,7 @@ module _ (t : Table) (signatures : List Signed) (is : IsTable t) (k : IsValidTab
       let o = owner_there n whole.0 whole.1 in
       by whole.0 whole.1 o.0 o.1 o.2
     where
-      by : (set : Set) → slice_get t.sets n ≡ Some set → (o : Owner) → set.owner ≡ Some o → owner_of s.program n ≡ Some o → (referent : Meaning) × (figure t locals fold i (subjects.MemberCount n) ≡ Some referent) × IsAsked fold (subject_holder t (Some (subjects.MemberCount n))) referent
+      by : (set : Set) → slice_get t.sets n ≡ Some set → (o : Owner) → set.owner ≡ Some o → owner_of_set s.program n ≡ Some o → (referent : Meaning) × (figure t locals fold i (subjects.MemberCount n) ≡ Some referent) × IsAsked fold (subject_holder t (Some (subjects.MemberCount n))) referent
       by set g owners.System q r = (
         figure_alone fold i,
         rw (g, q) refl,

@@ -32,7 +32,7 @@ use Rattle.ss_program.specs.declared.expression.MemberQuery.TheVariants.{Predece
 use Rattle.ss_program.specs.declared.expression.SetQuery.{SetQuery}
 use Rattle.ss_program.specs.declared.expression.SetQuery.TheVariants.{FirstMember, LastMember, MemberCount}
 use Rattle.ss_program.specs.declared.expression.Variable.TheVariants as variables
-use Rattle.ss_program.specs.declared.statement.Counted.{Counted}
+use Rattle.ss_program.specs.declared.statement.CountedClass.{CountedClass}
 use Rattle.ss_program.specs.WellTyped.{Scope}
 use Rattle.ss_names_meaning.specs.Answers.{◌>>=◌}
 use Rattle.ss_names_meaning.specs.declared.meaning.Meaning.{Meaning}
@@ -105,7 +105,7 @@ module _ (t : Table) (signatures : List Signed) (is : IsTable t) (k : IsValidTab
       let integer : mode_said v.0.mode ≡ Some Integer = ap mode_said (subst (λ x. IsClassMode x v.0.mode) kind (is.class_modes n name v.0 v.1)) in
       let mode = global_known t is k s.program h n v.0 value in
       let same : mode.0 ≡ Integer = cc in
-      let count : Counted = record { class = class; variable = n } in (
+      let count : CountedClass = record { class = class; variable = n } in (
         knowns.EntityCount,
         refl,
         (

@@ -20,9 +20,9 @@ use Rattle.ss_check_rules.specs.Unknown.{has_value, is_watched_here}
 use Rattle.ss_check_rules.specs.Modes.{mode_of_name}
 use Rattle.ss_program.specs.declared.expression.Variable.{Variable}
 use Rattle.ss_program.specs.declared.expression.Variable.TheVariants.{Global}
-use Rattle.ss_program.specs.declared.statement.Counted.{Counted}
+use Rattle.ss_program.specs.declared.statement.CountedClass.{CountedClass}
 use Rattle.ss_program.specs.Program.{ToVariable, Routine}
-use Rattle.ss_program.specs.WellTyped.{Scope, mode_at, kind_of_class, fields_of, field_mode, owner_of, IsOwned, IsSet, IsAlone, IsOfEntities, HasSubject, TakesMode}
+use Rattle.ss_program.specs.WellTyped.{Scope, mode_at, kind_of_class, fields_of, field_mode, owner_of_set, IsOwned, IsSet, IsAlone, IsOfEntities, HasSubject, TakesMode}
 use Rattle.ss_names_meaning.specs.declared.meaning.Meaning.{Meaning}
 use Rattle.ss_names_meaning.specs.declared.meaning.Meaning.TheVariants as meanings
 use Rattle.ss_names_meaning.specs.declared.meaning.SetMeant.{SetMeant}
@@ -55,7 +55,7 @@ module _ (w : Whole) (locals : Moded) (s : Scope) where
 
   -- F., L. or N. of a set, and P., S. or M. of a member
   abbrev pub IsQuery : Holder → Meaning → Type 0
-  IsQuery TheProgram (meanings.OfSystemSet query set) = owner_of s.program set ≡ Some System
+  IsQuery TheProgram (meanings.OfSystemSet query set) = owner_of_set s.program set ≡ Some System
   IsQuery (EachOf class) (meanings.OfSet query set implied) = IsOwned s.program set × IsImplied class implied
   IsQuery (EachOf class) (meanings.OfMember query set implied) = IsSet s.program set × IsImplied class implied
   IsQuery _ _ = ⊥
@@ -97,7 +97,7 @@ module _ (w : Whole) (locals : Moded) (s : Scope) where
   -- ---- sets
 
   abbrev pub IsSetOf : Holder → SetMeant → Type 0
-  IsSetOf TheProgram (OfSystem set) = owner_of s.program set ≡ Some System
+  IsSetOf TheProgram (OfSystem set) = owner_of_set s.program set ≡ Some System
   IsSetOf (EachOf class) (OfEntity set implied) = IsOwned s.program set × IsImplied class implied
   IsSetOf _ _ = ⊥
 
@@ -109,7 +109,7 @@ kind_said class_words.Temporary = class_kinds.Temporary
 kind_said class_words.EventNotice = class_kinds.Notice
 
 -- N. of a class, by its variable
-abbrev pub counted_class : ClassMeant → (variable : ℕ) → Counted
+abbrev pub counted_class : ClassMeant → (variable : ℕ) → CountedClass
 counted_class referent variable = record { class = referent.class; variable = variable }
 
 -- a permanent class has its N.

@@ -6,12 +6,12 @@ use Rattle.ss_program.specs.declared.head.GuardKind.{GuardKind}
 use Rattle.ss_program.specs.declared.head.GuardKind.TheVariants as guards
 use Rattle.ss_program.specs.declared.head.PhraseKind.{PhraseKind}
 use Rattle.ss_program.specs.declared.head.PhraseKind.TheVariants as kinds
-use Rattle.ss_program.specs.declared.statement.Counted.{Counted}
+use Rattle.ss_program.specs.declared.statement.CountedClass.{CountedClass}
 use Rattle.ss_program.specs.Program.{Expression, Constant, Fetch, Attribute, OfSystemSet, OfSet, OfMember, Clock, TimeOf, Figure, FigureOf, Signed, Absolute, Calculate, SetOwner, TheSystem, Entity, Test, Compare, DataEnded, Empty, Member, Condition, Head, Numbers, Members, Each, Start, AtEnd, From, After, Phrase, Guard, Place, ToVariable, ToAttribute, ToCount, Target, Position, ByDiscipline, AsFirst, AsLast, BeforeMember, AfterMember, When, At, In, Now, Restart, Item, AValue, AMean, AMeanOf, Statement, Let, Change, Call, Return, Stop, Read, Simulate, If, Loop, For, Find, Create, CreateEvery, Destroy, File, RemoveEnd, Remove, ScheduleNew, Schedule, Cancel, Reset, Print, Skip, Block, Done, Then, Routine, Event, Program}
 use Rattle.ss_program.specs.Nodes.{total, option_nodes, expression_nodes, subscript_nodes, set_nodes, test_nodes, alternative_nodes, condition_nodes, guard_nodes, phrase_nodes, place_nodes, target_nodes, start_nodes, head_nodes, position_nodes, when_nodes, restart_nodes, item_nodes, statement_nodes, block_nodes, routine_nodes, event_nodes, nodes}
 use Rattle.ss_code_instructions.specs.declared.instruction.Instruction.{Instruction}
 use Rattle.ss_code_instructions.specs.declared.instruction.Instruction.TheVariants as i
-use Rattle.ss_code_instructions.specs.Translation.{expression_code, values_code, entity_code, member_code, owner_code, is_system, is_absent, any_code, test_code, tests_code, alternatives_code, condition_code, negated_code, guard_code, guards_code, phrase_code, phrases_code, items_code, step_code, range_code, outset_code, members_cells, loop_cells, members_code, for_code, find_code, if_code, loop_code, destination_of, spot_code, give_code, gives_code, reads_code, creates_code, filing_of, beside_code, file_code, when_code, schedule_new_code, schedule_code, restarts_code, item_code, shown_code, values_taken, block_prints, statement_prints, statement_code, block_code, section_code, sections_code, routine_bodies, event_bodies, prints_of_main, prints_before_events, main_code, routines_code, events_code, code_of}
+use Rattle.ss_code_instructions.specs.Translation.{expression_code, values_code, entity_code, member_code, owner_code, is_the_system, is_absent, any_code, test_code, tests_code, alternatives_code, condition_code, negated_code, guard_code, guards_code, phrase_code, phrases_code, items_code, step_code, range_code, outset_code, members_cells, loop_cells, members_code, for_code, find_code, if_code, loop_code, destination_of, spot_code, give_code, gives_code, reads_code, creates_code, filing_of, beside_code, file_code, when_code, schedule_new_code, schedule_code, restarts_code, item_code, shown_code, values_taken, block_prints, statement_prints, statement_code, block_code, section_code, sections_code, routine_bodies, event_bodies, prints_of_main, prints_before_events, main_code, routines_code, events_code, code_of}
 
 -- code, and one instruction more
 one_more : (xs : List Instruction) (x : Instruction) → length (xs ++ x ∷ []) ≡ length xs + 1
@@ -79,9 +79,9 @@ test_size : (l : Line) (skip : ℕ) (t : Test) → length (test_code l skip t) �
 test_size l skip (Compare relation a b) =
     omega (arith, expression_size l a, expression_size l b, length-append (expression_code l a) (expression_code l b ++ i.Compare relation skip ∷ []), one_more (expression_code l b) (i.Compare relation skip))
 test_size l skip (DataEnded negated) = omega arith
-test_size l skip (Empty negated set owner) = omega (arith, owner_size l owner, one_more (owner_code l owner) (i.TestEmpty negated set (is_system owner) skip l))
+test_size l skip (Empty negated set owner) = omega (arith, owner_size l owner, one_more (owner_code l owner) (i.TestEmpty negated set (is_the_system owner) skip l))
 test_size l skip (Member negated set e owner) =
-    let last = i.TestMember negated set (is_system owner) skip l in
+    let last = i.TestMember negated set (is_the_system owner) skip l in
     omega (arith, expression_size l e, member_size l set e, owner_size l owner, length-append (member_code l set e) (owner_code l owner ++ last ∷ []), one_more (owner_code l owner) last)
 
 tests_size : (l : Line) (skip : ℕ) (ts : List Test) → length (tests_code l skip ts) ≤ 2 * total test_nodes ts
@@ -161,14 +161,14 @@ range_size l skip a b c =
     omega (arith, expression_size l a, expression_size l b, step_size l c, length-append (expression_code l a) (expression_code l b ++ tail), length-append (expression_code l b) tail, one_more (step_code l c) (i.Begin skip l))
 
 -- of a FOR that begins with a member, or after one
-begin_size : (l : Line) (set : ℕ) (owner : SetOwner) (e : Expression) (last : Instruction) → length (owner_code l owner ++ (i.LookOwner set (is_system owner) l ∷ (member_code l set e ++ last ∷ []))) ≤ 3 + 2 * set_nodes owner + 2 * expression_nodes e
+begin_size : (l : Line) (set : ℕ) (owner : SetOwner) (e : Expression) (last : Instruction) → length (owner_code l owner ++ (i.LookOwner set (is_the_system owner) l ∷ (member_code l set e ++ last ∷ []))) ≤ 3 + 2 * set_nodes owner + 2 * expression_nodes e
 begin_size l set owner e last =
-    omega (arith, owner_size l owner, expression_size l e, member_size l set e, length-append (owner_code l owner) (i.LookOwner set (is_system owner) l ∷ (member_code l set e ++ last ∷ [])), one_more (member_code l set e) last)
+    omega (arith, owner_size l owner, expression_size l e, member_size l set e, length-append (owner_code l owner) (i.LookOwner set (is_the_system owner) l ∷ (member_code l set e ++ last ∷ [])), one_more (member_code l set e) last)
 
 outset_size : (l : Line) (skip set : ℕ) (owner : SetOwner) (start : Start) (reverse : Bool) → length (outset_code l skip set owner start reverse) ≤ 3 + 2 * set_nodes owner + 2 * start_nodes start
-outset_size l skip set owner AtEnd reverse = omega (arith, owner_size l owner, one_more (owner_code l owner) (i.BeginSet reverse set (is_system owner) skip l))
-outset_size l skip set owner (From e) reverse = begin_size l set owner e (i.BeginAt reverse false set (is_system owner) skip l)
-outset_size l skip set owner (After e) reverse = begin_size l set owner e (i.BeginAt reverse true set (is_system owner) skip l)
+outset_size l skip set owner AtEnd reverse = omega (arith, owner_size l owner, one_more (owner_code l owner) (i.BeginSet reverse set (is_the_system owner) skip l))
+outset_size l skip set owner (From e) reverse = begin_size l set owner e (i.BeginAt reverse false set (is_the_system owner) skip l)
+outset_size l skip set owner (After e) reverse = begin_size l set owner e (i.BeginAt reverse true set (is_the_system owner) skip l)
 
 for_size : (l : Line) (h : Head) (turn : List Instruction) → length (for_code l h turn) ≤ 8 + 2 * head_nodes h + length turn
 for_size l (Numbers x a b c) turn =
@@ -176,8 +176,8 @@ for_size l (Numbers x a b c) turn =
 for_size l (Each x class) turn = omega (arith, items_size l x turn)
 for_size l (Members x set owner start reverse) turn =
     let before = outset_code l (length turn + 2) set owner start reverse in
-    let after = members_code l x set (is_system owner) reverse turn in
-    omega (arith, outset_size l (length turn + 2) set owner start reverse, members_size l x set (is_system owner) reverse turn, length-append before after)
+    let after = members_code l x set (is_the_system owner) reverse turn in
+    omega (arith, outset_size l (length turn + 2) set owner start reverse, members_size l x set (is_the_system owner) reverse turn, length-append before after)
 
 -- ---- places
 
@@ -208,7 +208,7 @@ reads_size l (t ∷ ts) =
     let first = give_code l t.place (i.Read t.mode l ∷ []) in
     omega (arith, give_size l t.place (i.Read t.mode l ∷ []), some_place t.place, reads_size l ts, length-append first (reads_code l ts))
 
-creates_size : (l : Line) (cs : List Counted) → length (creates_code l cs) ≡ length cs
+creates_size : (l : Line) (cs : List CountedClass) → length (creates_code l cs) ≡ length cs
 creates_size l [] = omega arith
 creates_size l (c ∷ cs) = omega (arith, creates_size l cs)
 
@@ -223,7 +223,7 @@ beside_size l set (AfterMember e) = omega (arith, expression_size l e, member_si
 
 file_size : (l : Line) (set : ℕ) (e : Expression) (p : Position) (owner : SetOwner) → length (file_code l set e p owner) ≤ 2 + 2 * expression_nodes e + 2 * position_nodes p + 2 * set_nodes owner
 file_size l set e p owner =
-    let last = i.File (filing_of p) set (is_system owner) l in
+    let last = i.File (filing_of p) set (is_the_system owner) l in
     omega (arith, expression_size l e, member_size l set e, beside_size l set p, owner_size l owner, length-append (member_code l set e) (beside_code l set p ++ (owner_code l owner ++ last ∷ [])), length-append (beside_code l set p) (owner_code l owner ++ last ∷ []), one_more (owner_code l owner) last)
 
 when_size : (l : Line) (w : When) → length (when_code l w) ≤ 1 + 2 * when_nodes w
@@ -305,10 +305,10 @@ mutual
   statement_size first (Destroy l class e) = omega (arith, expression_size l e, one_more (expression_code l e) (i.Destroy class l))
   statement_size first (File l set e p owner) = omega (arith, file_size l set e p owner)
   statement_size first (RemoveEnd l end set x owner) =
-      let last = i.RemoveEnd end set (is_system owner) l in
+      let last = i.RemoveEnd end set (is_the_system owner) l in
       omega (arith, give_size l x (owner_code l owner ++ last ∷ []), owner_size l owner, one_more (owner_code l owner) last)
   statement_size first (Remove l set e owner) =
-      let last = i.Remove set (is_system owner) l in
+      let last = i.Remove set (is_the_system owner) l in
       omega (arith, expression_size l e, member_size l set e, owner_size l owner, length-append (member_code l set e) (owner_code l owner ++ last ∷ []), one_more (owner_code l owner) last)
   statement_size first (ScheduleNew l class x given w) = omega (arith, schedule_new_size l class x given w)
   statement_size first (Schedule l class e given w) = omega (arith, schedule_size l class e given w)

@@ -7,7 +7,7 @@ ghost use Rattle.ss_code.specs.Emitted.{IsCode};
 use crate::lines::Lines;
 use ss_base::{Discipline, Layout, Mode};
 use ss_code_instructions::NoticeClass;
-use ss_code_instructions::entry::Entry;
+use ss_code_instructions::entry::EntryPoint;
 use ss_code_instructions::instruction::Instruction;
 use ss_code_listing::listing::listing;
 use ss_program::sections::Statistic;
@@ -42,8 +42,8 @@ impl Model for Sayings {
 pub struct Code {
     instructions: Vec<Instruction>,
     prints: Vec<Lines>,
-    routines: Vec<Entry>,
-    events: Vec<Entry>,
+    routines: Vec<EntryPoint>,
+    events: Vec<EntryPoint>,
     sayings: Sayings,
     globals: Vec<Mode>,
     locals: Vec<Mode>,
@@ -65,8 +65,8 @@ impl Code {
     pub(crate) fn new(
         instructions: Vec<Instruction>,
         prints: Vec<Lines>,
-        routines: Vec<Entry>,
-        events: Vec<Entry>,
+        routines: Vec<EntryPoint>,
+        events: Vec<EntryPoint>,
         sayings: Sayings,
         globals: Vec<Mode>,
         locals: Vec<Mode>,
@@ -121,14 +121,14 @@ impl Code {
     }
 
     /// Where the routines begin, by their numbers.
-    pub fn routines(&self) -> &[Entry]
+    pub fn routines(&self) -> &[EntryPoint]
         ensures { result.now ≡ self.now.routines }
     {
         &self.routines
     }
 
     /// Where the routines of the events begin, by the ranks of their classes.
-    pub fn events(&self) -> &[Entry]
+    pub fn events(&self) -> &[EntryPoint]
         ensures { result.now ≡ self.now.events }
     {
         &self.events

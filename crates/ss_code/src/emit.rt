@@ -2,7 +2,7 @@
 
 ghost use Rattle.std.specs.Prelude.{◌≡◌, [], ◌∷◌, ◌++◌, map, Bool, OnOk};
 ghost use Rattle.ss_program.specs.View.{view_expression, view_owner, view_option};
-ghost use Rattle.ss_code_instructions.specs.Translation.{expression_code, values_code, entity_code, member_code, owner_code, any_code, is_system, is_absent, step_code};
+ghost use Rattle.ss_code_instructions.specs.Translation.{expression_code, values_code, entity_code, member_code, owner_code, any_code, is_the_system, is_absent, step_code};
 ghost use Rattle.ss_code.specs.Operations.{operations_code};
 
 use ss_base::{Line, Value};
@@ -210,7 +210,7 @@ pub fn emit_owner(
 
 /// Whether the owner of a set is THE SYSTEM.
 pub fn system_owns(owner: &SetOwner) -> bool
-    ensures { result ≡ is_system (view_owner owner.now) }
+    ensures { result ≡ is_the_system (view_owner owner.now) }
 {
     match owner {
         SetOwner::TheSystem => true,

@@ -15,7 +15,7 @@ use crate::lines::Lines;
 use crate::sayings::sayings;
 use crate::statements::emit_section;
 use ss_base::Mode;
-use ss_code_instructions::entry::Entry;
+use ss_code_instructions::entry::EntryPoint;
 use ss_code_instructions::instruction::Instruction;
 use ss_code_instructions::laws::laws;
 use ss_code_instructions::limit::instruction_limit;
@@ -33,21 +33,25 @@ fn joined(alloc: Global, first: &[Mode], second: &[Mode]) -> Result<Vec<Mode>, A
 }
 
 // A routine that begins at a place.
-fn entry_of_routine(alloc: Global, place: usize, routine: &Routine) -> Result<Entry, AllocError>
+fn entry_of_routine(
+    alloc: Global,
+    place: usize,
+    routine: &Routine,
+) -> Result<EntryPoint, AllocError>
     ensures { IfOk result (λ entry. entry ≡ routine_entry place (view_routine routine.now)) }
 {
     let given = Vec::from_slice(alloc, &routine.given)?;
     let others = joined(alloc, &routine.yielding, &routine.others)?;
-    Ok(Entry::new(place, given, routine.yielding.len(), others))
+    Ok(EntryPoint::new(place, given, routine.yielding.len(), others))
 }
 
 // The routine of an event that begins at a place.
-fn entry_of_event(alloc: Global, place: usize, event: &Event) -> Result<Entry, AllocError>
+fn entry_of_event(alloc: Global, place: usize, event: &Event) -> Result<EntryPoint, AllocError>
     ensures { IfOk result (λ entry. entry ≡ event_entry place (view_event event.now)) }
 {
     let given = Vec::from_slice(alloc, &event.given)?;
     let others = Vec::from_slice(alloc, &event.others)?;
-    Ok(Entry::new(place, given, 0, others))
+    Ok(EntryPoint::new(place, given, 0, others))
 }
 
 // The routines, and where each of them begins.
@@ -55,7 +59,7 @@ fn emit_routines(
     alloc: Global,
     code: &mut Vec<Instruction>,
     prints: &mut Vec<Lines>,
-    entries: &mut Vec<Entry>,
+    entries: &mut Vec<EntryPoint>,
     routines: &[Routine],
 ) -> Result<(), AllocError>
     ensures code { OnOk result (code.new.items ≡ code.old.items ++ sections_code (length prints.old.items) (routine_bodies (map view_routine routines.now))) }
@@ -75,7 +79,7 @@ fn emit_events(
     alloc: Global,
     code: &mut Vec<Instruction>,
     prints: &mut Vec<Lines>,
-    entries: &mut Vec<Entry>,
+    entries: &mut Vec<EntryPoint>,
     events: &[Event],
 ) -> Result<(), AllocError>
     ensures code { OnOk result (code.new.items ≡ code.old.items ++ sections_code (length prints.old.items) (event_bodies (map view_event events.now))) }

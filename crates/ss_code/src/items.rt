@@ -3,7 +3,7 @@
 ghost use Rattle.std.specs.Prelude.{◌≡◌, ◌≤◌, ◌∷◌, ◌++◌, [], map, OnOk};
 ghost use Rattle.ss_program.specs.View.{view_item};
 ghost use Rattle.ss_code_instructions.specs.declared.instruction.Instruction.TheVariants.{LookMean};
-ghost use Rattle.ss_code_instructions.specs.Translation.{item_code, shown_code, values_of, values_taken, item_kind};
+ghost use Rattle.ss_code_instructions.specs.Translation.{item_code, shown_code, value_count, values_taken, item_kind};
 
 use crate::emit::{emit_expression, put};
 use ss_base::Line;
@@ -57,7 +57,7 @@ pub fn emit_items(code: &mut Vec<Instruction>, line: Line, items: &[Item]) -> Re
 
 // How many values an item takes off the stack.
 fn taken_by(item: &Item) -> usize
-    ensures value { result ≡ values_of (view_item item.now) }
+    ensures value { result ≡ value_count (view_item item.now) }
     ensures bound { result ≤ 1 }
 {
     match item {

@@ -4,7 +4,7 @@ ghost use Rattle.std.specs.Prelude.{◌≡◌, ◌∷◌, ◌++◌, [], map, len
 ghost use Rattle.ss_program.specs.View.{view_expression, view_option, view_owner, view_start, view_head, view_guard, view_phrase};
 ghost use Rattle.ss_program.specs.Program.{Numbers, Members, Each};
 ghost use Rattle.ss_code_instructions.specs.declared.instruction.Instruction.TheVariants.{Begin};
-ghost use Rattle.ss_code_instructions.specs.Translation.{expression_code, step_code, items_code, outset_code, members_code, members_cells, loop_cells, is_system, for_code, find_code, guards_code, loop_code};
+ghost use Rattle.ss_code_instructions.specs.Translation.{expression_code, step_code, items_code, outset_code, members_code, members_cells, loop_cells, is_the_system, for_code, find_code, guards_code, loop_code};
 
 use crate::conditions::{emit_guards, emit_phrases};
 use crate::emit::{emit_expression, emit_step, put, system_owns};

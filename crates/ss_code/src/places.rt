@@ -3,13 +3,13 @@
 ghost use Rattle.std.specs.Prelude.{◌≡◌, ◌∷◌, ◌++◌, [], map, OnOk};
 ghost use Rattle.ss_program.specs.View.{view_expression, view_place, view_target, view_owner};
 ghost use Rattle.ss_code_instructions.specs.declared.instruction.Instruction.TheVariants.{Assign, Change, Create, Read, RemoveEnd};
-ghost use Rattle.ss_code_instructions.specs.Translation.{destination_of, expression_code, spot_code, give_code, gives_code, reads_code, creates_code, owner_code, is_system};
+ghost use Rattle.ss_code_instructions.specs.Translation.{destination_of, expression_code, spot_code, give_code, gives_code, reads_code, creates_code, owner_code, is_the_system};
 
 use crate::emit::{emit_entity, emit_expression, emit_owner, put, system_owns};
 use ss_base::Line;
 use ss_code_instructions::instruction::{Destination, Instruction};
 use ss_program::expression::{Expression, SetOwner, Sign};
-use ss_program::statement::{Counted, End, Place, Target};
+use ss_program::statement::{CountedClass, End, Place, Target};
 use std::alloc::AllocError;
 
 /// What an instruction calls a place.
@@ -159,7 +159,7 @@ pub fn emit_create(
 pub fn emit_creates(
     code: &mut Vec<Instruction>,
     line: Line,
-    classes: &[Counted],
+    classes: &[CountedClass],
 ) -> Result<(), AllocError>
     ensures { OnOk result (code.new.items ≡ code.old.items ++ creates_code line classes.now) }
 {
@@ -184,7 +184,7 @@ pub fn emit_remove_end(
     place: &Place,
     owner: &SetOwner,
 ) -> Result<(), AllocError>
-    ensures { OnOk result (code.new.items ≡ code.old.items ++ give_code line (view_place place.now) (owner_code line (view_owner owner.now) ++ RemoveEnd end set (is_system (view_owner owner.now)) line ∷ [])) }
+    ensures { OnOk result (code.new.items ≡ code.old.items ++ give_code line (view_place place.now) (owner_code line (view_owner owner.now) ++ RemoveEnd end set (is_the_system (view_owner owner.now)) line ∷ [])) }
 {
     emit_spot(code, line, place)?;
     emit_owner(code, line, owner)?;

@@ -3,7 +3,7 @@
 ghost use Rattle.std.specs.Prelude.{◌≡◌, ◌∷◌, ◌++◌, [], OnOk};
 ghost use Rattle.ss_program.specs.View.{view_expression, view_owner, view_position, view_start};
 ghost use Rattle.ss_code_instructions.specs.declared.instruction.Instruction.TheVariants.{LookOwner, BeginAt, Remove};
-ghost use Rattle.ss_code_instructions.specs.Translation.{owner_code, is_system, member_code, filing_of, beside_code, file_code, outset_code};
+ghost use Rattle.ss_code_instructions.specs.Translation.{owner_code, is_the_system, member_code, filing_of, beside_code, file_code, outset_code};
 
 use crate::emit::{emit_member, emit_owner, put, system_owns};
 use ss_base::Line;
@@ -75,7 +75,7 @@ pub fn emit_remove(
     member: &Expression,
     owner: &SetOwner,
 ) -> Result<(), AllocError>
-    ensures { OnOk result (code.new.items ≡ code.old.items ++ (member_code line set (view_expression member.now) ++ (owner_code line (view_owner owner.now) ++ Remove set (is_system (view_owner owner.now)) line ∷ []))) }
+    ensures { OnOk result (code.new.items ≡ code.old.items ++ (member_code line set (view_expression member.now) ++ (owner_code line (view_owner owner.now) ++ Remove set (is_the_system (view_owner owner.now)) line ∷ []))) }
 {
     emit_member(code, line, set, member)?;
     emit_owner(code, line, owner)?;

@@ -8,7 +8,7 @@ use Rattle.ss_code_instructions.specs.declared.instruction.Instruction.TheVarian
 use Rattle.ss_meaning.specs.Values.{Trouble, if_ok}
 use Rattle.ss_meaning.specs.Store.{Store}
 use Rattle.ss_meaning.specs.Expressions.{both, either}
-use Rattle.ss_meaning.specs.Parts.{World, Part, and_then, look, choose}
+use Rattle.ss_meaning.specs.Parts.{World, Part, outcome_then, look, choose}
 use Rattle.ss_code_instructions.specs.States.{Frame, past}
 use Rattle.ss_code_instructions.specs.Machine.{Code}
 use Rattle.ss_code_instructions.specs.Running.{Result, Underway}
@@ -72,7 +72,7 @@ module _ (code : Code) (n : ℕ) where
 
   -- a choice by a test
   module _ (test : ℕ → List Instruction) (mt : Part Bool) (rt : (skip : ℕ) → Lands code n same (test skip) (past skip) done mt) where
-    pub if_run : {ca cb : List Instruction} {ma mb : Part (Unit {0})} → Runs code n same ca done ma → Runs code n same cb done mb → Runs code n same (test (length ca + 1) ++ (ca ++ (Jump (length cb) ∷ cb))) done (λ w. and_then (mt w) (λ b. choose b ma mb))
+    pub if_run : {ca cb : List Instruction} {ma mb : Part (Unit {0})} → Runs code n same ca done ma → Runs code n same cb done mb → Runs code n same (test (length ca + 1) ++ (ca ++ (Jump (length cb) ∷ cb))) done (λ w. outcome_then (mt w) (λ b. choose b ma mb))
     if_run {ca = ca} {cb = cb} {ma = ma} {mb = mb} ra rb = record {
       by = λ place stack frames w has le.
           let skip = length ca + 1 in
@@ -99,7 +99,7 @@ module _ (code : Code) (n : ℕ) where
             (rb.by (p + length ca + 1) stack frames w h' le))
 
     -- an if without a jump, where the second side is empty
-    pub if_alone_run : {ca : List Instruction} {ma mb : Part (Unit {0})} → Runs code n same ca done ma → Runs code n same [] done mb → Runs code n same (test (length ca) ++ ca) done (λ w. and_then (mt w) (λ b. choose b ma mb))
+    pub if_alone_run : {ca : List Instruction} {ma mb : Part (Unit {0})} → Runs code n same ca done ma → Runs code n same [] done mb → Runs code n same (test (length ca) ++ ca) done (λ w. outcome_then (mt w) (λ b. choose b ma mb))
     if_alone_run {ca = ca} {ma = ma} {mb = mb} ra rb = record {
       by = λ place stack frames w has le.
           let ct = test (length ca) in

@@ -8,12 +8,12 @@ use Rattle.ss_code_instructions.specs.declared.instruction.Instruction.{Instruct
 use Rattle.ss_code_instructions.specs.declared.instruction.Instruction.TheVariants as i
 use Rattle.ss_meaning.specs.Values.{Trouble, Fails, Misfit}
 use Rattle.ss_meaning.specs.Store.{Store, prepended, opened, front, yielded}
-use Rattle.ss_meaning.specs.Events.{Beginning, Coming, next_event, begun}
-use Rattle.ss_meaning.specs.Parts.{World, Returned, Stopped, Faulted, OutOfTicks, Wrong, Outcome, WentOn, Left, Part, and_then, then_nothing, needed, looked, tick_from}
+use Rattle.ss_meaning.specs.Events.{Beginning, Coming, next_event, event_begun}
+use Rattle.ss_meaning.specs.Parts.{World, Returned, Stopped, Faulted, OutOfTicks, Wrong, Outcome, WentOn, Left, Part, outcome_then, then_nothing, needed, looked, tick_from}
 use Rattle.ss_meaning.specs.Statements.{Calls, effects}
 use Rattle.ss_meaning.specs.Meaning.{with_locals, come_back, enclosed, routine_called, event_routine, begin, event_taken, calls, Fault}
-use Rattle.ss_code_instructions.specs.States.{Called, ARoutine, AnEvent, Frame, Core, State, Stuck, core_of, did, fit, with_taken}
-use Rattle.ss_code_instructions.specs.Machine.{Entry, Code, enter_with, enter_if, enter, take_event, act, is_due, when_due, with_rest, step_at}
+use Rattle.ss_code_instructions.specs.States.{Called, ARoutine, AnEvent, Frame, Core, MachineState, Stuck, core_with, did, fit, with_taken}
+use Rattle.ss_code_instructions.specs.Machine.{EntryPoint, Code, enter_with, enter_if, enter, take_event, act, is_due, when_due, with_rest, step_at}
 use Rattle.ss_code_instructions.specs.Translation.{block_code, section_code, block_prints}
 use Rattle.ss_code_instructions.proofs.Steps.{HasAt, has_front, has_back, Reaches, reaches_on, at, arrive, landed, Ticks, onwards, ends, ticks_reach}
 use Rattle.ss_code_instructions.proofs.Parts.{IfWentOn, onto, take_them, rests, sticks, with_core, ticked, pause_run, out_run}
@@ -39,7 +39,7 @@ yielded_length zero count vs = front_length count vs
 yielded_length (suc k) count [] = tt
 yielded_length (suc k) count (v ∷ vs) = yielded_length k count vs
 
-back_such : (count : ℕ) (o : Option (List Value)) (ls : List Value) (w : World) → IfThere (λ us. count ≡ length us) o → IfWentOn (λ us. count ≡ length us) (and_then (needed o w) (λ vs w. WentOn vs (with_locals ls w)))
+back_such : (count : ℕ) (o : Option (List Value)) (ls : List Value) (w : World) → IfThere (λ us. count ≡ length us) o → IfWentOn (λ us. count ≡ length us) (outcome_then (needed o w) (λ vs w. WentOn vs (with_locals ls w)))
 back_such count None ls w h = tt
 back_such count (Some us) ls w h = h
 
@@ -54,7 +54,7 @@ come_such first count ls (Left Wrong w) = tt
 enclosed_such : (given others : List Mode) (body : Part (Unit {0})) (vs : List Value) (count : ℕ) (w : World) → IfWentOn (λ us. count ≡ length us) (enclosed given others body vs count w)
 enclosed_such given others body vs count w = from (opened given others vs)
   where
-    from : (o : Option (List Value)) → IfWentOn (λ us. count ≡ length us) (and_then (needed o w) (λ ls w. come_back (length given) count w.store.locals (body (with_locals ls w))))
+    from : (o : Option (List Value)) → IfWentOn (λ us. count ≡ length us) (outcome_then (needed o w) (λ ls w. come_back (length given) count w.store.locals (body (with_locals ls w))))
     from None = tt
     from (Some ls) = come_such (length given) count w.store.locals (body (with_locals ls w))
 
@@ -76,20 +76,20 @@ calls_such p (suc n) routine count vs w = from w.ticks
 
 -- ## Where routines and events lie in the code
 
-pub record IsSection (code : Code) (body : Block) (given : List Mode) (yielding : ℕ) (others : List Mode) (e : Entry) : Type 0 where
+pub record IsSection (code : Code) (body : Block) (given : List Mode) (yielding : ℕ) (others : List Mode) (e : EntryPoint) : Type 0 where
   pub place : ℕ
   pub first : ℕ
   pub is : e ≡ record { place = place; given = given; yielding = yielding; others = others }
   pub here : HasAt code.instructions place (section_code first body)
   pub prints : HasAt code.prints first (block_prints body)
 
-abbrev pub RoutineAt : Code → Option Routine → Option Entry → Type 0
+abbrev pub RoutineAt : Code → Option Routine → Option EntryPoint → Type 0
 RoutineAt code None None = Unit {0}
 RoutineAt code (Some r) (Some e) = IsSection code r.body r.given (length r.yielding) (r.yielding ++ r.others) e
 RoutineAt code None (Some e) = ⊥
 RoutineAt code (Some r) None = ⊥
 
-abbrev pub EventAt : Code → Option Event → Option Entry → Type 0
+abbrev pub EventAt : Code → Option Event → Option EntryPoint → Type 0
 EventAt code None None = Unit {0}
 EventAt code (Some v) (Some e) = IsSection code v.body v.given 0 v.others e
 EventAt code None (Some e) = ⊥
@@ -102,12 +102,12 @@ pub record Linked (code : Code) (p : Program) : Type 0 where
 -- ## Into a routine, and back
 
 module _ (code : Code) where
-  landed_back : (f : Frame) (fs : List Frame) (w : World) (s : State) (o : Option (List Value)) → Reaches code s (landed o f fs w) → Reaches code s (arrive (λ us w. at f.back (us ++ f.operands) fs w) fs (and_then (needed o w) (λ vs w. WentOn vs (with_locals f.locals w))))
+  landed_back : (f : Frame) (fs : List Frame) (w : World) (s : MachineState) (o : Option (List Value)) → Reaches code s (landed o f fs w) → Reaches code s (arrive (λ us w. at f.back (us ++ f.operands) fs w) fs (outcome_then (needed o w) (λ vs w. WentOn vs (with_locals f.locals w))))
   landed_back f fs w s None g = g
   landed_back f fs w s (Some us) g = g
 
   -- a body, and the way back
-  back_run : (n p : ℕ) (f : Frame) (frames : List Frame) (s : State) (o : Outcome (Unit {0})) → slice_get code.instructions p ≡ Some i.Leave → Reaches code s (arrive (λ u w. at p [] (f ∷ frames) w) (f ∷ frames) o) → Reaches code s (arrive (λ us w. at f.back (us ++ f.operands) frames w) frames (come_back f.first f.count f.locals o))
+  back_run : (n p : ℕ) (f : Frame) (frames : List Frame) (s : MachineState) (o : Outcome (Unit {0})) → slice_get code.instructions p ≡ Some i.Leave → Reaches code s (arrive (λ u w. at p [] (f ∷ frames) w) (f ∷ frames) o) → Reaches code s (arrive (λ us w. at f.back (us ++ f.operands) frames w) frames (come_back f.first f.count f.locals o))
   back_run n p f frames s (WentOn u w) has g =
       landed_back f frames w s (yielded f.first f.count w.store.locals) (reaches_on g (leave_run code n p [] f frames w has (yielded f.first f.count w.store.locals) refl))
   back_run n p f frames s (Left Returned w) has g = landed_back f frames w s (yielded f.first f.count w.store.locals) g
@@ -117,16 +117,16 @@ module _ (code : Code) where
   back_run n p f frames s (Left Wrong w) has g = g
 
   -- a due instruction that enters a section: with a tick it goes into it, and comes back after the instruction
-  enclosed_run : (n : ℕ) (h : Calls) → CallsRun code n h → (body : Block) (given others : List Mode) (yielding : ℕ) (link : (e : Entry) × IsSection code body given yielding others e) (called : Called) (vs : List Value) (count : ℕ) (i : Instruction) (place : ℕ) (stack rest : List Value) (frames : List Frame) (s : Store) (w : World) → w.ticks ≤ n → slice_get code.instructions place ≡ Some i → is_due i ≡ true → act code i (core_of place stack frames s) ≡ enter_with (opened given others vs) (record { place = link.1.place; given = given; yielding = yielding; others = others }) called count rest (core_of place stack frames s) w.store → Ticks code (with_core (core_of place stack frames s) (ticked (suc w.ticks) w)) w.ticks (arrive (λ us w. at (place + 1) (us ++ rest) frames w) frames (enclosed given others (effects h n body) vs count w))
+  enclosed_run : (n : ℕ) (h : Calls) → CallsRun code n h → (body : Block) (given others : List Mode) (yielding : ℕ) (link : (e : EntryPoint) × IsSection code body given yielding others e) (called : Called) (vs : List Value) (count : ℕ) (i : Instruction) (place : ℕ) (stack rest : List Value) (frames : List Frame) (s : Store) (w : World) → w.ticks ≤ n → slice_get code.instructions place ≡ Some i → is_due i ≡ true → act code i (core_with place stack frames s) ≡ enter_with (opened given others vs) (record { place = link.1.place; given = given; yielding = yielding; others = others }) called count rest (core_with place stack frames s) w.store → Ticks code (with_core (core_with place stack frames s) (ticked (suc w.ticks) w)) w.ticks (arrive (λ us w. at (place + 1) (us ++ rest) frames w) frames (enclosed given others (effects h n body) vs count w))
   enclosed_run n h ok body given others yielding link called vs count i place stack rest frames s w le has due acts = opens (opened given others vs) acts
     where
-      entry : Entry
+      entry : EntryPoint
       entry = record { place = link.1.place; given = given; yielding = yielding; others = others }
 
       core : Core
-      core = core_of place stack frames s
+      core = core_with place stack frames s
 
-      opens : (o : Option (List Value)) → act code i core ≡ enter_with o entry called count rest core w.store → Ticks code (with_core core (ticked (suc w.ticks) w)) w.ticks (arrive (λ us w. at (place + 1) (us ++ rest) frames w) frames (and_then (needed o w) (λ ls w. come_back (length given) count w.store.locals (effects h n body (with_locals ls w)))))
+      opens : (o : Option (List Value)) → act code i core ≡ enter_with o entry called count rest core w.store → Ticks code (with_core core (ticked (suc w.ticks) w)) w.ticks (arrive (λ us w. at (place + 1) (us ++ rest) frames w) frames (outcome_then (needed o w) (λ ls w. come_back (length given) count w.store.locals (effects h n body (with_locals ls w)))))
       opens None q =
           ends tt (sticks code (with_core core (ticked (suc w.ticks) w)) i has (ap (λ b. when_due b w.report (suc w.ticks) (act code i core)) due ∙ ap (with_rest w.report w.ticks) q))
       opens (Some ls) q =
@@ -140,13 +140,13 @@ module _ (code : Code) where
 
   -- what is called yields as many values as are wanted, or is stuck
   module _ (p : Program) (linked : Linked code p) where
-    routine_run : (n : ℕ) → CallsRun code n (calls p n) → (routine given count : ℕ) (vs : List Value) → given ≡ length vs → (o : Option Routine) (e : Option Entry) → slice_get code.routines routine ≡ e → RoutineAt code o e → (place : ℕ) (stack : List Value) (frames : List Frame) (w : World) → w.ticks ≤ n → slice_get code.instructions place ≡ Some (i.Call routine given count) → Ticks code (at place (onto vs stack) frames (ticked (suc w.ticks) w)) w.ticks (arrive (λ us w. at (place + 1) (us ++ stack) frames w) frames (routine_called o (calls p n) n vs count w))
+    routine_run : (n : ℕ) → CallsRun code n (calls p n) → (routine given count : ℕ) (vs : List Value) → given ≡ length vs → (o : Option Routine) (e : Option EntryPoint) → slice_get code.routines routine ≡ e → RoutineAt code o e → (place : ℕ) (stack : List Value) (frames : List Frame) (w : World) → w.ticks ≤ n → slice_get code.instructions place ≡ Some (i.Call routine given count) → Ticks code (at place (onto vs stack) frames (ticked (suc w.ticks) w)) w.ticks (arrive (λ us w. at (place + 1) (us ++ stack) frames w) frames (routine_called o (calls p n) n vs count w))
     routine_run n ok routine given count vs len o e q link place stack frames w le has = by o e q link
       where
         core : Core
-        core = core_of place (onto vs stack) frames w.store
+        core = core_with place (onto vs stack) frames w.store
 
-        acts : (e : Option Entry) → slice_get code.routines routine ≡ e → act code (i.Call routine given count) core ≡ enter e (ARoutine routine) count vs stack core w.store
+        acts : (e : Option EntryPoint) → slice_get code.routines routine ≡ e → act code (i.Call routine given count) core ≡ enter e (ARoutine routine) count vs stack core w.store
         acts e q =
             ap (λ x. with_taken x (λ vs rest. enter (slice_get code.routines routine) (ARoutine routine) count vs rest core w.store)) (take_them vs stack given len)
             ∙ ap (λ e. enter e (ARoutine routine) count vs stack core w.store) q
@@ -154,13 +154,13 @@ module _ (code : Code) where
         stuck_so : act code (i.Call routine given count) core ≡ Stuck → Ticks code (at place (onto vs stack) frames (ticked (suc w.ticks) w)) w.ticks (arrive (λ us w. at (place + 1) (us ++ stack) frames w) frames (let o : Outcome (List Value) = Left Wrong w in o))
         stuck_so q = ends tt (sticks code (at place (onto vs stack) frames (ticked (suc w.ticks) w)) (i.Call routine given count) has (ap (with_rest w.report w.ticks) q))
 
-        by : (o : Option Routine) (e : Option Entry) → slice_get code.routines routine ≡ e → RoutineAt code o e → Ticks code (at place (onto vs stack) frames (ticked (suc w.ticks) w)) w.ticks (arrive (λ us w. at (place + 1) (us ++ stack) frames w) frames (routine_called o (calls p n) n vs count w))
+        by : (o : Option Routine) (e : Option EntryPoint) → slice_get code.routines routine ≡ e → RoutineAt code o e → Ticks code (at place (onto vs stack) frames (ticked (suc w.ticks) w)) w.ticks (arrive (λ us w. at (place + 1) (us ++ stack) frames w) frames (routine_called o (calls p n) n vs count w))
         by None None q link = stuck_so (acts None q)
         by None (Some e) q link = absurd link
         by (Some r) None q link = absurd link
         by (Some r) (Some e) q link = sides (count == length r.yielding) refl
           where
-            entry : Entry
+            entry : EntryPoint
             entry = record { place = link.place; given = r.given; yielding = length r.yielding; others = r.yielding ++ r.others }
 
             sides : (b : Bool) → (count == length r.yielding) ≡ b → Ticks code (at place (onto vs stack) frames (ticked (suc w.ticks) w)) w.ticks (arrive (λ us w. at (place + 1) (us ++ stack) frames w) frames (if b then enclosed r.given (r.yielding ++ r.others) (effects (calls p n) n r.body) vs count w else Left Wrong w))
@@ -170,7 +170,7 @@ module _ (code : Code) where
             sides false t = stuck_so (acts (Some entry) (q ∙ ap Some link.is) ∙ ap (λ b. enter_if b entry (ARoutine routine) count vs stack core w.store) t)
 
     -- an event, whose fault has the line of its routine
-    nothing_yielded : (s : State) (t q : ℕ) (rest : List Value) (frames : List Frame) (o : Outcome (List Value)) → IfWentOn (λ us. 0 ≡ length us) o → Ticks code s t (arrive (λ us w. at q (us ++ rest) frames w) frames o) → Ticks code s t (arrive (λ u w. at q rest frames w) frames (then_nothing o))
+    nothing_yielded : (s : MachineState) (t q : ℕ) (rest : List Value) (frames : List Frame) (o : Outcome (List Value)) → IfWentOn (λ us. 0 ≡ length us) o → Ticks code s t (arrive (λ us w. at q (us ++ rest) frames w) frames o) → Ticks code s t (arrive (λ u w. at q rest frames w) frames (then_nothing o))
     nothing_yielded s t q rest frames (WentOn [] w) such g = g
     nothing_yielded s t q rest frames (WentOn (v ∷ us) w) such g = absurd (omega (arith, such))
     nothing_yielded s t q rest frames (Left e w) such g = g
@@ -179,7 +179,7 @@ module _ (code : Code) where
     event_run n ok place stack frames t w has le = coming (next_event w.store) refl
       where
         core : Core
-        core = core_of place stack frames w.store
+        core = core_with place stack frames w.store
 
         Comes : Outcome (Unit {0}) → Type 0
         Comes o = Ticks code (at place stack frames (ticked (suc t) w)) t (arrive (λ u w'. at (place + 1) stack frames w') frames o)
@@ -187,19 +187,19 @@ module _ (code : Code) where
         stuck_so : act code i.TakeEvent core ≡ Stuck → Comes (Left Wrong (ticked t w))
         stuck_so q = ends tt (sticks code (at place stack frames (ticked (suc t) w)) i.TakeEvent has (ap (with_rest w.report t) q))
 
-        begins : (c : Coming) → act code i.TakeEvent core ≡ take_event code c core → (r : OkOr Beginning Trouble) → begun c ≡ r → Comes (and_then (looked c.ranked.said.line r (ticked t w)) (λ b w. event_routine (slice_get p.events b.rank) (calls p n) n b.given (record w { store = b.store })))
+        begins : (c : Coming) → act code i.TakeEvent core ≡ take_event code c core → (r : OkOr Beginning Trouble) → event_begun c ≡ r → Comes (outcome_then (looked c.ranked.said.line r (ticked t w)) (λ b w. event_routine (slice_get p.events b.rank) (calls p n) n b.given (record w { store = b.store })))
         begins c acts (Err (Fails kind)) q =
             ends tt (rests code (at place stack frames (ticked (suc t) w)) i.TakeEvent (Fault kind c.ranked.said.line) t has
             (ap (with_rest w.report t) (acts ∙ ap (λ r. did c.ranked.said.line r (λ b. enter (slice_get code.events b.rank) (AnEvent b.rank) 0 b.given stack core b.store)) q)))
         begins c acts (Err Misfit) q = stuck_so (acts ∙ ap (λ r. did c.ranked.said.line r (λ b. enter (slice_get code.events b.rank) (AnEvent b.rank) 0 b.given stack core b.store)) q)
         begins c acts (Ok b) q = by (slice_get p.events b.rank) (slice_get code.events b.rank) refl (linked.events b.rank)
           where
-            enters : (e : Option Entry) → slice_get code.events b.rank ≡ e → act code i.TakeEvent core ≡ enter e (AnEvent b.rank) 0 b.given stack core b.store
+            enters : (e : Option EntryPoint) → slice_get code.events b.rank ≡ e → act code i.TakeEvent core ≡ enter e (AnEvent b.rank) 0 b.given stack core b.store
             enters e r =
                 acts ∙ ap (λ r. did c.ranked.said.line r (λ b. enter (slice_get code.events b.rank) (AnEvent b.rank) 0 b.given stack core b.store)) q
                 ∙ ap (λ e. enter e (AnEvent b.rank) 0 b.given stack core b.store) r
 
-            by : (o : Option Event) (e : Option Entry) → slice_get code.events b.rank ≡ e → EventAt code o e → Comes (event_routine o (calls p n) n b.given (record (ticked t w) { store = b.store }))
+            by : (o : Option Event) (e : Option EntryPoint) → slice_get code.events b.rank ≡ e → EventAt code o e → Comes (event_routine o (calls p n) n b.given (record (ticked t w) { store = b.store }))
             by None None r link = stuck_so (enters None r)
             by None (Some e) r link = absurd link
             by (Some v) None r link = absurd link
@@ -210,20 +210,20 @@ module _ (code : Code) where
                 (enclosed_run n (calls p n) ok v.body v.given v.others 0 (e, link) (AnEvent b.rank) b.given 0 i.TakeEvent place stack stack frames w.store w1 le has refl
                 (enters (Some (record { place = link.place; given = v.given; yielding = 0; others = v.others })) (r ∙ ap Some link.is)))
 
-        coming : (o : Option Coming) → next_event w.store ≡ o → Comes (and_then (needed o (ticked t w)) (λ c. begin c (λ b. event_routine (slice_get p.events b.rank) (calls p n) n b.given)))
+        coming : (o : Option Coming) → next_event w.store ≡ o → Comes (outcome_then (needed o (ticked t w)) (λ c. begin c (λ b. event_routine (slice_get p.events b.rank) (calls p n) n b.given)))
         coming None q = stuck_so (ap (λ o. fit o (λ c. take_event code c core)) q)
-        coming (Some c) q = begins c (ap (λ o. fit o (λ c. take_event code c core)) q) (begun c) refl
+        coming (Some c) q = begins c (ap (λ o. fit o (λ c. take_event code c core)) q) (event_begun c) refl
 
     -- a call with its tick
     call_run : (n : ℕ) → CallsRun code n (calls p n) → (routine given count : ℕ) (vs : List Value) → given ≡ length vs → (place : ℕ) (stack : List Value) (frames : List Frame) (w : World) (t : ℕ) → t ≤ suc n → slice_get code.instructions place ≡ Some (i.Call routine given count) → Reaches code (at place (onto vs stack) frames (ticked t w)) (arrive (λ us w. at (place + 1) (us ++ stack) frames w) frames (tick_from t (routine_called (slice_get p.routines routine) (calls p n) n vs count) (ticked t w)))
     call_run n ok routine given count vs len place stack frames w zero le has =
-        pause_run code {A = List Value} (i.Call routine given count) (core_of place (onto vs stack) frames w.store) frames w (λ us w. at (place + 1) (us ++ stack) frames w) has refl
+        pause_run code {A = List Value} (i.Call routine given count) (core_with place (onto vs stack) frames w.store) frames w (λ us w. at (place + 1) (us ++ stack) frames w) has refl
     call_run n ok routine given count vs len place stack frames w (suc t) le has =
         ticks_reach (routine_run n ok routine given count vs len (slice_get p.routines routine) (slice_get code.routines routine) refl (linked.routines routine) place stack frames (ticked t w) (omega (arith, le)) has)
 
     pub calls_run : (n : ℕ) → CallsRun code n (calls p n)
     calls_run zero = record {
-      by = λ routine given count vs len. record { by = λ place stack frames w has le. out_run code {A = List Value} (i.Call routine given count) (core_of place (onto vs stack) frames w.store) frames w (λ us w'. at (place + 1) (us ++ stack) frames w') has.0 refl le };
+      by = λ routine given count vs len. record { by = λ place stack frames w has le. out_run code {A = List Value} (i.Call routine given count) (core_with place (onto vs stack) frames w.store) frames w (λ us w'. at (place + 1) (us ++ stack) frames w') has.0 refl le };
       such = λ routine count vs w. calls_such p 0 routine count vs w;
       event = λ place stack frames t w has le. absurd (omega (arith, le));
     }

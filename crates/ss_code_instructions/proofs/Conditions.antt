@@ -14,9 +14,9 @@ use Rattle.ss_meaning.specs.Store.{Store}
 use Rattle.ss_meaning.specs.Sets.{is_empty, is_in}
 use Rattle.ss_meaning.specs.Expressions.{value, member_value, owner_value, unless, passed, both, either, all_hold, holds, passes, all_pass}
 use Rattle.ss_meaning.specs.Parts.{World, WentOn, looked, look}
-use Rattle.ss_code_instructions.specs.States.{To, did, core_of, with_top, past}
+use Rattle.ss_code_instructions.specs.States.{To, did, core_with, with_top, past}
 use Rattle.ss_code_instructions.specs.Machine.{Code}
-use Rattle.ss_code_instructions.specs.Translation.{owner_code, is_system, test_code, tests_code, alternatives_code, condition_code, negated_code, guard_code, guards_code}
+use Rattle.ss_code_instructions.specs.Translation.{owner_code, is_the_system, test_code, tests_code, alternatives_code, condition_code, negated_code, guard_code, guards_code}
 use Rattle.ss_code_instructions.specs.Running.{Underway}
 use Rattle.ss_code_instructions.proofs.Steps.{Reaches, here, at}
 use Rattle.ss_code_instructions.proofs.Parts.{Lands, same, done, put_on, onto, seq_look, above, alike, look_lands, sure_lands, looks_then}
@@ -25,7 +25,7 @@ use Rattle.ss_code_instructions.proofs.Branching.{both_lands, either_lands, not_
 
 module _ (code : Code) (n : ℕ) where
   -- an owner, and a look at its set
-  pub owner_look : {A : Type 0} {land : A → ℕ → ℕ} {after : A → List Value → List Value} (l : Line) (owner : SetOwner) (below : List Value → List Value) (c : Bool → List Instruction) (g : Option Value → Store → OkOr A Trouble) → ((system : Bool) (o : Option Value) → Owned system o → Lands code n (λ s. owner_on o (below s)) (c system) land after (look l (g o))) → Lands code n below (owner_code l owner ++ c (is_system owner)) land after (look l (λ s. if_ok (owner_value owner s) (λ o. g o s)))
+  pub owner_look : {A : Type 0} {land : A → ℕ → ℕ} {after : A → List Value → List Value} (l : Line) (owner : SetOwner) (below : List Value → List Value) (c : Bool → List Instruction) (g : Option Value → Store → OkOr A Trouble) → ((system : Bool) (o : Option Value) → Owned system o → Lands code n (λ s. owner_on o (below s)) (c system) land after (look l (g o))) → Lands code n below (owner_code l owner ++ c (is_the_system owner)) land after (look l (λ s. if_ok (owner_value owner s) (λ o. g o s)))
   owner_look l owner below c g r = alike code n (λ w. looks_then code l (owner_value owner w.store) g w) (owner_seq code n l owner below c (λ o. look l (g o)) r)
 
   pub test_lands : (l : Line) (skip : ℕ) (t : Test) → Lands code n same (test_code l skip t) (past skip) done (look l (passed t))
@@ -38,12 +38,12 @@ module _ (code : Code) (n : ℕ) where
   test_lands l skip (Empty negated set owner) =
       owner_look l owner same (λ system. i.TestEmpty negated set system skip l ∷ []) (λ o s. turned (unless negated) (is_empty set o s)) (λ system o h.
       turned_lands code n (i.TestEmpty negated set system skip l) l (owner_on o) (past skip) done (is_empty set o) (unless negated) refl
-      (λ place stack frames s. h.by stack (λ o rest. did l (is_empty set o s) (λ b. To (core_of (past skip (unless negated b) (place + 1)) rest frames s)))))
+      (λ place stack frames s. h.by stack (λ o rest. did l (is_empty set o s) (λ b. To (core_with (past skip (unless negated b) (place + 1)) rest frames s)))))
   test_lands l skip (Member negated set e owner) =
       seq_look code n l (member_value set e) (λ x s. if_ok (owner_value owner s) (λ o. turned (unless negated) (is_in set x o s))) (member_runs code n l set e) (λ x.
       owner_look l owner (put_on x) (λ system. i.TestMember negated set system skip l ∷ []) (λ o s. turned (unless negated) (is_in set x o s)) (λ system o h.
       turned_lands code n (i.TestMember negated set system skip l) l (λ s. owner_on o (x ∷ s)) (past skip) done (is_in set x o) (unless negated) refl
-      (λ place stack frames s. h.by (x ∷ stack) (λ o above. with_top above (λ x rest. did l (is_in set x o s) (λ b. To (core_of (past skip (unless negated b) (place + 1)) rest frames s)))))))
+      (λ place stack frames s. h.by (x ∷ stack) (λ o above. with_top above (λ x rest. did l (is_in set x o s) (λ b. To (core_with (past skip (unless negated b) (place + 1)) rest frames s)))))))
 
   -- no instruction: it holds
   holds_so : (skip : ℕ) → Lands code n same [] (past skip) done (WentOn true)

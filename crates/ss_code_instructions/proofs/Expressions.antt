@@ -16,10 +16,10 @@ use Rattle.ss_meaning.specs.Sets.{member, of_set, of_member}
 use Rattle.ss_meaning.specs.Events.{clock}
 use Rattle.ss_meaning.specs.Statistics.{figure}
 use Rattle.ss_meaning.specs.Expressions.{value, values, value_if_any, looked_at, entity_value, member_value, owner_value, spot}
-use Rattle.ss_meaning.specs.Parts.{World, Part, and_then, looked, look}
-use Rattle.ss_code_instructions.specs.States.{Frame, State, Moved, To, did, core_of, take_off, with_taken, with_owner, with_spot}
+use Rattle.ss_meaning.specs.Parts.{World, Part, outcome_then, looked, look}
+use Rattle.ss_code_instructions.specs.States.{Frame, MachineState, Moved, To, did, core_with, take_off, with_taken, with_owner, with_spot}
 use Rattle.ss_code_instructions.specs.Machine.{Code, act, is_due}
-use Rattle.ss_code_instructions.specs.Translation.{expression_code, values_code, entity_code, member_code, owner_code, is_system, any_code, is_absent, members_cells, destination_of, spot_code}
+use Rattle.ss_code_instructions.specs.Translation.{expression_code, values_code, entity_code, member_code, owner_code, is_the_system, any_code, is_absent, members_cells, destination_of, spot_code}
 use Rattle.ss_code_instructions.proofs.Steps.{Reaches, at, arrive}
 use Rattle.ss_code_instructions.proofs.Parts.{Lands, Runs, at_end, IfWentOn, same, put_on, onto, seq, seq_look, above, none, alike, look_lands, sure_lands}
 
@@ -28,7 +28,7 @@ turned_did l (Ok a) g go = refl
 turned_did l (Err (Fails k)) g go = refl
 turned_did l (Err Misfit) g go = refl
 
-pub turned_then : {A B D : Type 0} (l : Line) (r : OkOr A Trouble) (g : A → B) (m : B → Part D) (w : World) → and_then (looked l r w) (λ a. m (g a)) ≡ and_then (looked l (turned g r) w) m
+pub turned_then : {A B D : Type 0} (l : Line) (r : OkOr A Trouble) (g : A → B) (m : B → Part D) (w : World) → outcome_then (looked l r w) (λ a. m (g a)) ≡ outcome_then (looked l (turned g r) w) m
 turned_then l (Ok a) g m w = refl
 turned_then l (Err (Fails k)) g m w = refl
 turned_then l (Err Misfit) g m w = refl
@@ -41,13 +41,13 @@ module _ (code : Code) (n : ℕ) where
         subst (λ o. Reaches code (at place (before stack) frames w) o) (arrives (λ b w'. at (land b (place + length c)) (after b stack) frames w') frames w (f w.store)) (r.by place stack frames w has le);
   }
     where
-      arrives : (k : B → World → State) (frames : List Frame) (w : World) (o : OkOr A Trouble) → arrive (λ a w'. k (g a) w') frames (looked l o w) ≡ arrive k frames (looked l (turned g o) w)
+      arrives : (k : B → World → MachineState) (frames : List Frame) (w : World) (o : OkOr A Trouble) → arrive (λ a w'. k (g a) w') frames (looked l o w) ≡ arrive k frames (looked l (turned g o) w)
       arrives k frames w (Ok a) = refl
       arrives k frames w (Err (Fails kind)) = refl
       arrives k frames w (Err Misfit) = refl
 
   -- one instruction that looks, and makes of what it found what it leaves
-  pub turned_lands : {A B : Type 0} (i : Instruction) (l : Line) (before : List Value → List Value) (land : B → ℕ → ℕ) (after : B → List Value → List Value) (f : Store → OkOr A Trouble) (g : A → B) → is_due i ≡ false → ((place : ℕ) (stack : List Value) (frames : List Frame) (s : Store) → act code i (core_of place (before stack) frames s) ≡ did l (f s) (λ a. To (core_of (land (g a) (place + 1)) (after (g a) stack) frames s))) → Lands code n before (i ∷ []) land after (look l (λ s. turned g (f s)))
+  pub turned_lands : {A B : Type 0} (i : Instruction) (l : Line) (before : List Value → List Value) (land : B → ℕ → ℕ) (after : B → List Value → List Value) (f : Store → OkOr A Trouble) (g : A → B) → is_due i ≡ false → ((place : ℕ) (stack : List Value) (frames : List Frame) (s : Store) → act code i (core_with place (before stack) frames s) ≡ did l (f s) (λ a. To (core_with (land (g a) (place + 1)) (after (g a) stack) frames s))) → Lands code n before (i ∷ []) land after (look l (λ s. turned g (f s)))
   turned_lands i l before land after f g free e = mapped l f g (look_lands code n i l before (λ a. land (g a)) (λ a. after (g a)) f free e)
 
   pub value_runs : (l : Line) (e : Expression) → Runs code n same (expression_code l e) put_on (look l (value e))
@@ -128,21 +128,21 @@ pub record Spotted (to : Destination) (p : Spot) : Type 0 where
 
 module _ (code : Code) (n : ℕ) where
   -- an owner, and what follows
-  pub owner_seq : {A : Type 0} {land : A → ℕ → ℕ} {after : A → List Value → List Value} (l : Line) (owner : SetOwner) (below : List Value → List Value) (c : Bool → List Instruction) (m : Option Value → Part A) → ((system : Bool) (o : Option Value) → Owned system o → Lands code n (λ s. owner_on o (below s)) (c system) land after (m o)) → Lands code n below (owner_code l owner ++ c (is_system owner)) land after (λ w. and_then (look l (owner_value owner) w) m)
+  pub owner_seq : {A : Type 0} {land : A → ℕ → ℕ} {after : A → List Value → List Value} (l : Line) (owner : SetOwner) (below : List Value → List Value) (c : Bool → List Instruction) (m : Option Value → Part A) → ((system : Bool) (o : Option Value) → Owned system o → Lands code n (λ s. owner_on o (below s)) (c system) land after (m o)) → Lands code n below (owner_code l owner ++ c (is_the_system owner)) land after (λ w. outcome_then (look l (owner_value owner) w) m)
   owner_seq l TheSystem below c m r = r true None owned_system
   owner_seq l (Entity e) below c m r =
       alike code n (λ w. turned_then l (value e w.store) Some m w)
       (seq code n (above code n below (value_runs code n l e)) (λ x. r false (Some x) (owned_entity x)))
 
   -- a value that there may be, and what follows
-  pub any_seq : {A : Type 0} {land : A → ℕ → ℕ} {after : A → List Value → List Value} (l : Line) (of : Option Expression) (below : List Value → List Value) (c : Bool → List Instruction) (m : Option Value → Part A) → ((absent : Bool) (o : Option Value) → Owned absent o → Lands code n (λ s. owner_on o (below s)) (c absent) land after (m o)) → Lands code n below (any_code l of ++ c (is_absent of)) land after (λ w. and_then (look l (value_if_any of) w) m)
+  pub any_seq : {A : Type 0} {land : A → ℕ → ℕ} {after : A → List Value → List Value} (l : Line) (of : Option Expression) (below : List Value → List Value) (c : Bool → List Instruction) (m : Option Value → Part A) → ((absent : Bool) (o : Option Value) → Owned absent o → Lands code n (λ s. owner_on o (below s)) (c absent) land after (m o)) → Lands code n below (any_code l of ++ c (is_absent of)) land after (λ w. outcome_then (look l (value_if_any of) w) m)
   any_seq l None below c m r = r true None owned_system
   any_seq l (Some e) below c m r =
       alike code n (λ w. turned_then l (value e w.store) Some m w)
       (seq code n (above code n below (value_runs code n l e)) (λ x. r false (Some x) (owned_entity x)))
 
   -- a place that is resolved, and what follows
-  pub spot_seq : {A : Type 0} {land : A → ℕ → ℕ} {after : A → List Value → List Value} (l : Line) (t : Place) (below : List Value → List Value) (c : Destination → List Instruction) (m : Spot → Part A) → ((to : Destination) (p : Spot) → Spotted to p → Lands code n (λ s. spot_on p (below s)) (c to) land after (m p)) → Lands code n below (spot_code l t ++ c (destination_of t)) land after (λ w. and_then (look l (spot t) w) m)
+  pub spot_seq : {A : Type 0} {land : A → ℕ → ℕ} {after : A → List Value → List Value} (l : Line) (t : Place) (below : List Value → List Value) (c : Destination → List Instruction) (m : Spot → Part A) → ((to : Destination) (p : Spot) → Spotted to p → Lands code n (λ s. spot_on p (below s)) (c to) land after (m p)) → Lands code n below (spot_code l t ++ c (destination_of t)) land after (λ w. outcome_then (look l (spot t) w) m)
   spot_seq l (ToVariable x) below c m r = r (destinations.Variable x) (InVariable x) (record { by = λ stack go. refl })
   spot_seq l (ToAttribute class field e) below c m r =
       alike code n (λ w. turned_then l (entity_value class e w.store) (InAttribute class field) m w)

@@ -14,9 +14,9 @@ use Rattle.ss_code_instructions.specs.declared.instruction.Instruction.TheVarian
 use Rattle.ss_meaning.specs.Values.{Trouble, Fails, Misfit, if_ok, turned as made_into}
 use Rattle.ss_meaning.specs.Places.{InVariable, written}
 use Rattle.ss_meaning.specs.Expressions.{value, value_if_any, holds, all_pass}
-use Rattle.ss_meaning.specs.Parts.{World, WentOn, Part, and_then, choose, looked, look, Again, Over, loop}
+use Rattle.ss_meaning.specs.Parts.{World, WentOn, Part, outcome_then, choose, looked, look, Again, Over, loop}
 use Rattle.ss_meaning.specs.Loops.{Turn, GoesOn, EndsLoop, IsFound, phrase, phrases, visit, greatest, Range, items_from, range_items, after_turn, over_items, range_of, range, indices, guarded_turn, guarded}
-use Rattle.ss_code_instructions.specs.States.{Frame, To, core_of, past}
+use Rattle.ss_code_instructions.specs.States.{Frame, To, core_with, past}
 use Rattle.ss_code_instructions.specs.Machine.{Code, act, is_due, when_due, with_rest, backwards, later, unless_below}
 use Rattle.ss_code_instructions.specs.Running.{Result, Underway}
 use Rattle.ss_code_instructions.specs.Translation.{guards_code, loop_code, phrase_code, phrases_code, items_code, step_code, range_code}
@@ -39,10 +39,10 @@ past_loop found true end = end + found + 1
 
 module _ (code : Code) (n : ℕ) where
   -- one step that leads to a place named otherwise
-  pub leap : (i : Instruction) (p place place' : ℕ) (stack stack' : List Value) (frames : List Frame) (w : World) (r : Result) → slice_get code.instructions p ≡ Some i → is_due i ≡ false → act code i (core_of p stack frames w.store) ≡ To (core_of place stack' frames w.store) → place ≡ place' → Reaches code (at place' stack' frames w) r → Reaches code (at p stack frames w) r
+  pub leap : (i : Instruction) (p place place' : ℕ) (stack stack' : List Value) (frames : List Frame) (w : World) (r : Result) → slice_get code.instructions p ≡ Some i → is_due i ≡ false → act code i (core_with p stack frames w.store) ≡ To (core_with place stack' frames w.store) → place ≡ place' → Reaches code (at place' stack' frames w) r → Reaches code (at p stack frames w) r
   leap i p place place' stack stack' frames w r has free e same f =
       goes code (at p stack frames w) (at place stack' frames w) i r has
-      (ap (λ b. when_due b w.report w.ticks (act code i (core_of p stack frames w.store))) free ∙ ap (with_rest w.report w.ticks) e)
+      (ap (λ b. when_due b w.report w.ticks (act code i (core_with p stack frames w.store))) free ∙ ap (with_rest w.report w.ticks) e)
       (subst (λ q. Reaches code (at q stack' frames w) r) (sym same) f)
 
   -- ## Loops led by WHILE or UNTIL
@@ -74,7 +74,7 @@ module _ (code : Code) (n : ℕ) where
             let p2 = p + 1 + length cb in
             let h2 = has_back code.instructions (p + 1) cb _ has.1 in
             let p3 = p2 + length again_code in
-            join (at (p + 1) stack frames w) (λ u w'. at p2 stack frames w') (turned {C = Unit {0}} {A = Unit {0}} done p (λ u. end) stack frames) frames (mb w) (λ u w'. and_then (look l (all_pass gs) w') (λ b. choose b (WentOn (Again tt)) (WentOn (Over tt))))
+            join (at (p + 1) stack frames w) (λ u w'. at p2 stack frames w') (turned {C = Unit {0}} {A = Unit {0}} done p (λ u. end) stack frames) frames (mb w) (λ u w'. outcome_then (look l (all_pass gs) w') (λ b. choose b (WentOn (Again tt)) (WentOn (Over tt))))
             (rb.by (p + 1) stack frames w (has_front code.instructions (p + 1) cb _ has.1) le)
             (λ u w2 fewer.
             join (at p2 stack frames w2) (λ b w'. at (past 1 b p3) stack frames w') (turned {C = Unit {0}} {A = Unit {0}} done p (λ u. end) stack frames) frames (look l (all_pass gs) w2) (λ b. choose b (WentOn (Again tt)) (WentOn (Over tt)))
@@ -104,7 +104,7 @@ module _ (code : Code) (n : ℕ) where
 
   module _ (found : ℕ) where
     -- a test before the rest of a turn: where it does not hold, the turn ends elsewhere
-    tested : {c rest : List Instruction} {mt : Part Bool} {m : Part Turn} (skip : ℕ) (other : Turn) → ((p : ℕ) → p + skip ≡ leads found other (p + length rest)) → Lands code n same c (past skip) done mt → Lands code n same rest (leads found) done m → Lands code n same (c ++ rest) (leads found) done (λ w. and_then (mt w) (λ b. choose b m (WentOn other)))
+    tested : {c rest : List Instruction} {mt : Part Bool} {m : Part Turn} (skip : ℕ) (other : Turn) → ((p : ℕ) → p + skip ≡ leads found other (p + length rest)) → Lands code n same c (past skip) done mt → Lands code n same rest (leads found) done m → Lands code n same (c ++ rest) (leads found) done (λ w. outcome_then (mt w) (λ b. choose b m (WentOn other)))
     tested {c = c} {rest = rest} {mt = mt} {m = m} skip other q rc rr = record {
       by = λ place stack frames w has le.
           let end = place + length (c ++ rest) in
@@ -119,13 +119,13 @@ module _ (code : Code) (n : ℕ) where
         sides p end stack frames w len h le false =
             subst (λ e. Reaches code (at (p + skip) stack frames w) (Underway (at e stack frames w))) (q p ∙ ap (leads found other) len) here
 
-    swapped : (l : Line) (r : OkOr Bool Trouble) (m other : Part Turn) (w : World) → and_then (looked l (if_ok r (λ b. Ok (not b))) w) (λ b. choose b m other) ≡ and_then (looked l r w) (λ b. choose b other m)
+    swapped : (l : Line) (r : OkOr Bool Trouble) (m other : Part Turn) (w : World) → outcome_then (looked l (if_ok r (λ b. Ok (not b))) w) (λ b. choose b m other) ≡ outcome_then (looked l r w) (λ b. choose b other m)
     swapped l (Ok true) m other w = refl
     swapped l (Ok false) m other w = refl
     swapped l (Err (Fails k)) m other w = refl
     swapped l (Err Misfit) m other w = refl
 
-    phrase_lands : (l : Line) (kind : PhraseKind) (c : _) {rest : List Instruction} {m : Part Turn} → Lands code n same rest (leads found) done m → Lands code n same (phrase_code l (length rest) kind c ++ rest) (leads found) done (λ w. and_then (look l (holds c) w) (λ b. phrase kind b m))
+    phrase_lands : (l : Line) (kind : PhraseKind) (c : _) {rest : List Instruction} {m : Part Turn} → Lands code n same rest (leads found) done m → Lands code n same (phrase_code l (length rest) kind c ++ rest) (leads found) done (λ w. outcome_then (look l (holds c) w) (λ b. phrase kind b m))
     phrase_lands l kinds.With c {rest = rest} r = tested (length rest) GoesOn (λ p. refl) (condition_lands code n l (length rest) c) r
     phrase_lands l kinds.Unless c {rest = rest} {m = m} r =
         alike code n (λ w. swapped l (holds c w.store) m (WentOn GoesOn) w) (tested (length rest) GoesOn (λ p. refl) (negated_lands code n l (length rest) c) r)
@@ -173,10 +173,10 @@ module _ (code : Code) (n : ℕ) where
       forget_has = subst (λ p. slice_get code.instructions (p + 1) ≡ Some (i.Forget 3)) len (has_back code.instructions (place + 1) turn _ has.1).1.0
 
       -- where the next instruction leads
-      nexts : (item : ℤ) (b : Bool) → int_le (item +ℤ step) limit ≡ b → (w : World) → act code (i.Next (length turn + 1)) (core_of end (hold_item step limit item stack) frames w.store) ≡ To (core_of (backwards (length turn + 1) b end) (hold_item step limit (later b item step) stack) frames w.store)
+      nexts : (item : ℤ) (b : Bool) → int_le (item +ℤ step) limit ≡ b → (w : World) → act code (i.Next (length turn + 1)) (core_with end (hold_item step limit item stack) frames w.store) ≡ To (core_with (backwards (length turn + 1) b end) (hold_item step limit (later b item step) stack) frames w.store)
       nexts item b q w =
-          ap (λ t. unless_below t (To (core_of (backwards (length turn + 1) (int_le (item +ℤ step) limit) end) (hold_item step limit (later (int_le (item +ℤ step) limit) item step) stack) frames w.store))) rises ∙
-          ap (λ b. To (core_of (backwards (length turn + 1) b end) (hold_item step limit (later b item step) stack) frames w.store)) q
+          ap (λ t. unless_below t (To (core_with (backwards (length turn + 1) (int_le (item +ℤ step) limit) end) (hold_item step limit (later (int_le (item +ℤ step) limit) item step) stack) frames w.store))) rises ∙
+          ap (λ b. To (core_with (backwards (length turn + 1) b end) (hold_item step limit (later b item step) stack) frames w.store)) q
 
       -- the items from this one on
       abbrev ItemsRun : ℕ → Type 0
@@ -201,11 +201,11 @@ module _ (code : Code) (n : ℕ) where
       items_run zero item w q lek le = absurd (omega (arith, lek))
       items_run (suc k) item w q lek le =
           subst (λ is. Reaches code (at place (hold_item step limit item stack) frames w) (arrive (λ b w'. at (past_loop found b end) stack frames w') frames (over_items (visit l x m) is w))) (sym (one_more k item q))
-          (tick_run code {A = Turn} {B = Bool} (i.Take x l) (core_of place (hold_item step limit item stack) frames w.store) frames w
+          (tick_run code {A = Turn} {B = Bool} (i.Take x l) (core_with place (hold_item step limit item stack) frames w.store) frames w
           (λ t w'. at (leads found t end) (hold_item step limit item stack) frames w') (λ b w'. at (past_loop found b end) stack frames w')
           (visit l x m item) (λ t. after_turn t (over_items (visit l x m) (items_from k limit step (item +ℤ step)))) has.0 refl
           (λ t lt.
-          change_due code (i.Take x l) l (core_of place (hold_item step limit item stack) frames w.store) frames w t (written (InVariable x) (Whole item) w.store) (λ s. core_of (place + 1) (hold_item step limit item stack) frames s) (λ t w'. at (leads found t end) (hold_item step limit item stack) frames w') m has.0 refl refl
+          change_due code (i.Take x l) l (core_with place (hold_item step limit item stack) frames w.store) frames w t (written (InVariable x) (Whole item) w.store) (λ s. core_with (place + 1) (hold_item step limit item stack) frames s) (λ t w'. at (leads found t end) (hold_item step limit item stack) frames w') m has.0 refl refl
           (λ s. subst (λ e. Reaches code (at (place + 1) (hold_item step limit item stack) frames (record (ticked t w) { store = s })) (arrive (λ t w'. at (leads found t e) (hold_item step limit item stack) frames w') frames (m (record (ticked t w) { store = s })))) len
           (r.by (place + 1) (hold_item step limit item stack) frames (record (ticked t w) { store = s }) (has_front code.instructions (place + 1) turn _ has.1) (omega (arith, lt, le)))))
           (λ t lt a w' fewer. after_run k (items_run k) a item w' (omega (arith, fewer, lt, lek)) (omega (arith, fewer, lt, le))))

@@ -6,9 +6,9 @@ use Rattle.ss_base.specs.declared.value.Value.{Value}
 use Rattle.ss_code_instructions.specs.declared.instruction.Instruction.{Instruction}
 use Rattle.ss_meaning.specs.Values.{Trouble, Fails, Misfit, if_ok, turned, sure}
 use Rattle.ss_meaning.specs.Store.{Store}
-use Rattle.ss_meaning.specs.Parts.{World, OutOfTicks, Outcome, WentOn, Left, Part, and_then, looked, look, settle, change, settle_with, get, send, tick_from, take_tick}
+use Rattle.ss_meaning.specs.Parts.{World, OutOfTicks, Outcome, WentOn, Left, Part, outcome_then, looked, look, settle, change, settle_with, get, send, tick_from, take_tick}
 use Rattle.ss_meaning.specs.Meaning.{Ending, Fault, Paused}
-use Rattle.ss_code_instructions.specs.States.{Frame, Core, State, Moved, To, Sends, take_off, did, fit, core_of}
+use Rattle.ss_code_instructions.specs.States.{Frame, Core, MachineState, Moved, To, Sends, take_off, did, fit, core_with}
 use Rattle.ss_code_instructions.specs.Machine.{Code, act, is_due, Goes, Over, NoStep, with_rest, when_due, step_at}
 use Rattle.ss_code_instructions.specs.Running.{Result, Underway, Ends, IsStuck}
 use Rattle.ss_code_instructions.proofs.Steps.{HasAt, has_front, has_back, Reaches, here, over, stuck, more, reaches_on, fewer_ticks, at, arrive, join, Ticks, onwards, ends, ticks_join}
@@ -53,11 +53,11 @@ abbrev pub IfWentOn : {A : Type 0} → (A → Type 0) → Outcome A → Type 0
 IfWentOn P (WentOn a w) = P a
 IfWentOn P (Left e w) = Unit {0}
 
-pub join_such : {A B : Type 0} {code : Code} (P : A → Type 0) (s : State) (k : A → World → State) (k' : B → World → State) (frames : List Frame) (r : Outcome A) (f : A → Part B) → IfWentOn P r → Reaches code s (arrive k frames r) → ((a : A) → P a → (w : World) → (k a w).ticks ≤ s.ticks → Reaches code (k a w) (arrive k' frames (f a w))) → Reaches code s (arrive k' frames (and_then r f))
+pub join_such : {A B : Type 0} {code : Code} (P : A → Type 0) (s : MachineState) (k : A → World → MachineState) (k' : B → World → MachineState) (frames : List Frame) (r : Outcome A) (f : A → Part B) → IfWentOn P r → Reaches code s (arrive k frames r) → ((a : A) → P a → (w : World) → (k a w).ticks ≤ s.ticks → Reaches code (k a w) (arrive k' frames (f a w))) → Reaches code s (arrive k' frames (outcome_then r f))
 join_such P s k k' frames (WentOn a w) f p g h = reaches_on g (h a p w (fewer_ticks g))
 join_such P s k k' frames (Left e w) f p g h = g
 
-abbrev pub with_core : Core → World → State
+abbrev pub with_core : Core → World → MachineState
 with_core c w = record { core = c; report = w.report; ticks = w.ticks }
 
 abbrev pub ticked : ℕ → World → World
@@ -65,17 +65,17 @@ ticked t w = record w { ticks = t }
 
 module _ (code : Code) where
   -- one step
-  pub goes : (s t : State) (i : Instruction) (r : Result) → slice_get code.instructions s.core.place ≡ Some i → when_due (is_due i) s.report s.ticks (act code i s.core) ≡ Goes t → Reaches code t r → Reaches code s r
+  pub goes : (s t : MachineState) (i : Instruction) (r : Result) → slice_get code.instructions s.core.place ≡ Some i → when_due (is_due i) s.report s.ticks (act code i s.core) ≡ Goes t → Reaches code t r → Reaches code s r
   goes s t i r h e f = more (ap (λ o. step_at o code s) h ∙ e) f
 
-  pub rests : (s : State) (i : Instruction) (e : Ending) (t : ℕ) → slice_get code.instructions s.core.place ≡ Some i → when_due (is_due i) s.report s.ticks (act code i s.core) ≡ Over e t → Reaches code s (Ends (record { report = s.report; ending = e; ticks = t }))
+  pub rests : (s : MachineState) (i : Instruction) (e : Ending) (t : ℕ) → slice_get code.instructions s.core.place ≡ Some i → when_due (is_due i) s.report s.ticks (act code i s.core) ≡ Over e t → Reaches code s (Ends (record { report = s.report; ending = e; ticks = t }))
   rests s i e t h q = over (ap (λ o. step_at o code s) h ∙ q)
 
-  pub sticks : (s : State) (i : Instruction) → slice_get code.instructions s.core.place ≡ Some i → when_due (is_due i) s.report s.ticks (act code i s.core) ≡ NoStep → Reaches code s IsStuck
+  pub sticks : (s : MachineState) (i : Instruction) → slice_get code.instructions s.core.place ≡ Some i → when_due (is_due i) s.report s.ticks (act code i s.core) ≡ NoStep → Reaches code s IsStuck
   sticks s i h q = stuck (ap (λ o. step_at o code s) h ∙ q)
 
   -- an instruction that takes no tick, and looks at the store: it goes on, rests or is stuck as the look says
-  pub did_run : {A B : Type 0} (i : Instruction) (l : Line) (c : Core) (frames : List Frame) (w : World) (r : OkOr A Trouble) (next : A → Core) (k : B → World → State) (go : A → Part B) → slice_get code.instructions c.place ≡ Some i → is_due i ≡ false → act code i c ≡ did l r (λ a. To (next a)) → ((a : A) → Reaches code (with_core (next a) w) (arrive k frames (go a w))) → Reaches code (with_core c w) (arrive k frames (and_then (looked l r w) go))
+  pub did_run : {A B : Type 0} (i : Instruction) (l : Line) (c : Core) (frames : List Frame) (w : World) (r : OkOr A Trouble) (next : A → Core) (k : B → World → MachineState) (go : A → Part B) → slice_get code.instructions c.place ≡ Some i → is_due i ≡ false → act code i c ≡ did l r (λ a. To (next a)) → ((a : A) → Reaches code (with_core (next a) w) (arrive k frames (go a w))) → Reaches code (with_core c w) (arrive k frames (outcome_then (looked l r w) go))
   did_run i l c frames w (Ok a) next k go has free e f =
       goes (with_core c w) (with_core (next a) w) i _ has (ap (λ b. when_due b w.report w.ticks (act code i c)) free ∙ ap (with_rest w.report w.ticks) e) (f a)
   did_run i l c frames w (Err (Fails kind)) next k go has free e f =
@@ -84,7 +84,7 @@ module _ (code : Code) where
       sticks (with_core c w) i has (ap (λ b. when_due b w.report w.ticks (act code i c)) free ∙ ap (with_rest w.report w.ticks) e)
 
   -- an instruction that takes a tick first, and looks at the store
-  pub due_run : {A B : Type 0} (i : Instruction) (l : Line) (c : Core) (frames : List Frame) (w : World) (t : ℕ) (r : OkOr A Trouble) (next : A → Core) (k : B → World → State) (go : A → Part B) → slice_get code.instructions c.place ≡ Some i → is_due i ≡ true → act code i c ≡ did l r (λ a. To (next a)) → ((a : A) → Reaches code (with_core (next a) (ticked t w)) (arrive k frames (go a (ticked t w)))) → Ticks code (with_core c (ticked (suc t) w)) t (arrive k frames (and_then (looked l r (ticked t w)) go))
+  pub due_run : {A B : Type 0} (i : Instruction) (l : Line) (c : Core) (frames : List Frame) (w : World) (t : ℕ) (r : OkOr A Trouble) (next : A → Core) (k : B → World → MachineState) (go : A → Part B) → slice_get code.instructions c.place ≡ Some i → is_due i ≡ true → act code i c ≡ did l r (λ a. To (next a)) → ((a : A) → Reaches code (with_core (next a) (ticked t w)) (arrive k frames (go a (ticked t w)))) → Ticks code (with_core c (ticked (suc t) w)) t (arrive k frames (outcome_then (looked l r (ticked t w)) go))
   due_run i l c frames w t (Ok a) next k go has due e f =
       onwards (with_core (next a) (ticked t w)) (ap (λ o. step_at o code (with_core c (ticked (suc t) w))) has ∙ ap (λ b. when_due b w.report (suc t) (act code i c)) due ∙ ap (with_rest w.report t) e) refl (f a)
   due_run i l c frames w t (Err (Fails kind)) next k go has due e f =
@@ -93,11 +93,11 @@ module _ (code : Code) where
       ends tt (sticks (with_core c (ticked (suc t) w)) i has (ap (λ b. when_due b w.report (suc t) (act code i c)) due ∙ ap (with_rest w.report t) e))
 
   -- an instruction that takes a tick and goes on
-  pub goes_due : (i : Instruction) (s x : State) (t : ℕ) (r : Result) → slice_get code.instructions s.core.place ≡ Some i → when_due (is_due i) s.report s.ticks (act code i s.core) ≡ Goes x → x.ticks ≡ t → Reaches code x r → Ticks code s t r
+  pub goes_due : (i : Instruction) (s x : MachineState) (t : ℕ) (r : Result) → slice_get code.instructions s.core.place ≡ Some i → when_due (is_due i) s.report s.ticks (act code i s.core) ≡ Goes x → x.ticks ≡ t → Reaches code x r → Ticks code s t r
   goes_due i s x t r has e q f = onwards x (ap (λ o. step_at o code s) has ∙ e) q f
 
   -- one that takes a tick, and changes the store as it looked
-  pub change_due : {B : Type 0} (i : Instruction) (l : Line) (c : Core) (frames : List Frame) (w : World) (t : ℕ) (r : OkOr Store Trouble) (next : Store → Core) (k : B → World → State) (m : Part B) → slice_get code.instructions c.place ≡ Some i → is_due i ≡ true → act code i c ≡ did l r (λ s. To (next s)) → ((s : Store) → Reaches code (with_core (next s) (record (ticked t w) { store = s })) (arrive k frames (m (record (ticked t w) { store = s })))) → Ticks code (with_core c (ticked (suc t) w)) t (arrive k frames (and_then (and_then (looked l r (ticked t w)) settle) (λ _. m)))
+  pub change_due : {B : Type 0} (i : Instruction) (l : Line) (c : Core) (frames : List Frame) (w : World) (t : ℕ) (r : OkOr Store Trouble) (next : Store → Core) (k : B → World → MachineState) (m : Part B) → slice_get code.instructions c.place ≡ Some i → is_due i ≡ true → act code i c ≡ did l r (λ s. To (next s)) → ((s : Store) → Reaches code (with_core (next s) (record (ticked t w) { store = s })) (arrive k frames (m (record (ticked t w) { store = s })))) → Ticks code (with_core c (ticked (suc t) w)) t (arrive k frames (outcome_then (outcome_then (looked l r (ticked t w)) settle) (λ _. m)))
   change_due i l c frames w t (Ok s) next k m has due e f =
       onwards (with_core (next s) (ticked t w)) (ap (λ o. step_at o code (with_core c (ticked (suc t) w))) has ∙ ap (λ b. when_due b w.report (suc t) (act code i c)) due ∙ ap (with_rest w.report t) e) refl (f s)
   change_due i l c frames w t (Err (Fails kind)) next k m has due e f =
@@ -106,10 +106,10 @@ module _ (code : Code) where
       ends tt (sticks (with_core c (ticked (suc t) w)) i has (ap (λ b. when_due b w.report (suc t) (act code i c)) due ∙ ap (with_rest w.report t) e))
 
   -- one that takes a tick, looks for a value, and then changes the store
-  pub found_due : {A B D : Type 0} (i : Instruction) (l : Line) (c : Core) (frames : List Frame) (w : World) (t : ℕ) (r : OkOr A Trouble) (h : Store → OkOr Store Trouble) (next : A → Store → Core) (k : D → World → State) (m : Part B) (f : A → B → Part D) → slice_get code.instructions c.place ≡ Some i → is_due i ≡ true → act code i c ≡ did {A = A × Store} l (if_ok r (λ a. turned (λ s. (a, s)) (h w.store))) (λ b. To (next b.0 b.1)) → ((a : A) (s : Store) → Reaches code (with_core (next a s) (record (ticked t w) { store = s })) (arrive k frames (and_then (m (record (ticked t w) { store = s })) (f a)))) → Ticks code (with_core c (ticked (suc t) w)) t (arrive k frames (and_then (looked l r (ticked t w)) (λ a w'. and_then (and_then (and_then (look l h w') settle) (λ _. m)) (f a))))
+  pub found_due : {A B D : Type 0} (i : Instruction) (l : Line) (c : Core) (frames : List Frame) (w : World) (t : ℕ) (r : OkOr A Trouble) (h : Store → OkOr Store Trouble) (next : A → Store → Core) (k : D → World → MachineState) (m : Part B) (f : A → B → Part D) → slice_get code.instructions c.place ≡ Some i → is_due i ≡ true → act code i c ≡ did {A = A × Store} l (if_ok r (λ a. turned (λ s. (a, s)) (h w.store))) (λ b. To (next b.0 b.1)) → ((a : A) (s : Store) → Reaches code (with_core (next a s) (record (ticked t w) { store = s })) (arrive k frames (outcome_then (m (record (ticked t w) { store = s })) (f a)))) → Ticks code (with_core c (ticked (suc t) w)) t (arrive k frames (outcome_then (looked l r (ticked t w)) (λ a w'. outcome_then (outcome_then (outcome_then (look l h w') settle) (λ _. m)) (f a))))
   found_due {A} {B} {D} i l c frames w t (Ok a) h next k m f has due e g = second (h w.store) e
     where
-      second : (o : OkOr Store Trouble) → act code i c ≡ did {A = A × Store} l (turned (λ s. (a, s)) o) (λ b. To (next b.0 b.1)) → Ticks code (with_core c (ticked (suc t) w)) t (arrive k frames (and_then (and_then (and_then (looked l o (ticked t w)) settle) (λ _. m)) (f a)))
+      second : (o : OkOr Store Trouble) → act code i c ≡ did {A = A × Store} l (turned (λ s. (a, s)) o) (λ b. To (next b.0 b.1)) → Ticks code (with_core c (ticked (suc t) w)) t (arrive k frames (outcome_then (outcome_then (outcome_then (looked l o (ticked t w)) settle) (λ _. m)) (f a)))
       second (Ok s) e =
           onwards (with_core (next a s) (ticked t w)) (ap (λ o. step_at o code (with_core c (ticked (suc t) w))) has ∙ ap (λ b. when_due b w.report (suc t) (act code i c)) due ∙ ap (with_rest w.report t) e) refl (g a s)
       second (Err (Fails kind)) e =
@@ -121,32 +121,32 @@ module _ (code : Code) where
   found_due i l c frames w t (Err Misfit) h next k m f has due e g =
       ends tt (sticks (with_core c (ticked (suc t) w)) i has (ap (λ b. when_due b w.report (suc t) (act code i c)) due ∙ ap (with_rest w.report t) e))
 
-  pub pause_run : {A : Type 0} (i : Instruction) (c : Core) (frames : List Frame) (w : World) (k : A → World → State) → slice_get code.instructions c.place ≡ Some i → is_due i ≡ true → Reaches code (with_core c (ticked 0 w)) (arrive k frames (Left OutOfTicks (ticked 0 w)))
+  pub pause_run : {A : Type 0} (i : Instruction) (c : Core) (frames : List Frame) (w : World) (k : A → World → MachineState) → slice_get code.instructions c.place ≡ Some i → is_due i ≡ true → Reaches code (with_core c (ticked 0 w)) (arrive k frames (Left OutOfTicks (ticked 0 w)))
   pause_run i c frames w k has due = rests (with_core c (ticked 0 w)) i Paused 0 has (ap (λ b. when_due b w.report 0 (act code i c)) due)
 
-  pub out_run : {A : Type 0} (i : Instruction) (c : Core) (frames : List Frame) (w : World) (k : A → World → State) → slice_get code.instructions c.place ≡ Some i → is_due i ≡ true → w.ticks ≤ 0 → Reaches code (with_core c w) (arrive k frames (Left OutOfTicks w))
+  pub out_run : {A : Type 0} (i : Instruction) (c : Core) (frames : List Frame) (w : World) (k : A → World → MachineState) → slice_get code.instructions c.place ≡ Some i → is_due i ≡ true → w.ticks ≤ 0 → Reaches code (with_core c w) (arrive k frames (Left OutOfTicks w))
   out_run i c frames w k has due le =
       let e : w.ticks ≡ 0 = omega (arith, le) in
       subst (λ t. Reaches code (with_core c (ticked t w)) (arrive k frames (Left OutOfTicks (ticked t w)))) (sym e) (pause_run i c frames w k has due)
 
   -- a part that begins with a tick: the instruction pauses where none is left, and otherwise takes it
-  pub tick_run : {A B : Type 0} (i : Instruction) (c : Core) (frames : List Frame) (w : World) (k : A → World → State) (k' : B → World → State) (go : Part A) (f : A → Part B) → slice_get code.instructions c.place ≡ Some i → is_due i ≡ true → ((t : ℕ) → t < w.ticks → Ticks code (with_core c (ticked (suc t) w)) t (arrive k frames (go (ticked t w)))) → ((t : ℕ) → t < w.ticks → (a : A) (w' : World) → (k a w').ticks ≤ t → Reaches code (k a w') (arrive k' frames (f a w'))) → Reaches code (with_core c w) (arrive k' frames (take_tick (λ w'. and_then (go w') f) w))
+  pub tick_run : {A B : Type 0} (i : Instruction) (c : Core) (frames : List Frame) (w : World) (k : A → World → MachineState) (k' : B → World → MachineState) (go : Part A) (f : A → Part B) → slice_get code.instructions c.place ≡ Some i → is_due i ≡ true → ((t : ℕ) → t < w.ticks → Ticks code (with_core c (ticked (suc t) w)) t (arrive k frames (go (ticked t w)))) → ((t : ℕ) → t < w.ticks → (a : A) (w' : World) → (k a w').ticks ≤ t → Reaches code (k a w') (arrive k' frames (f a w'))) → Reaches code (with_core c w) (arrive k' frames (take_tick (λ w'. outcome_then (go w') f) w))
   tick_run {A} {B} i c frames w k k' go f has due first then = from w.ticks first then
     where
-      from : (n : ℕ) → ((t : ℕ) → t < n → Ticks code (with_core c (ticked (suc t) w)) t (arrive k frames (go (ticked t w)))) → ((t : ℕ) → t < n → (a : A) (w' : World) → (k a w').ticks ≤ t → Reaches code (k a w') (arrive k' frames (f a w'))) → Reaches code (with_core c (ticked n w)) (arrive k' frames (tick_from n (λ w'. and_then (go w') f) (ticked n w)))
+      from : (n : ℕ) → ((t : ℕ) → t < n → Ticks code (with_core c (ticked (suc t) w)) t (arrive k frames (go (ticked t w)))) → ((t : ℕ) → t < n → (a : A) (w' : World) → (k a w').ticks ≤ t → Reaches code (k a w') (arrive k' frames (f a w'))) → Reaches code (with_core c (ticked n w)) (arrive k' frames (tick_from n (λ w'. outcome_then (go w') f) (ticked n w)))
       from zero first then = pause_run i c frames w k' has due
       from (suc t) first then = ticks_join (with_core c (ticked (suc t) w)) t k k' frames (go (ticked t w)) f (first t (omega arith)) (then t (omega arith))
 
-  pub went : {A : Type 0} (o : Outcome A) → and_then o WentOn ≡ o
+  pub went : {A : Type 0} (o : Outcome A) → outcome_then o WentOn ≡ o
   went (WentOn a w) = refl
   went (Left e w) = refl
 
-  pub look_then : {A B : Type 0} (l : Line) (r : OkOr A Trouble) (g : A → OkOr B Trouble) (w : World) → and_then (looked l r w) (λ a. looked l (g a)) ≡ looked l (if_ok r g) w
+  pub look_then : {A B : Type 0} (l : Line) (r : OkOr A Trouble) (g : A → OkOr B Trouble) (w : World) → outcome_then (looked l r w) (λ a. looked l (g a)) ≡ looked l (if_ok r g) w
   look_then l (Ok a) g w = refl
   look_then l (Err (Fails k)) g w = refl
   look_then l (Err Misfit) g w = refl
 
-  pub looks_then : {A B : Type 0} (l : Line) (r : OkOr A Trouble) (g : A → Store → OkOr B Trouble) (w : World) → and_then (looked l r w) (λ a. look l (g a)) ≡ looked l (if_ok r (λ a. g a w.store)) w
+  pub looks_then : {A B : Type 0} (l : Line) (r : OkOr A Trouble) (g : A → Store → OkOr B Trouble) (w : World) → outcome_then (looked l r w) (λ a. look l (g a)) ≡ looked l (if_ok r (λ a. g a w.store)) w
   looks_then l (Ok a) g w = refl
   looks_then l (Err (Fails k)) g w = refl
   looks_then l (Err Misfit) g w = refl
@@ -157,7 +157,7 @@ module _ (code : Code) where
 
   module _ (n : ℕ) where
     -- one part after another
-    pub seq : {A B : Type 0} {before : List Value → List Value} {c1 c2 : List Instruction} {mid : A → List Value → List Value} {land : B → ℕ → ℕ} {after : B → List Value → List Value} {m1 : Part A} {m2 : A → Part B} → Runs code n before c1 mid m1 → ((a : A) → Lands code n (mid a) c2 land after (m2 a)) → Lands code n before (c1 ++ c2) land after (λ w. and_then (m1 w) m2)
+    pub seq : {A B : Type 0} {before : List Value → List Value} {c1 c2 : List Instruction} {mid : A → List Value → List Value} {land : B → ℕ → ℕ} {after : B → List Value → List Value} {m1 : Part A} {m2 : A → Part B} → Runs code n before c1 mid m1 → ((a : A) → Lands code n (mid a) c2 land after (m2 a)) → Lands code n before (c1 ++ c2) land after (λ w. outcome_then (m1 w) m2)
     seq {before = before} {c1 = c1} {c2 = c2} {mid = mid} {land = land} {after = after} {m1 = m1} {m2 = m2} r1 r2 = record {
       by = λ place stack frames w has le.
           let len : place + length c1 + length c2 ≡ place + length (c1 ++ c2) = omega (arith, length-append c1 c2) in
@@ -168,7 +168,7 @@ module _ (code : Code) where
     }
 
     -- one part after another, where the second may rest on a fact of the first's value
-    pub seq_such : {A B : Type 0} {before : List Value → List Value} {c1 c2 : List Instruction} {mid : A → List Value → List Value} {land : B → ℕ → ℕ} {after : B → List Value → List Value} {m1 : Part A} {m2 : A → Part B} (P : A → Type 0) → ((w : World) → IfWentOn P (m1 w)) → Runs code n before c1 mid m1 → ((a : A) → P a → Lands code n (mid a) c2 land after (m2 a)) → Lands code n before (c1 ++ c2) land after (λ w. and_then (m1 w) m2)
+    pub seq_such : {A B : Type 0} {before : List Value → List Value} {c1 c2 : List Instruction} {mid : A → List Value → List Value} {land : B → ℕ → ℕ} {after : B → List Value → List Value} {m1 : Part A} {m2 : A → Part B} (P : A → Type 0) → ((w : World) → IfWentOn P (m1 w)) → Runs code n before c1 mid m1 → ((a : A) → P a → Lands code n (mid a) c2 land after (m2 a)) → Lands code n before (c1 ++ c2) land after (λ w. outcome_then (m1 w) m2)
     seq_such {before = before} {c1 = c1} {c2 = c2} {mid = mid} {land = land} {after = after} {m1 = m1} {m2 = m2} P such r1 r2 = record {
       by = λ place stack frames w has le.
           let len : place + length c1 + length c2 ≡ place + length (c1 ++ c2) = omega (arith, length-append c1 c2) in
@@ -200,41 +200,41 @@ module _ (code : Code) where
     }
 
     -- one instruction that looks at the store, and where it leads
-    pub look_lands : {A : Type 0} (i : Instruction) (l : Line) (before : List Value → List Value) (land : A → ℕ → ℕ) (after : A → List Value → List Value) (f : Store → OkOr A Trouble) → is_due i ≡ false → ((place : ℕ) (stack : List Value) (frames : List Frame) (s : Store) → act code i (core_of place (before stack) frames s) ≡ did l (f s) (λ a. To (core_of (land a (place + 1)) (after a stack) frames s))) → Lands code n before (i ∷ []) land after (look l f)
+    pub look_lands : {A : Type 0} (i : Instruction) (l : Line) (before : List Value → List Value) (land : A → ℕ → ℕ) (after : A → List Value → List Value) (f : Store → OkOr A Trouble) → is_due i ≡ false → ((place : ℕ) (stack : List Value) (frames : List Frame) (s : Store) → act code i (core_with place (before stack) frames s) ≡ did l (f s) (λ a. To (core_with (land a (place + 1)) (after a stack) frames s))) → Lands code n before (i ∷ []) land after (look l f)
     look_lands i l before land after f free e = alike (λ w. went (look l f w)) (record {
-      by = λ place stack frames w has le. did_run i l (core_of place (before stack) frames w.store) frames w (f w.store) (λ a. core_of (land a (place + 1)) (after a stack) frames w.store) (λ a w'. at (land a (place + 1)) (after a stack) frames w') WentOn has.0 free (e place stack frames w.store) (λ a. here);
+      by = λ place stack frames w has le. did_run i l (core_with place (before stack) frames w.store) frames w (f w.store) (λ a. core_with (land a (place + 1)) (after a stack) frames w.store) (λ a w'. at (land a (place + 1)) (after a stack) frames w') WentOn has.0 free (e place stack frames w.store) (λ a. here);
     })
 
     -- one instruction that looks at the store without a fault, and where it leads
-    pub sure_lands : {A : Type 0} (i : Instruction) (l : Line) (before : List Value → List Value) (land : A → ℕ → ℕ) (after : A → List Value → List Value) (f : Store → Option A) → is_due i ≡ false → ((place : ℕ) (stack : List Value) (frames : List Frame) (s : Store) → act code i (core_of place (before stack) frames s) ≡ fit (f s) (λ a. To (core_of (land a (place + 1)) (after a stack) frames s))) → Lands code n before (i ∷ []) land after (look l (λ s. sure (f s)))
-    sure_lands i l before land after f free e = look_lands i l before land after (λ s. sure (f s)) free (λ place stack frames s. e place stack frames s ∙ fit_did l (f s) (λ a. To (core_of (land a (place + 1)) (after a stack) frames s)))
+    pub sure_lands : {A : Type 0} (i : Instruction) (l : Line) (before : List Value → List Value) (land : A → ℕ → ℕ) (after : A → List Value → List Value) (f : Store → Option A) → is_due i ≡ false → ((place : ℕ) (stack : List Value) (frames : List Frame) (s : Store) → act code i (core_with place (before stack) frames s) ≡ fit (f s) (λ a. To (core_with (land a (place + 1)) (after a stack) frames s))) → Lands code n before (i ∷ []) land after (look l (λ s. sure (f s)))
+    sure_lands i l before land after f free e = look_lands i l before land after (λ s. sure (f s)) free (λ place stack frames s. e place stack frames s ∙ fit_did l (f s) (λ a. To (core_with (land a (place + 1)) (after a stack) frames s)))
 
     -- one instruction that changes the store as it looked
-    pub change_runs : (i : Instruction) (l : Line) (before : List Value → List Value) (after : Unit {0} → List Value → List Value) (f : Store → OkOr Store Trouble) → is_due i ≡ false → ((place : ℕ) (stack : List Value) (frames : List Frame) (s : Store) → act code i (core_of place (before stack) frames s) ≡ did l (f s) (λ s'. To (core_of (place + 1) (after tt stack) frames s'))) → Runs code n before (i ∷ []) after (change l f)
+    pub change_runs : (i : Instruction) (l : Line) (before : List Value → List Value) (after : Unit {0} → List Value → List Value) (f : Store → OkOr Store Trouble) → is_due i ≡ false → ((place : ℕ) (stack : List Value) (frames : List Frame) (s : Store) → act code i (core_with place (before stack) frames s) ≡ did l (f s) (λ s'. To (core_with (place + 1) (after tt stack) frames s'))) → Runs code n before (i ∷ []) after (change l f)
     change_runs i l before after f free e = record {
-      by = λ place stack frames w has le. did_run i l (core_of place (before stack) frames w.store) frames w (f w.store) (λ s'. core_of (place + 1) (after tt stack) frames s') (λ u w'. at (place + 1) (after u stack) frames w') settle has.0 free (e place stack frames w.store) (λ s'. here);
+      by = λ place stack frames w has le. did_run i l (core_with place (before stack) frames w.store) frames w (f w.store) (λ s'. core_with (place + 1) (after tt stack) frames s') (λ u w'. at (place + 1) (after u stack) frames w') settle has.0 free (e place stack frames w.store) (λ s'. here);
     }
 
     -- one instruction that changes the store and gives a value
-    pub get_runs : (i : Instruction) (l : Line) (before : List Value → List Value) (after : Value → List Value → List Value) (f : Store → OkOr (Value × Store) Trouble) → is_due i ≡ false → ((place : ℕ) (stack : List Value) (frames : List Frame) (s : Store) → act code i (core_of place (before stack) frames s) ≡ did l (f s) (λ b. To (core_of (place + 1) (after b.0 stack) frames b.1))) → Runs code n before (i ∷ []) after (get l f)
+    pub get_runs : (i : Instruction) (l : Line) (before : List Value → List Value) (after : Value → List Value → List Value) (f : Store → OkOr (Value × Store) Trouble) → is_due i ≡ false → ((place : ℕ) (stack : List Value) (frames : List Frame) (s : Store) → act code i (core_with place (before stack) frames s) ≡ did l (f s) (λ b. To (core_with (place + 1) (after b.0 stack) frames b.1))) → Runs code n before (i ∷ []) after (get l f)
     get_runs i l before after f free e = record {
-      by = λ place stack frames w has le. did_run i l (core_of place (before stack) frames w.store) frames w (f w.store) (λ b. core_of (place + 1) (after b.0 stack) frames b.1) (λ a w'. at (place + 1) (after a stack) frames w') settle_with has.0 free (e place stack frames w.store) (λ b. here);
+      by = λ place stack frames w has le. did_run i l (core_with place (before stack) frames w.store) frames w (f w.store) (λ b. core_with (place + 1) (after b.0 stack) frames b.1) (λ a w'. at (place + 1) (after a stack) frames w') settle_with has.0 free (e place stack frames w.store) (λ b. here);
     }
 
     -- one instruction that writes bytes
-    pub send_runs : (i : Instruction) (before : List Value → List Value) (after : Unit {0} → List Value → List Value) (bytes : List ℕ) → is_due i ≡ false → ((place : ℕ) (stack : List Value) (frames : List Frame) (s : Store) → act code i (core_of place (before stack) frames s) ≡ Sends bytes (core_of (place + 1) (after tt stack) frames s)) → Runs code n before (i ∷ []) after (send bytes)
+    pub send_runs : (i : Instruction) (before : List Value → List Value) (after : Unit {0} → List Value → List Value) (bytes : List ℕ) → is_due i ≡ false → ((place : ℕ) (stack : List Value) (frames : List Frame) (s : Store) → act code i (core_with place (before stack) frames s) ≡ Sends bytes (core_with (place + 1) (after tt stack) frames s)) → Runs code n before (i ∷ []) after (send bytes)
     send_runs i before after bytes free e = record {
       by = λ place stack frames w has le.
-          let c = core_of place (before stack) frames w.store in
+          let c = core_with place (before stack) frames w.store in
           goes (at place (before stack) frames w) (at (place + 1) (after tt stack) frames (record w { report = w.report ++ bytes })) i _ has.0
           (ap (λ b. when_due b w.report w.ticks (act code i c)) free ∙ ap (with_rest w.report w.ticks) (e place stack frames w.store)) here;
     }
 
     -- one instruction that only leads elsewhere
-    pub move_lands : {A : Type 0} (i : Instruction) (before : List Value → List Value) (land : A → ℕ → ℕ) (after : A → List Value → List Value) (a : A) → is_due i ≡ false → ((place : ℕ) (stack : List Value) (frames : List Frame) (s : Store) → act code i (core_of place (before stack) frames s) ≡ To (core_of (land a (place + 1)) (after a stack) frames s)) → Lands code n before (i ∷ []) land after (WentOn a)
+    pub move_lands : {A : Type 0} (i : Instruction) (before : List Value → List Value) (land : A → ℕ → ℕ) (after : A → List Value → List Value) (a : A) → is_due i ≡ false → ((place : ℕ) (stack : List Value) (frames : List Frame) (s : Store) → act code i (core_with place (before stack) frames s) ≡ To (core_with (land a (place + 1)) (after a stack) frames s)) → Lands code n before (i ∷ []) land after (WentOn a)
     move_lands i before land after a free e = record {
       by = λ place stack frames w has le.
-          let c = core_of place (before stack) frames w.store in
+          let c = core_with place (before stack) frames w.store in
           goes (at place (before stack) frames w) (at (land a (place + 1)) (after a stack) frames w) i _ has.0
           (ap (λ b. when_due b w.report w.ticks (act code i c)) free ∙ ap (with_rest w.report w.ticks) (e place stack frames w.store)) here;
     }

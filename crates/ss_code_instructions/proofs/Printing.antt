@@ -3,8 +3,8 @@ use Rattle.std.proofs.Common.{◌≡◌, ℕ, suc, ◌+◌, true, false, List, [
 use Rattle.std.specs.Prelude.{slice_get, Result as OkOr, ℤ}
 use Rattle.ss_base.specs.declared.line.Line.{Line}
 use Rattle.ss_base.specs.declared.value.Value.{Value}
-use Rattle.ss_program.specs.Item.{Item as Shown}
-use Rattle.ss_program.specs.Item.TheVariants.{Is, Mean}
+use Rattle.ss_program.specs.FieldValue.{FieldValue as Shown}
+use Rattle.ss_program.specs.FieldValue.TheVariants.{Is, Mean}
 use Rattle.ss_program.specs.Program.{Expression, Item, AValue, AMean, AMeanOf}
 use Rattle.ss_code_instructions.specs.declared.instruction.Instruction.{Instruction}
 use Rattle.ss_code_instructions.specs.declared.instruction.Instruction.TheVariants as i
@@ -14,10 +14,10 @@ use Rattle.ss_meaning.specs.Values.{Trouble, Fails, Misfit, if_ok, turned, sure,
 use Rattle.ss_meaning.specs.Store.{Store}
 use Rattle.ss_meaning.specs.Statistics.{mean}
 use Rattle.ss_meaning.specs.Expressions.{value, mean_shown, shown_items}
-use Rattle.ss_meaning.specs.Parts.{World, and_then, looked, look, send}
+use Rattle.ss_meaning.specs.Parts.{World, outcome_then, looked, look, send}
 use Rattle.ss_meaning.specs.Statements.{print}
-use Rattle.ss_code_instructions.specs.States.{Moved, Sends, did, fit, core_of, with_taken, take_off}
-use Rattle.ss_code_instructions.specs.Machine.{Code, mean_item, item_before, shown}
+use Rattle.ss_code_instructions.specs.States.{Moved, Sends, did, fit, core_with, with_taken, take_off}
+use Rattle.ss_code_instructions.specs.Machine.{Code, mean_item, item_before, values_shown}
 use Rattle.ss_code_instructions.specs.Translation.{expression_code, shown_code, values_taken, item_kind, print_lines}
 use Rattle.ss_code_instructions.proofs.Parts.{Runs, at_end, IfWentOn, same, done, put_on, onto, take_them, seq_such, seq_look, above, none, alike, look_lands, fit_did}
 use Rattle.ss_code_instructions.proofs.Expressions.{AsMany, one_more, many_looked, mapped, turned_lands, value_runs}
@@ -66,35 +66,35 @@ before_sure x (Some xs) = refl
 module _ (s : Store) (ks : List ItemKind) (others : OkOr (List Shown) Trouble) where
   -- the items after one are those that are shown
   abbrev IsShown : OkOr (List Value) Trouble → Type 0
-  IsShown o = if_ok o (λ vs. sure (shown ks vs s)) ≡ others
+  IsShown o = if_ok o (λ vs. sure (values_shown ks vs s)) ≡ others
 
-  value_shown : (r : OkOr Value Trouble) (o : OkOr (List Value) Trouble) → IsShown o → if_ok (if_ok r (λ v. turned (λ vs. v ∷ vs) o)) (λ vs. sure (shown (shows.Value ∷ ks) vs s)) ≡ if_ok (turned Is r) (λ x. turned (λ xs. x ∷ xs) others)
+  value_shown : (r : OkOr Value Trouble) (o : OkOr (List Value) Trouble) → IsShown o → if_ok (if_ok r (λ v. turned (λ vs. v ∷ vs) o)) (λ vs. sure (values_shown (shows.Value ∷ ks) vs s)) ≡ if_ok (turned Is r) (λ x. turned (λ xs. x ∷ xs) others)
   value_shown (Err t) o h = refl
   value_shown (Ok v) (Err t) h = ap (turned (λ xs. Is v ∷ xs)) h
-  value_shown (Ok v) (Ok vs) h = before_sure (Is v) (shown ks vs s) ∙ ap (turned (λ xs. Is v ∷ xs)) h
+  value_shown (Ok v) (Ok vs) h = before_sure (Is v) (values_shown ks vs s) ∙ ap (turned (λ xs. Is v ∷ xs)) h
 
-  mean_alone_shown : (r : OkOr (ℤ × ℤ) Trouble) (o : OkOr (List Value) Trouble) → IsShown o → if_ok (if_ok r (λ m. o)) (λ vs. sure (item_before (mean_item r) (shown ks vs s))) ≡ if_ok (mean_shown r) (λ x. turned (λ xs. x ∷ xs) others)
+  mean_alone_shown : (r : OkOr (ℤ × ℤ) Trouble) (o : OkOr (List Value) Trouble) → IsShown o → if_ok (if_ok r (λ m. o)) (λ vs. sure (item_before (mean_item r) (values_shown ks vs s))) ≡ if_ok (mean_shown r) (λ x. turned (λ xs. x ∷ xs) others)
   mean_alone_shown (Err t) o h = refl
   mean_alone_shown (Ok m) (Err t) h = ap (turned (λ xs. Mean m.0 m.1 ∷ xs)) h
-  mean_alone_shown (Ok m) (Ok vs) h = before_sure (Mean m.0 m.1) (shown ks vs s) ∙ ap (turned (λ xs. Mean m.0 m.1 ∷ xs)) h
+  mean_alone_shown (Ok m) (Ok vs) h = before_sure (Mean m.0 m.1) (values_shown ks vs s) ∙ ap (turned (λ xs. Mean m.0 m.1 ∷ xs)) h
 
-  mean_of_shown : (j : ℕ) (r : OkOr Value Trouble) (o : OkOr (List Value) Trouble) → IsShown o → if_ok (if_ok (if_ok r (λ x. turned (λ m. x) (mean j (Some x) s))) (λ x. turned (λ vs. x ∷ vs) o)) (λ vs. sure (shown (shows.MeanOf j ∷ ks) vs s)) ≡ if_ok (if_ok r (λ x. mean_shown (mean j (Some x) s))) (λ x. turned (λ xs. x ∷ xs) others)
+  mean_of_shown : (j : ℕ) (r : OkOr Value Trouble) (o : OkOr (List Value) Trouble) → IsShown o → if_ok (if_ok (if_ok r (λ x. turned (λ m. x) (mean j (Some x) s))) (λ x. turned (λ vs. x ∷ vs) o)) (λ vs. sure (values_shown (shows.MeanOf j ∷ ks) vs s)) ≡ if_ok (if_ok r (λ x. mean_shown (mean j (Some x) s))) (λ x. turned (λ xs. x ∷ xs) others)
   mean_of_shown j (Err t) o h = refl
   mean_of_shown j (Ok x) (Err t) h = from (mean j (Some x) s)
     where
-      from : (q : OkOr (ℤ × ℤ) Trouble) → if_ok (if_ok (turned (λ m. x) q) (λ x. turned (λ vs. x ∷ vs) (Err t))) (λ vs. sure (shown (shows.MeanOf j ∷ ks) vs s)) ≡ if_ok (mean_shown q) (λ x. turned (λ xs. x ∷ xs) others)
+      from : (q : OkOr (ℤ × ℤ) Trouble) → if_ok (if_ok (turned (λ m. x) q) (λ x. turned (λ vs. x ∷ vs) (Err t))) (λ vs. sure (values_shown (shows.MeanOf j ∷ ks) vs s)) ≡ if_ok (mean_shown q) (λ x. turned (λ xs. x ∷ xs) others)
       from (Err u) = refl
       from (Ok m) = ap (turned (λ xs. Mean m.0 m.1 ∷ xs)) h
   mean_of_shown j (Ok x) (Ok vs) h = from (mean j (Some x) s) refl
     where
-      from : (q : OkOr (ℤ × ℤ) Trouble) → mean j (Some x) s ≡ q → if_ok (if_ok (turned (λ m. x) q) (λ x. turned (λ vs. x ∷ vs) (Ok vs))) (λ vs. sure (shown (shows.MeanOf j ∷ ks) vs s)) ≡ if_ok (mean_shown q) (λ x. turned (λ xs. x ∷ xs) others)
+      from : (q : OkOr (ℤ × ℤ) Trouble) → mean j (Some x) s ≡ q → if_ok (if_ok (turned (λ m. x) q) (λ x. turned (λ vs. x ∷ vs) (Ok vs))) (λ vs. sure (values_shown (shows.MeanOf j ∷ ks) vs s)) ≡ if_ok (mean_shown q) (λ x. turned (λ xs. x ∷ xs) others)
       from (Err u) e = refl
       from (Ok m) e =
-          ap (λ q. sure (item_before (mean_item q) (shown ks vs s))) e
-          ∙ (before_sure (Mean m.0 m.1) (shown ks vs s) ∙ ap (turned (λ xs. Mean m.0 m.1 ∷ xs)) h)
+          ap (λ q. sure (item_before (mean_item q) (values_shown ks vs s))) e
+          ∙ (before_sure (Mean m.0 m.1) (values_shown ks vs s) ∙ ap (turned (λ xs. Mean m.0 m.1 ∷ xs)) h)
 
 -- of the values that items take, what their kinds show is what the items mean
-items_shown : (xs : List Item) (s : Store) → if_ok (values_looked xs s) (λ vs. sure (shown (map item_kind xs) vs s)) ≡ shown_items xs s
+items_shown : (xs : List Item) (s : Store) → if_ok (values_looked xs s) (λ vs. sure (values_shown (map item_kind xs) vs s)) ≡ shown_items xs s
 items_shown [] s = refl
 items_shown (AValue e ∷ xs) s = value_shown s (map item_kind xs) (shown_items xs s) (value e s) (values_looked xs s) (items_shown xs s)
 items_shown (AMean j ∷ xs) s = mean_alone_shown s (map item_kind xs) (shown_items xs s) (mean j None s) (values_looked xs s) (items_shown xs s)
@@ -108,14 +108,14 @@ if_twice (Err t) f g = refl
 
 -- the lines with the items that kinds and values make
 abbrev lines_shown : List ItemKind → List (List ℕ) → List Value → Store → OkOr (List ℕ) Trouble
-lines_shown ks pictures vs s = if_ok (sure (shown ks vs s)) (λ xs. sure (printed pictures xs))
+lines_shown ks pictures vs s = if_ok (sure (values_shown ks vs s)) (λ xs. sure (printed pictures xs))
 
 lines_meant : (xs : List Item) (pictures : List (List ℕ)) (s : Store) → if_ok (values_looked xs s) (λ vs. lines_shown (map item_kind xs) pictures vs s) ≡ if_ok (shown_items xs s) (λ ys. sure (printed pictures ys))
 lines_meant xs pictures s =
-    sym (if_twice (values_looked xs s) (λ vs. sure (shown (map item_kind xs) vs s)) (λ ys. sure (printed pictures ys)))
+    sym (if_twice (values_looked xs s) (λ vs. sure (values_shown (map item_kind xs) vs s)) (λ ys. sure (printed pictures ys)))
     ∙ ap (λ o. if_ok o (λ ys. sure (printed pictures ys))) (items_shown xs s)
 
-then_sent : {A : Type 0} (l : Line) (r : OkOr A Trouble) (g : A → Store → OkOr (List ℕ) Trouble) (w : World) → and_then (looked l r w) (λ a w. and_then (look l (g a) w) send) ≡ and_then (looked l (if_ok r (λ a. g a w.store)) w) send
+then_sent : {A : Type 0} (l : Line) (r : OkOr A Trouble) (g : A → Store → OkOr (List ℕ) Trouble) (w : World) → outcome_then (looked l r w) (λ a w. outcome_then (look l (g a) w) send) ≡ outcome_then (looked l (if_ok r (λ a. g a w.store)) w) send
 then_sent l (Ok a) g w = refl
 then_sent l (Err (Fails k)) g w = refl
 then_sent l (Err Misfit) g w = refl
@@ -148,10 +148,10 @@ module _ (code : Code) (n : ℕ) where
   pub print_runs : (l : Line) (first : ℕ) (xs : List Item) (pictures : List (List ℕ)) → slice_get code.prints first ≡ Some (print_lines xs pictures) → Runs code n same (shown_code l xs ++ i.Print first (values_taken xs) ∷ []) done (print l xs pictures)
   print_runs l first xs pictures has =
       let ks = map item_kind xs in
-      alike code n (λ w. then_sent l (values_looked xs w.store) (lines_shown ks pictures) w ∙ ap (λ o. and_then (looked l o w) send) (lines_meant xs pictures w.store))
+      alike code n (λ w. then_sent l (values_looked xs w.store) (lines_shown ks pictures) w ∙ ap (λ o. outcome_then (looked l o w) send) (lines_meant xs pictures w.store))
       (seq_such code n (λ vs. values_taken xs ≡ length vs) (taken_length l xs) (items_run l xs) (λ vs such.
       output_runs code n (i.Print first (values_taken xs)) l (onto vs) (lines_shown ks pictures vs) refl
       (λ place stack frames s.
-      ap (λ o. fit o (λ p. with_taken (take_off (values_taken xs) (onto vs stack) []) (λ vs rest. fit (shown p.items vs s) (λ ys. fit (printed p.pictures ys) (λ bytes. Sends bytes (core_of (place + 1) rest frames s)))))) has
-      ∙ ap (λ o. with_taken o (λ vs rest. fit (shown ks vs s) (λ ys. fit (printed pictures ys) (λ bytes. Sends bytes (core_of (place + 1) rest frames s))))) (take_them vs stack (values_taken xs) such)
-      ∙ fit_lines l (shown ks vs s) pictures (λ bytes. Sends bytes (core_of (place + 1) stack frames s)))))
+      ap (λ o. fit o (λ p. with_taken (take_off (values_taken xs) (onto vs stack) []) (λ vs rest. fit (values_shown p.items vs s) (λ ys. fit (printed p.pictures ys) (λ bytes. Sends bytes (core_with (place + 1) rest frames s)))))) has
+      ∙ ap (λ o. with_taken o (λ vs rest. fit (values_shown ks vs s) (λ ys. fit (printed pictures ys) (λ bytes. Sends bytes (core_with (place + 1) rest frames s))))) (take_them vs stack (values_taken xs) such)
+      ∙ fit_lines l (values_shown ks vs s) pictures (λ bytes. Sends bytes (core_with (place + 1) stack frames s)))))

@@ -10,10 +10,10 @@ use Rattle.ss_meaning.specs.Store.{yielded}
 use Rattle.ss_meaning.specs.Entities.{made_one}
 use Rattle.ss_meaning.specs.Events.{is_awaited}
 use Rattle.ss_meaning.specs.Expressions.{holds}
-use Rattle.ss_meaning.specs.Parts.{World, Part, Returned, Stopped, WentOn, Left, and_then, choose, look, Again, Over, loop}
+use Rattle.ss_meaning.specs.Parts.{World, Part, Returned, Stopped, WentOn, Left, outcome_then, choose, look, Again, Over, loop}
 use Rattle.ss_meaning.specs.Statements.{Calls, effect, effects, event_turn, next_due, simulate}
 use Rattle.ss_meaning.specs.Meaning.{Ended, with_locals}
-use Rattle.ss_code_instructions.specs.States.{Frame, To, core_of, fit, past}
+use Rattle.ss_code_instructions.specs.States.{Frame, To, core_with, fit, past}
 use Rattle.ss_code_instructions.specs.Machine.{Code, with_rest, backwards}
 use Rattle.ss_code_instructions.specs.Translation.{condition_code, if_code, statement_prints, block_prints, statement_code, block_code}
 use Rattle.ss_code_instructions.proofs.Steps.{HasAt, has_front, has_back, Reaches, here, at, arrive, left_to, landed, Ticks, ticks_and}
@@ -41,10 +41,10 @@ module _ (code : Code) (n : ℕ) where
   pub leave_run : (place : ℕ) (stack : List Value) (f : Frame) (fs : List Frame) (w : World) → slice_get code.instructions place ≡ Some i.Leave → (o : Option (List Value)) → yielded f.first f.count w.store.locals ≡ o → Reaches code (at place stack (f ∷ fs) w) (landed o f fs w)
   leave_run place stack f fs w has (Some us) q =
       goes code (at place stack (f ∷ fs) w) (at f.back (us ++ f.operands) fs (with_locals f.locals w)) i.Leave _ has
-      (ap (λ x. with_rest w.report w.ticks (fit x (λ us. To (core_of f.back (us ++ f.operands) fs (record w.store { locals = f.locals }))))) q) here
+      (ap (λ x. with_rest w.report w.ticks (fit x (λ us. To (core_with f.back (us ++ f.operands) fs (record w.store { locals = f.locals }))))) q) here
   leave_run place stack f fs w has None q =
       sticks code (at place stack (f ∷ fs) w) i.Leave has
-      (ap (λ x. with_rest w.report w.ticks (fit x (λ us. To (core_of f.back (us ++ f.operands) fs (record w.store { locals = f.locals }))))) q)
+      (ap (λ x. with_rest w.report w.ticks (fit x (λ us. To (core_with f.back (us ++ f.operands) fs (record w.store { locals = f.locals }))))) q)
 
   return_run : Runs {A = Unit {0}} code n same (i.Leave ∷ []) done (Left Returned)
   return_run = record { by = λ place stack frames w has le. leaves place stack frames w has.0 }
@@ -54,7 +54,7 @@ module _ (code : Code) (n : ℕ) where
       leaves place stack (f ∷ fs) w has = leave_run place stack f fs w has (yielded f.first f.count w.store.locals) refl
 
   -- IF
-  if_runs : (l : Line) (c : Condition) {ca : List Instruction} (cb : List Instruction) {ma mb : Part (Unit {0})} → Runs code n same ca done ma → Runs code n same cb done mb → Runs code n same (if_code l c ca cb) done (λ w. and_then (look l (holds c) w) (λ b. choose b ma mb))
+  if_runs : (l : Line) (c : Condition) {ca : List Instruction} (cb : List Instruction) {ma mb : Part (Unit {0})} → Runs code n same ca done ma → Runs code n same cb done mb → Runs code n same (if_code l c ca cb) done (λ w. outcome_then (look l (holds c) w) (λ b. choose b ma mb))
   if_runs l c [] ra rb = if_alone_run code n (λ skip. condition_code l skip c) (look l (holds c)) (λ skip. condition_lands code n l skip c) ra rb
   if_runs l c (j ∷ cb) ra rb = if_run code n (λ skip. condition_code l skip c) (look l (holds c)) (λ skip. condition_lands code n l skip c) ra rb
 
@@ -76,10 +76,10 @@ module _ (code : Code) (n : ℕ) where
         next_run : (w : World) (b : Bool) → is_awaited w.store ≡ b → Reaches code (at (p + 1) stack frames w) (arrive (turned {C = Unit {0}} {A = Unit {0}} done p (λ u. p + 2) stack frames) frames (choose (is_awaited w.store) (WentOn (Again tt)) (WentOn (Over tt)) w))
         next_run w true q =
             subst (λ b. Reaches code (at (p + 1) stack frames w) (arrive (turned {C = Unit {0}} {A = Unit {0}} done p (λ u. p + 2) stack frames) frames (choose b (WentOn (Again tt)) (WentOn (Over tt)) w))) (sym q)
-            (leap code n (i.NextEvent 1) (p + 1) (p + 1 - 1) p stack stack frames w _ has.1.0 refl (ap (λ b. To (core_of (backwards 1 b (p + 1)) stack frames w.store)) q) (omega arith) here)
+            (leap code n (i.NextEvent 1) (p + 1) (p + 1 - 1) p stack stack frames w _ has.1.0 refl (ap (λ b. To (core_with (backwards 1 b (p + 1)) stack frames w.store)) q) (omega arith) here)
         next_run w false q =
             subst (λ b. Reaches code (at (p + 1) stack frames w) (arrive (turned {C = Unit {0}} {A = Unit {0}} done p (λ u. p + 2) stack frames) frames (choose b (WentOn (Again tt)) (WentOn (Over tt)) w))) (sym q)
-            (leap code n (i.NextEvent 1) (p + 1) (p + 1 + 1) (p + 2) stack stack frames w _ has.1.0 refl (ap (λ b. To (core_of (backwards 1 b (p + 1)) stack frames w.store)) q) (omega arith) here)
+            (leap code n (i.NextEvent 1) (p + 1) (p + 1 + 1) (p + 2) stack stack frames w _ has.1.0 refl (ap (λ b. To (core_with (backwards 1 b (p + 1)) stack frames w.store)) q) (omega arith) here)
 
     simulate_runs : Runs code n same simulate_code done (simulate n h.event)
     simulate_runs = record { by = λ place stack frames w has le. sides place stack frames w has le (is_awaited w.store) refl }
@@ -88,12 +88,12 @@ module _ (code : Code) (n : ℕ) where
         sides place stack frames w has le true q =
             let e : place + 1 + 2 ≡ place + 3 = omega arith in
             subst (λ b. Reaches code (at place stack frames w) (arrive (λ u w'. at (place + 3) stack frames w') frames (choose b (loop n (event_turn h.event) tt) (WentOn tt) w))) (sym q)
-            (leap code n (i.Await 2) place (place + 1) (place + 1) stack stack frames w _ has.0 refl (ap (λ b. To (core_of (past 2 b (place + 1)) stack frames w.store)) q) refl
+            (leap code n (i.Await 2) place (place + 1) (place + 1) stack stack frames w _ has.0 refl (ap (λ b. To (core_with (past 2 b (place + 1)) stack frames w.store)) q) refl
             (subst (λ j. Reaches code (at (place + 1) stack frames w) (arrive (λ u w'. at j stack frames w') frames (loop n (event_turn h.event) tt w))) e
             (loop_run code (event_turns (place + 1) stack frames has.1) n (omega arith) tt w le)))
         sides place stack frames w has le false q =
             subst (λ b. Reaches code (at place stack frames w) (arrive (λ u w'. at (place + 3) stack frames w') frames (choose b (loop n (event_turn h.event) tt) (WentOn tt) w))) (sym q)
-            (leap code n (i.Await 2) place (place + 1 + 2) (place + 3) stack stack frames w _ has.0 refl (ap (λ b. To (core_of (past 2 b (place + 1)) stack frames w.store)) q) (omega arith) here)
+            (leap code n (i.Await 2) place (place + 1 + 2) (place + 3) stack stack frames w _ has.0 refl (ap (λ b. To (core_with (past 2 b (place + 1)) stack frames w.store)) q) (omega arith) here)
 
     mutual
       pub statement_runs : (first : ℕ) (s : Statement) → HasAt code.prints first (statement_prints s) → Runs code n same (statement_code first s) done (effect h n s)

@@ -5,12 +5,12 @@ use Rattle.std.proofs.Math.Seq.{get_or-append_seam}
 use Rattle.std.proofs.lemmas.Option.{slice_get-get_or}
 use Rattle.ss_base.specs.declared.value.Value.{Value}
 use Rattle.ss_code_instructions.specs.declared.instruction.Instruction.{Instruction}
-use Rattle.ss_meaning.specs.Parts.{World, Exit, Returned, Stopped, Faulted, OutOfTicks, Wrong, Outcome, WentOn, Left, Part, and_then}
+use Rattle.ss_meaning.specs.Parts.{World, Exit, Returned, Stopped, Faulted, OutOfTicks, Wrong, Outcome, WentOn, Left, Part, outcome_then}
 use Rattle.ss_meaning.specs.Meaning.{with_locals, Ending, Ended, Fault, Paused, run_at}
-use Rattle.ss_code_instructions.specs.States.{Frame, State, Done, Breaks, Moved, To, Sends, Rest, Stuck, core_of}
+use Rattle.ss_code_instructions.specs.States.{Frame, MachineState, Done, Breaks, Moved, To, Sends, Rest, Stuck, core_with}
 use Rattle.ss_meaning.specs.Store.{yielded}
 use Rattle.ss_code_instructions.specs.Machine.{Code, act, is_due, Goes, Over, NoStep, with_rest, when_due, step_at, step}
-use Rattle.ss_code_instructions.specs.Running.{Result, Underway, Ends, IsStuck, ended_at, go_on, steps}
+use Rattle.ss_code_instructions.specs.Running.{Result, Underway, Ends, IsStuck, ended_at, after_one_step, steps}
 
 -- the items lie in the list at this place
 abbrev pub HasAt : {A : Type 0} → List A → ℕ → List A → Type 0
@@ -39,21 +39,21 @@ has_all {A} (i ∷ is) pre =
     (here, subst (λ m. HasAt (pre ++ i ∷ is) m is) n rest')
 
 -- the machine gets from a state to a result
-pub data Reaches (code : Code) : State → Result → Type 0 where
-  here : {s : State} → Reaches code s (Underway s)
-  over : {s : State} {e : Ending} {t : ℕ} → step code s ≡ Over e t → Reaches code s (Ends (ended_at s e t))
-  stuck : {s : State} → step code s ≡ NoStep → Reaches code s IsStuck
-  more : {s t : State} {r : Result} → step code s ≡ Goes t → Reaches code t r → Reaches code s r
+pub data Reaches (code : Code) : MachineState → Result → Type 0 where
+  here : {s : MachineState} → Reaches code s (Underway s)
+  over : {s : MachineState} {e : Ending} {t : ℕ} → step code s ≡ Over e t → Reaches code s (Ends (ended_at s e t))
+  stuck : {s : MachineState} → step code s ≡ NoStep → Reaches code s IsStuck
+  more : {s t : MachineState} {r : Result} → step code s ≡ Goes t → Reaches code t r → Reaches code s r
 
-pub reaches_on : {code : Code} {s t : State} {r : Result} → Reaches code s (Underway t) → Reaches code t r → Reaches code s r
+pub reaches_on : {code : Code} {s t : MachineState} {r : Result} → Reaches code s (Underway t) → Reaches code t r → Reaches code s r
 reaches_on here g = g
 reaches_on (more e f) g = more e (reaches_on f g)
 
-pub in_steps : {code : Code} {s : State} {r : Result} → Reaches code s r → (m : ℕ) × (steps code m s ≡ r)
+pub in_steps : {code : Code} {s : MachineState} {r : Result} → Reaches code s r → (m : ℕ) × (steps code m s ≡ r)
 in_steps here = (0, refl)
-in_steps {code} {s} (over e) = (1, ap (λ x. go_on x s (steps code 0)) e)
-in_steps {code} {s} (stuck e) = (1, ap (λ x. go_on x s (steps code 0)) e)
-in_steps {code} {s} (more e f) = let i = in_steps f in (suc i.0, ap (λ x. go_on x s (steps code i.0)) e ∙ i.1)
+in_steps {code} {s} (over e) = (1, ap (λ x. after_one_step x s (steps code 0)) e)
+in_steps {code} {s} (stuck e) = (1, ap (λ x. after_one_step x s (steps code 0)) e)
+in_steps {code} {s} (more e f) = let i = in_steps f in (suc i.0, ap (λ x. after_one_step x s (steps code i.0)) e ∙ i.1)
 
 -- where m steps may lead, where the end is known
 abbrev pub Agrees : Result → Result → Type 0
@@ -67,38 +67,38 @@ IsEnd (Underway s) = ⊥
 IsEnd (Ends r) = Unit {0}
 IsEnd IsStuck = Unit {0}
 
-pub agrees : {code : Code} {s : State} {r : Result} → IsEnd r → Reaches code s r → (m : ℕ) → Agrees r (steps code m s)
+pub agrees : {code : Code} {s : MachineState} {r : Result} → IsEnd r → Reaches code s r → (m : ℕ) → Agrees r (steps code m s)
 agrees i f zero = tt
 agrees {code} {s} i here (suc m) = absurd i
-agrees {code} {s} i (over {e = e} {t = t} h) (suc m) = subst (λ x. Agrees (Ends (ended_at s e t)) (go_on x s (steps code m))) (sym h) refl
-agrees {code} {s} i (stuck h) (suc m) = subst (λ x. Agrees IsStuck (go_on x s (steps code m))) (sym h) refl
-agrees {code} {s} {r} i (more h f) (suc m) = subst (λ x. Agrees r (go_on x s (steps code m))) (sym h) (agrees i f m)
+agrees {code} {s} i (over {e = e} {t = t} h) (suc m) = subst (λ x. Agrees (Ends (ended_at s e t)) (after_one_step x s (steps code m))) (sym h) refl
+agrees {code} {s} i (stuck h) (suc m) = subst (λ x. Agrees IsStuck (after_one_step x s (steps code m))) (sym h) refl
+agrees {code} {s} {r} i (more h f) (suc m) = subst (λ x. Agrees r (after_one_step x s (steps code m))) (sym h) (agrees i f m)
 
 -- no step gives ticks
-with_rest_is : (r : List ℕ) (t : ℕ) (m : Moved) (x : State) → with_rest r t m ≡ Goes x → x.ticks ≡ t
-with_rest_is r t (To c) x e = let q : x ≡ record { core = c; report = r; ticks = t } = cc in ap (λ (y : State). y.ticks) q
+with_rest_is : (r : List ℕ) (t : ℕ) (m : Moved) (x : MachineState) → with_rest r t m ≡ Goes x → x.ticks ≡ t
+with_rest_is r t (To c) x e = let q : x ≡ record { core = c; report = r; ticks = t } = cc in ap (λ (y : MachineState). y.ticks) q
 with_rest_is r t (Sends bytes c) x e =
-    let q : x ≡ record { core = c; report = r ++ bytes; ticks = t } = cc in ap (λ (y : State). y.ticks) q
+    let q : x ≡ record { core = c; report = r ++ bytes; ticks = t } = cc in ap (λ (y : MachineState). y.ticks) q
 with_rest_is r t (Rest Done) x e = absurd cc
 with_rest_is r t (Rest (Breaks k l)) x e = absurd cc
 with_rest_is r t Stuck x e = absurd cc
 
-when_due_is : (b : Bool) (r : List ℕ) (t : ℕ) (m : Moved) (x : State) → when_due b r t m ≡ Goes x → x.ticks ≤ t
+when_due_is : (b : Bool) (r : List ℕ) (t : ℕ) (m : Moved) (x : MachineState) → when_due b r t m ≡ Goes x → x.ticks ≤ t
 when_due_is false r t m x e = omega (arith, with_rest_is r t m x e)
 when_due_is true r zero m x e = absurd cc
 when_due_is true r (suc t) m x e = omega (arith, with_rest_is r t m x e)
 
-step_at_is : (o : Option Instruction) (code : Code) (s x : State) → step_at o code s ≡ Goes x → x.ticks ≤ s.ticks
+step_at_is : (o : Option Instruction) (code : Code) (s x : MachineState) → step_at o code s ≡ Goes x → x.ticks ≤ s.ticks
 step_at_is None code s x e = absurd cc
 step_at_is (Some i) code s x e = when_due_is (is_due i) s.report s.ticks (act code i s.core) x e
 
-pub fewer_ticks : {code : Code} {s t : State} → Reaches code s (Underway t) → t.ticks ≤ s.ticks
+pub fewer_ticks : {code : Code} {s t : MachineState} → Reaches code s (Underway t) → t.ticks ≤ s.ticks
 fewer_ticks here = omega arith
 fewer_ticks {code} {s} (more {t = t'} e f) = omega (arith, step_at_is (slice_get code.instructions s.core.place) code s t' e, fewer_ticks f)
 
 -- the machine at a place, with a stack, calls that are open, and a world
-abbrev pub at : ℕ → List Value → List Frame → World → State
-at place stack frames w = record { core = core_of place stack frames w.store; report = w.report; ticks = w.ticks }
+abbrev pub at : ℕ → List Value → List Frame → World → MachineState
+at place stack frames w = record { core = core_with place stack frames w.store; report = w.report; ticks = w.ticks }
 
 -- where a routine's return leads
 abbrev pub landed : Option (List Value) → Frame → List Frame → World → Result
@@ -115,33 +115,33 @@ left_to OutOfTicks frames w = Ends (run_at Paused w)
 left_to Wrong frames w = IsStuck
 
 -- where the machine goes after a part of the program: to k, or where it is left
-abbrev pub arrive : {A : Type 0} → (A → World → State) → List Frame → Outcome A → Result
+abbrev pub arrive : {A : Type 0} → (A → World → MachineState) → List Frame → Outcome A → Result
 arrive k frames (WentOn a w) = Underway (k a w)
 arrive k frames (Left e w) = left_to e frames w
 
-pub join : {A B : Type 0} {code : Code} (s : State) (k : A → World → State) (k' : B → World → State) (frames : List Frame) (r : Outcome A) (f : A → Part B) → Reaches code s (arrive k frames r) → ((a : A) (w : World) → (k a w).ticks ≤ s.ticks → Reaches code (k a w) (arrive k' frames (f a w))) → Reaches code s (arrive k' frames (and_then r f))
+pub join : {A B : Type 0} {code : Code} (s : MachineState) (k : A → World → MachineState) (k' : B → World → MachineState) (frames : List Frame) (r : Outcome A) (f : A → Part B) → Reaches code s (arrive k frames r) → ((a : A) (w : World) → (k a w).ticks ≤ s.ticks → Reaches code (k a w) (arrive k' frames (f a w))) → Reaches code s (arrive k' frames (outcome_then r f))
 join s k k' frames (WentOn a w) f g h = reaches_on g (h a w (fewer_ticks g))
 join s k k' frames (Left e w) f g h = g
 
-pub follow : {A : Type 0} {code : Code} (s : State) (k k' : A → World → State) (frames : List Frame) (r : Outcome A) → Reaches code s (arrive k frames r) → ((a : A) (w : World) → (k a w).ticks ≤ s.ticks → Reaches code (k a w) (Underway (k' a w))) → Reaches code s (arrive k' frames r)
+pub follow : {A : Type 0} {code : Code} (s : MachineState) (k k' : A → World → MachineState) (frames : List Frame) (r : Outcome A) → Reaches code s (arrive k frames r) → ((a : A) (w : World) → (k a w).ticks ≤ s.ticks → Reaches code (k a w) (Underway (k' a w))) → Reaches code s (arrive k' frames r)
 follow s k k' frames (WentOn a w) g h = reaches_on g (h a w (fewer_ticks g))
 follow s k k' frames (Left e w) g h = g
 
 -- a state from which the first step takes a tick, so that t ticks are left, and then the machine ends with a result; or it ends there
-pub data Ticks (code : Code) (s : State) (t : ℕ) (r : Result) : Type 0 where
-  onwards : (x : State) → step code s ≡ Goes x → x.ticks ≡ t → Reaches code x r → Ticks code s t r
+pub data Ticks (code : Code) (s : MachineState) (t : ℕ) (r : Result) : Type 0 where
+  onwards : (x : MachineState) → step code s ≡ Goes x → x.ticks ≡ t → Reaches code x r → Ticks code s t r
   ends : IsEnd r → Reaches code s r → Ticks code s t r
 
-pub ticks_join : {A B : Type 0} {code : Code} (s : State) (t : ℕ) (k : A → World → State) (k' : B → World → State) (frames : List Frame) (o : Outcome A) (f : A → Part B) → Ticks code s t (arrive k frames o) → ((a : A) (w : World) → (k a w).ticks ≤ t → Reaches code (k a w) (arrive k' frames (f a w))) → Reaches code s (arrive k' frames (and_then o f))
+pub ticks_join : {A B : Type 0} {code : Code} (s : MachineState) (t : ℕ) (k : A → World → MachineState) (k' : B → World → MachineState) (frames : List Frame) (o : Outcome A) (f : A → Part B) → Ticks code s t (arrive k frames o) → ((a : A) (w : World) → (k a w).ticks ≤ t → Reaches code (k a w) (arrive k' frames (f a w))) → Reaches code s (arrive k' frames (outcome_then o f))
 ticks_join s t k k' frames o f (onwards x e q g) h = more e (join x k k' frames o f g (λ a w fewer. h a w (omega (arith, fewer, q))))
 ticks_join s t k k' frames (WentOn a w) f (ends i g) h = absurd i
 ticks_join s t k k' frames (Left e w) f (ends i g) h = g
 
-pub ticks_reach : {code : Code} {s : State} {t : ℕ} {r : Result} → Ticks code s t r → Reaches code s r
+pub ticks_reach : {code : Code} {s : MachineState} {t : ℕ} {r : Result} → Ticks code s t r → Reaches code s r
 ticks_reach (onwards x e q g) = more e g
 ticks_reach (ends i g) = g
 
-pub ticks_and : {A B : Type 0} {code : Code} (s : State) (t : ℕ) (k : A → World → State) (k' : B → World → State) (frames : List Frame) (o : Outcome A) (f : A → Part B) → Ticks code s t (arrive k frames o) → ((a : A) (w : World) → (k a w).ticks ≤ t → Reaches code (k a w) (arrive k' frames (f a w))) → Ticks code s t (arrive k' frames (and_then o f))
+pub ticks_and : {A B : Type 0} {code : Code} (s : MachineState) (t : ℕ) (k : A → World → MachineState) (k' : B → World → MachineState) (frames : List Frame) (o : Outcome A) (f : A → Part B) → Ticks code s t (arrive k frames o) → ((a : A) (w : World) → (k a w).ticks ≤ t → Reaches code (k a w) (arrive k' frames (f a w))) → Ticks code s t (arrive k' frames (outcome_then o f))
 ticks_and s t k k' frames o f (onwards x e q g) h = onwards x e q (join x k k' frames o f g (λ a w fewer. h a w (omega (arith, fewer, q))))
 ticks_and s t k k' frames (WentOn a w) f (ends i g) h = absurd i
 ticks_and s t k k' frames (Left e w) f (ends i g) h = ends i g

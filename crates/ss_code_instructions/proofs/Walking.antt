@@ -15,12 +15,12 @@ use Rattle.ss_meaning.specs.Entities.{class_at, is_permanent, made_count}
 use Rattle.ss_meaning.specs.Places.{InVariable, written}
 use Rattle.ss_meaning.specs.Sets.{known_owner, is_none, begun, begun_at, coming, goes_on}
 use Rattle.ss_meaning.specs.Expressions.{value, value_if_any, member_value, owner_value, owner_looked_at}
-use Rattle.ss_meaning.specs.Parts.{World, WentOn, Part, and_then, then_nothing, choose, looked, look, Again, Over, loop}
-use Rattle.ss_meaning.specs.Loops.{Turn, GoesOn, EndsLoop, IsFound, phrases, visit, Range, range_items, over_items, step_number, range_of, range, indices, Outset, from_member, outset, next_member, member_turn, over_members, over}
-use Rattle.ss_code_instructions.specs.States.{Frame, To, did, core_of, past, onward}
+use Rattle.ss_meaning.specs.Parts.{World, WentOn, Part, outcome_then, then_nothing, choose, looked, look, Again, Over, loop}
+use Rattle.ss_meaning.specs.Loops.{Turn, GoesOn, EndsLoop, IsFound, phrases, visit, Range, range_items, over_items, step_number, range_of, range, indices, Outset, from_member, loop_outset, next_member, member_turn, over_members, over}
+use Rattle.ss_code_instructions.specs.States.{Frame, To, did, core_with, past, onward}
 use Rattle.ss_code_instructions.specs.Machine.{Code, backwards}
 use Rattle.ss_code_instructions.specs.Running.{Underway}
-use Rattle.ss_code_instructions.specs.Translation.{owner_code, is_system, member_code, phrases_code, items_code, range_code, outset_code, members_cells, members_code, for_code, loop_cells, find_code}
+use Rattle.ss_code_instructions.specs.Translation.{owner_code, is_the_system, member_code, phrases_code, items_code, range_code, outset_code, members_cells, members_code, for_code, loop_cells, find_code}
 use Rattle.ss_code_instructions.proofs.Steps.{HasAt, has_front, has_back, Reaches, here, at, arrive, join, follow}
 use Rattle.ss_code_instructions.proofs.Parts.{Lands, Runs, at_end, IfWentOn, same, done, seq_look, above, alike, look_lands, move_lands, ticked, did_run, found_due, join_such}
 use Rattle.ss_code_instructions.proofs.Branching.{jumps}
@@ -52,23 +52,23 @@ found_went P l (Err (Fails k)) w h = tt
 found_went P l (Err Misfit) w h = tt
 
 -- whose set a FOR goes over
-owner_found : (owner : SetOwner) (s : Store) → IfFound (Owned (is_system owner)) (owner_value owner s)
+owner_found : (owner : SetOwner) (s : Store) → IfFound (Owned (is_the_system owner)) (owner_value owner s)
 owner_found TheSystem s = owned_system
 owner_found (Entity e) s = found_made (Owned false) (value e s) Some owned_entity
 
-looked_found : (set : ℕ) (owner : SetOwner) (s : Store) → IfFound (Owned (is_system owner)) (owner_looked_at set owner s)
-looked_found set owner s = found_then (Owned (is_system owner)) (Owned (is_system owner)) (owner_value owner s) _ (owner_found owner s) (λ o h. found_made (Owned (is_system owner)) (known_owner set o s) _ (λ k. h))
+looked_found : (set : ℕ) (owner : SetOwner) (s : Store) → IfFound (Owned (is_the_system owner)) (owner_looked_at set owner s)
+looked_found set owner s = found_then (Owned (is_the_system owner)) (Owned (is_the_system owner)) (owner_value owner s) _ (owner_found owner s) (λ o h. found_made (Owned (is_the_system owner)) (known_owner set o s) _ (λ k. h))
 
 abbrev OfOwner : SetOwner → Outset → Type 0
-OfOwner owner b = Owned (is_system owner) b.owner
+OfOwner owner b = Owned (is_the_system owner) b.owner
 
-outset_found : (start : Start) (reverse : Bool) (set : ℕ) (owner : SetOwner) (s : Store) → IfFound (OfOwner owner) (outset start reverse set owner s)
+outset_found : (start : Start) (reverse : Bool) (set : ℕ) (owner : SetOwner) (s : Store) → IfFound (OfOwner owner) (loop_outset start reverse set owner s)
 outset_found AtEnd reverse set owner s =
-    found_then (Owned (is_system owner)) (OfOwner owner) (owner_value owner s) _ (owner_found owner s) (λ o h. found_made (OfOwner owner) (begun reverse set o s) _ (λ x. h))
+    found_then (Owned (is_the_system owner)) (OfOwner owner) (owner_value owner s) _ (owner_found owner s) (λ o h. found_made (OfOwner owner) (begun reverse set o s) _ (λ x. h))
 outset_found (From e) reverse set owner s =
-    found_then (Owned (is_system owner)) (OfOwner owner) (owner_looked_at set owner s) _ (looked_found set owner s) (λ o h. found_any (OfOwner owner) (member_value set e s) _ (λ y. found_made (OfOwner owner) (begun_at reverse false set y o s) _ (λ x. h)))
+    found_then (Owned (is_the_system owner)) (OfOwner owner) (owner_looked_at set owner s) _ (looked_found set owner s) (λ o h. found_any (OfOwner owner) (member_value set e s) _ (λ y. found_made (OfOwner owner) (begun_at reverse false set y o s) _ (λ x. h)))
 outset_found (After e) reverse set owner s =
-    found_then (Owned (is_system owner)) (OfOwner owner) (owner_looked_at set owner s) _ (looked_found set owner s) (λ o h. found_any (OfOwner owner) (member_value set e s) _ (λ y. found_made (OfOwner owner) (begun_at reverse true set y o s) _ (λ x. h)))
+    found_then (Owned (is_the_system owner)) (OfOwner owner) (owner_looked_at set owner s) _ (looked_found set owner s) (λ o h. found_any (OfOwner owner) (member_value set e s) _ (λ y. found_made (OfOwner owner) (begun_at reverse true set y o s) _ (λ x. h)))
 
 module _ (code : Code) (n : ℕ) where
   -- the step of a FOR
@@ -103,7 +103,7 @@ module _ (code : Code) (n : ℕ) where
     forget : (p place' : ℕ) (v : ℤ) (stack : List Value) (frames : List Frame) (w : World) → slice_get code.instructions p ≡ Some (i.Forget (members_cells system)) → p + 1 ≡ place' → Reaches code (at p (hold_member o v stack) frames w) (Underway (at place' stack frames w))
     forget p place' v stack frames w has e =
         leap code n (i.Forget (members_cells system)) p (p + 1) place' (hold_member o v stack) stack frames w _ has refl
-        (h.forgets (Whole v) stack (λ rest. onward rest (core_of p (hold_member o v stack) frames w.store) w.store)) e here
+        (h.forgets (Whole v) stack (λ rest. onward rest (core_with p (hold_member o v stack) frames w.store) w.store)) e here
 
     module _ (place end : ℕ) (stack : List Value) (frames : List Frame) (has : HasAt code.instructions place (members_code l x set system reverse turn)) (len : place + 1 + length turn ≡ end) (hf : slice_get code.instructions (end + found) ≡ Some (i.Forget (members_cells system))) where
       abbrev to : Bool → ℕ
@@ -123,8 +123,8 @@ module _ (code : Code) (n : ℕ) where
 
       after_run : (next : ℤ) (t : Turn) (w : World) → Reaches code (at (leads found t end) (hold_member o next stack) frames w) (arrive (turned {C = ℤ} {A = Bool} (hold_member o) place to stack frames) frames (next_member l set o next t w))
       after_run next GoesOn w =
-          did_run code (i.NextMember set system (length turn + 1) l) l (core_of end (hold_member o next stack) frames w.store) frames w (goes_on set next o w.store) (λ b. core_of (backwards (length turn + 1) b end) (hold_member o next stack) frames w.store) (turned {C = ℤ} {A = Bool} (hold_member o) place to stack frames) (λ b. choose b (WentOn (Again next)) (WentOn (Over false))) next_has refl
-          (h.by stack (λ o' rest. did l (goes_on set next o' w.store) (λ b. To (core_of (backwards (length turn + 1) b end) (hold_member o next stack) frames w.store))))
+          did_run code (i.NextMember set system (length turn + 1) l) l (core_with end (hold_member o next stack) frames w.store) frames w (goes_on set next o w.store) (λ b. core_with (backwards (length turn + 1) b end) (hold_member o next stack) frames w.store) (turned {C = ℤ} {A = Bool} (hold_member o) place to stack frames) (λ b. choose b (WentOn (Again next)) (WentOn (Over false))) next_has refl
+          (h.by stack (λ o' rest. did l (goes_on set next o' w.store) (λ b. To (core_with (backwards (length turn + 1) b end) (hold_member o next stack) frames w.store))))
           (λ b. last next w b)
       after_run next EndsLoop w = forget (end + 1) (end + 2) next stack frames w forget_has (omega arith)
       after_run next IsFound w = forget (end + found) (end + found + 1) next stack frames w hf refl
@@ -135,11 +135,11 @@ module _ (code : Code) (n : ℕ) where
         has = has.0;
         due = refl;
         each = λ v t w lt.
-            found_due code (i.TakeMember x reverse set l) l (core_of place (hold_member o v stack) frames w.store) frames w t (coming reverse set v w.store) (written (InVariable x) (Whole v)) (λ next s. core_of (place + 1) (hold_member o next stack) frames s) (turned {C = ℤ} {A = Bool} (hold_member o) place to stack frames) m (next_member l set o) has.0 refl refl
+            found_due code (i.TakeMember x reverse set l) l (core_with place (hold_member o v stack) frames w.store) frames w t (coming reverse set v w.store) (written (InVariable x) (Whole v)) (λ next s. core_with (place + 1) (hold_member o next stack) frames s) (turned {C = ℤ} {A = Bool} (hold_member o) place to stack frames) m (next_member l set o) has.0 refl refl
             (λ next s. inner next (record (ticked t w) { store = s }) (omega (arith, lt)));
       }
         where
-          inner : (next : ℤ) (w : World) → w.ticks ≤ n → Reaches code (at (place + 1) (hold_member o next stack) frames w) (arrive (turned {C = ℤ} {A = Bool} (hold_member o) place to stack frames) frames (and_then (m w) (next_member l set o next)))
+          inner : (next : ℤ) (w : World) → w.ticks ≤ n → Reaches code (at (place + 1) (hold_member o next stack) frames w) (arrive (turned {C = ℤ} {A = Bool} (hold_member o) place to stack frames) frames (outcome_then (m w) (next_member l set o next)))
           inner next w le =
               join (at (place + 1) (hold_member o next stack) frames w) (λ t w'. at (leads found t end) (hold_member o next stack) frames w') (turned {C = ℤ} {A = Bool} (hold_member o) place to stack frames) frames (m w) (next_member l set o next)
               (subst (λ e. Reaches code (at (place + 1) (hold_member o next stack) frames w) (arrive (λ t w'. at (leads found t e) (hold_member o next stack) frames w') frames (m w))) len
@@ -168,7 +168,7 @@ module _ (code : Code) (n : ℕ) where
       second (Ok b) = refl
       second (Err t) = refl
 
-  from_lands : (l : Line) (skip : ℕ) (after reverse : Bool) (set : ℕ) (owner : SetOwner) (e : Expression) → Lands code n same (owner_code l owner ++ (i.LookOwner set (is_system owner) l ∷ (member_code l set e ++ i.BeginAt reverse after set (is_system owner) skip l ∷ []))) (outset_land skip) hold_outset (look l (from_member after reverse set owner e))
+  from_lands : (l : Line) (skip : ℕ) (after reverse : Bool) (set : ℕ) (owner : SetOwner) (e : Expression) → Lands code n same (owner_code l owner ++ (i.LookOwner set (is_the_system owner) l ∷ (member_code l set e ++ i.BeginAt reverse after set (is_the_system owner) skip l ∷ []))) (outset_land skip) hold_outset (look l (from_member after reverse set owner e))
   from_lands l skip after reverse set owner e =
       alike code n (λ w. looked_twice l (owner_value owner w.store) (λ o. known_owner set o w.store) (λ o. o) (λ o. if_ok (member_value set e w.store) (λ y. made_into (λ x. record { first = x; owner = o }) (begun_at reverse after set y o w.store))) w)
       (owner_look code n l owner same (λ system. i.LookOwner set system l ∷ (member_code l set e ++ i.BeginAt reverse after set system skip l ∷ []))
@@ -176,17 +176,17 @@ module _ (code : Code) (n : ℕ) where
       (λ system o h.
       seq_look code n l (known_owner set o) (λ k s. if_ok (member_value set e s) (λ y. made_into (λ x. record { first = x; owner = o }) (begun_at reverse after set y o s)))
       (look_lands code n (i.LookOwner set system l) l (owner_on o) at_end (λ k. owner_on o) (known_owner set o) refl
-      (λ place stack frames s. h.by stack (λ o' rest. did l (known_owner set o' s) (λ k. onward (owner_on o stack) (core_of place (owner_on o stack) frames s) s))))
+      (λ place stack frames s. h.by stack (λ o' rest. did l (known_owner set o' s) (λ k. onward (owner_on o stack) (core_with place (owner_on o stack) frames s) s))))
       (λ k.
       seq_look code n l (member_value set e) (λ y s. made_into (λ x. record { first = x; owner = o }) (begun_at reverse after set y o s)) (above code n (owner_on o) (member_runs code n l set e)) (λ y.
       turned_lands code n (i.BeginAt reverse after set system skip l) l (λ s. y ∷ owner_on o s) (outset_land skip) hold_outset (begun_at reverse after set y o) (λ x. record { first = x; owner = o }) refl
-      (λ place stack frames s. h.by stack (λ o' rest. did l (begun_at reverse after set y o' s) (λ x. To (core_of (past skip (not (is_none x)) (place + 1)) (Whole x ∷ owner_on o stack) frames s))))))))
+      (λ place stack frames s. h.by stack (λ o' rest. did l (begun_at reverse after set y o' s) (λ x. To (core_with (past skip (not (is_none x)) (place + 1)) (Whole x ∷ owner_on o stack) frames s))))))))
 
-  outset_lands : (l : Line) (skip set : ℕ) (owner : SetOwner) (start : Start) (reverse : Bool) → Lands code n same (outset_code l skip set owner start reverse) (outset_land skip) hold_outset (look l (outset start reverse set owner))
+  outset_lands : (l : Line) (skip set : ℕ) (owner : SetOwner) (start : Start) (reverse : Bool) → Lands code n same (outset_code l skip set owner start reverse) (outset_land skip) hold_outset (look l (loop_outset start reverse set owner))
   outset_lands l skip set owner AtEnd reverse =
       owner_look code n l owner same (λ system. i.BeginSet reverse set system skip l ∷ []) (λ o s. made_into (λ x. record { first = x; owner = o }) (begun reverse set o s)) (λ system o h.
       turned_lands code n (i.BeginSet reverse set system skip l) l (owner_on o) (outset_land skip) hold_outset (begun reverse set o) (λ x. record { first = x; owner = o }) refl
-      (λ place stack frames s. h.by stack (λ o' rest. did l (begun reverse set o' s) (λ x. To (core_of (past skip (not (is_none x)) (place + 1)) (Whole x ∷ owner_on o stack) frames s)))))
+      (λ place stack frames s. h.by stack (λ o' rest. did l (begun reverse set o' s) (λ x. To (core_with (past skip (not (is_none x)) (place + 1)) (Whole x ∷ owner_on o stack) frames s)))))
   outset_lands l skip set owner (From e) reverse = from_lands l skip false reverse set owner e
   outset_lands l skip set owner (After e) reverse = from_lands l skip true reverse set owner e
 
@@ -214,13 +214,13 @@ module _ (code : Code) (n : ℕ) where
         (λ b up w' fewer. ranged_run code n l x turn m found r b up p end stack frames w' (has_back code.instructions place front rest has) size hf (omega (arith, fewer, le)))
     over_run (Members x set owner start reverse) place end stack frames w has len hf le =
         let front = outset_code l (length turn + 2) set owner start reverse in
-        let rest = members_code l x set (is_system owner) reverse turn in
+        let rest = members_code l x set (is_the_system owner) reverse turn in
         let p = place + length front in
-        let size : p + 1 + length turn ≡ end = omega (arith, len, length-append front rest, length-append turn (i.NextMember set (is_system owner) (length turn + 1) l ∷ (i.Forget (members_cells (is_system owner)) ∷ []))) in
-        join_such (OfOwner owner) (at place stack frames w) (λ (b : Outset) w'. at (past (length turn + 2) (not (is_none b.first)) p) (hold_outset b stack) frames w') (λ b w'. at (past_loop found b end) stack frames w') frames (look l (outset start reverse set owner) w) (over_members n l set reverse (visit l x m))
-        (found_went (OfOwner owner) l (outset start reverse set owner w.store) w (outset_found start reverse set owner w.store))
+        let size : p + 1 + length turn ≡ end = omega (arith, len, length-append front rest, length-append turn (i.NextMember set (is_the_system owner) (length turn + 1) l ∷ (i.Forget (members_cells (is_the_system owner)) ∷ []))) in
+        join_such (OfOwner owner) (at place stack frames w) (λ (b : Outset) w'. at (past (length turn + 2) (not (is_none b.first)) p) (hold_outset b stack) frames w') (λ b w'. at (past_loop found b end) stack frames w') frames (look l (loop_outset start reverse set owner) w) (over_members n l set reverse (visit l x m))
+        (found_went (OfOwner owner) l (loop_outset start reverse set owner w.store) w (outset_found start reverse set owner w.store))
         ((outset_lands l (length turn + 2) set owner start reverse).by place stack frames w (has_front code.instructions place front rest has) le)
-        (λ b h w' fewer. members_run l x set reverse (is_system owner) b.owner h turn m found r p end stack frames (has_back code.instructions place front rest has) size hf b.first w' (omega (arith, fewer, le)))
+        (λ b h w' fewer. members_run l x set reverse (is_the_system owner) b.owner h turn m found r p end stack frames (has_back code.instructions place front rest has) size hf b.first w' (omega (arith, fewer, le)))
 
     -- the end of a FOR
     pub for_forgets : (head : Head) (place end : ℕ) → HasAt code.instructions place (for_code l head turn) → place + length (for_code l head turn) ≡ end + 2 → slice_get code.instructions (end + 1) ≡ Some (i.Forget (loop_cells head))
@@ -236,27 +236,27 @@ module _ (code : Code) (n : ℕ) where
         subst (λ p. slice_get code.instructions p ≡ Some (i.Forget 3)) e (has_back code.instructions (place + length front + 1) turn _ (has_back code.instructions place front rest has).1).1.0
     for_forgets (Members x set owner start reverse) place end has len =
         let front = outset_code l (length turn + 2) set owner start reverse in
-        let rest = members_code l x set (is_system owner) reverse turn in
-        let e : place + length front + 1 + length turn + 1 ≡ end + 1 = omega (arith, len, length-append front rest, length-append turn (i.NextMember set (is_system owner) (length turn + 1) l ∷ (i.Forget (members_cells (is_system owner)) ∷ []))) in
-        subst (λ p. slice_get code.instructions p ≡ Some (i.Forget (members_cells (is_system owner)))) e (has_back code.instructions (place + length front + 1) turn _ (has_back code.instructions place front rest has).1).1.0
+        let rest = members_code l x set (is_the_system owner) reverse turn in
+        let e : place + length front + 1 + length turn + 1 ≡ end + 1 = omega (arith, len, length-append front rest, length-append turn (i.NextMember set (is_the_system owner) (length turn + 1) l ∷ (i.Forget (members_cells (is_the_system owner)) ∷ []))) in
+        subst (λ p. slice_get code.instructions p ≡ Some (i.Forget (members_cells (is_the_system owner)))) e (has_back code.instructions (place + length front + 1) turn _ (has_back code.instructions place front rest has).1).1.0
 
     -- a FOR is at least its tick, its turn and its end long
     pub for_long : (head : Head) → 2 ≤ length (for_code l head turn)
     for_long (Numbers x a b c) = omega (arith, length-append (range_code l (length turn + 2) a b c) (items_code l x turn), length-append turn (i.Next (length turn + 1) ∷ (i.Forget 3 ∷ [])))
     for_long (Each x class) = omega (arith, length-append turn (i.Next (length turn + 1) ∷ (i.Forget 3 ∷ [])))
-    for_long (Members x set owner start reverse) = omega (arith, length-append (outset_code l (length turn + 2) set owner start reverse) (members_code l x set (is_system owner) reverse turn), length-append turn (i.NextMember set (is_system owner) (length turn + 1) l ∷ (i.Forget (members_cells (is_system owner)) ∷ [])))
+    for_long (Members x set owner start reverse) = omega (arith, length-append (outset_code l (length turn + 2) set owner start reverse) (members_code l x set (is_the_system owner) reverse turn), length-append turn (i.NextMember set (is_the_system owner) (length turn + 1) l ∷ (i.Forget (members_cells (is_the_system owner)) ∷ [])))
 
   -- a body as the turn of a FOR
-  body_lands : (found : ℕ) {c : List Instruction} {m : Part (Unit {0})} → Runs code n same c done m → Lands code n same c (leads found) done (λ w. and_then (m w) (λ _. WentOn GoesOn))
+  body_lands : (found : ℕ) {c : List Instruction} {m : Part (Unit {0})} → Runs code n same c done m → Lands code n same c (leads found) done (λ w. outcome_then (m w) (λ _. WentOn GoesOn))
   body_lands found {c = c} {m = m} r = record {
     by = λ place stack frames w has le. join (at place stack frames w) (λ u w'. at (place + length c) stack frames w') (λ t w'. at (leads found t (place + length c)) stack frames w') frames (m w) (λ _. WentOn GoesOn) (r.by place stack frames w has le) (λ u w' fewer. here);
   }
 
-  pub for_runs : (l : Line) (head : Head) (ps : List Phrase) {c : List Instruction} {m : Part (Unit {0})} → Runs code n same c done m → Runs code n same (for_code l head (phrases_code l ps c)) done (λ w. then_nothing (over n l head (phrases l ps (λ w. and_then (m w) (λ _. WentOn GoesOn))) w))
+  pub for_runs : (l : Line) (head : Head) (ps : List Phrase) {c : List Instruction} {m : Part (Unit {0})} → Runs code n same c done m → Runs code n same (for_code l head (phrases_code l ps c)) done (λ w. then_nothing (over n l head (phrases l ps (λ w. outcome_then (m w) (λ _. WentOn GoesOn))) w))
   for_runs l head ps {c = c} {m = m} r = record {
     by = λ place stack frames w has le.
         let turn = phrases_code l ps c in
-        let part = phrases l ps (λ w. and_then (m w) (λ _. WentOn GoesOn)) in
+        let part = phrases l ps (λ w. outcome_then (m w) (λ _. WentOn GoesOn)) in
         let lands = phrases_land code n 1 l ps (body_lands 1 r) in
         let size = length (for_code l head turn) in
         let end = place + (size - 2) in
@@ -274,7 +274,7 @@ module _ (code : Code) (n : ℕ) where
   found_lands : (found : ℕ) → Lands code n same (i.Jump found ∷ []) (leads found) done (WentOn IsFound)
   found_lands found = move_lands code n (i.Jump found) same (leads found) done IsFound refl (λ place stack frames s. refl)
 
-  pub find_runs : (l : Line) (head : Head) (ps : List Phrase) {ca cb : List Instruction} {ma mb : Part (Unit {0})} → Runs code n same ca done ma → Runs code n same cb done mb → Runs code n same (find_code l head ps ca cb) done (λ w. and_then (over n l head (phrases l ps (WentOn IsFound)) w) (λ t. choose t ma mb))
+  pub find_runs : (l : Line) (head : Head) (ps : List Phrase) {ca cb : List Instruction} {ma mb : Part (Unit {0})} → Runs code n same ca done ma → Runs code n same cb done mb → Runs code n same (find_code l head ps ca cb) done (λ w. outcome_then (over n l head (phrases l ps (WentOn IsFound)) w) (λ t. choose t ma mb))
   find_runs l head ps {ca = ca} {cb = cb} {ma = ma} {mb = mb} ra rb = record {
     by = λ place stack frames w has le.
         let found = length cb + 3 in

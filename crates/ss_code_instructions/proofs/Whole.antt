@@ -6,7 +6,7 @@ use Rattle.ss_code_instructions.specs.declared.instruction.Instruction.TheVarian
 use Rattle.ss_meaning.specs.Parts.{Returned, Stopped, Faulted, OutOfTicks, Wrong, Outcome, WentOn, Left}
 use Rattle.ss_meaning.specs.Statements.{effects}
 use Rattle.ss_meaning.specs.Meaning.{Ending, Ended, Fault, Paused, WentWrong, Run, run_of, calls, first_world, meaning}
-use Rattle.ss_code_instructions.specs.States.{State}
+use Rattle.ss_code_instructions.specs.States.{MachineState}
 use Rattle.ss_code_instructions.specs.Machine.{Code}
 use Rattle.ss_code_instructions.specs.Running.{start, result_at, result_of, Behaves}
 use Rattle.ss_code_instructions.specs.Translation.{block_code, section_code, sections_code, sections_prints, block_prints, routine_entries, event_entries, routine_bodies, event_bodies, prints_of_main, prints_before_events, main_code, routines_code, events_code, code_of}
@@ -74,7 +74,7 @@ module _ (p : Program) where
     events = linked_events code p.events (length (main_code p) + length (routines_code p)) (prints_before_events p) (has_back code.instructions (length (main_code p)) (routines_code p) (events_code p) after_main) (has_back code.prints (prints_of_main p) (sections_prints (routine_bodies p.routines)) (sections_prints (event_bodies p.events)) prints_after);
   }
 
-  main_end : (q : ℕ) (s : State) (o : Outcome (Unit {0})) → slice_get code.instructions q ≡ Some i.Leave → Reaches code s (arrive (λ u w. at q [] [] w) [] o) → Reaches code s (result_of (run_of o))
+  main_end : (q : ℕ) (s : MachineState) (o : Outcome (Unit {0})) → slice_get code.instructions q ≡ Some i.Leave → Reaches code s (arrive (λ u w. at q [] [] w) [] o) → Reaches code s (result_of (run_of o))
   main_end q s (WentOn u w) has g = reaches_on g (rests code (at q [] [] w) i.Leave Ended w.ticks has refl)
   main_end q s (Left Returned w) has g = g
   main_end q s (Left Stopped w) has g = g

@@ -7,7 +7,7 @@ use Rattle.ss_program.specs.declared.head.GuardKind.{GuardKind}
 use Rattle.ss_program.specs.declared.head.GuardKind.TheVariants as guards
 use Rattle.ss_program.specs.declared.head.PhraseKind.{PhraseKind}
 use Rattle.ss_program.specs.declared.head.PhraseKind.TheVariants as kinds
-use Rattle.ss_program.specs.declared.statement.Counted.{Counted}
+use Rattle.ss_program.specs.declared.statement.CountedClass.{CountedClass}
 use Rattle.ss_program.specs.Program.{Expression, Constant, Fetch, Attribute, OfSystemSet, OfSet, OfMember, Clock, TimeOf, Figure, FigureOf, Signed, Absolute, Calculate, SetOwner, TheSystem, Entity, Test, Compare, DataEnded, Empty, Member, Condition, Head, Numbers, Members, Each, Start, AtEnd, From, After, Phrase, Guard, Place, ToVariable, ToAttribute, ToCount, Target, Position, ByDiscipline, AsFirst, AsLast, BeforeMember, AfterMember, When, At, In, Now, Restart, Item, AValue, AMean, AMeanOf, Statement, Let, Change, Call, Return, Stop, Read, Simulate, If, Loop, For, Find, Create, CreateEvery, Destroy, File, RemoveEnd, Remove, ScheduleNew, Schedule, Cancel, Reset, Print, Skip, Block, Done, Then, Routine, Event, Program}
 use Rattle.ss_code_instructions.specs.declared.instruction.Destination.{Destination}
 use Rattle.ss_code_instructions.specs.declared.instruction.Destination.TheVariants as destinations
@@ -18,7 +18,7 @@ use Rattle.ss_code_instructions.specs.declared.instruction.Instruction.TheVarian
 use Rattle.ss_meaning.specs.Meaning.{setting_of, tie_shapes}
 use Rattle.ss_code_instructions.specs.declared.item.ItemKind.{ItemKind}
 use Rattle.ss_code_instructions.specs.declared.item.ItemKind.TheVariants as shows
-use Rattle.ss_code_instructions.specs.Machine.{Entry, Lines, Code}
+use Rattle.ss_code_instructions.specs.Machine.{EntryPoint, Lines, Code}
 
 -- ## Expressions
 
@@ -55,9 +55,9 @@ abbrev pub owner_code : Line → SetOwner → List Instruction
 owner_code l TheSystem = []
 owner_code l (Entity e) = expression_code l e
 
-abbrev pub is_system : SetOwner → Bool
-is_system TheSystem = true
-is_system (Entity e) = false
+abbrev pub is_the_system : SetOwner → Bool
+is_the_system TheSystem = true
+is_the_system (Entity e) = false
 
 -- a value that there may be, of which nothing is on the stack where there is none
 abbrev pub any_code : Line → Option Expression → List Instruction
@@ -73,9 +73,9 @@ is_absent (Some e) = false
 abbrev pub test_code : Line → (skip : ℕ) → Test → List Instruction
 test_code l skip (Compare relation a b) = expression_code l a ++ (expression_code l b ++ i.Compare relation skip ∷ [])
 test_code l skip (DataEnded negated) = i.TestData negated skip l ∷ []
-test_code l skip (Empty negated set owner) = owner_code l owner ++ i.TestEmpty negated set (is_system owner) skip l ∷ []
+test_code l skip (Empty negated set owner) = owner_code l owner ++ i.TestEmpty negated set (is_the_system owner) skip l ∷ []
 test_code l skip (Member negated set e owner) =
-    member_code l set e ++ (owner_code l owner ++ i.TestMember negated set (is_system owner) skip l ∷ [])
+    member_code l set e ++ (owner_code l owner ++ i.TestMember negated set (is_the_system owner) skip l ∷ [])
 
 -- tests that all must hold
 abbrev pub tests_code : Line → (skip : ℕ) → List Test → List Instruction
@@ -131,11 +131,11 @@ range_code l skip a b c = expression_code l a ++ (expression_code l b ++ (step_c
 
 -- the owner of a FOR over members, and the first of them; past so many instructions where there is none
 abbrev pub outset_code : Line → (skip : ℕ) → (set : ℕ) → SetOwner → Start → (reverse : Bool) → List Instruction
-outset_code l skip set owner AtEnd reverse = owner_code l owner ++ i.BeginSet reverse set (is_system owner) skip l ∷ []
+outset_code l skip set owner AtEnd reverse = owner_code l owner ++ i.BeginSet reverse set (is_the_system owner) skip l ∷ []
 outset_code l skip set owner (From e) reverse =
-    owner_code l owner ++ (i.LookOwner set (is_system owner) l ∷ (member_code l set e ++ i.BeginAt reverse false set (is_system owner) skip l ∷ []))
+    owner_code l owner ++ (i.LookOwner set (is_the_system owner) l ∷ (member_code l set e ++ i.BeginAt reverse false set (is_the_system owner) skip l ∷ []))
 outset_code l skip set owner (After e) reverse =
-    owner_code l owner ++ (i.LookOwner set (is_system owner) l ∷ (member_code l set e ++ i.BeginAt reverse true set (is_system owner) skip l ∷ []))
+    owner_code l owner ++ (i.LookOwner set (is_the_system owner) l ∷ (member_code l set e ++ i.BeginAt reverse true set (is_the_system owner) skip l ∷ []))
 
 -- how many values a FOR over members keeps on the stack
 abbrev pub members_cells : (system : Bool) → ℕ
@@ -151,13 +151,13 @@ abbrev pub for_code : Line → Head → (turn : List Instruction) → List Instr
 for_code l (Numbers x a b c) turn = range_code l (length turn + 2) a b c ++ items_code l x turn
 for_code l (Each x class) turn = (i.BeginClass class (length turn + 2) l ∷ []) ++ items_code l x turn
 for_code l (Members x set owner start reverse) turn =
-    outset_code l (length turn + 2) set owner start reverse ++ members_code l x set (is_system owner) reverse turn
+    outset_code l (length turn + 2) set owner start reverse ++ members_code l x set (is_the_system owner) reverse turn
 
 -- how many values a FOR keeps on the stack
 abbrev pub loop_cells : Head → ℕ
 loop_cells (Numbers x a b c) = 3
 loop_cells (Each x class) = 3
-loop_cells (Members x set owner start reverse) = members_cells (is_system owner)
+loop_cells (Members x set owner start reverse) = members_cells (is_the_system owner)
 
 -- the sides of a FIND: the end of the loop at which no case was found comes before its side, the other after a jump past both sides
 abbrev pub find_code : Line → Head → List Phrase → (found none : List Instruction) → List Instruction
@@ -204,7 +204,7 @@ reads_code l (t ∷ ts) = give_code l t.place (i.Read t.mode l ∷ []) ++ reads_
 
 -- ## Entities and sets
 
-abbrev pub creates_code : Line → List Counted → List Instruction
+abbrev pub creates_code : Line → List CountedClass → List Instruction
 creates_code l [] = []
 creates_code l (c ∷ cs) = i.CreateAll c l ∷ creates_code l cs
 
@@ -225,7 +225,7 @@ beside_code l set (AfterMember e) = member_code l set e
 
 abbrev pub file_code : Line → (set : ℕ) → Expression → Position → SetOwner → List Instruction
 file_code l set e position owner =
-    member_code l set e ++ (beside_code l set position ++ (owner_code l owner ++ i.File (filing_of position) set (is_system owner) l ∷ []))
+    member_code l set e ++ (beside_code l set position ++ (owner_code l owner ++ i.File (filing_of position) set (is_the_system owner) l ∷ []))
 
 -- ## Events
 
@@ -258,14 +258,14 @@ shown_code l [] = []
 shown_code l (x ∷ xs) = item_code l x ++ shown_code l xs
 
 -- how many values an item takes
-abbrev pub values_of : Item → ℕ
-values_of (AValue e) = 1
-values_of (AMean j) = 0
-values_of (AMeanOf j e) = 1
+abbrev pub value_count : Item → ℕ
+value_count (AValue e) = 1
+value_count (AMean j) = 0
+value_count (AMeanOf j e) = 1
 
 abbrev pub values_taken : List Item → ℕ
 values_taken [] = 0
-values_taken (x ∷ xs) = values_of x + values_taken xs
+values_taken (x ∷ xs) = value_count x + values_taken xs
 
 -- what an item is
 abbrev pub item_kind : Item → ItemKind
@@ -335,8 +335,8 @@ abbrev mutual
   statement_code first (Destroy l class e) = expression_code l e ++ i.Destroy class l ∷ []
   statement_code first (File l set e position owner) = file_code l set e position owner
   statement_code first (RemoveEnd l end set t owner) =
-      give_code l t (owner_code l owner ++ i.RemoveEnd end set (is_system owner) l ∷ [])
-  statement_code first (Remove l set e owner) = member_code l set e ++ (owner_code l owner ++ i.Remove set (is_system owner) l ∷ [])
+      give_code l t (owner_code l owner ++ i.RemoveEnd end set (is_the_system owner) l ∷ [])
+  statement_code first (Remove l set e owner) = member_code l set e ++ (owner_code l owner ++ i.Remove set (is_the_system owner) l ∷ [])
   statement_code first (ScheduleNew l class t given when) = schedule_new_code l class t given when
   statement_code first (Schedule l class e given when) = schedule_code l class e given when
   statement_code first (Cancel l class e) = expression_code l e ++ i.Cancel class l ∷ []
@@ -362,20 +362,20 @@ abbrev pub sections_code : ℕ → List Block → List Instruction
 sections_code first [] = []
 sections_code first (b ∷ bs) = section_code first b ++ sections_code (first + length (block_prints b)) bs
 
-abbrev pub routine_entry : (place : ℕ) → Routine → Entry
+abbrev pub routine_entry : (place : ℕ) → Routine → EntryPoint
 routine_entry place r = record { place = place; given = r.given; yielding = length r.yielding; others = r.yielding ++ r.others }
 
 -- an event yields nothing
-abbrev pub event_entry : (place : ℕ) → Event → Entry
+abbrev pub event_entry : (place : ℕ) → Event → EntryPoint
 event_entry place e = record { place = place; given = e.given; yielding = 0; others = e.others }
 
 -- where routines begin, the first of them at this place, after so many PRINTs
-abbrev pub routine_entries : (place first : ℕ) → List Routine → List Entry
+abbrev pub routine_entries : (place first : ℕ) → List Routine → List EntryPoint
 routine_entries place first [] = []
 routine_entries place first (r ∷ rs) =
     routine_entry place r ∷ routine_entries (place + length (section_code first r.body)) (first + length (block_prints r.body)) rs
 
-abbrev pub event_entries : (place first : ℕ) → List Event → List Entry
+abbrev pub event_entries : (place first : ℕ) → List Event → List EntryPoint
 event_entries place first [] = []
 event_entries place first (e ∷ es) =
     event_entry place e ∷ event_entries (place + length (section_code first e.body)) (first + length (block_prints e.body)) es

@@ -10,27 +10,27 @@ use std::marker::Model;
 ///
 /// A contract sees it as a record of these.
 #[derive(Drop)]
-pub struct Entry {
+pub struct EntryPoint {
     place: usize,
     given: Vec<Mode>,
     yielding: usize,
     others: Vec<Mode>,
 }
 
-impl Model for Entry {
-    ghost use Rattle.ss_code_instructions.specs.Machine.{Entry as EntryValue};
+impl Model for EntryPoint {
+    ghost use Rattle.ss_code_instructions.specs.Machine.{EntryPoint as EntryValue};
 
     ghost Value = { EntryValue };
 
     ghost view = { λ e. record { place = e.place; given = e.given.items; yielding = e.yielding; others = e.others.items } };
 }
 
-impl Entry {
+impl EntryPoint {
     /// A routine that begins at this place.
-    pub fn new(place: usize, given: Vec<Mode>, yielding: usize, others: Vec<Mode>) -> Entry
+    pub fn new(place: usize, given: Vec<Mode>, yielding: usize, others: Vec<Mode>) -> EntryPoint
         ensures { result ≡ record { place = place; given = given.items; yielding = yielding; others = others.items } }
     {
-        Entry {
+        EntryPoint {
             place,
             given,
             yielding,

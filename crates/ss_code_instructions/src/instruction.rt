@@ -3,7 +3,7 @@
 use ss_base::{Line, Mode, Value};
 use ss_program::condition::Relation;
 use ss_program::expression::{Fold, MemberQuery, Operator, SetQuery, Sign, Variable};
-use ss_program::statement::{Counted, End};
+use ss_program::statement::{CountedClass, End};
 
 /// What is assigned a value. The reference to the entity of an attribute lies on the stack.
 #[derive(Clone, Copy)]
@@ -11,7 +11,7 @@ pub enum Destination {
     Variable { variable: Variable },
     Attribute { class: usize, field: usize },
     /// N. of a permanent class.
-    Count { counted: Counted },
+    Count { counted: CountedClass },
 }
 
 /// Where a member is filed. The one beside which it is filed lies on the stack.
@@ -250,7 +250,7 @@ pub enum Instruction {
     },
     /// All entities of a permanent class are made.
     CreateAll {
-        counted: Counted,
+        counted: CountedClass,
         line: Line,
     },
     /// The entity that the value on top of the stack refers to goes.

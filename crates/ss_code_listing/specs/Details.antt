@@ -1,7 +1,7 @@
 -- How an instruction is written in a listing: what it is called, and what it works on.
 use Rattle.std.specs.Prelude.{ℕ, ◌+◌, ◌-◌, List, [], ◌∷◌, ◌++◌, length, replicate, Option, Some, None, slice_get, codes, decimal}
 use Rattle.ss_program.specs.declared.expression.Variable.TheVariants as variables
-use Rattle.ss_code_instructions.specs.Machine.{Entry}
+use Rattle.ss_code_instructions.specs.Machine.{EntryPoint}
 use Rattle.ss_code_instructions.specs.declared.instruction.Destination.TheVariants as destinations
 use Rattle.ss_code_instructions.specs.declared.instruction.Instruction.{Instruction}
 use Rattle.ss_code_instructions.specs.declared.instruction.Instruction.TheVariants as i
@@ -28,16 +28,16 @@ instruction_text name (x ∷ xs) = padded 13 name ++ (operand_text x ++ further_
 abbrev pub landing : (place skip : ℕ) → ℕ
 landing place skip = place + 1 + skip
 
-abbrev pub place_of_entry : Option Entry → Option ℕ
+abbrev pub place_of_entry : Option EntryPoint → Option ℕ
 place_of_entry None = None
 place_of_entry (Some e) = Some e.place
 
 -- the place of the first instruction of a routine, if there is one of that number
-abbrev pub first_of_routine : List Entry → (routine : ℕ) → Option ℕ
+abbrev pub first_of_routine : List EntryPoint → (routine : ℕ) → Option ℕ
 first_of_routine routines routine = place_of_entry (slice_get routines routine)
 
 -- the instruction at a place, among these routines and these beginnings of events
-abbrev pub detail : List Entry → (events : List Operand) → (place : ℕ) → Instruction → List ℕ
+abbrev pub detail : List EntryPoint → (events : List Operand) → (place : ℕ) → Instruction → List ℕ
 detail rs es p (i.Push value) = padded 13 (codes "push") ++ value_text value
 detail rs es p (i.Fetch x) = instruction_text (codes "fetch") (o.Place (destinations.Variable x) ∷ [])
 detail rs es p (i.Calculate op l) = instruction_text (codes "calculate") (o.Word (w.Operator op) ∷ o.At l ∷ [])

@@ -8,7 +8,7 @@ ghost use Rattle.ss_code_listing.specs.Details.{further_text, padded, instructio
 use crate::operand::{Operand, add_operand, add_value};
 use crate::words::Word;
 use ss_base::{Line, Value};
-use ss_code_instructions::entry::Entry;
+use ss_code_instructions::entry::EntryPoint;
 use ss_code_instructions::instruction::{Destination, Instruction};
 use ss_program::expression::Variable;
 use std::alloc::AllocError;
@@ -79,7 +79,7 @@ fn origin(place: usize, back: usize) -> u128
 }
 
 // The place of the first instruction of a routine, if there is one of that number.
-fn first_place(routines: &[Entry], routine: usize) -> Option<usize>
+fn first_place(routines: &[EntryPoint], routine: usize) -> Option<usize>
     ensures { result ≡ first_of_routine routines.now routine }
 {
     match routines.get(routine) {
@@ -191,7 +191,7 @@ fn add_four_at(
 /// memory was refused.
 pub(crate) fn add_detail(
     text: &mut Vec<u8>,
-    routines: &[Entry],
+    routines: &[EntryPoint],
     events: &[Operand],
     place: usize,
     instruction: &Instruction,

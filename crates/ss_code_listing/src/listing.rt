@@ -2,12 +2,12 @@
 
 ghost use Rattle.std.specs.Prelude.{◌≡◌, ◌++◌, codes, decimal, map, IfOk, OnOk};
 ghost use Rattle.ss_code_listing.specs.Details.{padded, detail};
-ghost use Rattle.ss_code_listing.specs.Listing.{beginning, listed};
+ghost use Rattle.ss_code_listing.specs.Listing.{event_place, listed};
 
 use crate::detail::{add_detail, add_padded};
 use crate::operand::Operand;
 use itoa::Buffer;
-use ss_code_instructions::entry::Entry;
+use ss_code_instructions::entry::EntryPoint;
 use ss_code_instructions::instruction::Instruction;
 use std::alloc::{AllocError, Global};
 
@@ -17,7 +17,7 @@ const NUMBER_WIDTH: usize = 7;
 // One more line.
 fn add_line(
     text: &mut Vec<u8>,
-    routines: &[Entry],
+    routines: &[EntryPoint],
     events: &[Operand],
     place: usize,
     instruction: &Instruction,
@@ -31,8 +31,8 @@ fn add_line(
 }
 
 // Where the routines of the events begin.
-fn beginnings(alloc: Global, events: &[Entry]) -> Result<Vec<Operand>, AllocError>
-    ensures { IfOk result (λ made. made.items ≡ map beginning events.now) }
+fn beginnings(alloc: Global, events: &[EntryPoint]) -> Result<Vec<Operand>, AllocError>
+    ensures { IfOk result (λ made. made.items ≡ map event_place events.now) }
 {
     let mut made = Vec::new(alloc);
     for event in events {
@@ -44,7 +44,7 @@ fn beginnings(alloc: Global, events: &[Entry]) -> Result<Vec<Operand>, AllocErro
 // A line for each instruction, among these routines and these beginnings of events.
 fn lines(
     alloc: Global,
-    routines: &[Entry],
+    routines: &[EntryPoint],
     events: &[Operand],
     instructions: &[Instruction],
 ) -> Result<Vec<u8>, AllocError>
@@ -61,11 +61,11 @@ fn lines(
 /// memory was refused.
 pub fn listing(
     alloc: Global,
-    routines: &[Entry],
-    events: &[Entry],
+    routines: &[EntryPoint],
+    events: &[EntryPoint],
     instructions: &[Instruction],
 ) -> Result<Vec<u8>, AllocError>
-    ensures { IfOk result (λ text. text.items ≡ listed routines.now (map beginning events.now) 0 instructions.now) }
+    ensures { IfOk result (λ text. text.items ≡ listed routines.now (map event_place events.now) 0 instructions.now) }
 {
     let starts = beginnings(alloc, events)?;
     lines(alloc, routines, &starts, instructions)

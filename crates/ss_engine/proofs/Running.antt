@@ -11,7 +11,7 @@ use Rattle.ss_code_instructions.specs.Machine.{Code, Over, step}
 use Rattle.ss_code_instructions.specs.Running.{Underway, steps}
 use Rattle.ss_code_instructions.specs.Laws.{StepsGoOn}
 use Rattle.ss_machine_instructions.specs.declared.working.Working.{Working}
-use Rattle.ss_machine_instructions.specs.Holding.{state_of}
+use Rattle.ss_machine_instructions.specs.Holding.{machine_state}
 use Rattle.ss_machine.specs.Stop.{Stop}
 use Rattle.ss_machine.specs.Stop.TheVariants.{Ended, Fault, Paused, Memory, Output, Input, Failed}
 use Rattle.ss_machine.specs.Held.{kept_after}
@@ -84,7 +84,7 @@ module _ {R : Type 0} (remaining : R → Option (List ℕ)) (code : Code) (w new
   came_kept Input h = h
   came_kept Failed h = h
 
-  pub came_ran : (o : Option Stop) → CameTo remaining o code w new source last a b taken made → (o ≡ None → (input report : List ℕ) → step code (state_of new input report 0) ≡ Over PausedThere 0) → Ran remaining (last_stop o) code w new source last a b taken made
+  pub came_ran : (o : Option Stop) → CameTo remaining o code w new source last a b taken made → (o ≡ None → (input report : List ℕ) → step code (machine_state new input report 0) ≡ Over PausedThere 0) → Ran remaining (last_stop o) code w new source last a b taken made
   came_ran None h due = (h, due refl)
   came_ran (Some stop) h due = h
 
@@ -107,8 +107,8 @@ module _ {R W : Type 0} (remaining : R → Option (List ℕ)) (read_faults : R �
         ahead = there;
         says = λ report ticks.
             let t : (session_machine s).used + ticks ≡ ticks = omega (arith, b.first.used) in
-            ap (λ m. steps code m (state_of (session_machine s).working input report ((session_machine s).used + ticks))) b.first.steps ∙ ap (λ n. Underway (state_of (session_machine s).working input report n)) t ∙
-            ap (λ r. Underway (state_of (session_machine s).working input r ticks)) (sym (append-nil report));
+            ap (λ m. steps code m (machine_state (session_machine s).working input report ((session_machine s).used + ticks))) b.first.steps ∙ ap (λ n. Underway (machine_state (session_machine s).working input report n)) t ∙
+            ap (λ r. Underway (machine_state (session_machine s).working input r ticks)) (sym (append-nil report));
       };
     };
   }
@@ -176,7 +176,7 @@ module _ {R W : Type 0} (remaining : R → Option (List ℕ)) (read_faults : R �
         subst (λ n. Ran remaining stop code h.first (session_machine new).working h.source (session_source new) (contents writer) (contents (session_writer new)) (session_machine new).used n) (used_since (session_machine old).steps (session_machine new).steps steps)
         (subst (λ n. Ran remaining stop code h.first (session_machine new).working h.source (session_source new) (contents writer) (contents (session_writer new)) n ((session_machine old).steps + ((session_machine new).steps - (session_machine old).steps))) (used_since (session_machine old).used (session_machine new).used least) joined)
 
-    due : (session_machine new).stopped ≡ None → (input report : List ℕ) → step code (state_of (session_machine new).working input report 0) ≡ Over PausedThere 0
+    due : (session_machine new).stopped ≡ None → (input report : List ℕ) → step code (machine_state (session_machine new).working input report 0) ≡ Over PausedThere 0
     due none =
         let so = subst (λ s. Ran remaining s code (session_machine old).working (session_machine new).working (session_source old) (session_source new) (contents (session_writer old)) (contents (session_writer new)) ((session_machine new).used - (session_machine old).used) ((session_machine new).steps - (session_machine old).steps)) (kept_none stop (sym stopped ∙ none)) here in
         so.1

@@ -4,9 +4,9 @@ use Rattle.std.specs.Prelude.{slice_get}
 use Rattle.ss_program.specs.Program.{Program}
 use Rattle.ss_meaning.specs.Meaning.{Ending, Ended, Fault, Paused, WentWrong, Run, meaning}
 use Rattle.ss_code_instructions.specs.declared.instruction.Instruction.{Instruction}
-use Rattle.ss_code_instructions.specs.States.{State, Moved, To, Sends, Rest, Stuck, Done, Breaks}
+use Rattle.ss_code_instructions.specs.States.{MachineState, Moved, To, Sends, Rest, Stuck, Done, Breaks}
 use Rattle.ss_code_instructions.specs.Machine.{Code, Stepped, Goes, Over, NoStep, act, is_due, with_rest, when_due, step_at, step}
-use Rattle.ss_code_instructions.specs.Running.{Underway, Ends, Behaves, ended_at, go_on, result_at, start, steps}
+use Rattle.ss_code_instructions.specs.Running.{Underway, Ends, Behaves, ended_at, after_one_step, result_at, start, steps}
 use Rattle.ss_code_instructions.specs.Laws.{EndingsStay}
 
 -- a step that leaves at most so many ticks
@@ -32,37 +32,37 @@ due_leaves false r t m = rest_leaves r t m
 due_leaves true r zero m = omega arith
 due_leaves true r (suc t) m = leaves_more t (with_rest r t m) (rest_leaves r t m)
 
-at_leaves : (o : Option Instruction) (code : Code) (s : State) → Leaves s.ticks (step_at o code s)
+at_leaves : (o : Option Instruction) (code : Code) (s : MachineState) → Leaves s.ticks (step_at o code s)
 at_leaves None code s = tt
 at_leaves (Some i) code s = due_leaves (is_due i) s.report s.ticks (act code i s.core)
 
-same_state : (a b : State) → Underway a ≡ Underway b → a ≡ b
+same_state : (a b : MachineState) → Underway a ≡ Underway b → a ≡ b
 same_state a b e = cc
 
 same_run : (a b : Run) → Ends a ≡ Ends b → a ≡ b
 same_run a b e = cc
 
 module _ (code : Code) where
-  after : (o : Stepped) (m : ℕ) (s : State) (r : Run) → Leaves s.ticks o → ((t : State) → steps code m t ≡ Ends r → r.ticks ≤ t.ticks) → go_on o s (steps code m) ≡ Ends r → r.ticks ≤ s.ticks
+  after : (o : Stepped) (m : ℕ) (s : MachineState) (r : Run) → Leaves s.ticks o → ((t : MachineState) → steps code m t ≡ Ends r → r.ticks ≤ t.ticks) → after_one_step o s (steps code m) ≡ Ends r → r.ticks ≤ s.ticks
   after (Goes t) m s r l so e = omega (arith, l, so t e)
   after (Over k n) m s r l so e = let q : n ≡ r.ticks = ap (λ (x : Run). x.ticks) (same_run (ended_at s k n) r e) in omega (arith, l, q)
   after NoStep m s r l so e = absurd cc
 
   -- a run ends with no more ticks than it has
-  ends_within : (m : ℕ) (s : State) (r : Run) → steps code m s ≡ Ends r → r.ticks ≤ s.ticks
+  ends_within : (m : ℕ) (s : MachineState) (r : Run) → steps code m s ≡ Ends r → r.ticks ≤ s.ticks
   ends_within zero s r e = absurd cc
   ends_within (suc m) s r e =
       after (step code s) m s r (at_leaves (slice_get code.instructions s.core.place) code s) (λ t f. ends_within m t r f) e
 
-  both : (o : Stepped) (m k : ℕ) (s x : State) (r : Run) → ((t : State) → steps code m t ≡ Underway x → steps code k t ≡ Ends r → r.ticks ≤ x.ticks) → go_on o s (steps code m) ≡ Underway x → go_on o s (steps code k) ≡ Ends r → r.ticks ≤ x.ticks
+  both : (o : Stepped) (m k : ℕ) (s x : MachineState) (r : Run) → ((t : MachineState) → steps code m t ≡ Underway x → steps code k t ≡ Ends r → r.ticks ≤ x.ticks) → after_one_step o s (steps code m) ≡ Underway x → after_one_step o s (steps code k) ≡ Ends r → r.ticks ≤ x.ticks
   both (Goes t) m k s x r so e f = so t e f
   both (Over q n) m k s x r so e f = absurd cc
   both NoStep m k s x r so e f = absurd cc
 
   -- and with no more than are left at a state that it passes
-  ends_later : (m k : ℕ) (s x : State) (r : Run) → steps code m s ≡ Underway x → steps code k s ≡ Ends r → r.ticks ≤ x.ticks
+  ends_later : (m k : ℕ) (s x : MachineState) (r : Run) → steps code m s ≡ Underway x → steps code k s ≡ Ends r → r.ticks ≤ x.ticks
   ends_later zero k s x r e f =
-      let same : s.ticks ≡ x.ticks = ap (λ (y : State). y.ticks) (same_state s x e) in
+      let same : s.ticks ≡ x.ticks = ap (λ (y : MachineState). y.ticks) (same_state s x e) in
       omega (arith, same, ends_within k s r f)
   ends_later (suc m) zero s x r e f = absurd cc
   ends_later (suc m) (suc k) s x r e f = both (step code s) m k s x r (λ t g h. ends_later m k t x r g h) e f
@@ -79,7 +79,7 @@ rest_of fewer n h = omega (arith, h)
 none_left : (t fewer n ticks left : ℕ) → fewer < n → ticks ≡ t + (n - fewer) → ticks ≤ left → left ≡ 0 → ⊥
 none_left t fewer n ticks left lt e h z = omega (arith, lt, e, h, z)
 
-module _ (stay : EndingsStay) (p : Program) (right : (input : List ℕ) (n : ℕ) → (meaning p input n).ending ≢ WentWrong) (code : Code) (behaves : Behaves p code) (input : List ℕ) (n m : ℕ) (x : State) (passed : steps code m (start code input n) ≡ Underway x) (left : x.ticks ≡ 0) (fewer : ℕ) (lt : fewer < n) where
+module _ (stay : EndingsStay) (p : Program) (right : (input : List ℕ) (n : ℕ) → (meaning p input n).ending ≢ WentWrong) (code : Code) (behaves : Behaves p code) (input : List ℕ) (n m : ℕ) (x : MachineState) (passed : steps code m (start code input n) ≡ Underway x) (left : x.ticks ≡ 0) (fewer : ℕ) (lt : fewer < n) where
   not_over : (meaning p input fewer).ending ≢ Paused → ⊥
   not_over going =
       let more = stay p input fewer (n - fewer) going (right input fewer) in

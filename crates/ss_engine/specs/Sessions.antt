@@ -7,7 +7,7 @@ use Rattle.ss_code_instructions.specs.Machine.{Code, Over, step}
 use Rattle.ss_input.specs.declared.source.Source.{Source}
 use Rattle.ss_input.specs.Inputs.{IsFresh, source_block, source_missed, source_reader}
 use Rattle.ss_machine_instructions.specs.declared.working.Working.{Working}
-use Rattle.ss_machine_instructions.specs.Holding.{state_of}
+use Rattle.ss_machine_instructions.specs.Holding.{machine_state}
 use Rattle.ss_machine.specs.Stop.{Stop}
 use Rattle.ss_machine.specs.Stop.TheVariants.{Paused, Output, Input, Failed}
 use Rattle.ss_machine.specs.Held.{Held, IsFirst}
@@ -69,7 +69,7 @@ pub record HasRun {R W : Type 0} (remaining : R → Option (List ℕ)) (read_fau
   pub fresh : IsFresh reader source
   pub code_is : (session_machine s).code ≡ code
   pub came : CameTo remaining (session_machine s).stopped code first (session_machine s).working source (session_source s) (contents writer) (contents (session_writer s)) (session_machine s).used (session_machine s).steps
-  pub paused : (session_machine s).stopped ≡ None → pieces ≢ [] → (input report : List ℕ) → step code (state_of (session_machine s).working input report 0) ≡ Over PausedThere 0
+  pub paused : (session_machine s).stopped ≡ None → pieces ≢ [] → (input report : List ℕ) → step code (machine_state (session_machine s).working input report 0) ≡ Over PausedThere 0
   pub goes_on : (session_machine s).stopped ≡ None → GoesOn s
   pub right : (session_machine s).stopped ≡ Some Failed → ⊥
   pub used : (session_machine s).used ≤ handed_out pieces

@@ -14,8 +14,8 @@ use Rattle.ss_events.specs.Slots.{no_entry}
 use Rattle.ss_events.specs.Sifting.{IsLogarithmic}
 use Rattle.ss_events.specs.HeapOrder.{IsHeap}
 use Rattle.ss_world.specs.Order.{comes_before}
-use Rattle.ss_world.specs.PendingList.{PendingList, scheduling_limit, is_pending, without, earlier, least, next, after_next}
-use Rattle.ss_events.specs.InOrder.{put, in_order, numbers_of, IsAgenda}
+use Rattle.ss_world.specs.PendingList.{PendingList, scheduling_limit, is_pending, without_notice, earlier, least, next, after_next}
+use Rattle.ss_events.specs.InOrder.{put_in_order, in_order, numbers_of, IsAgenda}
 use Rattle.ss_events.proofs.EntryOrder.{entries_rank, tied_numbers}
 use Rattle.ss_events.proofs.Heaps.{first}
 use Rattle.ss_events.proofs.Sifts.{digits_mono}
@@ -34,17 +34,17 @@ or_swap true false c = refl
 or_swap false true c = refl
 or_swap false false c = refl
 
-pending-put : (notice : ℤ) (e : Entry) (es : List Entry) → is_pending notice (put e es) ≡ (int_eq notice e.notice || is_pending notice es)
-pending-put notice e [] = refl
-pending-put notice e (f ∷ fs) = ⊎_elim
+pending-put_in_order : (notice : ℤ) (e : Entry) (es : List Entry) → is_pending notice (put_in_order e es) ≡ (int_eq notice e.notice || is_pending notice es)
+pending-put_in_order notice e [] = refl
+pending-put_in_order notice e (f ∷ fs) = ⊎_elim
     (λ lt. ap (is_pending notice) (put_first e f fs lt))
-    (λ le. ap (is_pending notice) (put_later e f fs le) ∙ ap (λ b. int_eq notice f.notice || b) (pending-put notice e fs) ∙ or_swap (int_eq notice f.notice) (int_eq notice e.notice) (is_pending notice fs))
+    (λ le. ap (is_pending notice) (put_later e f fs le) ∙ ap (λ b. int_eq notice f.notice || b) (pending-put_in_order notice e fs) ∙ or_swap (int_eq notice f.notice) (int_eq notice e.notice) (is_pending notice fs))
     (cases_lt e.number f.number)
 
 pub pending-in_order : (notice : ℤ) (es : List Entry) → is_pending notice (in_order es) ≡ is_pending notice es
 unfolding in_order
 pending-in_order notice [] = refl
-pending-in_order notice (e ∷ es) = pending-put notice e (in_order es) ∙ ap (λ b. int_eq notice e.notice || b) (pending-in_order notice es)
+pending-in_order notice (e ∷ es) = pending-put_in_order notice e (in_order es) ∙ ap (λ b. int_eq notice e.notice || b) (pending-in_order notice es)
 
 pub any-notices : (notice : ℤ) (es : List Entry) → list_any (int_eq notice) (notices_of es) ≡ is_pending notice es
 any-notices notice [] = refl
@@ -53,18 +53,18 @@ any-notices notice (e ∷ es) = ap (λ b. int_eq notice e.notice || b) (any-noti
 -- ---- the entries without one
 
 -- where none has the notice
-without-none : (notice : ℤ) (es : List Entry) → ((x : Entry) → Member x es → int_eq notice x.notice ≡ false) → without notice es ≡ es
-without-none notice [] a = refl
-without-none notice (e ∷ es) a =
-    ap (λ b. cond (not b) (e ∷ without notice es) (without notice es)) (a e (inl refl))
-    ∙ ap (λ l. e ∷ l) (without-none notice es (λ x m. a x (inr m)))
+without_notice-none : (notice : ℤ) (es : List Entry) → ((x : Entry) → Member x es → int_eq notice x.notice ≡ false) → without_notice notice es ≡ es
+without_notice-none notice [] a = refl
+without_notice-none notice (e ∷ es) a =
+    ap (λ b. cond (not b) (e ∷ without_notice notice es) (without_notice notice es)) (a e (inl refl))
+    ∙ ap (λ l. e ∷ l) (without_notice-none notice es (λ x m. a x (inr m)))
 
 -- one that has it was put among them
-without-put : (notice : ℤ) (e : Entry) (es : List Entry) → int_eq notice e.notice ≡ true → without notice (put e es) ≡ without notice es
-without-put notice e [] t = ap (λ b. cond (not b) (e ∷ []) []) t
-without-put notice e (f ∷ fs) t = ⊎_elim
-    (λ lt. ap (without notice) (put_first e f fs lt) ∙ ap (λ b. cond (not b) (e ∷ without notice (f ∷ fs)) (without notice (f ∷ fs))) t)
-    (λ le. ap (without notice) (put_later e f fs le) ∙ ap (λ l. cond (not (int_eq notice f.notice)) (f ∷ l) l) (without-put notice e fs t))
+without_notice-put_in_order : (notice : ℤ) (e : Entry) (es : List Entry) → int_eq notice e.notice ≡ true → without_notice notice (put_in_order e es) ≡ without_notice notice es
+without_notice-put_in_order notice e [] t = ap (λ b. cond (not b) (e ∷ []) []) t
+without_notice-put_in_order notice e (f ∷ fs) t = ⊎_elim
+    (λ lt. ap (without_notice notice) (put_first e f fs lt) ∙ ap (λ b. cond (not b) (e ∷ without_notice notice (f ∷ fs)) (without_notice notice (f ∷ fs))) t)
+    (λ le. ap (without_notice notice) (put_later e f fs le) ∙ ap (λ l. cond (not (int_eq notice f.notice)) (f ∷ l) l) (without_notice-put_in_order notice e fs t))
     (cases_lt e.number f.number)
 
 -- the others have other notices
@@ -188,13 +188,13 @@ module _ (heads old : List Entry) (count : ℕ) (a : IsAgenda heads old count) w
     }
 
     -- the others stay in order
-    pub in_order-taken : (notice : ℤ) → int_eq notice x.notice ≡ true → in_order new ≡ without notice (in_order old)
+    pub in_order-taken : (notice : ℤ) → int_eq notice x.notice ≡ true → in_order new ≡ without_notice notice (in_order old)
     unfolding in_order
     in_order-taken notice t =
         let others = others_apart x.notice new (IsDistinct-head int_eq x.notice (notices_of new) notices_before) in
-        sym (without-none notice (in_order new) (λ y m. int_eq_equiv.congr notice x.notice y.notice t ∙ others y (member-in_order new y m)))
-        ∙ sym (without-put notice x (in_order new) t)
-        ∙ ap (without notice) (sym (in_order-permutation old (x ∷ new) a.numbers p))
+        sym (without_notice-none notice (in_order new) (λ y m. int_eq_equiv.congr notice x.notice y.notice t ∙ others y (member-in_order new y m)))
+        ∙ sym (without_notice-put_in_order notice x (in_order new) t)
+        ∙ ap (without_notice notice) (sym (in_order-permutation old (x ∷ new) a.numbers p))
 
 -- ---- heads and followers that are the entries of a list
 
@@ -242,7 +242,7 @@ module _ (h : HeapEntries) (p : PendingList) (view : in_order (all_of h) ≡ p.e
   pub after_next-none : length h.entries ≡ 0 → after_next p ≡ p
   after_next-none e =
       let is = none_left e in
-      ap (λ es. record p { entries = option_map_or (λ (x : Entry). without x.notice p.entries) (least es) [] }) is ∙ ap (λ es. record p { entries = es }) (sym is)
+      ap (λ es. record p { entries = option_map_or (λ (x : Entry). without_notice x.notice p.entries) (least es) [] }) is ∙ ap (λ es. record p { entries = es }) (sym is)
 
   module _ (count : ℕ) (a : IsAgenda h.entries (all_of h) count) (x : Entry) (some : 0 < length h.entries) (is : x ≡ get_or h.entries 0 x) where
     least_now : least p.entries ≡ Some x
@@ -251,8 +251,8 @@ module _ (h : HeapEntries) (p : PendingList) (view : in_order (all_of h) ≡ p.e
     pub next-first : next p ≡ Some (x.key.time, x.notice)
     next-first = ap (option_map (λ (e : Entry). (e.key.time, e.notice))) least_now
 
-    pub after_next-first : after_next p ≡ record p { entries = without x.notice p.entries }
-    after_next-first = ap (λ o. record p { entries = option_map_or (λ (e : Entry). without e.notice p.entries) o [] }) least_now
+    pub after_next-first : after_next p ≡ record p { entries = without_notice x.notice p.entries }
+    after_next-first = ap (λ o. record p { entries = option_map_or (λ (e : Entry). without_notice e.notice p.entries) o [] }) least_now
 
 -- the entry at the place of a notice has that notice
 pub found-at : (es : List Entry) (z notice : ℤ) (at : ℕ) (x : Entry) → z ≡ notice → Some at ≡ position (int_eq z) (notices_of es) → x ≡ get_or es at x → int_eq notice x.notice ≡ true

@@ -7,28 +7,28 @@ use Rattle.std.proofs.lemmas.Bool.{cases_Bool}
 use Rattle.std.proofs.lemmas.Bool.Decides.{nat_tests}
 use Rattle.std.proofs.lemmas.List.{length-map, get_or-map, get_or-set_other, get_or_default}
 use Rattle.ss_events.specs.declared.entry.Entry.{Entry}
-use Rattle.ss_events.specs.declared.entry.directory.Directory.{Directory}
+use Rattle.ss_events.specs.declared.entry.directory.SlotDirectory.{SlotDirectory}
 use Rattle.ss_events.specs.declared.entry.places.Slot.{Slot}
 use Rattle.ss_events.specs.declared.entry.places.HeapNode.{HeapNode}
-use Rattle.ss_events.specs.Slots.{no_entry, blank_slot, no_slot, no_node, following, slot_at, node, entry_at, AreHeld, Leads, heads, followers, exchanged, not_plain}
-use Rattle.ss_events.specs.HeapEntries.{Lines, Advances, notices_of}
+use Rattle.ss_events.specs.Slots.{no_entry, blank_slot, no_slot, no_node, following, slot_at, node, entry_at, AreHeld, IsGuess, heads, followers, exchanged, not_plain}
+use Rattle.ss_events.specs.HeapEntries.{HeadsAndFollowers, Advances, notices_of}
 use Rattle.ss_events.proofs.Marks.{notice_in}
 use Rattle.ss_events.proofs.Lists.{removed_by_swap, each_fails, none_passes}
 use Rattle.ss_events.proofs.Exchanging.{exchange}
 use Rattle.ss_events.proofs.Swapped.{slot_at-exchanged, node-swapped, held-swapped, heads-swapped, followers-swapped}
-use Rattle.ss_events.proofs.Lines.{long_heads, head_at, follower, follower_at, slot_of_follower}
+use Rattle.ss_events.proofs.HeadsAndFollowers.{long_heads, head_at, follower, follower_at, slot_of_follower}
 use Rattle.ss_events.proofs.Removed.{followers-advanced, heads-advanced, heads-dropped, held-advanced, held-dropped, advanced, advanced_nodes, differ}
 
 -- what is seen of them
-abbrev pub lines : ℕ → List Slot → List Entry → List HeapNode → Lines
+abbrev pub lines : ℕ → List Slot → List Entry → List HeapNode → HeadsAndFollowers
 lines n ys vs us = record { heads = heads n ys vs us; followers = followers ys }
 
 -- an entry went out of the place k
-pub record Gone (old : Lines) (k : ℕ) (e : Entry) (n f : ℕ) (ys : List Slot) (vs : List Entry) (us : List HeapNode) (g : Directory) : Type 0 where
+pub record Gone (old : HeadsAndFollowers) (k : ℕ) (e : Entry) (n f : ℕ) (ys : List Slot) (vs : List Entry) (us : List HeapNode) (g : SlotDirectory) : Type 0 where
   pub held : AreHeld n (f + 1) ys vs us g
   pub rest : (lines n ys vs us ≡ record old { heads = swap_remove old.heads k e }) ⊎ Advances old (lines n ys vs us) k
 
-pub gone_like : (old : Lines) (k : ℕ) (e : Entry) (n m f l : ℕ) (ys xs : List Slot) (vs ws : List Entry) (us ss : List HeapNode) (g : Directory)
+pub gone_like : (old : HeadsAndFollowers) (k : ℕ) (e : Entry) (n m f l : ℕ) (ys xs : List Slot) (vs ws : List Entry) (us ss : List HeapNode) (g : SlotDirectory)
     → n ≡ m → f ≡ l → ys ≡ xs → vs ≡ ws → us ≡ ss → Gone old k e m l xs ws ss g → Gone old k e n f ys vs us g
 gone_like old k e n m f l ys xs vs ws us ss g n_is f_is ys_is vs_is us_is gone =
     subst (λ a. Gone old k e a f ys vs us g) (sym n_is)
@@ -45,8 +45,8 @@ cleared_by : (b : Bool) (ws vs : List Entry) (s : ℕ) (e : Entry) → vs ≡ co
 cleared_by true ws vs s e is t other = ap (λ l. get_or l t no_entry) is ∙ get_or-set_other ws s t e no_entry other
 cleared_by false ws vs s e is t other = ap (λ l. get_or l t no_entry) is
 
-module _ (count free : ℕ) (slots : List Slot) (wholes : List Entry) (nodes : List HeapNode) (d : Directory) (h : AreHeld count free slots wholes nodes d) (k : ℕ) (k_in : k < count) where
-  abbrev pub seen : Lines
+module _ (count free : ℕ) (slots : List Slot) (wholes : List Entry) (nodes : List HeapNode) (d : SlotDirectory) (h : AreHeld count free slots wholes nodes d) (k : ℕ) (k_in : k < count) where
+  abbrev pub seen : HeadsAndFollowers
   seen = lines count slots wholes nodes
 
   -- the entry in the place
@@ -79,8 +79,8 @@ module _ (count free : ℕ) (slots : List Slot) (wholes : List Entry) (nodes : L
       let same = ap (λ (u : HeapNode). u.slot) (read_node y y_is) in
       x_is ∙ ap (λ s. get_or slots s x) same ∙ get_or_default slots (node nodes k).slot x blank_slot out_slot
 
-  pub gone-advanced : (real : (slot_at slots (node nodes k).slot).next ≢ no_slot) (g : Directory)
-      → ((m : ℤ) (t : ℕ) → m ≢ (slot_at slots (node nodes k).slot).notice → t ≢ (node nodes k).slot → Leads d m t → Leads g m t)
+  pub gone-advanced : (real : (slot_at slots (node nodes k).slot).next ≢ no_slot) (g : SlotDirectory)
+      → ((m : ℤ) (t : ℕ) → m ≢ (slot_at slots (node nodes k).slot).notice → t ≢ (node nodes k).slot → IsGuess d m t → IsGuess g m t)
       → Gone seen k out count free (advanced count free slots wholes nodes d h k k_in real) wholes (advanced_nodes count free slots wholes nodes d h k k_in real) g
   gone-advanced real g others = record {
     held = held-advanced count free slots wholes nodes d h k k_in real g others;
@@ -91,8 +91,8 @@ module _ (count free : ℕ) (slots : List Slot) (wholes : List Entry) (nodes : L
     });
   }
 
-  pub gone-dropped : (n : ℕ) → count ≡ n + 1 → (slot_at slots (node nodes k).slot).next ≡ no_slot → (o : ℕ) (vs : List Entry) → vs ≡ cond (o == not_plain) (set wholes (node nodes k).slot no_entry) wholes → (g : Directory)
-      → ((m : ℤ) (t : ℕ) → m ≢ (slot_at slots (node nodes k).slot).notice → t ≢ (node nodes k).slot → Leads d m t → Leads g m t)
+  pub gone-dropped : (n : ℕ) → count ≡ n + 1 → (slot_at slots (node nodes k).slot).next ≡ no_slot → (o : ℕ) (vs : List Entry) → vs ≡ cond (o == not_plain) (set wholes (node nodes k).slot no_entry) wholes → (g : SlotDirectory)
+      → ((m : ℤ) (t : ℕ) → m ≢ (slot_at slots (node nodes k).slot).notice → t ≢ (node nodes k).slot → IsGuess d m t → IsGuess g m t)
       → Gone seen k out n free (exchanged nodes slots k n) vs (swap nodes k n) g
   gone-dropped n one none o vs vs_is g others =
       let s = (node nodes k).slot in

@@ -6,23 +6,23 @@ use Rattle.std.proofs.lemmas.Bool.Decides.{nat_tests}
 use Rattle.std.proofs.lemmas.List.{get_or_default, length-set, length_push, get_or_push, get_or_append_left, get_or-set_same, get_or-set_other, same_lists}
 use Rattle.ss_events.specs.declared.entry.Entry.{Entry}
 use Rattle.ss_events.specs.declared.entry.Mark.{Mark}
-use Rattle.ss_events.specs.declared.entry.directory.Directory.{Directory}
+use Rattle.ss_events.specs.declared.entry.directory.SlotDirectory.{SlotDirectory}
 use Rattle.ss_events.specs.declared.entry.places.Slot.{Slot}
 use Rattle.ss_events.specs.declared.entry.places.HeapNode.{HeapNode}
-use Rattle.ss_events.specs.Slots.{no_entry, blank_slot, no_slot, no_node, following, not_plain, plain_ranks, plain_numbers, slot_at, node, mark_of, order_of, plain_entry, entry_in, entry_at, heads, followers, first_guess, second_guess, IsTaken, IsBefore, Leads, AreDistinct, AreLed, AreHeld}
-use Rattle.ss_events.proofs.Lines.{slot_at-same, slot_at-other, long_heads, head_at, same_heads, followers-placed, followers-pushed}
+use Rattle.ss_events.specs.Slots.{no_entry, blank_slot, no_slot, no_node, following, not_plain, plain_ranks, plain_numbers, slot_at, node, mark_of, order_of, plain_entry, entry_in, entry_at, heads, followers, first_guess, second_guess, IsTaken, IsBefore, IsGuess, AreDistinct, AreLed, AreHeld}
+use Rattle.ss_events.proofs.HeadsAndFollowers.{slot_at-same, slot_at-other, long_heads, head_at, same_heads, followers-placed, followers-pushed}
 use Rattle.ss_events.proofs.Marks.{in-plain, in_again, plain_mark, plain_differs}
 
 -- ---- a directory that leads to one slot more
 
-pub led_more : (count : ℕ) (slots : List Slot) (d g : Directory) (k : ℕ) → AreDistinct count slots → k < length slots → k < no_slot
-    → ((s : ℕ) → s < k → IsTaken count (slot_at slots s) → Leads d (slot_at slots s).notice s)
+pub led_more : (count : ℕ) (slots : List Slot) (d g : SlotDirectory) (k : ℕ) → AreDistinct count slots → k < length slots → k < no_slot
+    → ((s : ℕ) → s < k → IsTaken count (slot_at slots s) → IsGuess d (slot_at slots s).notice s)
     → IsTaken count (slot_at slots k)
-    → Leads g (slot_at slots k).notice k
-    → ((n : ℤ) (s : ℕ) → n ≢ (slot_at slots k).notice → s ≢ no_slot → Leads d n s → Leads g n s)
-    → (s : ℕ) → s < k + 1 → IsTaken count (slot_at slots s) → Leads g (slot_at slots s).notice s
+    → IsGuess g (slot_at slots k).notice k
+    → ((n : ℤ) (s : ℕ) → n ≢ (slot_at slots k).notice → s ≢ no_slot → IsGuess d n s → IsGuess g n s)
+    → (s : ℕ) → s < k + 1 → IsTaken count (slot_at slots s) → IsGuess g (slot_at slots s).notice s
 led_more count slots d g k distinct within small before taken noted others s lt is = ⊎_elim
-    (λ same. subst (λ n. Leads g (slot_at slots n).notice n) (sym same) noted)
+    (λ same. subst (λ n. IsGuess g (slot_at slots n).notice n) (sym same) noted)
     (λ other.
     others (slot_at slots s).notice s
     (λ one. other (distinct s k (omega (arith, lt, within)) within is taken one))
@@ -32,7 +32,7 @@ led_more count slots d g k distinct within small before taken noted others s lt 
 
 -- ---- another directory
 
-pub held-led : (count free : ℕ) (slots : List Slot) (wholes : List Entry) (nodes : List HeapNode) (d g : Directory) → AreHeld count free slots wholes nodes d → AreLed g count slots → AreHeld count free slots wholes nodes g
+pub held-led : (count free : ℕ) (slots : List Slot) (wholes : List Entry) (nodes : List HeapNode) (d g : SlotDirectory) → AreHeld count free slots wholes nodes d → AreLed g count slots → AreHeld count free slots wholes nodes g
 held-led count free slots wholes nodes d g h led = record {
   many = h.many;
   few = h.few;
@@ -49,7 +49,7 @@ held-led count free slots wholes nodes d g h led = record {
 
 -- ---- entries that are stored whole: each slot reads as before
 
-held-wholes : (count free : ℕ) (slots : List Slot) (wholes ws : List Entry) (nodes : List HeapNode) (d : Directory) → ((s : ℕ) → get_or ws s no_entry ≡ get_or wholes s no_entry)
+held-wholes : (count free : ℕ) (slots : List Slot) (wholes ws : List Entry) (nodes : List HeapNode) (d : SlotDirectory) → ((s : ℕ) → get_or ws s no_entry ≡ get_or wholes s no_entry)
     → AreHeld count free slots wholes nodes d → AreHeld count free slots ws nodes d
 held-wholes count free slots wholes ws nodes d same h = record {
   many = h.many;
@@ -73,7 +73,7 @@ heads-wholes count slots wholes ws nodes same few =
 
 -- ---- one more slot, which is free
 
-module _ (count free : ℕ) (slots : List Slot) (wholes : List Entry) (nodes : List HeapNode) (d : Directory) (h : AreHeld count free slots wholes nodes d) (none : free ≡ 0) (more : length slots + 1 < following) where
+module _ (count free : ℕ) (slots : List Slot) (wholes : List Entry) (nodes : List HeapNode) (d : SlotDirectory) (h : AreHeld count free slots wholes nodes d) (none : free ≡ 0) (more : length slots + 1 < following) where
   abbrev new_slot : Slot
   new_slot = record blank_slot { at = count }
 
@@ -210,7 +210,7 @@ module _ (count free : ℕ) (slots : List Slot) (wholes : List Entry) (nodes : L
         (sym (ap (λ (x : Slot). x.notice) (old_slot_at s s_old)) ∙ same ∙ ap (λ (x : Slot). x.notice) (old_slot_at t t_old));
     led = λ s lt is.
         let old = taken_before s lt is in
-        subst (λ (x : Slot). Leads d x.notice s) (sym (old_slot_at s old)) (h.led s old (taken_so s old is));
+        subst (λ (x : Slot). IsGuess d x.notice s) (sym (old_slot_at s old)) (h.led s old (taken_so s old is));
   }
 
   pub heads-grown : heads count grown wholes grown_nodes ≡ heads count slots wholes nodes
@@ -230,20 +230,20 @@ some_test : (n : ℕ) → n ≢ 0 → (n == 0) ≡ false
 some_test n is = grind (arith, nat_tests)
 
 -- the invariant holds of equal lists
-pub same_held : (count free n : ℕ) (slots xs : List Slot) (wholes : List Entry) (nodes ts : List HeapNode) (d : Directory) → n ≡ free → xs ≡ slots → ts ≡ nodes
+pub same_held : (count free n : ℕ) (slots xs : List Slot) (wholes : List Entry) (nodes ts : List HeapNode) (d : SlotDirectory) → n ≡ free → xs ≡ slots → ts ≡ nodes
     → AreHeld count free slots wholes nodes d → AreHeld count n xs wholes ts d
 same_held count free n slots xs wholes nodes ts d a e g h =
     subst (λ m. AreHeld count m xs wholes ts d) (sym a)
     (subst (λ l. AreHeld count free l wholes ts d) (sym e)
     (subst (λ l. AreHeld count free slots wholes l d) (sym g) h))
 
-pub record HasSome (count n : ℕ) (slots xs : List Slot) (wholes ws : List Entry) (nodes ts : List HeapNode) (d : Directory) : Type 0 where
+pub record HasSome (count n : ℕ) (slots xs : List Slot) (wholes ws : List Entry) (nodes ts : List HeapNode) (d : SlotDirectory) : Type 0 where
   pub held : AreHeld count n xs ws ts d
   pub some : 0 < n
   pub heads : heads count xs ws ts ≡ heads count slots wholes nodes
   pub followers : followers xs ≡ followers slots
 
-pub some_more : (count free n : ℕ) (slots xs : List Slot) (wholes : List Entry) (nodes ts : List HeapNode) (d : Directory) → AreHeld count free slots wholes nodes d
+pub some_more : (count free n : ℕ) (slots xs : List Slot) (wholes : List Entry) (nodes ts : List HeapNode) (d : SlotDirectory) → AreHeld count free slots wholes nodes d
     → n ≡ cond (free == 0) 1 free
     → xs ≡ cond (free == 0) (slots ++ record blank_slot { at = count } ∷ []) slots
     → ts ≡ cond (free == 0) (set (nodes ++ no_node ∷ []) count (record no_node { slot = length slots })) nodes
@@ -277,7 +277,7 @@ some_more count free n slots xs wholes nodes ts d h a e g more = ⊎_elim
     (cases_eq free 0)
 
 -- room once there are cells, where calls say how many slots there are
-pub made_room : (count free n len : ℕ) (slots now xs : List Slot) (wholes : List Entry) (nodes ts : List HeapNode) (d g : Directory) → AreHeld count free slots wholes nodes d
+pub made_room : (count free n len : ℕ) (slots now xs : List Slot) (wholes : List Entry) (nodes ts : List HeapNode) (d g : SlotDirectory) → AreHeld count free slots wholes nodes d
     → AreLed g count now → now ≡ slots → len ≡ length slots
     → n ≡ cond (free == 0) 1 free
     → xs ≡ cond (free == 0) (slots ++ record blank_slot { at = count } ∷ []) slots
@@ -290,7 +290,7 @@ made_room count free n len slots now xs wholes nodes ts d g h led is long a e t 
     (λ none. omega (arith, more none, long))
 
 -- a free slot, and room for an entry that is stored whole
-pub reached : (count n : ℕ) (slots xs : List Slot) (wholes vs ws : List Entry) (nodes ts : List HeapNode) (d : Directory) → ((s : ℕ) → get_or ws s no_entry ≡ get_or vs s no_entry)
+pub reached : (count n : ℕ) (slots xs : List Slot) (wholes vs ws : List Entry) (nodes ts : List HeapNode) (d : SlotDirectory) → ((s : ℕ) → get_or ws s no_entry ≡ get_or vs s no_entry)
     → HasSome count n slots xs wholes vs nodes ts d → HasSome count n slots xs wholes ws nodes ts d
 reached count n slots xs wholes vs ws nodes ts d same room = record {
   held = held-wholes count n xs vs ws ts d same room.held;
@@ -301,7 +301,7 @@ reached count n slots xs wholes vs ws nodes ts d same room = record {
 
 -- ---- an entry in the first slot that is free
 
-module _ (count free : ℕ) (slots : List Slot) (wholes : List Entry) (nodes : List HeapNode) (d : Directory) (h : AreHeld count free slots wholes nodes d) (some : 0 < free) where
+module _ (count free : ℕ) (slots : List Slot) (wholes : List Entry) (nodes : List HeapNode) (d : SlotDirectory) (h : AreHeld count free slots wholes nodes d) (some : 0 < free) where
   -- the place after all others
   pub place_in : count < length nodes
   place_in = omega (arith, some, h.few)
@@ -336,7 +336,7 @@ module _ (count free : ℕ) (slots : List Slot) (wholes : List Entry) (nodes : L
         (λ past. omega (arith, past, at, place_small))
         taken
 
-    module _ (y : Slot) (m : Mark) (ws : List Entry) (g : Directory) (at : y.at ≡ count) (next : y.next ≡ no_slot) (marks : y.mark ≡ m)
+    module _ (y : Slot) (m : Mark) (ws : List Entry) (g : SlotDirectory) (at : y.at ≡ count) (next : y.next ≡ no_slot) (marks : y.mark ≡ m)
         (fit : m ≡ mark_of (entry_in m y.notice (get_or ws s no_entry)))
         (whole : (t : ℕ) → t ≢ s → get_or ws t no_entry ≡ get_or wholes t no_entry) where
       abbrev put : List Slot
@@ -476,7 +476,7 @@ module _ (count free : ℕ) (slots : List Slot) (wholes : List Entry) (nodes : L
           }
 
       module _ (fresh : (t : ℕ) → t < length slots → IsTaken count (slot_at slots t) → (slot_at slots t).notice ≢ y.notice)
-          (noted : Leads g y.notice s) (others : (n : ℤ) (t : ℕ) → n ≢ y.notice → t ≢ no_slot → Leads d n t → Leads g n t) where
+          (noted : IsGuess g y.notice s) (others : (n : ℤ) (t : ℕ) → n ≢ y.notice → t ≢ no_slot → IsGuess d n t → IsGuess g n t) where
         -- another slot has another notice
         new_there : (t : ℕ) → t < length put → t ≢ s → IsTaken (count + 1) (slot_at put t) → (slot_at put t).notice ≢ y.notice
         new_there t lt other taken e = fresh t (was_in t lt) (taken_then t (was_in t lt) other taken) (sym (ap (λ (x : Slot). x.notice) (there t other)) ∙ e)
@@ -497,11 +497,11 @@ module _ (count free : ℕ) (slots : List Slot) (wholes : List Entry) (nodes : L
 
         led_put : AreLed g (count + 1) put
         led_put t lt taken = ⊎_elim
-            (λ is. subst (λ (x : Slot). Leads g x.notice t) (sym (here t is)) (subst (Leads g y.notice) (sym is) noted))
+            (λ is. subst (λ (x : Slot). IsGuess g x.notice t) (sym (here t is)) (subst (IsGuess g y.notice) (sym is) noted))
             (λ other.
             let old = was_in t lt in
             let was = taken_then t old other taken in
-            subst (λ (x : Slot). Leads g x.notice t) (sym (there t other))
+            subst (λ (x : Slot). IsGuess g x.notice t) (sym (there t other))
             (others (slot_at slots t).notice t (fresh t old was) (λ e. omega (arith, e, old, h.small)) (h.led t old was)))
             (cases_eq t s)
 
@@ -549,16 +549,16 @@ module _ (count free : ℕ) (slots : List Slot) (wholes : List Entry) (nodes : L
 
 -- ---- a directory in which another notice is noted
 
-pub led_still : (count free : ℕ) (slots : List Slot) (wholes : List Entry) (nodes : List HeapNode) (d g : Directory) → AreHeld count free slots wholes nodes d → (n : ℤ)
+pub led_still : (count free : ℕ) (slots : List Slot) (wholes : List Entry) (nodes : List HeapNode) (d g : SlotDirectory) → AreHeld count free slots wholes nodes d → (n : ℤ)
     → ((u : ℕ) → u < length slots → IsTaken count (slot_at slots u) → (slot_at slots u).notice ≢ n)
-    → ((i : ℤ) (u : ℕ) → i ≢ n → u ≢ no_slot → Leads d i u → Leads g i u) → AreHeld count free slots wholes nodes g
+    → ((i : ℤ) (u : ℕ) → i ≢ n → u ≢ no_slot → IsGuess d i u → IsGuess g i u) → AreHeld count free slots wholes nodes g
 led_still count free slots wholes nodes d g h n fresh others =
     held-led count free slots wholes nodes d g h
     (λ s lt taken. others (slot_at slots s).notice s (fresh s lt taken) (λ e. omega (arith, e, lt, h.small)) (h.led s lt taken))
 
 -- ---- a notice to which a directory leads nowhere
 
-pub nowhere : (count free : ℕ) (slots : List Slot) (wholes : List Entry) (nodes : List HeapNode) (d : Directory) → AreHeld count free slots wholes nodes d → (n : ℤ) → first_guess d n ≡ no_slot → second_guess d n ≡ no_slot
+pub nowhere : (count free : ℕ) (slots : List Slot) (wholes : List Entry) (nodes : List HeapNode) (d : SlotDirectory) → AreHeld count free slots wholes nodes d → (n : ℤ) → first_guess d n ≡ no_slot → second_guess d n ≡ no_slot
     → (t : ℕ) → t < length slots → IsTaken count (slot_at slots t) → (slot_at slots t).notice ≢ n
 nowhere count free slots wholes nodes d h n first second t lt taken is = ⊎_elim
     (λ e. omega (arith, e, ap (first_guess d) is, first, lt, h.small))
@@ -579,12 +579,12 @@ other_choice false ws s e u other = refl
 abbrev pub single : ℤ → Mark → ℕ → Slot
 single n m place = record { notice = n; mark = m; next = no_slot; at = place }
 
-pub record Pushes (count free : ℕ) (slots xs : List Slot) (wholes ws : List Entry) (nodes ts : List HeapNode) (g : Directory) (e : Entry) : Type 0 where
+pub record Pushes (count free : ℕ) (slots xs : List Slot) (wholes ws : List Entry) (nodes ts : List HeapNode) (g : SlotDirectory) (e : Entry) : Type 0 where
   pub held : AreHeld (count + 1) (free - 1) xs ws ts g
   pub heads : heads (count + 1) xs ws ts ≡ heads count slots wholes nodes ++ e ∷ []
   pub followers : followers xs ≡ followers slots
 
-module _ (count free : ℕ) (slots : List Slot) (wholes : List Entry) (nodes : List HeapNode) (d : Directory) (h : AreHeld count free slots wholes nodes d) (some : 0 < free)
+module _ (count free : ℕ) (slots : List Slot) (wholes : List Entry) (nodes : List HeapNode) (d : SlotDirectory) (h : AreHeld count free slots wholes nodes d) (some : 0 < free)
     (t : HeapNode) (is : t ≡ get_or nodes count t) where
   pub its_slot : t.slot ≡ (node nodes count).slot
   its_slot = ap (λ (x : HeapNode). x.slot) (is ∙ get_or_default nodes count t no_node (place_in count free slots wholes nodes d h some))
@@ -593,14 +593,14 @@ module _ (count free : ℕ) (slots : List Slot) (wholes : List Entry) (nodes : L
   its_slot_in = s_in count free slots wholes nodes d h some t.slot its_slot
 
   -- by any slot of that kind
-  by_single : (n : ℤ) (m : Mark) (y : Slot) (ws : List Entry) (g : Directory) (e : Entry) → y ≡ single n m count
+  by_single : (n : ℤ) (m : Mark) (y : Slot) (ws : List Entry) (g : SlotDirectory) (e : Entry) → y ≡ single n m count
       → Pushes count free slots (set slots t.slot (single n m count)) wholes ws nodes (set nodes count (record { mark = m; slot = t.slot })) g e
       → Pushes count free slots (set slots t.slot y) wholes ws nodes (set nodes count (record { mark = m; slot = t.slot })) g e
   by_single n m y ws g e same p = subst (λ x. Pushes count free slots (set slots t.slot x) wholes ws nodes (set nodes count (record { mark = m; slot = t.slot })) g e) (sym same) p
 
-  module _ (n : ℤ) (y : Slot) (g : Directory)
+  module _ (n : ℤ) (y : Slot) (g : SlotDirectory)
       (fresh : (u : ℕ) → u < length slots → IsTaken count (slot_at slots u) → (slot_at slots u).notice ≢ n)
-      (noted : Leads g n t.slot) (others : (i : ℤ) (u : ℕ) → i ≢ n → u ≢ no_slot → Leads d i u → Leads g i u) where
+      (noted : IsGuess g n t.slot) (others : (i : ℤ) (u : ℕ) → i ≢ n → u ≢ no_slot → IsGuess d i u → IsGuess g i u) where
     -- a plain entry
     pub plain_put : (m : Mark) → m.order < plain_ranks * plain_numbers → y ≡ single n m count
         → Pushes count free slots (set slots t.slot y) wholes wholes nodes (set nodes count (record { mark = m; slot = t.slot })) g (plain_entry m n)

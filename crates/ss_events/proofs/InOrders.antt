@@ -8,7 +8,7 @@ use Rattle.std.specs.Cmp.{nat_eq_equiv}
 use Rattle.std.proofs.lemmas.Bool.{cases_lt}
 use Rattle.std.proofs.lemmas.Bool.Decides.{nat_tests}
 use Rattle.ss_events.specs.declared.entry.Entry.{Entry}
-use Rattle.ss_events.specs.InOrder.{put, in_order, numbers_of}
+use Rattle.ss_events.specs.InOrder.{put_in_order, in_order, numbers_of}
 
 -- an entry is among entries
 abbrev pub Member : Entry → List Entry → Type 0
@@ -41,40 +41,40 @@ member-permutation xs ys x p m = let c = Contains-permutation xs ys x p (place_o
 
 -- ---- putting one in order
 
-pub put_first : (e f : Entry) (fs : List Entry) → e.number < f.number → put e (f ∷ fs) ≡ e ∷ f ∷ fs
+pub put_first : (e f : Entry) (fs : List Entry) → e.number < f.number → put_in_order e (f ∷ fs) ≡ e ∷ f ∷ fs
 put_first e f fs lt =
     let t : nat_lt e.number f.number ≡ true = grind (arith, nat_tests) in
-    ap (λ b. cond b (e ∷ f ∷ fs) (f ∷ put e fs)) t
+    ap (λ b. cond b (e ∷ f ∷ fs) (f ∷ put_in_order e fs)) t
 
-pub put_later : (e f : Entry) (fs : List Entry) → f.number ≤ e.number → put e (f ∷ fs) ≡ f ∷ put e fs
+pub put_later : (e f : Entry) (fs : List Entry) → f.number ≤ e.number → put_in_order e (f ∷ fs) ≡ f ∷ put_in_order e fs
 put_later e f fs le =
     let t : nat_lt e.number f.number ≡ false = grind (arith, nat_tests) in
-    ap (λ b. cond b (e ∷ f ∷ fs) (f ∷ put e fs)) t
+    ap (λ b. cond b (e ∷ f ∷ fs) (f ∷ put_in_order e fs)) t
 
 -- who is in it then
-pub member-put : (e : Entry) (es : List Entry) (x : Entry) → Member x (put e es) → (x ≡ e) ⊎ Member x es
-member-put e [] x m = m
-member-put e (f ∷ fs) x m = ⊎_elim
+pub member-put_in_order : (e : Entry) (es : List Entry) (x : Entry) → Member x (put_in_order e es) → (x ≡ e) ⊎ Member x es
+member-put_in_order e [] x m = m
+member-put_in_order e (f ∷ fs) x m = ⊎_elim
     (λ lt. subst (Member x) (put_first e f fs lt) m)
-    (λ le. ⊎_elim (λ is. inr (inl is)) (λ rest. ⊎_elim inl (λ r. inr (inr r)) (member-put e fs x rest)) (subst (Member x) (put_later e f fs le) m))
+    (λ le. ⊎_elim (λ is. inr (inl is)) (λ rest. ⊎_elim inl (λ r. inr (inr r)) (member-put_in_order e fs x rest)) (subst (Member x) (put_later e f fs le) m))
     (cases_lt e.number f.number)
 
-pub put-member : (e : Entry) (es : List Entry) (x : Entry) → (x ≡ e) ⊎ Member x es → Member x (put e es)
-put-member e [] x m = m
-put-member e (f ∷ fs) x m = ⊎_elim
+pub put_in_order-member : (e : Entry) (es : List Entry) (x : Entry) → (x ≡ e) ⊎ Member x es → Member x (put_in_order e es)
+put_in_order-member e [] x m = m
+put_in_order-member e (f ∷ fs) x m = ⊎_elim
     (λ lt. subst (Member x) (sym (put_first e f fs lt)) m)
-    (λ le. subst (Member x) (sym (put_later e f fs le)) (⊎_elim (λ is. inr (put-member e fs x (inl is))) (λ r. ⊎_elim inl (λ rest. inr (put-member e fs x (inr rest))) r) m))
+    (λ le. subst (Member x) (sym (put_later e f fs le)) (⊎_elim (λ is. inr (put_in_order-member e fs x (inl is))) (λ r. ⊎_elim inl (λ rest. inr (put_in_order-member e fs x (inr rest))) r) m))
     (cases_lt e.number f.number)
 
-pub rising-put : (e : Entry) (es : List Entry) → Rising es → ((x : Entry) → Member x es → x.number ≢ e.number) → Rising (put e es)
-rising-put e [] r apart = (λ x m. elim m [ ], tt)
-rising-put e (f ∷ fs) r apart = ⊎_elim
+pub rising-put_in_order : (e : Entry) (es : List Entry) → Rising es → ((x : Entry) → Member x es → x.number ≢ e.number) → Rising (put_in_order e es)
+rising-put_in_order e [] r apart = (λ x m. elim m [ ], tt)
+rising-put_in_order e (f ∷ fs) r apart = ⊎_elim
     (λ lt. subst Rising (sym (put_first e f fs lt)) (λ x m. ⊎_elim (λ is. subst (λ y. e.number < y.number) (sym is) lt) (λ rest. omega (arith, r.0 x rest)) m, r))
     (λ le.
     let other : f.number ≢ e.number = apart f (inl refl) in
     subst Rising (sym (put_later e f fs le)) (
-      λ x m. ⊎_elim (λ is. subst (λ y. f.number < y.number) (sym is) (omega (arith, other))) (λ rest. r.0 x rest) (member-put e fs x m),
-      rising-put e fs r.1 (λ x m. apart x (inr m)),
+      λ x m. ⊎_elim (λ is. subst (λ y. f.number < y.number) (sym is) (omega (arith, other))) (λ rest. r.0 x rest) (member-put_in_order e fs x m),
+      rising-put_in_order e fs r.1 (λ x m. apart x (inr m)),
     ))
     (cases_lt e.number f.number)
 
@@ -83,17 +83,17 @@ rising-put e (f ∷ fs) r apart = ⊎_elim
 pub member-in_order : (es : List Entry) (x : Entry) → Member x (in_order es) → Member x es
 unfolding in_order
 member-in_order [] x m = m
-member-in_order (e ∷ es) x m = ⊎_elim inl (λ rest. inr (member-in_order es x rest)) (member-put e (in_order es) x m)
+member-in_order (e ∷ es) x m = ⊎_elim inl (λ rest. inr (member-in_order es x rest)) (member-put_in_order e (in_order es) x m)
 
 pub in_order-member : (es : List Entry) (x : Entry) → Member x es → Member x (in_order es)
 unfolding in_order
 in_order-member [] x m = m
-in_order-member (e ∷ es) x m = put-member e (in_order es) x (⊎_elim inl (λ rest. inr (in_order-member es x rest)) m)
+in_order-member (e ∷ es) x m = put_in_order-member e (in_order es) x (⊎_elim inl (λ rest. inr (in_order-member es x rest)) m)
 
 pub rising-in_order : (es : List Entry) → Apart es → Rising (in_order es)
 unfolding in_order
 rising-in_order [] a = tt
-rising-in_order (e ∷ es) a = rising-put e (in_order es) (rising-in_order es a.1) (λ x m. a.0 x (member-in_order es x m))
+rising-in_order (e ∷ es) a = rising-put_in_order e (in_order es) (rising-in_order es a.1) (λ x m. a.0 x (member-in_order es x m))
 
 -- rising lists of the same entries are one list
 same_heads : (x y : Entry) (xs ys : List Entry) → Rising (x ∷ xs) → Rising (y ∷ ys) → Member x (y ∷ ys) → Member y (x ∷ xs) → x ≡ y
@@ -142,17 +142,17 @@ in_order-permutation xs ys d p = same_rising (in_order xs) (in_order ys)
 -- ---- a new one, one that goes, and how many
 
 -- an entry with the greatest number goes last
-pub put_last : (e : Entry) (es : List Entry) → ((x : Entry) → Member x es → x.number < e.number) → put e es ≡ es ++ e ∷ []
+pub put_last : (e : Entry) (es : List Entry) → ((x : Entry) → Member x es → x.number < e.number) → put_in_order e es ≡ es ++ e ∷ []
 put_last e [] h = refl
 put_last e (f ∷ fs) h =
     let le : f.number ≤ e.number = omega (arith, h f (inl refl)) in
     put_later e f fs le ∙ ap (λ l. f ∷ l) (put_last e fs (λ x m. h x (inr m)))
 
-length-put : (e : Entry) (es : List Entry) → length (put e es) ≡ length es + 1
-length-put e [] = refl
-length-put e (f ∷ fs) = ⊎_elim (λ lt. omega (arith, ap length (put_first e f fs lt))) (λ le. omega (arith, ap length (put_later e f fs le), length-put e fs)) (cases_lt e.number f.number)
+length-put_in_order : (e : Entry) (es : List Entry) → length (put_in_order e es) ≡ length es + 1
+length-put_in_order e [] = refl
+length-put_in_order e (f ∷ fs) = ⊎_elim (λ lt. omega (arith, ap length (put_first e f fs lt))) (λ le. omega (arith, ap length (put_later e f fs le), length-put_in_order e fs)) (cases_lt e.number f.number)
 
 pub length-in_order : (es : List Entry) → length (in_order es) ≡ length es
 unfolding in_order
 length-in_order [] = refl
-length-in_order (e ∷ es) = omega (arith, length-put e (in_order es), length-in_order es)
+length-in_order (e ∷ es) = omega (arith, length-put_in_order e (in_order es), length-in_order es)

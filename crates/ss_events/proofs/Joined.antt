@@ -5,12 +5,12 @@ use Rattle.std.proofs.lemmas.Bool.{cases_eq, cases_lt}
 use Rattle.std.proofs.lemmas.List.{length-set}
 use Rattle.ss_events.specs.declared.entry.Entry.{Entry}
 use Rattle.ss_events.specs.declared.entry.Mark.{Mark}
-use Rattle.ss_events.specs.declared.entry.directory.Directory.{Directory}
+use Rattle.ss_events.specs.declared.entry.directory.SlotDirectory.{SlotDirectory}
 use Rattle.ss_events.specs.declared.entry.places.Slot.{Slot}
 use Rattle.ss_events.specs.declared.entry.places.HeapNode.{HeapNode}
-use Rattle.ss_events.specs.Slots.{no_entry, no_slot, following, slot_at, node, plain_ranks, plain_numbers, mark_of, plain_entry, entry_in, entry_at, heads, followers, first_guess, second_guess, Leads, IsTaken, IsBefore, AreHeld, next_put}
+use Rattle.ss_events.specs.Slots.{no_entry, no_slot, following, slot_at, node, plain_ranks, plain_numbers, mark_of, plain_entry, entry_in, entry_at, heads, followers, first_guess, second_guess, IsGuess, IsTaken, IsBefore, AreHeld, next_put}
 use Rattle.ss_events.proofs.Marks.{in-plain, plain_differs, plain_mark}
-use Rattle.ss_events.proofs.Lines.{slot_at-same, slot_at-other, same_heads, follower, followers-placed, followers-kept, followers-joined}
+use Rattle.ss_events.proofs.HeadsAndFollowers.{slot_at-same, slot_at-other, same_heads, follower, followers-placed, followers-kept, followers-joined}
 
 -- a slot with another one after it
 abbrev pub followed : Slot → ℕ → Slot
@@ -28,14 +28,14 @@ pub length-joined : (slots : List Slot) (p s : ℕ) (n : ℤ) (m : Mark) → len
 length-joined slots p s n m = length-set (next_put slots p s) s (lined_up n m p) ∙ length-set slots p (followed (slot_at slots p) s)
 
 -- a notice for which no slot is named is that of no entry
-pub never_led : (count free : ℕ) (slots : List Slot) (wholes : List Entry) (nodes : List HeapNode) (d : Directory) → AreHeld count free slots wholes nodes d
+pub never_led : (count free : ℕ) (slots : List Slot) (wholes : List Entry) (nodes : List HeapNode) (d : SlotDirectory) → AreHeld count free slots wholes nodes d
     → (n : ℤ) → first_guess d n ≡ no_slot → second_guess d n ≡ no_slot → (t : ℕ) → t < length slots → IsTaken count (slot_at slots t) → (slot_at slots t).notice ≢ n
 never_led count free slots wholes nodes d h n first second t t_in taken is = ⊎_elim
     (λ here. omega (arith, here, first, t_in, h.small))
     (λ here. omega (arith, here, second, t_in, h.small))
-    (subst (λ i. Leads d i t) is (h.led t t_in taken))
+    (subst (λ i. IsGuess d i t) is (h.led t t_in taken))
 
-module _ (count free : ℕ) (slots : List Slot) (wholes : List Entry) (nodes : List HeapNode) (d : Directory) (h : AreHeld count free slots wholes nodes d)
+module _ (count free : ℕ) (slots : List Slot) (wholes : List Entry) (nodes : List HeapNode) (d : SlotDirectory) (h : AreHeld count free slots wholes nodes d)
     (some : 0 < free) (s : ℕ) (slot : s ≡ (node nodes (count + free - 1)).slot)
     (p : ℕ) (p_in : p < length slots) (p_taken : IsTaken count (slot_at slots p)) (last : (slot_at slots p).next ≡ no_slot)
     (n : ℤ) (m : Mark) where
@@ -209,14 +209,14 @@ module _ (count free : ℕ) (slots : List Slot) (wholes : List Entry) (nodes : L
             (cases_eq u s))
             (cases_eq t s)
 
-        module _ (g : Directory) (noted : Leads g n s) (others : (i : ℤ) (t : ℕ) → i ≢ n → t ≢ no_slot → Leads d i t → Leads g i t) where
-          led : (t : ℕ) → t < length then → IsTaken count (slot_at then t) → Leads g (slot_at then t).notice t
+        module _ (g : SlotDirectory) (noted : IsGuess g n s) (others : (i : ℤ) (t : ℕ) → i ≢ n → t ≢ no_slot → IsGuess d i t → IsGuess g i t) where
+          led : (t : ℕ) → t < length then → IsTaken count (slot_at then t) → IsGuess g (slot_at then t).notice t
           led t t_then taken = ⊎_elim
-              (λ is. subst (λ u. Leads g (slot_at then u).notice u) (sym is) (subst (λ i. Leads g i s) (ap (λ (x : Slot). x.notice) (sym slot_at-new)) noted))
+              (λ is. subst (λ u. IsGuess g (slot_at then u).notice u) (sym is) (subst (λ i. IsGuess g i s) (ap (λ (x : Slot). x.notice) (sym slot_at-new)) noted))
               (λ other.
               let t_in : t < length slots = omega (arith, t_then, as_many) in
               let was = taken_before t other taken in
-              subst (λ i. Leads g i t) (sym (notice_then t other))
+              subst (λ i. IsGuess g i t) (sym (notice_then t other))
               (others (slot_at slots t).notice t (fresh t t_in was) (λ none. omega (arith, none, t_in, h.small)) (h.led t t_in was)))
               (cases_eq t s)
 

@@ -9,7 +9,7 @@ pub mod Exchanging
 pub mod Lists
 pub mod Times
 pub mod Marks
-pub mod Lines
+pub mod HeadsAndFollowers
 pub mod Seen
 pub mod Swapped
 pub mod Fewer

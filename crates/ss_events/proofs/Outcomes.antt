@@ -4,7 +4,7 @@ use Rattle.std.proofs.lemmas.Bool.Decides.{nat_tests}
 use Rattle.ss_base.specs.declared.fault.FaultKind.{FaultKind}
 use Rattle.ss_base.specs.declared.fault.FaultKind.TheVariants.{AlreadyScheduled, NotScheduled, Overflow}
 use Rattle.ss_world.specs.SortKey.{SortKey}
-use Rattle.ss_world.specs.PendingList.{PendingList, scheduling_limit, is_pending, without, with_entry, scheduled, cancelled}
+use Rattle.ss_world.specs.PendingList.{PendingList, scheduling_limit, is_pending, without_notice, with_entry, scheduled, cancelled}
 
 -- ---- schedule
 
@@ -32,9 +32,9 @@ module _ (key : SortKey) (notice : ℤ) (p : PendingList) where
 
 module _ (notice : ℤ) (p : PendingList) where
   outcome : Bool → Result PendingList FaultKind
-  outcome pending = cond pending (Ok (record p { entries = without notice p.entries })) (Err NotScheduled)
+  outcome pending = cond pending (Ok (record p { entries = without_notice notice p.entries })) (Err NotScheduled)
 
-  pub cancelled-pending : is_pending notice p.entries ≡ true → cancelled notice p ≡ Ok (record p { entries = without notice p.entries })
+  pub cancelled-pending : is_pending notice p.entries ≡ true → cancelled notice p ≡ Ok (record p { entries = without_notice notice p.entries })
   unfolding outcome
   cancelled-pending t = ap outcome t
 

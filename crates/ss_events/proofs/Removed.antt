@@ -7,12 +7,12 @@ use Rattle.std.proofs.lemmas.Bool.{cases_eq, cases_lt}
 use Rattle.std.proofs.lemmas.Bool.Decides.{nat_tests}
 use Rattle.std.proofs.lemmas.List.{length-set, length-take-le, same_lists, get_or-take, get_or-set_same, get_or-set_other}
 use Rattle.ss_events.specs.declared.entry.Entry.{Entry}
-use Rattle.ss_events.specs.declared.entry.directory.Directory.{Directory}
+use Rattle.ss_events.specs.declared.entry.directory.SlotDirectory.{SlotDirectory}
 use Rattle.ss_events.specs.declared.entry.places.Slot.{Slot}
 use Rattle.ss_events.specs.declared.entry.places.HeapNode.{HeapNode}
-use Rattle.ss_events.specs.Slots.{no_entry, no_slot, no_node, following, slot_at, node, mark_of, entry_in, entry_at, IsTaken, IsBefore, AreDistinct, AreLed, AreHeld, Leads, heads, followers, at_put, next_put}
+use Rattle.ss_events.specs.Slots.{no_entry, no_slot, no_node, following, slot_at, node, mark_of, entry_in, entry_at, IsTaken, IsBefore, AreDistinct, AreLed, AreHeld, IsGuess, heads, followers, at_put, next_put}
 use Rattle.ss_events.proofs.Marks.{in-plain, plain_differs}
-use Rattle.ss_events.proofs.Lines.{slot_at-same, slot_at-other, long_heads, head_at, same_heads, follower, followers-placed, followers-kept, followers-left}
+use Rattle.ss_events.proofs.HeadsAndFollowers.{slot_at-same, slot_at-other, long_heads, head_at, same_heads, follower, followers-placed, followers-kept, followers-left}
 use Rattle.ss_events.proofs.Fewer.{fewer_below}
 
 is_test : (a b : ℕ) → a ≡ b → (a == b) ≡ true
@@ -42,7 +42,7 @@ freed-other ss n s k other = get_or-set_other ss n k (record (node ss n) { slot 
 pub freed-long : (ss : List HeapNode) (n s : ℕ) → length (freed ss n s) ≡ length ss
 freed-long ss n s = length-set ss n (record (node ss n) { slot = s })
 
-module _ (count free : ℕ) (slots : List Slot) (wholes : List Entry) (nodes : List HeapNode) (d : Directory) (h : AreHeld count free slots wholes nodes d) where
+module _ (count free : ℕ) (slots : List Slot) (wholes : List Entry) (nodes : List HeapNode) (d : SlotDirectory) (h : AreHeld count free slots wholes nodes d) where
   -- where a slot follows another, there is room for one more free slot
   pub room_of_follower : (s : ℕ) → s < length slots → following ≤ (slot_at slots s).at → count + free < length nodes
   room_of_follower s s_in s_follows =
@@ -54,13 +54,13 @@ module _ (count free : ℕ) (slots : List Slot) (wholes : List Entry) (nodes : L
       omega (arith, fewer, h.many)
 
   -- the other slots, once one has gone
-  module _ (n : ℕ) (now : List Slot) (vs : List Entry) (g : Directory) (s : ℕ) (long : length now ≡ length slots)
+  module _ (n : ℕ) (now : List Slot) (vs : List Entry) (g : SlotDirectory) (s : ℕ) (long : length now ≡ length slots)
       (mark : (t : ℕ) → t ≢ s → (slot_at now t).mark ≡ (slot_at slots t).mark)
       (notice : (t : ℕ) → t ≢ s → (slot_at now t).notice ≡ (slot_at slots t).notice)
       (whole : (t : ℕ) → t ≢ s → slice_index_or vs t no_entry ≡ slice_index_or wholes t no_entry)
       (taken : (t : ℕ) → t < length slots → IsTaken n (slot_at now t) → (t ≢ s) × IsTaken count (slot_at slots t))
       (s_in : s < length slots) (s_taken : IsTaken count (slot_at slots s))
-      (others : (m : ℤ) (t : ℕ) → m ≢ (slot_at slots s).notice → t ≢ s → Leads d m t → Leads g m t) where
+      (others : (m : ℤ) (t : ℕ) → m ≢ (slot_at slots s).notice → t ≢ s → IsGuess d m t → IsGuess g m t) where
     pub entry-released : (t : ℕ) → t ≢ s → entry_at now vs t ≡ entry_at slots wholes t
     entry-released t other = λ i. entry_in (mark t other i) (notice t other i) (whole t other i)
 
@@ -82,7 +82,7 @@ module _ (count free : ℕ) (slots : List Slot) (wholes : List Entry) (nodes : L
     led-released t t_in is =
         let within : t < length slots = omega (arith, t_in, long) in
         let was = taken t within is in
-        subst (λ m. Leads g m t) (sym (notice t was.0))
+        subst (λ m. IsGuess g m t) (sym (notice t was.0))
         (others (slot_at slots t).notice t (λ e. was.0 (h.distinct t s within s_in was.1 s_taken e)) was.0 (h.led t within was.1))
 
   -- ---- a follower goes
@@ -391,7 +391,7 @@ module _ (count free : ℕ) (slots : List Slot) (wholes : List Entry) (nodes : L
         (λ k. of_other (sym (ap (λ (x : Slot). x.at) k.2) ∙ at) k.1) r')
         (another t other)
 
-    module _ (g : Directory) (others : (m : ℤ) (t : ℕ) → m ≢ (slot_at slots s).notice → t ≢ s → Leads d m t → Leads g m t) where
+    module _ (g : SlotDirectory) (others : (m : ℤ) (t : ℕ) → m ≢ (slot_at slots s).notice → t ≢ s → IsGuess d m t → IsGuess g m t) where
       -- the slots once it has gone
       pub held-left : AreHeld count (free + 1) left wholes left_nodes g
       held-left = record {
@@ -665,7 +665,7 @@ module _ (count free : ℕ) (slots : List Slot) (wholes : List Entry) (nodes : L
         })
         (moved_or_not u other)
 
-    module _ (g : Directory) (others : (m : ℤ) (t : ℕ) → m ≢ (slot_at slots head).notice → t ≢ head → Leads d m t → Leads g m t) where
+    module _ (g : SlotDirectory) (others : (m : ℤ) (t : ℕ) → m ≢ (slot_at slots head).notice → t ≢ head → IsGuess d m t → IsGuess g m t) where
       -- each slot then
       pub held-advanced : AreHeld count (free + 1) advanced wholes advanced_nodes g
       held-advanced = record {
@@ -763,7 +763,7 @@ module _ (count free : ℕ) (slots : List Slot) (wholes : List Entry) (nodes : L
           plain = b.plain;
         }
 
-    module _ (g : Directory) (others : (m : ℤ) (t : ℕ) → m ≢ (slot_at slots s).notice → t ≢ s → Leads d m t → Leads g m t) where
+    module _ (g : SlotDirectory) (others : (m : ℤ) (t : ℕ) → m ≢ (slot_at slots s).notice → t ≢ s → IsGuess d m t → IsGuess g m t) where
       -- each slot then
       pub held-dropped : AreHeld n (free + 1) slots vs nodes g
       held-dropped = record {

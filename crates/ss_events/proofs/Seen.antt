@@ -9,16 +9,16 @@ use Rattle.std.proofs.lemmas.Bool.Decides.{Decides-int_eq}
 use Rattle.std.proofs.lemmas.List.{length-map, get_or-map, get_or_default, get_or_past}
 use Rattle.ss_events.specs.declared.entry.Entry.{Entry}
 use Rattle.ss_events.specs.declared.entry.Mark.{Mark}
-use Rattle.ss_events.specs.declared.entry.directory.Directory.{Directory}
+use Rattle.ss_events.specs.declared.entry.directory.SlotDirectory.{SlotDirectory}
 use Rattle.ss_events.specs.declared.entry.places.Slot.{Slot}
 use Rattle.ss_events.specs.declared.entry.places.HeapNode.{HeapNode}
-use Rattle.ss_events.specs.HeapEntries.{Lines, notices_of, event_of, IsLed, AreAfterHeads}
+use Rattle.ss_events.specs.HeapEntries.{HeadsAndFollowers, notices_of, event_of, IsLed, AreAfterHeads}
 use Rattle.ss_world.specs.Order.{comes_before}
 use Rattle.ss_events.specs.Slots.{no_entry, blank_slot, no_node, following, not_plain, plain_ranks, plain_numbers, slot_at, node, mark_of, order_of, plain_entry, IsBut, entry_at, heads, followers, IsTaken, AreHeld}
 use Rattle.ss_events.proofs.Lists.{each_fails, none_passes, first_at, first_nowhere}
 use Rattle.ss_events.proofs.Marks.{notice_in, in-not_plain, plain_small, plain_again, plain_mark}
 use Rattle.ss_events.proofs.Times.{orders_decide}
-use Rattle.ss_events.proofs.Lines.{long_heads, head_at, follower, Follows, follower_at, slot_of_follower}
+use Rattle.ss_events.proofs.HeadsAndFollowers.{long_heads, head_at, follower, Follows, follower_at, slot_of_follower}
 
 -- ---- notices
 
@@ -41,7 +41,7 @@ notice_of es k d within = get_or-map (λ (e : Entry). e.notice) es k d (pos 0) w
 pub long_notices : (es : List Entry) → length (notices_of es) ≡ length es
 long_notices es = length-map es (λ (e : Entry). e.notice)
 
-module _ (count free : ℕ) (slots : List Slot) (wholes : List Entry) (nodes : List HeapNode) (directory : Directory) (h : AreHeld count free slots wholes nodes directory) where
+module _ (count free : ℕ) (slots : List Slot) (wholes : List Entry) (nodes : List HeapNode) (directory : SlotDirectory) (h : AreHeld count free slots wholes nodes directory) where
   -- there are no more places than nodes
   pub few_places : count ≤ length nodes
   few_places = omega (arith, h.few)
@@ -189,9 +189,9 @@ module _ (count free : ℕ) (slots : List Slot) (wholes : List Entry) (nodes : L
       h.marked k within ∙ h.fits (node nodes k).slot (slot_there k within) (taken_there k within)
       ∙ ap mark_of (sym (head_at count slots wholes nodes few_places k d within))
 
-  module _ (now : Lines) (seen : record { heads = heads count slots wholes nodes; followers = followers slots } ≡ now) where
+  module _ (now : HeadsAndFollowers) (seen : record { heads = heads count slots wholes nodes; followers = followers slots } ≡ now) where
     pub long_now : length now.heads ≡ count
-    long_now = sym (ap (λ (l : Lines). length l.heads) seen) ∙ long_heads count slots wholes nodes few_places
+    long_now = sym (ap (λ (l : HeadsAndFollowers). length l.heads) seen) ∙ long_heads count slots wholes nodes few_places
 
     module _ (k : ℕ) (within : k < length now.heads) where
       pub is_place : k < count
@@ -201,7 +201,7 @@ module _ (count free : ℕ) (slots : List Slot) (wholes : List Entry) (nodes : L
       is_slot = slot_there k is_place
 
       pub head_is : (d : Entry) → get_or now.heads k d ≡ entry_at slots wholes (node nodes k).slot
-      head_is d = sym (ap (λ (l : Lines). get_or l.heads k d) seen) ∙ head_at count slots wholes nodes few_places k d is_place
+      head_is d = sym (ap (λ (l : HeadsAndFollowers). get_or l.heads k d) seen) ∙ head_at count slots wholes nodes few_places k d is_place
 
       -- of what was read of a vector
       module _ (t : HeapNode) (is : t ≡ get_or nodes k t) where
@@ -214,7 +214,7 @@ module _ (count free : ℕ) (slots : List Slot) (wholes : List Entry) (nodes : L
         pub mark_read : (d : Entry) → t.mark ≡ mark_of (get_or now.heads k d)
         mark_read d =
             ap (λ (x : HeapNode). x.mark) node_read ∙ head_mark k d is_place
-            ∙ ap (λ (l : Lines). mark_of (get_or l.heads k d)) seen
+            ∙ ap (λ (l : HeadsAndFollowers). mark_of (get_or l.heads k d)) seen
 
         module _ (x : Slot) (too : x ≡ get_or slots t.slot x) where
           pub notice_read : (d : Entry) → x.notice ≡ (get_or now.heads k d).notice
@@ -266,7 +266,7 @@ record Precedes (count : ℕ) (slots : List Slot) (nodes : List HeapNode) (s k :
   pub time : (slot_at slots (node nodes k).slot).mark.time ≡ (slot_at slots s).mark.time
   pub order : (slot_at slots (node nodes k).slot).mark.order < (slot_at slots s).mark.order
 
-module _ (count free : ℕ) (slots : List Slot) (wholes : List Entry) (nodes : List HeapNode) (directory : Directory) (h : AreHeld count free slots wholes nodes directory) where
+module _ (count free : ℕ) (slots : List Slot) (wholes : List Entry) (nodes : List HeapNode) (directory : SlotDirectory) (h : AreHeld count free slots wholes nodes directory) where
   -- the head of a line, in no more steps than the order of a mark
   head_before : (fuel s : ℕ) → s < length slots → following ≤ (slot_at slots s).at → (slot_at slots s).mark.order < fuel → (k : ℕ) × Precedes count slots nodes s k
   head_before zero s within placed less = absurd (omega (arith, less))
@@ -305,9 +305,9 @@ module _ (count free : ℕ) (slots : List Slot) (wholes : List Entry) (nodes : L
       sym (orders_decide e f same (λ is. omega (arith, is, first, it.order, plain)) (λ is. omega (arith, is, order, plain)))
       ∙ lt-ltb (order_of e) (order_of f) (omega (arith, first, order, it.order))
 
-  pub after_heads_read : (now : Lines) → record { heads = heads count slots wholes nodes; followers = followers slots } ≡ now → AreAfterHeads now.heads now.followers
+  pub after_heads_read : (now : HeadsAndFollowers) → record { heads = heads count slots wholes nodes; followers = followers slots } ≡ now → AreAfterHeads now.heads now.followers
   after_heads_read now seen =
-      subst (λ (l : Lines). AreAfterHeads l.heads l.followers) seen
+      subst (λ (l : HeadsAndFollowers). AreAfterHeads l.heads l.followers) seen
       (λ j d j_in.
       let s = slot_of_follower slots j j_in in
       let k = head_before (suc (slot_at slots s.0).mark.order) s.0 s.1.within s.1.nodes (omega arith) in

@@ -6,13 +6,13 @@ use Rattle.std.proofs.lemmas.List.{length-set, same_lists}
 use Rattle.std.proofs.lemmas.List.Edits.{length-swap}
 use Rattle.ss_events.specs.declared.entry.Entry.{Entry}
 use Rattle.ss_events.specs.declared.entry.Mark.{Mark}
-use Rattle.ss_events.specs.declared.entry.directory.Directory.{Directory}
+use Rattle.ss_events.specs.declared.entry.directory.SlotDirectory.{SlotDirectory}
 use Rattle.ss_events.specs.declared.entry.places.Slot.{Slot}
 use Rattle.ss_events.specs.declared.entry.places.HeapNode.{HeapNode}
-use Rattle.ss_events.specs.Slots.{no_entry, no_slot, no_node, following, slot_at, node, mark_of, entry_in, entry_at, heads, followers, Leads, IsTaken, IsBefore, AreHeld, at_put, exchanged}
+use Rattle.ss_events.specs.Slots.{no_entry, no_slot, no_node, following, slot_at, node, mark_of, entry_in, entry_at, heads, followers, IsGuess, IsTaken, IsBefore, AreHeld, at_put, exchanged}
 use Rattle.ss_events.proofs.Exchanging.{exchange, exchange-within, exchange-twice, get_or-swap}
 use Rattle.ss_events.proofs.Lists.{exchange-first, exchange-other}
-use Rattle.ss_events.proofs.Lines.{slot_at-same, slot_at-other, long_heads, head_at, followers-placed}
+use Rattle.ss_events.proofs.HeadsAndFollowers.{slot_at-same, slot_at-other, long_heads, head_at, followers-placed}
 
 -- ---- two numbers in each other's place
 
@@ -41,7 +41,7 @@ length-exchanged nodes slots a b =
     let i = (node nodes a).slot in
     length-set (at_put slots j a) i (moved (slot_at (at_put slots j a) i) b) ∙ length-set slots j (moved (slot_at slots j) a)
 
-module _ (count free : ℕ) (slots : List Slot) (wholes : List Entry) (nodes : List HeapNode) (d : Directory) (h : AreHeld count free slots wholes nodes d)
+module _ (count free : ℕ) (slots : List Slot) (wholes : List Entry) (nodes : List HeapNode) (d : SlotDirectory) (h : AreHeld count free slots wholes nodes d)
     (a b : ℕ) (a_in : a < count) (b_in : b < count) where
   abbrev first : ℕ
   first = (node nodes a).slot
@@ -205,7 +205,7 @@ module _ (count free : ℕ) (slots : List Slot) (wholes : List Entry) (nodes : L
         h.distinct s t s_in t_in (taken_before s s_in s_taken) (taken_before t t_in t_taken) (sym (notice_then s s_in) ∙ same ∙ notice_then t t_in);
     led = λ s s_then s_taken.
         let s_in : s < length slots = omega (arith, s_then, as_many) in
-        subst (λ n. Leads d n s) (sym (notice_then s s_in)) (h.led s s_in (taken_before s s_in s_taken));
+        subst (λ n. IsGuess d n s) (sym (notice_then s s_in)) (h.led s s_in (taken_before s s_in s_taken));
   }
 
   -- what is seen then

@@ -6,7 +6,7 @@ use Rattle.ss_events.specs.declared.entry.Entry.{Entry}
 use Rattle.ss_world.specs.Order.{comes_before}
 
 -- the first of each line, by place, and the others, each of which follows another
-pub record Lines : Type 0 where
+pub record HeadsAndFollowers : Type 0 where
   pub heads : List Entry
   pub followers : List Entry
 
@@ -18,7 +18,7 @@ pub record HeapEntries : Type 0 where
   pub moves : ℕ
 
 -- the heads and the others, without what was counted
-abbrev pub heap_lines : HeapEntries → Lines
+abbrev pub heap_lines : HeapEntries → HeadsAndFollowers
 heap_lines h = record { heads = h.entries; followers = h.followers }
 
 -- all entries
@@ -48,21 +48,21 @@ abbrev pub AreAfterHeads : List Entry → List Entry → Type 0
 AreAfterHeads heads followers = All (IsLed heads) followers
 
 -- a follower is the first of its line now, in the place `at`
-pub record Advances (old new : Lines) (at : ℕ) : Type 0 where
+pub record Advances (old new : HeadsAndFollowers) (at : ℕ) : Type 0 where
   pub next : Entry
   pub heads : new.heads ≡ slice_set old.heads at next
   pub followers : IsPermutation old.followers (next ∷ new.followers)
 
 -- the entry went out of the place `at`, into which the next of its line came, or the last head, where its line had no other; this
 -- is its time and its notice
-pub record Removes (old new : Lines) (at : ℕ) (event : ℤ × ℤ) : Type 0 where
+pub record Removes (old new : HeadsAndFollowers) (at : ℕ) (event : ℤ × ℤ) : Type 0 where
   pub entry : Entry
   pub there : entry ≡ slice_index_or old.heads at entry
   pub is : event ≡ event_of entry
   pub rest : (new ≡ record old { heads = swap_remove old.heads at entry }) ⊎ Advances old new at
 
 -- a follower went out, and had this notice
-pub record Leaves (old new : Lines) (notice : ℤ) : Type 0 where
+pub record Leaves (old new : HeadsAndFollowers) (notice : ℤ) : Type 0 where
   pub entry : Entry
   pub noticed : entry.notice ≡ notice
   pub heads : new.heads ≡ old.heads

@@ -9,14 +9,14 @@ use Rattle.ss_world.specs.Order.{comes_before}
 use Rattle.ss_world.specs.PendingList.{scheduling_limit}
 
 -- an entry put among entries in the order of scheduling
-abbrev pub put : Entry → List Entry → List Entry
-put e [] = e ∷ []
-put e (f ∷ fs) = if nat_lt e.number f.number then e ∷ f ∷ fs else f ∷ put e fs
+abbrev pub put_in_order : Entry → List Entry → List Entry
+put_in_order e [] = e ∷ []
+put_in_order e (f ∷ fs) = if nat_lt e.number f.number then e ∷ f ∷ fs else f ∷ put_in_order e fs
 
 -- entries in the order of scheduling
 unfoldable pub in_order : List Entry → List Entry
 in_order [] = []
-in_order (e ∷ es) = put e (in_order es)
+in_order (e ∷ es) = put_in_order e (in_order es)
 
 -- the numbers of entries
 abbrev pub numbers_of : List Entry → List ℕ

@@ -7,7 +7,7 @@ use Rattle.std.specs.Ordering.{int_eq}
 use Rattle.ss_world.specs.declared.ties.Tie.{Tie}
 use Rattle.ss_events.specs.declared.entry.Entry.{Entry}
 use Rattle.ss_events.specs.declared.entry.Mark.{Mark}
-use Rattle.ss_events.specs.declared.entry.directory.Directory.{Directory}
+use Rattle.ss_events.specs.declared.entry.directory.SlotDirectory.{SlotDirectory}
 use Rattle.ss_events.specs.declared.entry.places.Slot.{Slot}
 use Rattle.ss_events.specs.declared.entry.places.HeapNode.{HeapNode}
 
@@ -101,28 +101,28 @@ followers [] = []
 followers (x ∷ xs) = if nat_le following x.at then plain_entry x.mark x.notice ∷ followers xs else followers xs
 
 -- the number of the cell of a notice
-abbrev pub cell_of : Directory → ℤ → ℕ
+abbrev pub cell_of : SlotDirectory → ℤ → ℕ
 cell_of d notice = bit_and (cast_unsigned w64 notice) d.mask
 
 -- the slot that the cell of a notice names
-abbrev pub first_guess : Directory → ℤ → ℕ
+abbrev pub first_guess : SlotDirectory → ℤ → ℕ
 first_guess d notice = slice_index_or d.cells.items (cell_of d notice) no_slot
 
 -- the slot that is named for a notice whose cell names another
-abbrev pub second_guess : Directory → ℤ → ℕ
+abbrev pub second_guess : SlotDirectory → ℤ → ℕ
 second_guess d notice = unwrap_or (lookup (int_eq notice) d.others.entries) no_slot
 
 -- the slot is one of the two that are named for the notice
-abbrev pub Leads : Directory → ℤ → ℕ → Type 0
-Leads d notice slot = (first_guess d notice ≡ slot) ⊎ (second_guess d notice ≡ slot)
+abbrev pub IsGuess : SlotDirectory → ℤ → ℕ → Type 0
+IsGuess d notice slot = (first_guess d notice ≡ slot) ⊎ (second_guess d notice ≡ slot)
 
 -- no two entries have one notice
 abbrev pub AreDistinct : ℕ → List Slot → Type 0
 AreDistinct count slots = (s t : ℕ) → s < length slots → t < length slots → IsTaken count (slot_at slots s) → IsTaken count (slot_at slots t) → (slot_at slots s).notice ≡ (slot_at slots t).notice → s ≡ t
 
 -- the directory leads to the notice of each
-abbrev pub AreLed : Directory → ℕ → List Slot → Type 0
-AreLed d count slots = (s : ℕ) → s < length slots → IsTaken count (slot_at slots s) → Leads d (slot_at slots s).notice s
+abbrev pub AreLed : SlotDirectory → ℕ → List Slot → Type 0
+AreLed d count slots = (s : ℕ) → s < length slots → IsTaken count (slot_at slots s) → IsGuess d (slot_at slots s).notice s
 
 -- the entry in the slot p is the one before that in s: both are plain and come at one time, p before s
 pub record IsBefore (count : ℕ) (slots : List Slot) (p s : ℕ) : Type 0 where
@@ -136,7 +136,7 @@ pub record IsBefore (count : ℕ) (slots : List Slot) (p s : ℕ) : Type 0 where
 -- `wholes` has the entries that aren't plain, by slot, as far as one was ever stored. `nodes` says which slot is in which place:
 -- the first of each line in the first `count` places, and the free slots after them. Each slot is in its place, or follows
 -- another slot. No two entries have one notice, and the directory leads to each
-pub record AreHeld (count free : ℕ) (slots : List Slot) (wholes : List Entry) (nodes : List HeapNode) (directory : Directory) : Type 0 where
+pub record AreHeld (count free : ℕ) (slots : List Slot) (wholes : List Entry) (nodes : List HeapNode) (directory : SlotDirectory) : Type 0 where
   pub many : length nodes ≡ length slots
   pub few : count + free ≤ length nodes
   pub small : length slots < following

@@ -3,11 +3,11 @@ ghost use Rattle.std.specs.Prelude.{ℕ, ◌≡◌, ◌<◌, ◌≤◌, ◌+◌,
 ghost use Rattle.ss_events.specs.HeapOrder.{IsFirstOf, IsFirstAmong, IsFirstChild};
 ghost use Rattle.ss_world.specs.Order.{comes_before};
 
-use crate::entry::Heap;
+use crate::entry::EntryHeap;
 
 /// The first child of the entry at a place. Counts at most three comparisons.
 #[inline(always)]
-pub fn first_child(heap: &mut Heap, at: usize) -> Option<usize>
+pub fn first_child(heap: &mut EntryHeap, at: usize) -> Option<usize>
     requires within { at < length heap.old.entries }
     requires countable { heap.old.comparisons + 3 < 2 ^ 64 }
     ensures child { MatchOption result (length heap.old.entries ≤ 4 * at + 1) (IsFirstChild comes_before heap.old.entries at) }
@@ -28,7 +28,7 @@ pub fn first_child(heap: &mut Heap, at: usize) -> Option<usize>
 }
 
 // The first of the entries in a place, or two or three, from this one on.
-fn first_of_few(heap: &mut Heap, from: usize, many: usize) -> usize
+fn first_of_few(heap: &mut EntryHeap, from: usize, many: usize) -> usize
     requires some { 0 < many }
     requires few { many < 4 }
     requires within { from + many ≤ length heap.old.entries }
@@ -53,7 +53,7 @@ fn first_of_few(heap: &mut Heap, from: usize, many: usize) -> usize
 // The first of the entries in two places, one left of the other. Counts a comparison. It is reckoned without a branch, which
 // would go one way as often as the other.
 #[inline(always)]
-fn first_of(heap: &mut Heap, left: usize, right: usize) -> usize
+fn first_of(heap: &mut EntryHeap, left: usize, right: usize) -> usize
     requires apart { left < right }
     requires within { right < length heap.old.entries }
     requires countable { heap.old.comparisons + 1 < 2 ^ 64 }

@@ -1,7 +1,7 @@
 //! Keys and entries.
 //!
 //! Nothing but this module reads a key, and none of its functions hands an entry out. So two keys are compared and an
-//! entry is put into a place only by `Heap`, which counts it.
+//! entry is put into a place only by `EntryHeap`, which counts it.
 ghost use Rattle.std.specs.Prelude.{◌≡◌, ◌<◌, ◌*◌, [], pos, IfOk, IfSome, IsTrue, ◌↔◌, int_lt, map};
 ghost use Rattle.ss_world.specs.PendingList.{FitsClass};
 ghost use Rattle.ss_events.specs.Slots.{is_tied, no_entry, no_mark, order_of, mark_of, plain_entry, plain_ranks, plain_numbers};
@@ -12,7 +12,7 @@ mod order;
 mod places;
 
 use crate::key::fits_class;
-pub use heap::Heap;
+pub use heap::EntryHeap;
 pub(crate) use places::MANY;
 use ss_world::{Tie, TieShape};
 use std::alloc::{AllocError, Global};

@@ -1,7 +1,7 @@
 ghost use Rattle.std.specs.Prelude.{◌≡◌, ℕ, ◌+◌, ◌*◌, ◌<◌, ◌≤◌, true, false, [], IfOk, IfErr, OnOk, OnErr, Ok, Err, Some, slice_get, length, map, IsTrue, ◌↔◌};
 ghost use Rattle.ss_world.specs.Shape.{shape_of};
 
-use crate::entry::{Heap, Key, MOST_SCHEDULINGS, PLAIN_NUMBERS, PLAIN_RANKS};
+use crate::entry::{EntryHeap, Key, MOST_SCHEDULINGS, PLAIN_NUMBERS, PLAIN_RANKS};
 use crate::key;
 use crate::sift::{insert, insert_plain, take_out};
 use ss_base::{FaultKind, Refused};
@@ -17,7 +17,7 @@ use std::marker::Model;
 /// the last call that takes `&mut self`.
 #[derive(Drop)]
 pub struct Pending {
-    heap: Heap,
+    heap: EntryHeap,
     schedulings: u64,
     classes: Vec<Vec<TieShape>>,
 }
@@ -44,7 +44,7 @@ impl Pending {
         ensures { IfOk result (λ pending. pending ≡ record { list = none_pending (map (λ shapes. shapes.items) classes.now); comparisons = 0; moves = 0 }) }
     {
         Ok(Pending {
-            heap: Heap::new(alloc),
+            heap: EntryHeap::new(alloc),
             schedulings: 0,
             classes: copied(alloc, classes)?,
         })

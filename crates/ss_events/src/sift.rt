@@ -11,11 +11,11 @@ ghost use Rattle.ss_events.specs.Slots.{plain_ranks, plain_numbers};
 ghost use Rattle.ss_events.specs.Sifting.{Raises, CostsToRaise, Lowers, CostsToLower, Mends, CostsToMend, IsLogarithmic};
 
 use crate::children::first_child;
-use crate::entry::{Heap, Key, MANY, PLAIN_NUMBERS, PLAIN_RANKS};
+use crate::entry::{EntryHeap, Key, MANY, PLAIN_NUMBERS, PLAIN_RANKS};
 use std::alloc::AllocError;
 
 /// Puts an entry of a notice into a heap in order. Counts anew.
-pub fn insert(heap: &mut Heap, key: Key, number: u64, notice: i64) -> Result<(), AllocError>
+pub fn insert(heap: &mut EntryHeap, key: Key, number: u64, notice: i64) -> Result<(), AllocError>
     requires order { IsHeap comes_before heap.old.entries }
     requires apart { list_any (int_eq notice) (notices_of heap.old.entries) ≡ false }
     requires fresh { list_any (int_eq notice) (notices_of heap.old.followers) ≡ false }
@@ -47,7 +47,7 @@ pub fn insert(heap: &mut Heap, key: Key, number: u64, notice: i64) -> Result<(),
 /// Puts a plain entry into a heap in order, if there is room for it and its notice is found to be new at once; and says whether it
 /// did. If not, the entries are what they were. Counts anew.
 #[inline(always)]
-pub fn insert_plain(heap: &mut Heap, time: i64, rank: usize, number: u64, notice: i64) -> bool
+pub fn insert_plain(heap: &mut EntryHeap, time: i64, rank: usize, number: u64, notice: i64) -> bool
     requires order { IsHeap comes_before heap.old.entries }
     requires rank { rank < plain_ranks }
     requires number { number < plain_numbers }
@@ -74,7 +74,7 @@ pub fn insert_plain(heap: &mut Heap, time: i64, rank: usize, number: u64, notice
 }
 
 /// Takes the entry out of a place of a heap in order, and answers its time and its notice. Counts anew.
-pub fn take_out(heap: &mut Heap, at: usize) -> (i64, i64)
+pub fn take_out(heap: &mut EntryHeap, at: usize) -> (i64, i64)
     requires order { IsHeap comes_before heap.old.entries }
     requires within { at < length heap.old.entries }
     ensures order { IsHeap comes_before heap.new.entries }
@@ -90,7 +90,7 @@ pub fn take_out(heap: &mut Heap, at: usize) -> (i64, i64)
 }
 
 // Puts the entry at a place of a heap in order.
-fn mend(heap: &mut Heap, at: usize)
+fn mend(heap: &mut EntryHeap, at: usize)
     requires within { at < length heap.old.entries }
     requires small { length heap.old.entries < 2 ^ 64 }
     requires comparisons { heap.old.comparisons ≤ 1 }
@@ -105,7 +105,7 @@ fn mend(heap: &mut Heap, at: usize)
 
 // Lets the entry at a place rise until its parent doesn't come after it. Answers its place.
 #[inline(always)]
-fn raise(heap: &mut Heap, at: usize) -> usize
+fn raise(heap: &mut EntryHeap, at: usize) -> usize
     requires within { at < length heap.old.entries }
     requires comparisons { heap.old.comparisons < 2 ^ 32 }
     requires moves { heap.old.moves < 2 ^ 32 }
@@ -124,7 +124,7 @@ fn raise(heap: &mut Heap, at: usize) -> usize
 
 // Lets an entry rise that comes before its parent, once the two were compared. Answers its place.
 #[inline(never)]
-fn raise_past(heap: &mut Heap, mut at: usize, mut parent: usize) -> usize
+fn raise_past(heap: &mut EntryHeap, mut at: usize, mut parent: usize) -> usize
     requires within { at < length heap.old.entries }
     requires some { 0 < at }
     requires parent { parent ≡ (at - 1) / 4 }
@@ -149,7 +149,7 @@ fn raise_past(heap: &mut Heap, mut at: usize, mut parent: usize) -> usize
 }
 
 // Lets the entry at a place sink until no child comes before it.
-fn lower(heap: &mut Heap, mut at: usize)
+fn lower(heap: &mut EntryHeap, mut at: usize)
     requires within { at < length heap.old.entries }
     requires small { length heap.old.entries < 2 ^ 64 }
     requires comparisons { heap.old.comparisons < 2 ^ 32 }

@@ -5,7 +5,7 @@ use Rattle.std.specs.List.{list_all}
 use Rattle.std.proofs.lemmas.Bool.{lt-ltb, le-ltb}
 use Rattle.std.proofs.lemmas.List.Sums.{take_while-cons}
 use Rattle.ss_base.specs.declared.fault.FaultKind.TheVariants.{BadData}
-use Rattle.ss_input.specs.Words.{is_separator, is_word_byte, gap, from_word, first_word, word_at, separator_limit, word_limit}
+use Rattle.ss_input.specs.Words.{is_separator, is_word_byte, gap, from_word, first_word, leading_word, separator_limit, word_limit}
 
 -- bytes that begin with none of a kind
 abbrev pub Stops : (ℕ → Bool) → List ℕ → Type 0
@@ -52,16 +52,16 @@ too_many s t h large =
     let l : separator_limit < length (gap (s ++ t)) = omega (arith, large, more) in
     rw (lt-ltb separator_limit (length (gap (s ++ t))) l) refl
 
-pub word_is : (w t : List ℕ) → (w ++ t ≡ [] → ⊥) → list_all is_word_byte w ≡ true → Stops is_word_byte t → length w ≤ word_limit → word_at (Ok (w ++ t)) ≡ Ok (record { value = w; rest = t })
+pub word_is : (w t : List ℕ) → (w ++ t ≡ [] → ⊥) → list_all is_word_byte w ≡ true → Stops is_word_byte t → length w ≤ word_limit → leading_word (Ok (w ++ t)) ≡ Ok (record { value = w; rest = t })
 word_is w t some h stops small = given (w ++ t) refl
   where
-    given : (l : List ℕ) → l ≡ w ++ t → word_at (Ok l) ≡ Ok (record { value = w; rest = t })
+    given : (l : List ℕ) → l ≡ w ++ t → leading_word (Ok l) ≡ Ok (record { value = w; rest = t })
     given [] e = absurd (some (sym e))
     given (x ∷ l) e =
         let f : first_word (x ∷ l) ≡ w = ap first_word e ∙ take_while-all is_word_byte w t h stops in
         rw (f, le-ltb word_limit (length w) small) (ap (λ r. Ok (record { value = w; rest = r })) (ap (drop (length w)) e ∙ drop-all w t))
 
-pub too_long : (w t : List ℕ) → list_all is_word_byte w ≡ true → word_limit < length w → word_at (Ok (w ++ t)) ≡ Err BadData
+pub too_long : (w t : List ℕ) → list_all is_word_byte w ≡ true → word_limit < length w → leading_word (Ok (w ++ t)) ≡ Err BadData
 too_long [] t h large = absurd (omega (arith, large))
 too_long (x ∷ w) t h large =
     let more = at-least is_word_byte (x ∷ w) t h in

@@ -9,7 +9,7 @@ use Rattle.ss_input.specs.declared.source.Source.{Source}
 use Rattle.ss_input.specs.Blocks.{BlockSeen, first_input_byte}
 use Rattle.ss_input.specs.Sources.{Gives, Passes, Passed, GapPassed, WordPassed, NextIs}
 use Rattle.ss_input.specs.Inputs.{source_block, source_gap, Reaches, IsAhead, Reads, Finds}
-use Rattle.ss_input.specs.Words.{is_separator, is_word_byte, from_word, word_at, next_word, is_ended, no_word}
+use Rattle.ss_input.specs.Words.{is_separator, is_word_byte, from_word, leading_word, next_word, is_ended, no_word}
 use Rattle.ss_input.proofs.Passages.{consumes_more}
 use Rattle.ss_input.proofs.Gaps.{Stops, word_next, too_many, word_is, too_long}
 
@@ -116,7 +116,7 @@ module _ {R : Type 0} (remaining : R → Option (List ℕ)) where
       after_end = λ e. let u = h.passed.passes.after_end e in let v = g.0.after_end u.1 in (ap (λ t. t ++ g.0.got) u.0 ∙ v.0, v.1);
       says = λ more input e st.
           let r = before_word w g.0 more input e st in
-          let n : next_word input ≡ Ok (record { value = w; rest = (source_block new).left ++ more }) = ap word_at r.0 ∙ word_is w ((source_block new).left ++ more) r.1 g.1 (stops-word (source_block new) more before e) len in
+          let n : next_word input ≡ Ok (record { value = w; rest = (source_block new).left ++ more }) = ap leading_word r.0 ∙ word_is w ((source_block new).left ++ more) r.1 g.1 (stops-word (source_block new) more before e) len in
           record {
             rest = (source_block new).left ++ more;
             ahead = record { gap = []; separators = refl; long = sym none; input_is = refl };
@@ -131,7 +131,7 @@ module _ {R : Type 0} (remaining : R → Option (List ℕ)) where
       after_end = λ e. let u = h.passed.passes.after_end e in let v = g.passes.after_end u.1 in (ap (λ t. t ++ g.passes.got) u.0 ∙ v.0, v.1);
       says = λ more input e st.
           let r = before_word g.bytes g.passes more input e st in
-          ap word_at r.0 ∙ too_long g.bytes ((source_block new).left ++ more) g.holds.0 (omega (arith, g.holds.1));
+          ap leading_word r.0 ∙ too_long g.bytes ((source_block new).left ++ more) g.holds.0 (omega (arith, g.holds.1));
     }
 
   -- where one statement follows from another

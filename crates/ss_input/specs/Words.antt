@@ -53,14 +53,14 @@ first_word input = take_while is_word_byte input
 abbrev pub word_given : List ℕ → Result (Given (List ℕ)) FaultKind
 word_given input = if nat_lt word_limit (length (first_word input)) then Err BadData else Ok (record { value = first_word input; rest = drop (length (first_word input)) input })
 
-abbrev pub word_at : Result (List ℕ) FaultKind → Result (Given (List ℕ)) FaultKind
-word_at (Ok []) = Err EndOfData
-word_at (Ok (b ∷ bs)) = word_given (b ∷ bs)
-word_at (Err k) = Err k
+abbrev pub leading_word : Result (List ℕ) FaultKind → Result (Given (List ℕ)) FaultKind
+leading_word (Ok []) = Err EndOfData
+leading_word (Ok (b ∷ bs)) = word_given (b ∷ bs)
+leading_word (Err k) = Err k
 
 -- the next word of an input
 abbrev pub next_word : List ℕ → Result (Given (List ℕ)) FaultKind
-next_word input = word_at (from_word input)
+next_word input = leading_word (from_word input)
 
 abbrev pub is_digit : ℕ → Bool
 is_digit b = nat_le 48 b && nat_le b 57

@@ -9,7 +9,7 @@ use Rattle.ss_world.specs.PendingList.{next, after_next}
 use Rattle.ss_meaning.specs.Values.{turned, due, where_fit}
 use Rattle.ss_meaning.specs.Store.{Notices, Store}
 use Rattle.ss_meaning.specs.Entities.{class_at, is_single, with_none, gone}
-use Rattle.ss_machine_time.specs.Times.{Times, passed_by}
+use Rattle.ss_machine_time.specs.Times.{Times, event_taken_out}
 use Rattle.ss_machine_events.specs.Events.{time_next, passed_on}
 use Rattle.ss_machine_world.specs.Seen.{Seen, with_seen}
 
@@ -33,6 +33,6 @@ module _ (disciplines : List Discipline) (notices : List Notices) (heap : State)
   abbrev pub seen_with : Times → Seen
   seen_with t = record { disciplines = disciplines; notices = notices; statistics = t.histories.statistics; heap = heap; time = t.time; pending = t.pending; histories = t.histories.rows }
 
-  pub seen_passed : (o : Option (ℤ × ℤ)) (t : Times) → record (seen_with t) { time = time_next o t.time; pending = after_next t.pending } ≡ seen_with (passed_by o t)
+  pub seen_passed : (o : Option (ℤ × ℤ)) (t : Times) → record (seen_with t) { time = time_next o t.time; pending = after_next t.pending } ≡ seen_with (event_taken_out o t)
   seen_passed None t = refl
   seen_passed (Some n) t = refl

@@ -19,13 +19,13 @@ use Rattle.ss_machine_entities.specs.declared.trouble.Unmade.{Unmade}
 use Rattle.ss_machine_entities.specs.declared.trouble.Unmade.TheVariants as unmade
 use Rattle.ss_machine_entities.specs.Answered.{to_meaning, meant}
 use Rattle.ss_machine_world.specs.AtOnce.{Does}
-use Rattle.ss_machine_world.specs.Seen.{Seen, with_seen, Changes, Makes, Grows}
-use Rattle.ss_machine_events.specs.Scheduled.{Leads, Forms, Goes, Finds, put_there, lacking, key_ranked, key_meant, IsUntied, scheduled_known, scheduled_anew}
+use Rattle.ss_machine_world.specs.Seen.{Seen, with_seen, Changes, Makes, ChangesWithMemory}
+use Rattle.ss_machine_events.specs.Scheduled.{ChangesInSteps, Forms, Goes, Finds, put_there, lacking, key_ranked, key_meant, IsUntied, scheduled_known, scheduled_anew}
 
 -- ## Steps
 
 -- one step and then a change
-pub leads_on : (f g : Store → OkOr Store Meant) (old mid new : Seen) (r : OkOr (Unit {0}) Trouble) → ((s : Store) → f (with_seen s old) ≡ Ok (with_seen s mid)) → Changes g mid new r → Leads (λ s. if_ok (f s) g) old new r
+pub leads_on : (f g : Store → OkOr Store Meant) (old mid new : Seen) (r : OkOr (Unit {0}) Trouble) → ((s : Store) → f (with_seen s old) ≡ Ok (with_seen s mid)) → Changes g mid new r → ChangesInSteps (λ s. if_ok (f s) g) old new r
 leads_on f g old mid new (Ok u) e h = λ s. ap (λ r. if_ok r g) (e s) ∙ h s
 leads_on f g old mid new (Err t) e h = λ s. ap (λ r. if_ok r g) (e s) ∙ h.0 s
 
@@ -43,7 +43,7 @@ finds_not f e a (Fault kind) h = h
 finds_not f e a Misfit h = h
 
 -- one step and then what needs memory
-pub goes_on : (f g : Store → OkOr Store Meant) (old mid new : Seen) (r : OkOr (Unit {0}) Unmade) → ((s : Store) → f (with_seen s old) ≡ Ok (with_seen s mid)) → Grows g mid new r → Goes (λ s. if_ok (f s) g) f old new r
+pub goes_on : (f g : Store → OkOr Store Meant) (old mid new : Seen) (r : OkOr (Unit {0}) Unmade) → ((s : Store) → f (with_seen s old) ≡ Ok (with_seen s mid)) → ChangesWithMemory g mid new r → Goes (λ s. if_ok (f s) g) f old new r
 goes_on f g old mid new (Ok u) e h = λ s. ap (λ r. if_ok r g) (e s) ∙ h s
 goes_on f g old mid new (Err (unmade.Fault kind)) e h = λ s. ap (λ r. if_ok r g) (e s) ∙ h.0 s
 goes_on f g old mid new (Err unmade.Misfit) e h = λ s. ap (λ r. if_ok r g) (e s) ∙ h.0 s
@@ -113,7 +113,7 @@ module _ (class : ℕ) (x : Value) (t : ℤ) where
       sides (Err t) = refl
 
   -- the notice is not found
-  pub not_found : (e : Seen) (trouble : Trouble) → ((s : Store) → entity class x (with_seen s e) ≡ to_meaning {A = ℤ} (Err trouble)) → Grows (filed_notice class x t) e e (Err (lacking trouble))
+  pub not_found : (e : Seen) (trouble : Trouble) → ((s : Store) → entity class x (with_seen s e) ≡ to_meaning {A = ℤ} (Err trouble)) → ChangesWithMemory (filed_notice class x t) e e (Err (lacking trouble))
   not_found e (Fault kind) h = (λ s. filed_is (with_seen s e) ∙ ap (λ r. if_ok r (λ n. if_ok (key_meant class x t (with_seen s e)) (λ key. scheduled_known key n (with_seen s e)))) (h s), refl)
   not_found e Misfit h = (λ s. filed_is (with_seen s e) ∙ ap (λ r. if_ok r (λ n. if_ok (key_meant class x t (with_seen s e)) (λ key. scheduled_known key n (with_seen s e)))) (h s), refl)
 
@@ -122,7 +122,7 @@ module _ (class : ℕ) (x : Value) (t : ℤ) where
     found_filed s = filed_is (with_seen s e) ∙ ap (λ r. if_ok r (λ n. if_ok (key_meant class x t (with_seen s e)) (λ key. scheduled_known key n (with_seen s e)))) (found s)
 
     -- no key is found
-    pub not_filed : (u : Unmade) → Finds (key_meant class x t) e (Err u) → Grows (filed_notice class x t) e e (Err u)
+    pub not_filed : (u : Unmade) → Finds (key_meant class x t) e (Err u) → ChangesWithMemory (filed_notice class x t) e e (Err u)
     not_filed (unmade.Fault kind) h = (λ s. found_filed s ∙ ap (λ r. if_ok r (λ key. scheduled_known key n (with_seen s e))) (h s), refl)
     not_filed unmade.Misfit h = (λ s. found_filed s ∙ ap (λ r. if_ok r (λ key. scheduled_known key n (with_seen s e))) (h s), refl)
     not_filed unmade.Memory h = refl
@@ -131,7 +131,7 @@ module _ (class : ℕ) (x : Value) (t : ℤ) where
     key_filed key k s = found_filed s ∙ ap (λ r. if_ok r (λ key. scheduled_known key n (with_seen s e))) (k s)
 
     -- a key is found
-    pub filed : (new : Seen) (key : SortKey) (r : OkOr (Unit {0}) Unmade) → Finds (key_meant class x t) e (Ok key) → Grows (scheduled_known key n) e new r → Grows (filed_notice class x t) e new r
+    pub filed : (new : Seen) (key : SortKey) (r : OkOr (Unit {0}) Unmade) → Finds (key_meant class x t) e (Ok key) → ChangesWithMemory (scheduled_known key n) e new r → ChangesWithMemory (filed_notice class x t) e new r
     filed new key (Ok u) k h = λ s. key_filed key k s ∙ h s
     filed new key (Err (unmade.Fault kind)) k h = (λ s. key_filed key k s ∙ h.0 s, h.1)
     filed new key (Err unmade.Misfit) k h = (λ s. key_filed key k s ∙ h.0 s, h.1)

@@ -12,7 +12,7 @@ use Rattle.ss_program.specs.declared.expression.Variable.TheVariants.{Global}
 use Rattle.ss_meaning.specs.Values.{Trouble as Meant, turned}
 use Rattle.ss_meaning.specs.Store.{Notices, Store}
 use Rattle.ss_meaning.specs.Places.{assigned_variable}
-use Rattle.ss_meaning.specs.Events.{Ranked, Coming, Beginning, ranked_as, next_event, begun, saved_or_gone}
+use Rattle.ss_meaning.specs.Events.{Ranked, Coming, Beginning, ranked_as, next_event, event_begun, saved_or_gone}
 use Rattle.ss_machine_events.specs.declared.coming.TakenEvent.{TakenEvent}
 use Rattle.ss_machine_events.specs.declared.coming.Fate.{Fate}
 use Rattle.ss_machine_events.specs.declared.coming.Fate.TheVariants.{Saved, Gone}
@@ -46,13 +46,13 @@ abbrev pub ties_at : List Notices → (rank : ℕ) → List RankKey
 ties_at es rank = ties_in (slice_get es rank)
 
 -- an event comes, and what is seen afterwards is as it begins; or none comes, and nothing changes
-abbrev pub Comes : (old new : Seen) → Option TakenEvent → Type 0
-Comes old new None = ((s : Store) → next_event (with_seen s old) ≡ None) × (new ≡ old)
-Comes old new (Some c) = (s : Store) → next_event (with_seen s old) ≡ Some (coming_meant c (ties_at new.notices c.rank) (with_seen s new))
+abbrev pub IsNextEvent : (old new : Seen) → Option TakenEvent → Type 0
+IsNextEvent old new None = ((s : Store) → next_event (with_seen s old) ≡ None) × (new ≡ old)
+IsNextEvent old new (Some c) = (s : Store) → next_event (with_seen s old) ≡ Some (coming_meant c (ties_at new.notices c.rank) (with_seen s new))
 
 -- what is seen once the notice that comes next was taken out, at its time
-abbrev pub passed : (time : ℤ) → Seen → Seen
-passed t e = record e { time = t; pending = after_next e.pending }
+abbrev pub time_passed : (time : ℤ) → Seen → Seen
+time_passed t e = record e { time = t; pending = after_next e.pending }
 
 -- the time of what comes next, or else the time now
 abbrev pub time_next : Option (ℤ × ℤ) → (now : ℤ) → ℤ
@@ -128,10 +128,10 @@ Lets c old new (Err unmade.Memory) = new ≡ old
 -- an event begins with values; its notice is gone, or it is still to be assigned to a global variable
 abbrev pub Begins : TakenEvent → List RankKey → List Value → (old new : Seen) → Result Fate Unmade → Type 0
 Begins c ties vs old new (Ok (Saved k)) =
-    ((s : Store) → begun (coming_meant c ties (with_seen s old)) ≡ turned (beginning c.rank vs) (assigned_variable (Global k) (Whole c.notice) (with_seen s old)))
+    ((s : Store) → event_begun (coming_meant c ties (with_seen s old)) ≡ turned (beginning c.rank vs) (assigned_variable (Global k) (Whole c.notice) (with_seen s old)))
     × (new ≡ old)
-Begins c ties vs old new (Ok Gone) = (s : Store) → begun (coming_meant c ties (with_seen s old)) ≡ Ok (beginning c.rank vs (with_seen s new))
+Begins c ties vs old new (Ok Gone) = (s : Store) → event_begun (coming_meant c ties (with_seen s old)) ≡ Ok (beginning c.rank vs (with_seen s new))
 Begins c ties vs old new (Err (unmade.Fault kind)) =
-    ((s : Store) → begun (coming_meant c ties (with_seen s old)) ≡ to_meaning {A = Beginning} (Err (Fault kind))) × (new ≡ old)
-Begins c ties vs old new (Err unmade.Misfit) = ((s : Store) → begun (coming_meant c ties (with_seen s old)) ≡ to_meaning {A = Beginning} (Err Misfit)) × (new ≡ old)
+    ((s : Store) → event_begun (coming_meant c ties (with_seen s old)) ≡ to_meaning {A = Beginning} (Err (Fault kind))) × (new ≡ old)
+Begins c ties vs old new (Err unmade.Misfit) = ((s : Store) → event_begun (coming_meant c ties (with_seen s old)) ≡ to_meaning {A = Beginning} (Err Misfit)) × (new ≡ old)
 Begins c ties vs old new (Err unmade.Memory) = new ≡ old

@@ -27,9 +27,9 @@ use Rattle.ss_machine_world.specs.Seen.{Seen, with_seen}
 -- ## Operations in several steps
 
 -- an operation leads to what is seen afterwards, or it fails after some of its steps
-abbrev pub Leads : (Store → Result Store Meant) → (old new : Seen) → Result (Unit {0}) Trouble → Type 0
-Leads f old new (Ok u) = (s : Store) → f (with_seen s old) ≡ Ok (with_seen s new)
-Leads f old new (Err t) = (s : Store) → f (with_seen s old) ≡ to_meaning {A = Store} (Err t)
+abbrev pub ChangesInSteps : (Store → Result Store Meant) → (old new : Seen) → Result (Unit {0}) Trouble → Type 0
+ChangesInSteps f old new (Ok u) = (s : Store) → f (with_seen s old) ≡ Ok (with_seen s new)
+ChangesInSteps f old new (Err t) = (s : Store) → f (with_seen s old) ≡ to_meaning {A = Store} (Err t)
 
 -- an operation that gives a value as well and needs memory: it fails after some steps, and out of memory it changes nothing
 abbrev pub Forms : {A : Type 0} → (Store → Result (A × Store) Meant) → (old new : Seen) → Result A Unmade → Type 0
@@ -68,16 +68,16 @@ AddsTie f high e old new (Ok u) = (v : Value) × (new ≡ old ++ record { value 
 AddsTie f high e old new (Err t) = Finds {A = Value} f e (Err t)
 
 -- a number as a value
-abbrev pub as_whole : Result ℤ Unmade → Result Value Unmade
-as_whole (Ok n) = Ok (Whole n)
-as_whole (Err t) = Err t
+abbrev pub number_as_value : Result ℤ Unmade → Result Value Unmade
+number_as_value (Ok n) = Ok (Whole n)
+number_as_value (Err t) = Err t
 
 -- the answer of filing a notice
-abbrev pub filing_of : Filed → Result (Unit {0}) Unmade
-filing_of Done = Ok tt
-filing_of (filings.Fault kind) = Err (unmade.Fault kind)
-filing_of filings.Misfit = Err unmade.Misfit
-filing_of Wanting = Err unmade.Memory
+abbrev pub result_of_filing : Filed → Result (Unit {0}) Unmade
+result_of_filing Done = Ok tt
+result_of_filing (filings.Fault kind) = Err (unmade.Fault kind)
+result_of_filing filings.Misfit = Err unmade.Misfit
+result_of_filing Wanting = Err unmade.Memory
 
 -- a trouble as an answer that may also be out of memory
 abbrev pub lacking : Trouble → Unmade

@@ -10,7 +10,7 @@ ghost use Rattle.ss_records.specs.Classed.{HasClass};
 ghost use Rattle.ss_machine_entities.specs.Layouts.{kind_at};
 ghost use Rattle.ss_machine_world.specs.Seen.{with_seen};
 ghost use Rattle.ss_machine_events.specs.Scheduled.{Finds, put_there};
-ghost use Rattle.ss_machine_events.specs.Events.{Comes, Nears, passed_on, Begins, Lets, First, IsEventOf, AddsFound, IsPut, is_of, is_notice_kind};
+ghost use Rattle.ss_machine_events.specs.Events.{IsNextEvent, Nears, passed_on, Begins, Lets, First, IsEventOf, AddsFound, IsPut, is_of, is_notice_kind};
 
 use crate::scheduling::lacking;
 use ss_base::{ClassKind, Line, Value};
@@ -172,7 +172,7 @@ pub fn pass_event(scene: &mut Scene, class: usize, notice: EntityId) -> bool
 /// Takes out the event that comes next, and TIME.V is then its time. There is none, and nothing changes, where no
 /// notice is pending or the number that comes next is not a notice of these classes.
 pub fn next_event(scene: &mut Scene) -> Option<TakenEvent>
-    ensures { Comes scene.old scene.new result }
+    ensures { IsNextEvent scene.old scene.new result }
 {
     match scene.timeline.least() {
         None => None,

@@ -9,8 +9,8 @@ ghost use Rattle.ss_meaning.specs.Events.{time_at, not_past, endowed, prepared, 
 ghost use Rattle.ss_meaning.specs.Places.{assigned_attribute};
 ghost use Rattle.ss_meaning.specs.Values.{turned};
 ghost use Rattle.ss_machine_world.specs.AtOnce.{Does};
-ghost use Rattle.ss_machine_world.specs.Seen.{Looks, Notes, Makes, Grows, as_value};
-ghost use Rattle.ss_machine_events.specs.Scheduled.{Leads, Forms, Goes, Finds, AddsTie, IsTied, put_there, lacking, moment_of, time_after, filing_of, key_ranked, key_meant, as_whole, settled, HasNoTies, IsUntied, scheduled_known, scheduled_anew};
+ghost use Rattle.ss_machine_world.specs.Seen.{Looks, Notes, Makes, ChangesWithMemory, as_value};
+ghost use Rattle.ss_machine_events.specs.Scheduled.{ChangesInSteps, Forms, Goes, Finds, AddsTie, IsTied, put_there, lacking, moment_of, time_after, result_of_filing, key_ranked, key_meant, number_as_value, settled, HasNoTies, IsUntied, scheduled_known, scheduled_anew};
 
 use ss_base::{FaultKind, RankKey, Refused, Value, plus};
 use ss_events::Key;
@@ -36,7 +36,7 @@ pub(crate) enum Filed {
 // The answer of filing a notice, as one value.
 #[inline(always)]
 fn in_one(answer: Result<(), Unmade>) -> Filed
-    ensures { filing_of result ≡ answer }
+    ensures { result_of_filing result ≡ answer }
 {
     match answer {
         Ok(()) => Filed::Done,
@@ -60,7 +60,7 @@ fn is_done(filed: Filed) -> bool
 // The answer of filing a notice, as a result.
 #[inline(never)]
 fn filed_answer(filed: Filed) -> Result<(), Unmade>
-    ensures { result ≡ filing_of filed }
+    ensures { result ≡ result_of_filing filed }
 {
     match filed {
         Filed::Done => Ok(()),
@@ -73,7 +73,7 @@ fn filed_answer(filed: Filed) -> Result<(), Unmade>
 // The answer of filing a notice, as a result; only the usual case is in line.
 #[inline(always)]
 fn as_filed(filed: Filed) -> Result<(), Unmade>
-    ensures { result ≡ filing_of filed }
+    ensures { result ≡ result_of_filing filed }
 {
     if is_done(filed) {
         return Ok(());
@@ -231,7 +231,7 @@ fn give_any(
 // Assigns values to the attributes of a notice, from the first on.
 #[inline(always)]
 fn endow(scene: &mut Scene, class: usize, x: &Value, given: &[Value]) -> Result<(), Trouble>
-    ensures { Leads (endowed class 0 x.now given.now) scene.old scene.new result }
+    ensures { ChangesInSteps (endowed class 0 x.now given.now) scene.old scene.new result }
 {
     for field in 0..given.len() {
         give(scene, class, field, x, &given[field])?;
@@ -248,7 +248,7 @@ fn prepare(
     given: &[Value],
     time: i64,
 ) -> Result<(), Trouble>
-    ensures { Leads (prepared class x.now given.now time) scene.old scene.new result }
+    ensures { ChangesInSteps (prepared class x.now given.now time) scene.old scene.new result }
 {
     match endow(scene, class, x, given) {
         Ok(()) => scene.set_time(*x, time),
@@ -270,7 +270,7 @@ fn number_in(made: Made) -> Option<i64>
 // The number of what was made, or why there is none.
 #[inline(never)]
 fn made_apart(made: Made) -> Result<i64, Unmade>
-    ensures { as_whole result ≡ as_value made }
+    ensures { number_as_value result ≡ as_value made }
 {
     match made {
         Made::Number(number) => Ok(number),
@@ -283,7 +283,7 @@ fn made_apart(made: Made) -> Result<i64, Unmade>
 // The answer of making a notice, as a result; only the usual case is in line.
 #[inline(always)]
 fn as_made(made: Made) -> Result<i64, Unmade>
-    ensures { as_whole result ≡ as_value made }
+    ensures { number_as_value result ≡ as_value made }
 {
     match number_in(made) {
         Some(number) => Ok(number),
@@ -294,7 +294,7 @@ fn as_made(made: Made) -> Result<i64, Unmade>
 // The number of a new entity of a class, whose histories start.
 #[inline(always)]
 fn created(scene: &mut Scene, class: usize) -> Result<i64, Unmade>
-    ensures { Makes (made_one class) scene.old scene.new (as_whole result) }
+    ensures { Makes (made_one class) scene.old scene.new (number_as_value result) }
 {
     as_made(scene.create_apart(class))
 }
@@ -309,7 +309,7 @@ pub fn notice_number(
     given: &[Value],
     time: i64,
 ) -> Result<i64, Unmade>
-    ensures { Forms (made_notice class given.now time) scene.old scene.new (as_whole result) }
+    ensures { Forms (made_notice class given.now time) scene.old scene.new (number_as_value result) }
 {
     match created(scene, class) {
         Ok(number) => {
@@ -540,7 +540,7 @@ fn key_known(
 // A notice is filed under a key, by its number.
 #[inline(always)]
 fn schedule_known(scene: &mut Scene, key: Key, known: EntityId) -> Result<(), Unmade>
-    ensures { Grows (scheduled_known key known.number) scene.old scene.new result }
+    ensures { ChangesWithMemory (scheduled_known key known.number) scene.old scene.new result }
 {
     settled(scene.timeline.schedule(key, known.number))
 }
@@ -554,7 +554,7 @@ fn file_pending(
     notice: EntityId,
     time: i64,
 ) -> Result<(), Unmade>
-    ensures { Grows (filed_notice class (Whole notice.number) time) scene.old scene.new result }
+    ensures { ChangesWithMemory (filed_notice class (Whole notice.number) time) scene.old scene.new result }
 {
     match scene.find_by_number(class, notice) {
         Err(trouble) => Err(lacking(trouble)),
@@ -568,7 +568,7 @@ fn file_pending(
 // Files a notice out of line, with the answer as one value.
 #[inline(never)]
 fn file_apart(scene: &mut Scene, alloc: Global, class: usize, notice: EntityId, time: i64) -> Filed
-    ensures { Grows (filed_notice class (Whole notice.number) time) scene.old scene.new (filing_of result) }
+    ensures { ChangesWithMemory (filed_notice class (Whole notice.number) time) scene.old scene.new (result_of_filing result) }
 {
     in_one(file_pending(scene, alloc, class, notice, time))
 }
@@ -611,7 +611,7 @@ pub fn file_known(
     notice: EntityId,
     time: i64,
 ) -> Result<(), Unmade>
-    ensures { Grows (filed_notice class (Whole notice.number) time) scene.old scene.new result }
+    ensures { ChangesWithMemory (filed_notice class (Whole notice.number) time) scene.old scene.new result }
 {
     if file_at_once(scene, class, notice, time) {
         return Ok(());
@@ -628,7 +628,7 @@ fn file_any(
     x: &Value,
     time: i64,
 ) -> Result<(), Unmade>
-    ensures { Grows (filed_notice class x.now time) scene.old scene.new result }
+    ensures { ChangesWithMemory (filed_notice class x.now time) scene.old scene.new result }
 {
     match x {
         Value::Whole(number) => {
@@ -648,7 +648,7 @@ pub fn file_notice(
     x: Value,
     time: i64,
 ) -> Result<(), Unmade>
-    ensures { Grows (filed_notice class x time) scene.old scene.new result }
+    ensures { ChangesWithMemory (filed_notice class x time) scene.old scene.new result }
 {
     file_any(scene, alloc, class, &x, time)
 }

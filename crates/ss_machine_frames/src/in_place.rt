@@ -7,7 +7,7 @@ ghost use Rattle.ss_machine_frames.specs.InPlace.{Combined, Compared};
 
 use crate::numbers::{calculated, related};
 use crate::operands::Operands;
-use crate::taking::Number;
+use crate::taking::TakenNumber;
 use ss_base::Value;
 use ss_program::condition::Relation;
 use ss_program::expression::Operator;
@@ -55,11 +55,11 @@ impl Operands {
 
 // The number that an operator makes of two values, where both are numbers and there is no fault.
 #[inline(always)]
-fn number_made(operator: Operator, x: Value, y: Value) -> Option<Number>
+fn number_made(operator: Operator, x: Value, y: Value) -> Option<TakenNumber>
     ensures { IfSome result (λ n. calculated operator x y ≡ Ok (Whole n.value)) }
 {
     match calculated(operator, x, y) {
-        Ok(Value::Whole(value)) => Some(Number { value }),
+        Ok(Value::Whole(value)) => Some(TakenNumber { value }),
         Ok(Value::Text(_)) => None,
         Err(_) => None,
     }

@@ -1,7 +1,7 @@
 //! What is made of values.
 
 ghost use Rattle.std.specs.Prelude.{◌≡◌};
-ghost use Rattle.ss_meaning.specs.Values.{turned, due, made, calculated, operator_of, signed, distance, absolute, allows, related};
+ghost use Rattle.ss_meaning.specs.Values.{turned, due, computed, calculated, operator_of, signed, distance, absolute, allows, related};
 ghost use Rattle.ss_base.specs.declared.value.Value.TheVariants.{Whole};
 ghost use Rattle.ss_machine_entities.specs.Answered.{to_meaning};
 
@@ -13,8 +13,8 @@ use std::cmp::Ordering;
 
 // What an operator makes of two numbers.
 #[inline(always)]
-fn made(operator: Operator, x: i64, y: i64) -> Result<i64, FaultKind>
-    ensures { result ≡ made operator x y }
+fn computed(operator: Operator, x: i64, y: i64) -> Result<i64, FaultKind>
+    ensures { result ≡ computed operator x y }
 {
     match operator {
         Operator::Add => plus(x, y),
@@ -44,7 +44,7 @@ pub fn calculated(operator: Operator, x: Value, y: Value) -> Result<Value, Troub
     ensures { to_meaning result ≡ calculated operator x y }
 {
     match (x, y) {
-        (Value::Whole(x), Value::Whole(y)) => as_value(made(operator, x, y)),
+        (Value::Whole(x), Value::Whole(y)) => as_value(computed(operator, x, y)),
         (Value::Whole(_), Value::Text(_)) => Err(Trouble::Misfit),
         (Value::Text(_), Value::Whole(_)) => Err(Trouble::Misfit),
         (Value::Text(_), Value::Text(_)) => Err(Trouble::Misfit),

@@ -44,14 +44,14 @@ impl Operands {
 
     /// Takes a number off.
     #[inline(always)]
-    pub fn pop_number(&mut self) -> Option<Number>
+    pub fn pop_number(&mut self) -> Option<TakenNumber>
         ensures below { self.new.below ≡ self.old.below }
         ensures here { MatchOption result ((go : ℤ → List ValueSeen → Moved) → with_number self.old.here go ≡ Stuck) (λ number. (go : ℤ → List ValueSeen → Moved) → with_number self.old.here go ≡ go number.value self.new.here) }
     {
         match self.pop() {
             None => None,
             Some(Value::Text(_)) => None,
-            Some(Value::Whole(value)) => Some(Number { value }),
+            Some(Value::Whole(value)) => Some(TakenNumber { value }),
         }
     }
 
@@ -122,7 +122,7 @@ impl Operands {
 
 /// A number that was taken off.
 #[derive(Clone, Copy)]
-pub struct Number {
+pub struct TakenNumber {
     pub value: i64,
 }
 

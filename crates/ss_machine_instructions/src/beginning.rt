@@ -2,7 +2,7 @@
 
 ghost use Rattle.std.specs.Prelude.{◌≡◌, ◌+◌, ◌<◌, ◌^◌, ℕ, List, IfOk};
 ghost use Rattle.ss_base.specs.declared.layout.RankKey.{RankKey as KeySeen};
-ghost use Rattle.ss_meaning.specs.Events.{begun};
+ghost use Rattle.ss_meaning.specs.Events.{event_begun};
 ghost use Rattle.ss_code_instructions.specs.Machine.{act};
 ghost use Rattle.ss_machine_events.specs.Events.{coming_meant};
 ghost use Rattle.ss_machine_instructions.specs.Effects.{Rests};
@@ -36,7 +36,7 @@ fn save(working: &mut Working, event: TakenEvent, fate: Fate) -> Result<(), Trou
 // An event that was taken out begins: the values for its routine are there, and its notice is saved or gone.
 fn begin_event(working: &mut Working, event: TakenEvent) -> Result<Result<(), Trouble>, AllocError>
     ensures rests { IfOk result (λ answer. Rests working.old working.new) }
-    ensures store { IfOk result (λ answer. (ties : List KeySeen) (input : List ℕ) → BeganAs answer event.rank working.new.given.items (begun (coming_meant event ties (store_of working.old input))) (store_of working.new input)) }
+    ensures store { IfOk result (λ answer. (ties : List KeySeen) (input : List ℕ) → BeganAs answer event.rank working.new.given.items (event_begun (coming_meant event ties (store_of working.old input))) (store_of working.new input)) }
 {
     match coming::begin_event(&mut working.scene, event, &mut working.given) {
         Err(Unmade::Memory) => Err(AllocError),

@@ -5,7 +5,7 @@ ghost use Rattle.ss_base.specs.declared.value.Value.TheVariants.{Whole};
 ghost use Rattle.ss_meaning.specs.Expressions.{unless};
 ghost use Rattle.ss_meaning.specs.Sets.{is_none};
 ghost use Rattle.ss_code_instructions.specs.Machine.{backwards};
-ghost use Rattle.ss_code_instructions.specs.States.{To, onward, past, core_of as core_with};
+ghost use Rattle.ss_code_instructions.specs.States.{To, onward, past, core_with};
 ghost use Rattle.ss_machine_entities.specs.declared.trouble.Unmade.TheVariants.{Memory};
 ghost use Rattle.ss_machine_instructions.specs.Holding.{frames_of, store_of, core_of, IsOutcome};
 ghost use Rattle.ss_machine_instructions.specs.Effects.{Follows, Settles, Gathers, unmade_of};

@@ -9,7 +9,7 @@ use crate::filing::pop_filing;
 use crate::working::{InstructionOutcome, Working};
 use ss_base::{Line, Value};
 use ss_code_instructions::instruction::{Filing, Instruction};
-use ss_program::statement::{Counted, End};
+use ss_program::statement::{CountedClass, End};
 use std::alloc::AllocError;
 
 /// Puts the number of a new entity on top.
@@ -31,7 +31,7 @@ pub fn create(
 #[inline(always)]
 pub fn create_all(
     working: &mut Working,
-    counted: Counted,
+    counted: CountedClass,
     line: Line,
 ) -> Result<InstructionOutcome, AllocError>
     requires { working.old.place + 1 < 2 ^ 64 }

@@ -8,25 +8,25 @@ ghost use Rattle.ss_code_instructions.specs.States.{Moved, Stuck, with_filing};
 
 use ss_code_instructions::instruction::Filing;
 use ss_machine_frames::operands::Operands;
-use ss_machine_world::filing::Filing as FilingAt;
+use ss_machine_world::filing::FilingPlace;
 
 /// Takes the member beside which another one is filed off, where there is one.
 #[inline(always)]
-pub fn pop_filing(operands: &mut Operands, filing: Filing) -> Option<FilingAt>
+pub fn pop_filing(operands: &mut Operands, filing: Filing) -> Option<FilingPlace>
     ensures below { operands.new.below ≡ operands.old.below }
     ensures here { MatchOption result ((go : FilingMeant → List ValueSeen → Moved) → with_filing filing operands.old.here go ≡ Stuck) (λ at. (go : FilingMeant → List ValueSeen → Moved) → with_filing filing operands.old.here go ≡ go (filing_meant at) operands.new.here) }
 {
     match filing {
-        Filing::ByDiscipline => Some(FilingAt::ByDiscipline),
-        Filing::First => Some(FilingAt::First),
-        Filing::Last => Some(FilingAt::Last),
+        Filing::ByDiscipline => Some(FilingPlace::ByDiscipline),
+        Filing::First => Some(FilingPlace::First),
+        Filing::Last => Some(FilingPlace::Last),
         Filing::Before => match operands.pop() {
             None => None,
-            Some(member) => Some(FilingAt::Before(member)),
+            Some(member) => Some(FilingPlace::Before(member)),
         },
         Filing::After => match operands.pop() {
             None => None,
-            Some(member) => Some(FilingAt::After(member)),
+            Some(member) => Some(FilingPlace::After(member)),
         },
     }
 }

@@ -2,7 +2,7 @@
 
 ghost use Rattle.std.specs.Prelude.{◌≡◌, ◌+◌, ◌<◌, ◌^◌, IfOk, Some, None, ℕ, List};
 ghost use Rattle.ss_meaning.specs.Store.{fetched};
-ghost use Rattle.ss_code_instructions.specs.States.{To, past, core_of as core_with};
+ghost use Rattle.ss_code_instructions.specs.States.{To, past, core_with};
 ghost use Rattle.ss_code_instructions.specs.Machine.{Code as CodeSeen, act};
 ghost use Rattle.ss_machine_instructions.specs.Holding.{store_of, frames_of, core_of, IsOutcome};
 

@@ -7,8 +7,8 @@ use Rattle.std.proofs.lemmas.Option.{slice_get_past}
 use Rattle.ss_meaning.specs.Laws.{NeverWrong}
 use Rattle.ss_code_instructions.specs.declared.instruction.Instruction.{Instruction}
 use Rattle.ss_code_instructions.specs.declared.instruction.Instruction.TheVariants.{Leave}
-use Rattle.ss_code_instructions.specs.States.{State}
-use Rattle.ss_code_instructions.specs.Machine.{Code, Stepped as Stepping, Goes, Over, NoStep, step_at, step}
+use Rattle.ss_code_instructions.specs.States.{MachineState}
+use Rattle.ss_code_instructions.specs.Machine.{Code, Stepped, Goes, Over, NoStep, step_at, step}
 use Rattle.ss_code_instructions.specs.Running.{Underway, Behaves, Lands, start, steps}
 use Rattle.ss_code_instructions.specs.Translation.{block_code, routines_code, events_code}
 use Rattle.ss_code_instructions.specs.Laws.{CodeBehaves, JumpsLand, NeverStuck, StepsGoOn}
@@ -32,26 +32,26 @@ module _ (laws : JumpsLand) (code : Code) (good : IsCode code) where
   landed P prop go = ∥∥₁_elim good prop (λ g. go (subst (λ k. Lands k) (sym g.2) (laws g.0)))
 
   -- each step leaves less to do
-  pub good_falls : (s x : State) → step code s ≡ Goes x → left_to_do code x < left_to_do code s
+  pub good_falls : (s x : MachineState) → step code s ≡ Goes x → left_to_do code x < left_to_do code s
   good_falls s x e = landed (left_to_do code x < left_to_do code s) (hlevel props) (λ lands. step_falls code lands s x e)
 
   -- a step, which may take a tick
-  pub good_more : (s t : State) → step code s ≡ Goes t → (due : Bool) → s.ticks ≡ with_tick due t.ticks → (used made : ℕ) → HasLeft code s.core.place s.core.frames used made → HasLeft code t.core.place t.core.frames (used + tick due) (made + 1)
+  pub good_more : (s t : MachineState) → step code s ≡ Goes t → (due : Bool) → s.ticks ≡ with_tick due t.ticks → (used made : ℕ) → HasLeft code s.core.place s.core.frames used made → HasLeft code t.core.place t.core.frames (used + tick due) (made + 1)
   good_more s t e due same used made h =
       landed (HasLeft code t.core.place t.core.frames (used + tick due) (made + 1)) (hlevel props) (λ lands. left_more code lands s t e due same used made h)
 
   -- many steps
-  pub good_many : (n : ℕ) (s t : State) → steps code n s ≡ Underway t → left_to_do code t + n ≤ left_to_do code s
+  pub good_many : (n : ℕ) (s t : MachineState) → steps code n s ≡ Underway t → left_to_do code t + n ≤ left_to_do code s
   good_many n s t e = landed (left_to_do code t + n ≤ left_to_do code s) (hlevel props) (λ lands. many_fall code lands n s t e)
 
 -- ## A run of good code is never stuck
 
 module _ (stuck : NeverStuck) (behaves : CodeBehaves) (wrong : NeverWrong) (on : StepsGoOn) (code : Code) (good : IsCode code) (small : length code.instructions < 2 ^ 63) where
-  never_at : (input : List ℕ) (n m : ℕ) (s : State) → steps code m (start code input n) ≡ Underway s → step code s ≡ NoStep → ⊥
+  never_at : (input : List ℕ) (n m : ℕ) (s : MachineState) → steps code m (start code input n) ≡ Underway s → step code s ≡ NoStep → ⊥
   never_at input n m s came q =
       ∥∥₁_elim good (hlevel props) (λ g. stuck g.0 code (subst (λ k. Behaves g.0 k) (sym g.2) (behaves g.0)) input n m s (wrong g.0 g.1 input n) came q)
 
-  by_step : (input : List ℕ) (n m : ℕ) (s : State) → steps code m (start code input n) ≡ Underway s → (x : Stepping) → step code s ≡ x → IsLostAt x → ⊥
+  by_step : (input : List ℕ) (n m : ℕ) (s : MachineState) → steps code m (start code input n) ≡ Underway s → (x : Stepped) → step code s ≡ x → IsLostAt x → ⊥
   by_step input n m s came (Goes t) q lost =
       let past : length code.instructions ≤ t.core.place = omega (arith, small, lost) in
       never_at input n (m + 1) t (step_more on code m (start code input n) s t came q) (ap (λ o. step_at o code t) (slice_get_past code.instructions t.core.place past))
@@ -59,5 +59,5 @@ module _ (stuck : NeverStuck) (behaves : CodeBehaves) (wrong : NeverWrong) (on :
   by_step input n m s came NoStep q lost = never_at input n m s came q
 
   -- no run reaches a state where nothing leads on
-  pub lost_never : (input : List ℕ) (n m : ℕ) (s : State) → steps code m (start code input n) ≡ Underway s → IsLostAt (step code s) → ⊥
+  pub lost_never : (input : List ℕ) (n m : ℕ) (s : MachineState) → steps code m (start code input n) ≡ Underway s → IsLostAt (step code s) → ⊥
   lost_never input n m s came lost = by_step input n m s came (step code s) refl lost

@@ -11,7 +11,7 @@ ghost use Rattle.ss_picture.specs.declared.field.Field.{Field as FieldSeen};
 ghost use Rattle.ss_machine_steps.specs.Sent.{TookPart, lines_result};
 
 use ss_base::{FaultyWrite, Value};
-use ss_picture::{Field, Item, Picture, Sink, SinkError};
+use ss_picture::{Field, FieldValue, Picture, Sink, SinkError};
 
 /// Why printing stopped.
 #[derive(Clone, Copy)]
@@ -26,7 +26,7 @@ pub enum Unprinted {
 fn print_line<W: FaultyWrite>(
     line: &mut Vec<u8>,
     picture: &Picture,
-    items: &[Item],
+    items: &[FieldValue],
     sink: &mut Sink<W>,
 ) -> Result<(), Unprinted>
     requires fields { length items.now ≤ field_count picture.now }
@@ -50,7 +50,7 @@ fn print_line<W: FaultyWrite>(
 pub(crate) fn print_lines<W: FaultyWrite>(
     line: &mut Vec<u8>,
     pictures: &[Picture],
-    items: &[Item],
+    items: &[FieldValue],
     sink: &mut Sink<W>,
 ) -> Result<(), Unprinted>
     requires suited { EachSuits (flat_map picture_fields pictures.now) items.now }
@@ -71,7 +71,7 @@ pub(crate) fn print_lines<W: FaultyWrite>(
 
 /// How many empty lines a SKIP writes.
 #[derive(Clone, Copy)]
-pub enum Lines {
+pub enum SkipCount {
     /// So many.
     Good(usize),
     /// The count is below 0 or too great.
@@ -81,33 +81,33 @@ pub enum Lines {
 }
 
 // How many empty lines a SKIP writes, by the value that is its count.
-pub(crate) fn empty_count(count: Value) -> Lines
+pub(crate) fn empty_count(count: Value) -> SkipCount
     ensures { empty_lines count ≡ lines_result result }
 {
     match count {
-        Value::Text(_) => Lines::Unfit,
+        Value::Text(_) => SkipCount::Unfit,
         Value::Whole(number) => {
             if 0 <= number && number <= 1000 {
-                Lines::Good(number as usize)
+                SkipCount::Good(number as usize)
             } else {
-                Lines::Bad
+                SkipCount::Bad
             }
         }
     }
 }
 
 // Whether a field takes an item.
-fn takes(field: Field, item: &Item) -> bool
+fn takes(field: Field, item: &FieldValue) -> bool
     ensures { result ≡ takes field item.now }
 {
     match item {
-        Item::Is(_) => field.decimals == 0,
-        Item::Mean(_, _) => field.decimals <= 9,
+        FieldValue::Is(_) => field.decimals == 0,
+        FieldValue::Mean(_, _) => field.decimals <= 9,
     }
 }
 
 // The items after those that these fields take; None where there are fewer, or one does not take its own.
-fn items_after<'a>(fields: &[Field], items: &'a [Item]) -> Option<&'a [Item]>
+fn items_after<'a>(fields: &[Field], items: &'a [FieldValue]) -> Option<&'a [FieldValue]>
     ensures { (more : List FieldSeen) → MatchOption result (take_all (fields.now ++ more) items.now ≡ false) (λ rest. take_all (fields.now ++ more) items.now ≡ take_all more rest.now) }
 {
     let mut rest = items;
@@ -126,7 +126,7 @@ fn items_after<'a>(fields: &[Field], items: &'a [Item]) -> Option<&'a [Item]>
 }
 
 // Whether the fields of pictures take these items, each its own.
-pub(crate) fn take_all(pictures: &[Picture], items: &[Item]) -> bool
+pub(crate) fn take_all(pictures: &[Picture], items: &[FieldValue]) -> bool
     ensures { result ≡ take_all (flat_map picture_fields pictures.now) items.now }
 {
     let mut rest = items;

@@ -2,7 +2,7 @@
 
 ghost use Rattle.std.specs.Prelude.{◌≡◌, Some, None, drop, IfSome, OnOk, IsErrOf};
 ghost use Rattle.std.specs.List.{AllByRecursion};
-ghost use Rattle.ss_code_instructions.specs.Machine.{mean_item, shown};
+ghost use Rattle.ss_code_instructions.specs.Machine.{mean_item, values_shown};
 ghost use Rattle.ss_meaning.specs.Statistics.{mean};
 ghost use Rattle.ss_meaning.specs.Store.{Store};
 ghost use Rattle.ss_machine_world.specs.Seen.{with_seen};
@@ -11,7 +11,7 @@ ghost use Rattle.ss_machine_steps.specs.Shown.{IsPrintable, item_of, taken_by};
 use ss_base::Value;
 use ss_code_instructions::item::ItemKind;
 use ss_machine_world::scene::Scene;
-use ss_picture::Item;
+use ss_picture::FieldValue;
 use std::alloc::Global;
 
 /// What printing uses again and again, so that it takes no memory once it has some: the line that is filled, and the items
@@ -19,7 +19,7 @@ use std::alloc::Global;
 #[derive(Drop)]
 pub struct Buffers {
     pub(crate) line: Vec<u8>,
-    pub(crate) items: Vec<Item>,
+    pub(crate) items: Vec<FieldValue>,
 }
 
 impl Buffers {
@@ -42,19 +42,19 @@ pub enum Unshown {
 }
 
 // A mean as an item. It was looked at before, so that there is one.
-fn mean_item(scene: &mut Scene, statistic: usize, whose: Option<Value>) -> Option<Item>
+fn mean_item(scene: &mut Scene, statistic: usize, whose: Option<Value>) -> Option<FieldValue>
     ensures value { (s : Store) → mean_item (mean statistic whose (with_seen s scene.old)) ≡ result }
     ensures printable { IfSome result IsPrintable }
     ensures same { scene.new ≡ scene.old }
 {
     match scene.mean(statistic, whose) {
-        Ok((sum, number)) => Some(Item::Mean(sum, number)),
+        Ok((sum, number)) => Some(FieldValue::Mean(sum, number)),
         Err(_) => None,
     }
 }
 
 // The item of a kind, with the first of these values where it takes one.
-fn item_of(kind: ItemKind, values: &[Value], scene: &mut Scene) -> Option<Item>
+fn item_of(kind: ItemKind, values: &[Value], scene: &mut Scene) -> Option<FieldValue>
     ensures value { (s : Store) → item_of kind values.now (with_seen s scene.old) ≡ result }
     ensures printable { IfSome result IsPrintable }
     ensures same { scene.new ≡ scene.old }
@@ -63,7 +63,7 @@ fn item_of(kind: ItemKind, values: &[Value], scene: &mut Scene) -> Option<Item>
         ItemKind::Mean { statistic } => mean_item(scene, statistic, None),
         ItemKind::Value => match values {
             [] => None,
-            [value, ..] => Some(Item::Is(*value)),
+            [value, ..] => Some(FieldValue::Is(*value)),
         },
         ItemKind::MeanOf { statistic } => match values {
             [] => None,
@@ -93,14 +93,14 @@ fn values_after(kind: ItemKind, values: &[Value]) -> &[Value]
 
 /// Fills a buffer, whatever it holds, with the items of these kinds, which take these values in turn.
 pub(crate) fn show(
-    items: &mut Vec<Item>,
+    items: &mut Vec<FieldValue>,
     kinds: &[ItemKind],
     values: &[Value],
     scene: &mut Scene,
 ) -> Result<(), Unshown>
-    ensures shown { OnOk result ((s : Store) → shown kinds.now values.now (with_seen s scene.old) ≡ Some items.new.items) }
+    ensures values_shown { OnOk result ((s : Store) → values_shown kinds.now values.now (with_seen s scene.old) ≡ Some items.new.items) }
     ensures printable { OnOk result (AllByRecursion IsPrintable items.new.items) }
-    ensures missing { IsErrOf result Unshown.Missing → (s : Store) → shown kinds.now values.now (with_seen s scene.old) ≡ None }
+    ensures missing { IsErrOf result Unshown.Missing → (s : Store) → values_shown kinds.now values.now (with_seen s scene.old) ≡ None }
     ensures same { scene.new ≡ scene.old }
 {
     items.clear();

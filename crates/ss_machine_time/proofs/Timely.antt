@@ -15,7 +15,7 @@ use Rattle.ss_base.specs.declared.fault.FaultKind.{FaultKind}
 use Rattle.ss_base.specs.declared.fault.FaultKind.TheVariants.{NotScheduled}
 use Rattle.ss_world.specs.PendingNotice.{PendingNotice}
 use Rattle.ss_world.specs.Order.{comes_before, tie_order}
-use Rattle.ss_world.specs.PendingList.{PendingList, is_pending, earlier, least, next, after_next, without, cancelled}
+use Rattle.ss_world.specs.PendingList.{PendingList, is_pending, earlier, least, next, after_next, without_notice, cancelled}
 use Rattle.ss_machine_time.specs.Times.{IsAhead, IsTimely}
 
 -- ## The entry that comes out first has the least time
@@ -80,9 +80,9 @@ module _ (t latest : ℤ) where
   pub timely_cancelled : (n : ℤ) (p q : PendingList) (r : OkOr (Unit {0}) FaultKind) → OnOk r (cancelled n p ≡ Ok q) → OnErr r (q ≡ p) → IsTimely t latest p.entries → IsTimely t latest q.entries
   timely_cancelled n p q (Ok u) e same h = by (is_pending n p.entries) e
     where
-      by : (b : Bool) → (if b then Ok (record p { entries = without n p.entries }) else Err NotScheduled) ≡ Ok q → IsTimely t latest q.entries
+      by : (b : Bool) → (if b then Ok (record p { entries = without_notice n p.entries }) else Err NotScheduled) ≡ Ok q → IsTimely t latest q.entries
       by true e =
-          let less : record p { entries = without n p.entries } ≡ q = cc in
+          let less : record p { entries = without_notice n p.entries } ≡ q = cc in
           subst (λ (q : PendingList). IsTimely t latest q.entries) less (h.0, h.1, All-filter (λ (e : PendingNotice). not (int_eq n e.notice)) (IsAhead t) p.entries h.2)
       by false e = absurd cc
   timely_cancelled n p q (Err k) e same h = subst (λ (q : PendingList). IsTimely t latest q.entries) (sym same) h
@@ -91,11 +91,11 @@ module _ (t latest : ℤ) where
   pub timely_passed : (p : PendingList) (n : ℤ × ℤ) → next p ≡ Some n → IsTimely t latest p.entries → IsTimely n.0 latest (after_next p).entries
   timely_passed p n e h = by p.entries e h
     where
-      by : (es : List PendingNotice) → option_map (λ (x : PendingNotice). (x.key.time, x.notice)) (least es) ≡ Some n → IsTimely t latest es → IsTimely n.0 latest (option_map_or (λ (x : PendingNotice). without x.notice es) (least es) [])
+      by : (es : List PendingNotice) → option_map (λ (x : PendingNotice). (x.key.time, x.notice)) (least es) ≡ Some n → IsTimely t latest es → IsTimely n.0 latest (option_map_or (λ (x : PendingNotice). without_notice x.notice es) (least es) [])
       by [] e h = absurd cc
       by (x ∷ xs) e h =
           let first : PendingNotice = fold earlier x xs in
           let time : first.key.time ≡ n.0 = cc in
           let old : t ≤ℤ first.key.time = fold_ahead t x xs (All-head (IsAhead t) x xs h.2) (All-tail (IsAhead t) x xs h.2) in
-          subst (λ (u : ℤ). IsTimely u latest (without first.notice (x ∷ xs))) time
+          subst (λ (u : ℤ). IsTimely u latest (without_notice first.notice (x ∷ xs))) time
           (later (pos 0) t first.key.time h.0 old, later latest t first.key.time h.1 old, All-filter (λ (e : PendingNotice). not (int_eq first.notice e.notice)) (IsAhead first.key.time) (x ∷ xs) (fold_first x xs))

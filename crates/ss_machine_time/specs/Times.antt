@@ -38,9 +38,9 @@ abbrev pub IsAt : (old new : Times) → Type 0
 IsAt old new = (new.time ≡ old.time) × (new.pending ≡ old.pending) × (new.histories.statistics ≡ old.histories.statistics)
 
 -- time and notices once that which comes next was taken out
-abbrev pub passed_by : Option (ℤ × ℤ) → Times → Times
-passed_by None t = record t { pending = after_next t.pending }
-passed_by (Some n) t = record t { time = n.0; pending = after_next t.pending }
+abbrev pub event_taken_out : Option (ℤ × ℤ) → Times → Times
+event_taken_out None t = record t { pending = after_next t.pending }
+event_taken_out (Some n) t = record t { time = n.0; pending = after_next t.pending }
 
 -- the list after a notice is scheduled under a key, whose time is not past, or the fault
 abbrev pub placed : SortKey → (notice : ℤ) → Times → Result PendingList FaultKind

@@ -8,14 +8,14 @@ ghost use Rattle.ss_base.specs.declared.layout.Layout.{Layout as TheLayout};
 ghost use Rattle.ss_base.specs.declared.layout.Owner.TheVariants.{System, Class};
 ghost use Rattle.ss_world.specs.PendingList.{none_pending, is_pending, cancelled, next};
 ghost use Rattle.ss_stats_histories.specs.Places.{is_about};
-ghost use Rattle.ss_stats_histories.specs.Records.{HasRooms, IsOnly, OwnsNone, Spares, Takes, is_up_to, renewed_where, figured, mean_in, columns_of};
+ghost use Rattle.ss_stats_histories.specs.Records.{HasRooms, IsOnly, OwnsNone, HasNoHistories, Takes, is_up_to, renewed_where, figured, mean_in, columns_of};
 ghost use Rattle.ss_stats_histories.specs.Histories.{no_histories, starting, ending, all_noting, history_of_subject, folded, renewed};
 ghost use Rattle.ss_stats_histories.specs.Values.{if_ok, sure};
 ghost use Rattle.ss_picture.specs.Suited.{IsMean};
 ghost use Rattle.ss_program.specs.declared.sections.Subject.TheVariants.{OfVariable, OfAttribute, OfCount};
 ghost use Rattle.ss_base.specs.declared.value.Value.TheVariants.{Whole};
 ghost use Rattle.ss_machine_time.specs.Figures.{subject_in};
-ghost use Rattle.ss_machine_time.specs.Times.{IsAt, Schedules, Noted, columns, passed_by};
+ghost use Rattle.ss_machine_time.specs.Times.{IsAt, Schedules, Noted, columns, event_taken_out};
 
 use ss_base::{FaultKind, Layout, Owner, Refused, Value};
 use ss_events::{Key, Pending};
@@ -85,7 +85,7 @@ impl Timeline {
 
     /// Takes out the notice that comes next, and TIME.V is its time.
     pub fn pass(&mut self)
-        ensures { self.new ≡ passed_by (next self.old.pending) self.old }
+        ensures { self.new ≡ event_taken_out (next self.old.pending) self.old }
     {
         match self.pending.take() {
             Some((time, _)) => {
@@ -240,7 +240,7 @@ impl Timeline {
     /// the class owns a set.
     #[inline(always)]
     pub fn bears(&self, owns: bool) -> bool
-        ensures { result ≡ false → (l : TheLayout) (class : ℕ) → (owns ≡ false → OwnsNone l class) → Spares l class self.now.histories }
+        ensures { result ≡ false → (l : TheLayout) (class : ℕ) → (owns ≡ false → OwnsNone l class) → HasNoHistories l class self.now.histories }
     {
         owns || !self.histories.spares_setless()
     }

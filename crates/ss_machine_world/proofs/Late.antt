@@ -11,7 +11,7 @@ use Rattle.ss_machine_entities.specs.declared.trouble.Trouble.{Trouble}
 use Rattle.ss_machine_entities.specs.Answered.{meant}
 use Rattle.ss_machine_entities.specs.Layouts.{set_in}
 use Rattle.ss_machine_world.specs.Seen.{Seen, with_seen}
-use Rattle.ss_machine_world.specs.Filed.{with_owner, IsEarliest}
+use Rattle.ss_machine_world.specs.Filed.{with_owner_number, IsEarliest}
 use Rattle.ss_machine_world.proofs.Asking.{owned_there}
 
 pub if_ok_ok : {A B : Type 0} (r : OkOr A Meant) (f : A → OkOr B Meant) (b : B) → if_ok r f ≡ Ok b → (a : A) × (r ≡ Ok a) × (f a ≡ Ok b)
@@ -32,15 +32,15 @@ module _ {B : Type 0} (n : ℤ) (rest : ℤ → OkOr B Meant) where
 -- ## What is done with a member and an owner
 
 module _ {B : Type 0} (set : ℕ) (x : Value) (o : Option Value) (e : Seen) (n : ℤ) (found : number_of x ≡ Ok n) (go : (member owner : ℤ) → Store → OkOr B Meant) where
-  pub late_fine : ((m : ℤ) (s : Store) (a : B) → go n m (with_seen s e) ≡ Ok a → (i : ℕ) × (joiner e.heap set n ≡ Ok i)) → (s : Store) (a : B) → with_owner set o (go n) (with_seen s e) ≡ Ok a → if_ok (member set x (with_seen s e)) (λ k. with_owner set o (go k) (with_seen s e)) ≡ Ok a
+  pub late_fine : ((m : ℤ) (s : Store) (a : B) → go n m (with_seen s e) ≡ Ok a → (i : ℕ) × (joiner e.heap set n ≡ Ok i)) → (s : Store) (a : B) → with_owner_number set o (go n) (with_seen s e) ≡ Ok a → if_ok (member set x (with_seen s e)) (λ k. with_owner_number set o (go k) (with_seen s e)) ≡ Ok a
   late_fine joins s a h =
       let m = if_ok_ok (owner_number set o (with_seen s e)) (λ m. go n m (with_seen s e)) a h in
       let i = joins m.0 s a m.2 in
-      ap (λ v. if_ok (if_ok v (λ k. where_fit (is_some (set_in e.heap.layout set)) (turned (λ _. k) (due (joiner e.heap set k))))) (λ k. with_owner set o (go k) (with_seen s e))) found
-      ∙ look_fine n (λ k. with_owner set o (go k) (with_seen s e)) (is_some (set_in e.heap.layout set)) (joiner e.heap set n) i.0 (owned_there (set_in e.heap.layout set) o m.0 m.1) i.1
+      ap (λ v. if_ok (if_ok v (λ k. where_fit (is_some (set_in e.heap.layout set)) (turned (λ _. k) (due (joiner e.heap set k))))) (λ k. with_owner_number set o (go k) (with_seen s e))) found
+      ∙ look_fine n (λ k. with_owner_number set o (go k) (with_seen s e)) (is_some (set_in e.heap.layout set)) (joiner e.heap set n) i.0 (owned_there (set_in e.heap.layout set) o m.0 m.1) i.1
       ∙ h
 
-  pub late_trouble : (s : Store) (later first : Trouble) → with_owner set o (go n) (with_seen s e) ≡ (let r : OkOr B Meant = Err (meant later) in r) → IsEarliest e.heap set n later first → if_ok (member set x (with_seen s e)) (λ k. with_owner set o (go k) (with_seen s e)) ≡ (let r : OkOr B Meant = Err (meant first) in r)
+  pub late_trouble : (s : Store) (later first : Trouble) → with_owner_number set o (go n) (with_seen s e) ≡ (let r : OkOr B Meant = Err (meant later) in r) → IsEarliest e.heap set n later first → if_ok (member set x (with_seen s e)) (λ k. with_owner_number set o (go k) (with_seen s e)) ≡ (let r : OkOr B Meant = Err (meant first) in r)
   late_trouble s later first h d =
-      ap (λ v. if_ok (if_ok v (λ k. where_fit (is_some (set_in e.heap.layout set)) (turned (λ _. k) (due (joiner e.heap set k))))) (λ k. with_owner set o (go k) (with_seen s e))) found
-      ∙ look_first n (λ k. with_owner set o (go k) (with_seen s e)) (is_some (set_in e.heap.layout set)) (joiner e.heap set n) (meant later) (meant first) h d
+      ap (λ v. if_ok (if_ok v (λ k. where_fit (is_some (set_in e.heap.layout set)) (turned (λ _. k) (due (joiner e.heap set k))))) (λ k. with_owner_number set o (go k) (with_seen s e))) found
+      ∙ look_first n (λ k. with_owner_number set o (go k) (with_seen s e)) (is_some (set_in e.heap.layout set)) (joiner e.heap set n) (meant later) (meant first) h d

@@ -9,7 +9,7 @@ use Rattle.ss_program.specs.declared.sections.Subject.{Subject}
 use Rattle.ss_program.specs.declared.sections.Subject.TheVariants.{OfAttribute, OfCount}
 use Rattle.ss_program.specs.declared.sections.Statistic.{Statistic}
 use Rattle.ss_machine_time.specs.Records.{columns_of}
-use Rattle.ss_stats.specs.History.{History, is_full, with_value}
+use Rattle.ss_stats.specs.History.{History, is_full, with_noted_value}
 use Rattle.ss_meaning.specs.Values.{Trouble as Meant, Fails, if_ok, turned, due, unless_fault}
 use Rattle.ss_meaning.specs.Places.{is_of_mode, assigned_attribute}
 use Rattle.ss_meaning.specs.Store.{Column, Store, with_heap, with_histories}
@@ -35,7 +35,7 @@ module _ (k : FaultKind) where
 
   noting_full : (x now : ℤ) (v : Value) (o : Option History) (c : Column) → Full (noting_in x now v o c)
   noting_full x now v None c e = absurd cc
-  noting_full x now (Whole z) (Some h) c e = full_in (is_full h) (with_history x (with_value h now z) c) e
+  noting_full x now (Whole z) (Some h) c e = full_in (is_full h) (with_history x (with_noted_value h now z) c) e
   noting_full x now (Text t) (Some h) c e = absurd cc
 
   all_full : (subject : Subject) (x now : ℤ) (v : Value) (ss : List Statistic) (cs : List Column) → Full (all_noting subject x now v ss cs)

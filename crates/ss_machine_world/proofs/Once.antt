@@ -96,7 +96,7 @@ module _ (e : Seen) (class field : ℕ) (n : ℤ) where
   -- a look at the value is one at the entity
   pub value_once : (s : Store) → is_some (mode_of_field e.heap.layout class field) ≡ true → attribute class field (Whole n) (with_seen s e) ≡ due (S.value_in e.heap class field n)
   value_once s fits =
-      one_look n (λ k. where_fit (is_some (mode_of_field e.heap.layout class field)) (due (S.value_in e.heap class field k))) there (S.entity e.heap class n)
+      one_look n (λ k. where_fit (is_some (mode_of_field e.heap.layout class field)) (due (S.value_in e.heap class field k))) there (S.entity_in e.heap class n)
       (field_there (slice_get e.heap.layout.classes class) field fits)
       (λ k no. at n ∙ ap (λ (q : OkOr S.Record FaultKind). due (S.and_then q (λ r. Ok (slice_index_or r.values field (Whole (pos 0)))))) no)
       ∙ at n
@@ -107,7 +107,7 @@ module _ (e : Seen) (class field : ℕ) (n : ℤ) where
   -- so is an assignment
   pub set_once : (v : Value) (s : Store) → is_of_mode v (mode_of_field e.heap.layout class field) ≡ true → assigned_attribute class field (Whole n) v (with_seen s e) ≡ if_ok (due (S.assigned e.heap class field n v)) (λ h. noted (OfAttribute class field) n v (with_heap (with_seen s e) h))
   set_once v s fits =
-      one_look n (λ k. where_fit (is_of_mode v (mode_of_field e.heap.layout class field)) (go k)) there (S.entity e.heap class n)
+      one_look n (λ k. where_fit (is_of_mode v (mode_of_field e.heap.layout class field)) (go k)) there (S.entity_in e.heap class n)
       (field_there (slice_get e.heap.layout.classes class) field (mode_there v (mode_of_field e.heap.layout class field) fits))
       (λ k no. at n ∙ ap (λ (q : OkOr S.Record FaultKind). if_ok (due (S.and_then q (λ r. Ok (S.with_entity e.heap class (S.number_in n) (S.with_value r field v))))) (λ h. noted (OfAttribute class field) n v (with_heap (with_seen s e) h))) no)
       ∙ at n
@@ -124,7 +124,7 @@ module _ (e : Seen) (class : ℕ) (n : ℤ) where
   -- an entity that may go, and is not pending
   pub gone_once : (s : Store) → is_pending n e.pending.entries ≡ false → is_single (class_in e.heap.layout class) ≡ true → without class (Whole n) (with_seen s e) ≡ gone class (Whole n) (with_seen s e)
   gone_once s free single =
-      one_look n rest (is_some (class_in e.heap.layout class)) (S.entity e.heap class n) (single_there (class_in e.heap.layout class) single)
+      one_look n rest (is_some (class_in e.heap.layout class)) (S.entity_in e.heap class n) (single_there (class_in e.heap.layout class) single)
       (λ k no. at ∙ ap (λ b. where_fit b (turned (with_none class n (with_seen s e)) (due (S.destroyed e.heap class n)))) single
       ∙ ap (λ (q : OkOr S.Record FaultKind). turned (with_none class n (with_seen s e)) (due (S.and_then q (λ r. S.let_go e.heap class (S.number_in n))))) no)
       ∙ at

@@ -13,8 +13,8 @@ use Rattle.ss_meaning.specs.Histories.{noted}
 use Rattle.ss_meaning.specs.Values.{Trouble as Meant, if_ok, turned, due, where_fit, unless_fault}
 use Rattle.ss_meaning.specs.Store.{Store}
 use Rattle.ss_meaning.specs.Sets.{Filing as MeantFiling, ByRule, Foremost, Hindmost, JustBefore, JustAfter, recounted, set_at, member, owner_number, filed_by, end_removed, from_or_after}
-use Rattle.ss_machine_world.specs.declared.filing.Filing.{Filing}
-use Rattle.ss_machine_world.specs.declared.filing.Filing.TheVariants.{ByDiscipline, First, Last, Before, After}
+use Rattle.ss_machine_world.specs.declared.filing.FilingPlace.{FilingPlace}
+use Rattle.ss_machine_world.specs.declared.filing.FilingPlace.TheVariants.{ByDiscipline, First, Last, Before, After}
 use Rattle.ss_machine_entities.specs.declared.known.EntityId.{EntityId}
 use Rattle.ss_machine_entities.specs.declared.known.Membership.{Membership}
 use Rattle.ss_machine_entities.specs.declared.trouble.Trouble.{Trouble}
@@ -23,7 +23,7 @@ use Rattle.ss_machine_entities.specs.Layouts.{set_in}
 use Rattle.ss_machine_world.specs.Seen.{Seen, with_seen}
 
 -- where a member is filed, in the terms of the meaning
-abbrev pub filing_meant : Filing → MeantFiling
+abbrev pub filing_meant : FilingPlace → MeantFiling
 filing_meant ByDiscipline = ByRule
 filing_meant First = Foremost
 filing_meant Last = Hindmost
@@ -57,14 +57,14 @@ abbrev pub TakesCount : (set place : ℕ) → (owner : ℤ) → Seen → Type 0
 TakesCount set place o e = IsOnly set place e.statistics × Takes (OfCount set) o e.time e.statistics (columns_of e.histories)
 
 -- what is done with the owner of a set, by its number
-abbrev pub with_owner : {B : Type 0} → (set : ℕ) → Option Value → (ℤ → Store → Result B Meant) → Store → Result B Meant
-with_owner set o go s = if_ok (owner_number set o s) (λ m. go m s)
+abbrev pub with_owner_number : {B : Type 0} → (set : ℕ) → Option Value → (ℤ → Store → Result B Meant) → Store → Result B Meant
+with_owner_number set o go s = if_ok (owner_number set o s) (λ m. go m s)
 
 -- other entities by an operation with an owner, whose number is answered
 abbrev pub Rehomes : (set : ℕ) → Option Value → (ℤ → Store → Result State Meant) → (old new : Seen) → Result EntityId Trouble → Type 0
 Rehomes set o f old new (Ok k) =
     ((s : Store) → (owner_number set o (with_seen s old) ≡ Ok k.number) × (f k.number (with_seen s old) ≡ Ok new.heap)) × (new ≡ record old { heap = new.heap })
-Rehomes set o f old new (Err t) = ((s : Store) → with_owner set o f (with_seen s old) ≡ to_meaning {A = State} (Err t)) × (new ≡ old)
+Rehomes set o f old new (Err t) = ((s : Store) → with_owner_number set o f (with_seen s old) ≡ to_meaning {A = State} (Err t)) × (new ≡ old)
 
 -- the numbers of the owner of a set and of an entity that may be a member of it
 abbrev pub both_known : (set : ℕ) → Value → Option Value → Store → Result (ℤ × ℤ) Meant

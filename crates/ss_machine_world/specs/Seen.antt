@@ -93,11 +93,11 @@ Makes {A} f old new (Err unmade.Misfit) = ((s : Store) → f (with_seen s old) �
 Makes f old new (Err unmade.Memory) = new ≡ old
 
 -- and of one that gives no value
-abbrev pub Grows : (Store → Result Store Meant) → (old new : Seen) → Result (Unit {0}) Unmade → Type 0
-Grows f old new (Ok u) = (s : Store) → f (with_seen s old) ≡ Ok (with_seen s new)
-Grows f old new (Err (unmade.Fault kind)) = ((s : Store) → f (with_seen s old) ≡ to_meaning {A = Store} (Err (Fault kind))) × (new ≡ old)
-Grows f old new (Err unmade.Misfit) = ((s : Store) → f (with_seen s old) ≡ to_meaning {A = Store} (Err Misfit)) × (new ≡ old)
-Grows f old new (Err unmade.Memory) = new ≡ old
+abbrev pub ChangesWithMemory : (Store → Result Store Meant) → (old new : Seen) → Result (Unit {0}) Unmade → Type 0
+ChangesWithMemory f old new (Ok u) = (s : Store) → f (with_seen s old) ≡ Ok (with_seen s new)
+ChangesWithMemory f old new (Err (unmade.Fault kind)) = ((s : Store) → f (with_seen s old) ≡ to_meaning {A = Store} (Err (Fault kind))) × (new ≡ old)
+ChangesWithMemory f old new (Err unmade.Misfit) = ((s : Store) → f (with_seen s old) ≡ to_meaning {A = Store} (Err Misfit)) × (new ≡ old)
+ChangesWithMemory f old new (Err unmade.Memory) = new ≡ old
 
 -- a new entity by its number, or why there is none, as a value
 abbrev pub as_value : Made → Result Value Unmade

@@ -3,13 +3,13 @@
 ghost use Rattle.std.specs.Prelude.{◌≡◌, true, pos, Ok, Err};
 ghost use Rattle.ss_base.specs.declared.value.Value.TheVariants.{Whole};
 ghost use Rattle.ss_meaning.specs.Entities.{is_single, is_permanent, entity, attribute, time_of, made_count, made_one, gone, without};
-ghost use Rattle.ss_meaning.specs.Events.{with_time};
+ghost use Rattle.ss_meaning.specs.Events.{with_notice_time};
 ghost use Rattle.ss_meaning.specs.Store.{Store as StoreSeen};
 ghost use Rattle.ss_meaning.specs.Places.{is_of_mode, assigned_attribute};
 ghost use Rattle.ss_machine_entities.specs.Answered.{number_found};
 ghost use Rattle.ss_machine_entities.specs.declared.trouble.Unmade.TheVariants.{Memory};
 ghost use Rattle.ss_machine_entities.specs.Layouts.{class_in, kind_at};
-ghost use Rattle.ss_machine_world.specs.Seen.{Looks, Changes, Notes, Makes, Grows, GoesWell, IsEarlier, as_value, count_open, number_made, created_all_known, mode_of_field, with_seen};
+ghost use Rattle.ss_machine_world.specs.Seen.{Looks, Changes, Notes, Makes, ChangesWithMemory, GoesWell, IsEarlier, as_value, count_open, number_made, created_all_known, mode_of_field, with_seen};
 
 use crate::scene::Scene;
 use ss_base::{ClassKind, FaultKind, Mode, Refused, Value};
@@ -357,7 +357,7 @@ impl Scene {
     /// Sets TIME.A of a notice. Faults: 1 to 4.
     #[inline(always)]
     pub fn set_time(&mut self, x: Value, time: i64) -> Result<(), Trouble>
-        ensures { Changes (with_time x time) self.old self.new result }
+        ensures { Changes (with_notice_time x time) self.old self.new result }
     {
         let number = number_of(x)?;
         match self.population.set_time_a(number, time) {
@@ -437,7 +437,7 @@ impl Scene {
     /// All entities of a permanent class, so many, whose histories start. Faults: 18 where they are made, then 22 for a bad count.
     /// It is out of memory only where neither is due.
     pub fn create_all(&mut self, class: usize, count: i64) -> Result<(), Unmade>
-        ensures done { Grows (created_all_known class count) self.old self.new result }
+        ensures done { ChangesWithMemory (created_all_known class count) self.old self.new result }
         ensures memory { result ≡ Err Memory → GoesWell (created_all_known class count) self.old }
     {
         if !self.is_permanent(class) {
@@ -452,7 +452,7 @@ impl Scene {
     // All entities of a permanent class, for a count at which no fault is due: room for the histories is made first.
     fn create_counted(&mut self, class: usize, count: i64) -> Result<(), Unmade>
         requires permanent { is_permanent (class_in self.old.heap.layout class) ≡ true }
-        ensures { Grows (created_all_known class count) self.old self.new result }
+        ensures { ChangesWithMemory (created_all_known class count) self.old self.new result }
     {
         if self
             .timeline

@@ -13,7 +13,7 @@ use ss_machine_entities::trouble::{Trouble, or_trouble};
 
 /// Where a member is filed.
 #[derive(Clone, Copy)]
-pub enum Filing {
+pub enum FilingPlace {
     /// Where the discipline of the set says.
     ByDiscipline,
     First,
@@ -35,12 +35,12 @@ impl Scene {
 
     // Whether a member is filed last in a set.
     #[inline(always)]
-    fn goes_last(&self, filing: &Filing, set: usize) -> bool
+    fn goes_last(&self, filing: &FilingPlace, set: usize) -> bool
         ensures { result ≡ true → GoesLast (filing_meant filing.now) set self.now }
     {
         match filing {
-            Filing::ByDiscipline => self.is_fifo(set),
-            Filing::Last => true,
+            FilingPlace::ByDiscipline => self.is_fifo(set),
+            FilingPlace::Last => true,
             _ => false,
         }
     }
@@ -104,7 +104,7 @@ impl Scene {
 
     // Files a member, by the numbers of the member and of the owner.
     #[inline(always)]
-    fn place(&mut self, filing: Filing, set: usize, both: Membership) -> Result<(), Trouble>
+    fn place(&mut self, filing: FilingPlace, set: usize, both: Membership) -> Result<(), Trouble>
         requires set { set < length self.old.heap.layout.sets }
         ensures { Resettles (filed_by (filing_meant filing) set both.owner.number both.member.number) self.old self.new result }
     {
@@ -118,7 +118,7 @@ impl Scene {
     #[inline(never)]
     fn place_anywhere(
         &mut self,
-        filing: Filing,
+        filing: FilingPlace,
         set: usize,
         both: Membership,
     ) -> Result<(), Trouble>
@@ -126,17 +126,17 @@ impl Scene {
         ensures { Resettles (filed_by (filing_meant filing) set both.owner.number both.member.number) self.old self.new result }
     {
         match filing {
-            Filing::ByDiscipline => self.file_by_discipline(set, both),
-            Filing::First => or_trouble(
+            FilingPlace::ByDiscipline => self.file_by_discipline(set, both),
+            FilingPlace::First => or_trouble(
                 self.population
                     .file_first(set, both.owner.number, both.member.number),
             ),
-            Filing::Last => or_trouble(
+            FilingPlace::Last => or_trouble(
                 self.population
                     .file_last(set, both.owner.number, both.member.number),
             ),
-            Filing::Before(y) => self.file_before(set, both, y),
-            Filing::After(y) => self.file_after(set, both, y),
+            FilingPlace::Before(y) => self.file_before(set, both, y),
+            FilingPlace::After(y) => self.file_after(set, both, y),
         }
     }
 
@@ -144,7 +144,7 @@ impl Scene {
     #[inline(always)]
     fn file_member(
         &mut self,
-        filing: Filing,
+        filing: FilingPlace,
         set: usize,
         member: EntityId,
         owner: Option<Value>,
@@ -168,7 +168,7 @@ impl Scene {
     #[inline(always)]
     pub(crate) fn file_member_anywhere(
         &mut self,
-        filing: Filing,
+        filing: FilingPlace,
         set: usize,
         member: EntityId,
         owner: Option<Value>,
@@ -195,7 +195,7 @@ impl Scene {
     #[inline(always)]
     pub fn file(
         &mut self,
-        filing: Filing,
+        filing: FilingPlace,
         set: usize,
         owner: Option<Value>,
         x: Value,

@@ -8,7 +8,7 @@ ghost use Rattle.ss_meaning.specs.Values.{due, turned, where_fit};
 ghost use Rattle.ss_machine_entities.specs.Answered.{to_meaning, number_found};
 ghost use Rattle.ss_machine_entities.specs.Layouts.{set_in};
 ghost use Rattle.ss_machine_world.specs.Seen.{Looks};
-ghost use Rattle.ss_machine_world.specs.Filed.{both_known, paired, with_owner, tested, IsEarliest, begun_from};
+ghost use Rattle.ss_machine_world.specs.Filed.{both_known, paired, with_owner_number, tested, IsEarliest, begun_from};
 
 use crate::scene::Scene;
 use crate::sets::is_none;
@@ -140,7 +140,7 @@ impl Scene {
     // Whether an entity is in the set of an owner, by its number and what refers to the owner.
     #[inline(always)]
     fn test(&mut self, set: usize, member: EntityId, owner: Option<Value>) -> Result<bool, Trouble>
-        ensures value { Looks (with_owner set owner (tested set member.number)) self.old result }
+        ensures value { Looks (with_owner_number set owner (tested set member.number)) self.old result }
         ensures same { self.new ≡ self.old }
     {
         if !self.has_set(set) {

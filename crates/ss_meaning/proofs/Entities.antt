@@ -16,7 +16,7 @@ use Rattle.ss_base.specs.declared.layout.ClassLayout.{ClassLayout}
 use Rattle.ss_base.specs.declared.value.Value.{Value}
 use Rattle.ss_base.specs.declared.value.Value.TheVariants.{Whole, Text}
 use Rattle.ss_base.specs.Layout.{mode_of}
-use Rattle.ss_world.specs.State.{Record, State, kind_of, modes_of, known_in, no_value, entity as entity_in, time_in, assigned, created, created_all, destroyed, is_made, value_in}
+use Rattle.ss_world.specs.State.{Record, State, kind_of, modes_of, known_in, no_value, entity_in, time_in, assigned, created, created_all, destroyed, is_made, value_in}
 use Rattle.ss_world.specs.PendingNotice.{PendingNotice}
 use Rattle.ss_world.specs.PendingList.{is_pending}
 use Rattle.ss_program.specs.declared.expression.Variable.{Variable}
@@ -24,7 +24,7 @@ use Rattle.ss_program.specs.declared.expression.Variable.TheVariants.{Global, Lo
 use Rattle.ss_program.specs.declared.sections.Subject.{Subject}
 use Rattle.ss_program.specs.declared.sections.Subject.TheVariants.{OfVariable, OfAttribute}
 use Rattle.ss_program.specs.declared.sections.Statistic.{Statistic}
-use Rattle.ss_program.specs.declared.statement.Counted.{Counted}
+use Rattle.ss_program.specs.declared.statement.CountedClass.{CountedClass}
 use Rattle.ss_program.specs.Program.{Program}
 use Rattle.ss_program.specs.WellTyped.{WellTyped, mode_at, field_mode, kind_of_class as kind_said, is_created_singly, GoodSubject, GoodCount}
 use Rattle.ss_meaning.specs.Values.{if_ok, turned, due, sure, where_fit, unless_fault, number_of, same_mode}
@@ -128,7 +128,7 @@ module _ (p : Program) (typed : WellTyped p) (ms : List Mode) where
       (fine_turned (λ b. (mode_of b.0 ≡ Integer) × Fits p ms b.1) (with_new c s) (due (created s.scene.heap c)) (due_fine (Created s.scene.heap c) (created s.scene.heap c) (created_sane s.scene.heap c f.sound.scene.heap)) (λ b new.
       (refl, created_fits p ms s c b f new)))
 
-  pub count_said : (count : Counted) → Contains p.counts count → GoodCount p count
+  pub count_said : (count : CountedClass) → Contains p.counts count → GoodCount p count
   count_said count c = let q = contains_get p.counts count c in every_get (GoodCount p) p.counts q.0 count typed.counts q.1
 
   pub permanent_here : (s : Store) (c : ℕ) → Fits p ms s → kind_said p c ≡ Some Permanent → is_permanent (class_at c s) ≡ true
@@ -136,7 +136,7 @@ module _ (p : Program) (typed : WellTyped p) (ms : List Mode) where
       let cl = class_said p c Permanent q in
       ap is_permanent (class_here s c cl.0 f cl.1) ∙ ap (λ k. not (comes_singly k)) cl.2
 
-  pub made_all_fine : (count : Counted) (s : Store) → Contains p.counts count → Fits p ms s → Fine (Fits p ms) (made_all count s)
+  pub made_all_fine : (count : CountedClass) (s : Store) → Contains p.counts count → Fits p ms s → Fine (Fits p ms) (made_all count s)
   made_all_fine count s c f =
       let good : GoodCount p count = count_said count c in
       fine_then (Fits p ms) (sure (fetched (Global count.variable) s)) (λ v. if_ok (number_of v) (λ n. where_fit (is_permanent (class_at count.class s)) (turned (with_all count.class s) (due (created_all s.scene.heap count.class n)))))
@@ -242,7 +242,7 @@ module _ (p : Program) (typed : WellTyped p) (ms : List Mode) where
       (due_fine (Changed s.scene.heap) (assigned s.scene.heap c k n v) (assigned_sane s.scene.heap c k n v m f.sound.scene.heap (field_here s c k m f there) gv)) (λ h g.
       noted_fine p ms (OfAttribute c k) n v (with_heap s h) (attribute_noted c k m v q gv) (lives_on s.scene.heap h c n g.1 r.1) (heap_fits p ms s h f g))))
 
-  pub count_fine : (count : Counted) (v : Value) (s : Store) → Contains p.counts count → mode_of v ≡ Integer → Fits p ms s → Fine (Fits p ms) (assigned_count count v s)
+  pub count_fine : (count : CountedClass) (v : Value) (s : Store) → Contains p.counts count → mode_of v ≡ Integer → Fits p ms s → Fine (Fits p ms) (assigned_count count v s)
   count_fine count v s c g f =
       let good : GoodCount p count = count_said count c in
       fit_fine (Fits p ms) (is_permanent (class_at count.class s)) (unless_fault (is_made s.scene.heap count.class) CreatedTwice (assigned_variable (Global count.variable) v s)) (permanent_here s count.class f good.0)

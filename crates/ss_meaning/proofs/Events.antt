@@ -22,7 +22,7 @@ use Rattle.ss_world.specs.State.{Record, State, kind_of, kind_in, and_then, issu
 use Rattle.ss_world.specs.PendingNotice.{PendingNotice}
 use Rattle.ss_world.specs.SortKey.{SortKey}
 use Rattle.ss_world.specs.Order.{comes_before}
-use Rattle.ss_world.specs.PendingList.{PendingList, scheduling_limit, is_pending, without, earlier, least, with_entry, scheduled, cancelled}
+use Rattle.ss_world.specs.PendingList.{PendingList, scheduling_limit, is_pending, without_notice, earlier, least, with_entry, scheduled, cancelled}
 use Rattle.ss_program.specs.declared.expression.Variable.TheVariants.{Global}
 use Rattle.ss_program.specs.Program.{Event, Program}
 use Rattle.ss_program.specs.WellTyped.{WellTyped, field_mode, fields_of, kind_of_class as kind_said, is_created_singly, GoodKeys, GoodEvent, IsPlain}
@@ -30,7 +30,7 @@ use Rattle.ss_meaning.specs.Values.{if_ok, turned, due, sure, unless_fault, numb
 use Rattle.ss_meaning.specs.Store.{Notices, Store, with_heap, with_pending}
 use Rattle.ss_meaning.specs.Entities.{entity, attribute, made_one}
 use Rattle.ss_meaning.specs.Places.{assigned_attribute}
-use Rattle.ss_meaning.specs.Events.{Moment, AtTime, Later, AtOnce, not_past, time_at, endowed, with_time, prepared, made_notice, Ranked, ranked_from, ranked, ties_of, filed_notice, rescheduled, unscheduled, is_awaited, Beginning, attributes_given, saved_or_gone, Coming, at_event, ranked_as, coming_as, coming_with, next_event, begun}
+use Rattle.ss_meaning.specs.Events.{Moment, AtTime, Later, AtOnce, not_past, time_at, endowed, with_notice_time, prepared, made_notice, Ranked, ranked_from, ranked, ties_of, filed_notice, rescheduled, unscheduled, is_awaited, Beginning, attributes_given, saved_or_gone, Coming, at_event, ranked_as, coming_as, coming_with, next_event, event_begun}
 use Rattle.ss_meaning.specs.Meaning.{said_of}
 use Rattle.ss_meaning.specs.Fitting.{Hold, class_of_record, LivesAs, Lives, IsNotice, Fits}
 use Rattle.ss_meaning.proofs.Fine.{Fine, Sane, There, Any, fine_then, fine_turned, due_fine, any_due, sure_fine, unless_fine}
@@ -181,14 +181,14 @@ module _ (p : Program) (typed : WellTyped p) (ms : List Mode) where
       fine_then (Fits p ms) (assigned_attribute c k x v s) (endowed c (k + 1) x vs) (attribute_assigned_fine p typed ms c k n x v s (first_field c k n ns g) m here f) (λ t ft.
       endowed_fine c (k + 1) x vs ns t rest (later_fields c k n ns g) m ft)
 
-  with_time_fine : (x : Value) (t : ℤ) (s : Store) → mode_of x ≡ Integer → Fits p ms s → Fine (Fits p ms) (with_time x t s)
+  with_time_fine : (x : Value) (t : ℤ) (s : Store) → mode_of x ≡ Integer → Fits p ms s → Fine (Fits p ms) (with_notice_time x t s)
   with_time_fine x t s m f =
       fine_then (Fits p ms) (number_of x) (λ n. turned (with_heap s) (due (timed s.scene.heap n t))) (number_fine x m) (λ n u.
       fine_turned (Fits p ms) (with_heap s) (due (timed s.scene.heap n t)) (due_fine (Changed s.scene.heap) (timed s.scene.heap n t) (timed_sane s.scene.heap n t f.sound.scene.heap)) (λ h g. heap_fits p ms s h f g))
 
   prepared_fine : (c : ℕ) (x : Value) (vs : List Value) (ns : List Mode) (t : ℤ) (s : Store) → Hold vs ns → FieldsAre c 0 ns → mode_of x ≡ Integer → Fits p ms s → Fine (Fits p ms) (prepared c x vs t s)
   prepared_fine c x vs ns t s h g m f =
-      fine_then (Fits p ms) (endowed c 0 x vs s) (with_time x t) (endowed_fine c 0 x vs ns s h g m f) (λ r fr. with_time_fine x t r m fr)
+      fine_then (Fits p ms) (endowed c 0 x vs s) (with_notice_time x t) (endowed_fine c 0 x vs ns s h g m f) (λ r fr. with_time_fine x t r m fr)
 
   pub made_notice_fine : (c : ℕ) (vs : List Value) (ns : List Mode) (t : ℤ) (s : Store) → kind_said p c ≡ Some Notice → Hold vs ns → FieldsAre c 0 ns → Fits p ms s → Fine (λ b. (mode_of b.0 ≡ Integer) × Fits p ms b.1) (made_notice c vs t s)
   made_notice_fine c vs ns t s q h g f =
@@ -249,7 +249,7 @@ module _ (p : Program) (typed : WellTyped p) (ms : List Mode) where
   cancelled_sane : (n : ℤ) (s : Store) → Fits p ms s → Sane (λ (q : PendingList). Every (λ (e : PendingNotice). IsNotice s.scene.heap e.notice) q.entries) (cancelled n s.scene.pending)
   cancelled_sane n s f = by (is_pending n s.scene.pending.entries)
     where
-      by : (b : Bool) → Sane (λ (q : PendingList). Every (λ (e : PendingNotice). IsNotice s.scene.heap e.notice) q.entries) (if b then Ok (record s.scene.pending { entries = without n s.scene.pending.entries }) else Err faults.NotScheduled)
+      by : (b : Bool) → Sane (λ (q : PendingList). Every (λ (e : PendingNotice). IsNotice s.scene.heap e.notice) q.entries) (if b then Ok (record s.scene.pending { entries = without_notice n s.scene.pending.entries }) else Err faults.NotScheduled)
       by true = every_filter (λ (e : PendingNotice). IsNotice s.scene.heap e.notice) (λ (e : PendingNotice). IsNotice s.scene.heap e.notice) (λ e. not (int_eq n e.notice)) s.scene.pending.entries f.sound.scene.pending (λ e h t. h)
       by false = tt
 
@@ -287,14 +287,14 @@ module _ (p : Program) (typed : WellTyped p) (ms : List Mode) where
           setting = f.sound.scene.setting;
           layout = f.sound.scene.layout;
           heap = f.sound.scene.heap;
-          pending = subst (λ o. Every (λ (i : PendingNotice). IsNotice s.scene.heap i.notice) (option_map_or (λ (i : PendingNotice). without i.notice s.scene.pending.entries) o [])) (sym q)
+          pending = subst (λ o. Every (λ (i : PendingNotice). IsNotice s.scene.heap i.notice) (option_map_or (λ (i : PendingNotice). without_notice i.notice s.scene.pending.entries) o [])) (sym q)
               (every_filter (λ (i : PendingNotice). IsNotice s.scene.heap i.notice) (λ (i : PendingNotice). IsNotice s.scene.heap i.notice) (λ i. not (int_eq e.notice i.notice)) s.scene.pending.entries f.sound.scene.pending (λ i h t. h));
           histories = f.sound.scene.histories;
         };
       };
       locals = f.locals;
     },
-    subst (λ o. Every (λ (i : PendingNotice). e.notice ≡ i.notice → ⊥) (option_map_or (λ (i : PendingNotice). without i.notice s.scene.pending.entries) o [])) (sym q)
+    subst (λ o. Every (λ (i : PendingNotice). e.notice ≡ i.notice → ⊥) (option_map_or (λ (i : PendingNotice). without_notice i.notice s.scene.pending.entries) o [])) (sym q)
         (every_filter (λ (i : PendingNotice). IsNotice s.scene.heap i.notice) (λ (i : PendingNotice). e.notice ≡ i.notice → ⊥) (λ i. not (int_eq e.notice i.notice)) s.scene.pending.entries f.sound.scene.pending (λ i h t same. apart_by i t same)),
   )
     where
@@ -336,7 +336,7 @@ module _ (p : Program) (typed : WellTyped p) (ms : List Mode) where
     pub given : Hold b.given event.given
     pub fits : Fits p ms b.store
 
-  pub begun_fine : (c : Coming) → ComingAs c → Fine BegunAs (begun c)
+  pub begun_fine : (c : Coming) → ComingAs c → Fine BegunAs (event_begun c)
   begun_fine c ok =
       subst (λ (n : Notices). Fine BegunAs (if_ok (attributes_given n.class 0 n.given c.notice c.store) (λ vs. turned (λ t. record { rank = c.ranked.rank; given = vs; store = t }) (saved_or_gone n.saved n.class c.notice c.store)))) (sym ok.ranked.said)
       (fine_then BegunAs (attributes_given e.class 0 (length e.given) c.notice c.store) (λ vs. turned (λ t. record { rank = c.ranked.rank; given = vs; store = t }) (saved_or_gone e.saved e.class c.notice c.store))

@@ -12,14 +12,14 @@ use Rattle.ss_base.specs.declared.value.Value.TheVariants.{Whole, Text}
 use Rattle.ss_base.specs.Layout.{mode_of}
 use Rattle.ss_input.specs.Words.{is_ended}
 use Rattle.ss_picture.specs.declared.field.Field.{Field}
-use Rattle.ss_picture.specs.declared.items.Item.{Item as Shown}
-use Rattle.ss_picture.specs.declared.items.Item.TheVariants.{Is, Mean}
+use Rattle.ss_picture.specs.declared.items.FieldValue.{FieldValue as Shown}
+use Rattle.ss_picture.specs.declared.items.FieldValue.TheVariants.{Is, Mean}
 use Rattle.ss_program.specs.declared.expression.Sign.{Sign}
 use Rattle.ss_program.specs.declared.expression.Operator.{Operator}
 use Rattle.ss_program.specs.declared.condition.Relation.{Relation}
 use Rattle.ss_program.specs.Program.{Expression, Constant, Fetch, Attribute, OfSystemSet, OfSet, OfMember, Clock, TimeOf, Figure, FigureOf, Signed, Absolute, Calculate, SetOwner, TheSystem, Entity, Test, Compare, DataEnded, Empty, Member, Condition, Guard, Place, ToVariable, ToAttribute, ToCount, Position, ByDiscipline, AsFirst, AsLast, BeforeMember, AfterMember, When, At, In, Now, Item, AValue, AMean, AMeanOf, Program}
 use Rattle.ss_program.specs.WellTyped.{Scope, WellTyped, HasMode, HaveModes, IsSet, OwnerFits, GoodTest, GoodCondition, TakesMode, GoodPosition, GoodWhen, HasSubject, IsAlone, IsOfEntities, TakesItem}
-use Rattle.ss_meaning.specs.Values.{Trouble, if_ok, turned, due, sure, made, calculated, operator_of, signed, distance, absolute, related, takes, take_all}
+use Rattle.ss_meaning.specs.Values.{Trouble, if_ok, turned, due, sure, computed, calculated, operator_of, signed, distance, absolute, related, takes, take_all}
 use Rattle.ss_meaning.specs.Store.{Store, fetched}
 use Rattle.ss_meaning.specs.Entities.{entity, attribute, time_of}
 use Rattle.ss_meaning.specs.Places.{InAttribute}
@@ -37,7 +37,7 @@ abbrev pub HasMode_is : Mode → Value → Type 0
 HasMode_is m v = mode_of v ≡ m
 
 pub calculated_fine : (op : Operator) (x y : Value) → mode_of x ≡ Integer → mode_of y ≡ Integer → Fine (HasMode_is Integer) (calculated op x y)
-calculated_fine op (Whole x) (Whole y) p q = fine_turned (HasMode_is Integer) Whole (due (made op x y)) (any_due (made op x y)) (λ z u. refl)
+calculated_fine op (Whole x) (Whole y) p q = fine_turned (HasMode_is Integer) Whole (due (computed op x y)) (any_due (computed op x y)) (λ z u. refl)
 calculated_fine op (Whole x) (Text t) p q = absurd cc
 calculated_fine op (Text s) y p q = absurd cc
 

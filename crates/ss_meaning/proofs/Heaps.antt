@@ -11,7 +11,7 @@ use Rattle.ss_base.specs.declared.layout.Mode.TheVariants.{Integer, Alpha}
 use Rattle.ss_base.specs.declared.layout.Layout.{Layout}
 use Rattle.ss_base.specs.declared.value.Value.{Value}
 use Rattle.ss_base.specs.Layout.{mode_of, first_value}
-use Rattle.ss_world.specs.State.{Record, State, kind_of, modes_of, and_then, issued_record, numbered, indexed_record, indexed, records_in, of_class, of_notice, is_notice, entity, entity_of_kind, notice, number_in, with_value, with_time, with_entity, with_entity_of_kind, with_indexed, value_in, assigned, timed, created, with_created, first_record, created_all, is_made, with_made, made_many, destroyed, let_go, in_a_set, owns_members, LAST_NUMBER, MOST_ENTITIES}
+use Rattle.ss_world.specs.State.{Record, State, kind_of, modes_of, and_then, issued_record, numbered, indexed_record, indexed, records_in, of_class, of_notice, is_notice, entity_in, entity_of_kind, notice, number_in, with_value, with_time, with_entity, with_entity_of_kind, with_indexed, value_in, assigned, timed, created, with_created, first_record, created_all, is_made, with_made, made_many, destroyed, let_go, in_a_set, owns_members, LAST_NUMBER, MOST_ENTITIES}
 use Rattle.ss_meaning.specs.Fitting.{Hold, RecordFits, HeapFits, class_of_record, living, made, IsIndex, LivesAs, Lives}
 use Rattle.ss_meaning.proofs.Fine.{Sane, sane_then}
 use Rattle.ss_meaning.proofs.Lists.{every_get, every_set, every_both, every_replicate}
@@ -82,7 +82,7 @@ kind_known Permanent h c x = indexed_known h c x
 kind_known Temporary h c x = single_known h c x
 kind_known Notice h c x = single_known h c x
 
-pub entity_known : (h : State) (c : ℕ) (x : ℤ) → Sane (IsEntityAs (kind_of h.layout c) h c x) (entity h c x)
+pub entity_known : (h : State) (c : ℕ) (x : ℤ) → Sane (IsEntityAs (kind_of h.layout c) h c x) (entity_in h c x)
 entity_known h c x = kind_known (kind_of h.layout c) h c x
 
 living_by : (h : State) (x : ℤ) (r : Record) → HasRecord h x r → living h x ≡ Some r.class
@@ -140,7 +140,7 @@ mode_at (v ∷ vs) (n ∷ ms) (suc k) m d q g = let rest : Hold vs ms = cc in mo
 
 pub value_sane : (h : State) (c f : ℕ) (x : ℤ) (m : Mode) → HeapFits h → slice_get (modes_of h.layout c) f ≡ Some m → Sane (λ v. mode_of v ≡ m) (value_in h c f x)
 value_sane h c f x m fits q =
-    sane_then (λ v. mode_of v ≡ m) (entity h c x) (λ r. Ok (slice_index_or r.values f (Rattle.ss_base.specs.declared.value.Value.TheVariants.Whole (pos 0)))) (entity_known h c x) (λ r g.
+    sane_then (λ v. mode_of v ≡ m) (entity_in h c x) (λ r. Ok (slice_index_or r.values f (Rattle.ss_base.specs.declared.value.Value.TheVariants.Whole (pos 0)))) (entity_known h c x) (λ r g.
     mode_at r.values (modes_of h.layout c) f m (Rattle.ss_base.specs.declared.value.Value.TheVariants.Whole (pos 0)) (modes_by (kind_of h.layout c) h c x r fits g) q)
 
 set_modes : (vs : List Value) (ms : List Mode) (k : ℕ) (m : Mode) (v : Value) → Hold vs ms → slice_get ms k ≡ Some m → mode_of v ≡ m → Hold (slice_set vs k v) ms
@@ -239,7 +239,7 @@ assigned_by Notice h c x r q f e g m = set_single h (number_in x - 1) r q f (num
 -- an attribute is assigned a value of its mode
 pub assigned_sane : (h : State) (c f : ℕ) (x : ℤ) (v : Value) (m : Mode) → HeapFits h → slice_get (modes_of h.layout c) f ≡ Some m → mode_of v ≡ m → Sane (Changed h) (assigned h c f x v)
 assigned_sane h c f x v m fits q g =
-    sane_then (Changed h) (entity h c x) (λ r. Ok (with_entity h c (number_in x) (with_value r f v))) (entity_known h c x) (λ r e.
+    sane_then (Changed h) (entity_in h c x) (λ r. Ok (with_entity h c (number_in x) (with_value r f v))) (entity_known h c x) (λ r e.
     assigned_by (kind_of h.layout c) h c x r (with_value r f v) fits e refl (set_modes r.values (modes_of h.layout c) f m v (modes_by (kind_of h.layout c) h c x r fits e) q g))
 
 -- ## Notices
@@ -462,4 +462,4 @@ single_by Notice h c x r other q = q.0
 
 pub destroyed_sane : (h : State) (c : ℕ) (x : ℤ) → HeapFits h → (kind_of h.layout c ≡ Permanent → ⊥) → Sane (Gone h x) (destroyed h c x)
 destroyed_sane h c x f other =
-    sane_then (Gone h x) (entity h c x) (λ r. let_go h c (number_in x)) (entity_known h c x) (λ r q. let_go_sane h c x r f (single_by (kind_of h.layout c) h c x r other q))
+    sane_then (Gone h x) (entity_in h c x) (λ r. let_go h c (number_in x)) (entity_known h c x) (λ r q. let_go_sane h c x r f (single_by (kind_of h.layout c) h c x r other q))

@@ -15,13 +15,14 @@ use Rattle.ss_base.specs.declared.value.Value.TheVariants.{Whole, Text}
 use Rattle.ss_base.specs.declared.fault.FaultKind.TheVariants.{Overflow}
 use Rattle.ss_base.specs.Layout.{mode_of}
 use Rattle.ss_world.specs.State.{State, kind_of}
-use Rattle.ss_stats.specs.History.{History, is_full, with_value, restarted}
+use Rattle.ss_stats.specs.History.{History, is_full, with_noted_value, restarted}
 use Rattle.ss_program.specs.declared.sections.Subject.{Subject}
 use Rattle.ss_program.specs.declared.sections.Subject.TheVariants.{OfVariable, OfAttribute, OfCount}
 use Rattle.ss_program.specs.declared.sections.Statistic.{Statistic}
 use Rattle.ss_meaning.specs.Values.{sure, turned, unless_fault, number_of}
 use Rattle.ss_meaning.specs.Store.{Column}
-use Rattle.ss_meaning.specs.Histories.{same_subject, same_owner, home, at_start, begun_in, starting, ended_in, ending, with_history, noting_in, noting, all_noting, history_in, history_of_subject, renewed}
+use Rattle.ss_base.specs.Layout.{same_owner}
+use Rattle.ss_meaning.specs.Histories.{same_subject, home, at_start, begun_in, starting, ended_in, ending, with_history, noting_in, noting, all_noting, history_in, history_of_subject, renewed}
 use Rattle.ss_meaning.specs.Fitting.{made, IsIndex, living, LivesAs, Lives, BearsBy, Bears, Has, HasHistories, HistoriesFit}
 use Rattle.ss_meaning.proofs.Fine.{Fine, Any, fine_then, fine_turned, unless_fine}
 use Rattle.ss_meaning.proofs.Heaps.{Same, Gone}
@@ -92,8 +93,8 @@ noting_fine x now v c q g = subst (λ o. Fine (KeepsColumn c) (noting_in x now v
   where
     by : (h : History) → Fine (KeepsColumn c) (noting_in x now v (Some h) c)
     by h =
-        fine_then (KeepsColumn c) (number_of v) (λ z. unless_fault (is_full h) Overflow (Ok (with_history x (with_value h now z) c))) (number_fine v q) (λ z u.
-        unless_fine (KeepsColumn c) (is_full h) Overflow (Ok (with_history x (with_value h now z) c)) (λ p. history_keeps x (with_value h now z) c))
+        fine_then (KeepsColumn c) (number_of v) (λ z. unless_fault (is_full h) Overflow (Ok (with_history x (with_noted_value h now z) c))) (number_fine v q) (λ z u.
+        unless_fine (KeepsColumn c) (is_full h) Overflow (Ok (with_history x (with_noted_value h now z) c)) (λ p. history_keeps x (with_noted_value h now z) c))
 
 none_there : (c : Column) → slice_get [] zero ≡ Some c → ⊥
 none_there c q = absurd cc

@@ -9,7 +9,7 @@ use Rattle.ss_program.specs.WellTyped.{WellTyped}
 use Rattle.ss_meaning.specs.Values.{Trouble, Fails, Misfit}
 use Rattle.ss_meaning.specs.Store.{Store}
 use Rattle.ss_meaning.specs.Places.{Spot, written}
-use Rattle.ss_meaning.specs.Parts.{World, Returned, Stopped, Faulted, OutOfTicks, Wrong, Outcome, WentOn, Left, Part, and_then, choose, looked, look, change, get, write, send, tick_from, take_tick, Next, Again, Over, go_on, loop}
+use Rattle.ss_meaning.specs.Parts.{World, Returned, Stopped, Faulted, OutOfTicks, Wrong, Outcome, WentOn, Left, Part, outcome_then, choose, looked, look, change, get, write, send, tick_from, take_tick, Next, Again, Over, go_on, loop}
 use Rattle.ss_meaning.specs.Fitting.{Sound, Fits}
 use Rattle.ss_meaning.proofs.Fine.{Fine, Any}
 use Rattle.ss_meaning.proofs.Entities.{SpotTakes, written_fine}
@@ -27,7 +27,7 @@ Kept p ms P (Left Wrong w) = ⊥
 pub record Safe {A : Type 0} (p : Program) (ms : List Mode) (P : A → Type 0) (m : Part A) : Type 0 where
   pub by : (w : World) → Fits p ms w.store → Kept p ms P (m w)
 
-pub kept_then : {A B : Type 0} (p : Program) (ms : List Mode) (P : A → Type 0) (Q : B → Type 0) (o : Outcome A) (f : A → Part B) → Kept p ms P o → ((a : A) → P a → Safe p ms Q (f a)) → Kept p ms Q (and_then o f)
+pub kept_then : {A B : Type 0} (p : Program) (ms : List Mode) (P : A → Type 0) (Q : B → Type 0) (o : Outcome A) (f : A → Part B) → Kept p ms P o → ((a : A) → P a → Safe p ms Q (f a)) → Kept p ms Q (outcome_then o f)
 kept_then p ms P Q (WentOn a w) f h g = (g a h.0).by w h.1
 kept_then p ms P Q (Left Returned w) f h g = h
 kept_then p ms P Q (Left Stopped w) f h g = h
@@ -35,7 +35,7 @@ kept_then p ms P Q (Left (Faulted kind line) w) f h g = h
 kept_then p ms P Q (Left OutOfTicks w) f h g = h
 kept_then p ms P Q (Left Wrong w) f h g = absurd h
 
-pub safe_then : {A B : Type 0} {p : Program} {ms : List Mode} {P : A → Type 0} {Q : B → Type 0} {m : Part A} {f : A → Part B} → Safe p ms P m → ((a : A) → P a → Safe p ms Q (f a)) → Safe p ms Q (λ w. and_then (m w) f)
+pub safe_then : {A B : Type 0} {p : Program} {ms : List Mode} {P : A → Type 0} {Q : B → Type 0} {m : Part A} {f : A → Part B} → Safe p ms P m → ((a : A) → P a → Safe p ms Q (f a)) → Safe p ms Q (λ w. outcome_then (m w) f)
 safe_then {p = p} {ms = ms} {P = P} {Q = Q} {m = m} {f = f} h g = record { by = λ w fits. kept_then p ms P Q (m w) f (h.by w fits) g }
 
 pub safe_went : {A : Type 0} {p : Program} {ms : List Mode} {P : A → Type 0} (a : A) → P a → Safe p ms P (WentOn a)
@@ -82,4 +82,4 @@ safe_next (Over a) h = record { by = λ w fits. (tt, fits) }
 pub safe_loop : {C A : Type 0} {p : Program} {ms : List Mode} {turn : C → Part (Next C A)} → ((c : C) → Safe p ms Any (turn c)) → (n : ℕ) (c : C) → Safe p ms Any (loop n turn c)
 safe_loop h zero c = record { by = λ w fits. fits.sound }
 safe_loop {p = p} {ms = ms} {turn = turn} h (suc n) c =
-    record { by = λ w fits. (safe_tick {go = λ w. and_then (turn c w) (go_on (loop n turn))} (safe_then {P = Any} (h c) (λ o u. safe_next o (λ d. safe_loop h n d)))).by w fits }
+    record { by = λ w fits. (safe_tick {go = λ w. outcome_then (turn c w) (go_on (loop n turn))} (safe_then {P = Any} (h c) (λ o u. safe_next o (λ d. safe_loop h n d)))).by w fits }

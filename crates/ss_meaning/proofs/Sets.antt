@@ -16,7 +16,7 @@ use Rattle.ss_base.specs.declared.layout.Discipline.TheVariants.{Fifo, Lifo, Ran
 use Rattle.ss_base.specs.declared.value.Value.{Value}
 use Rattle.ss_base.specs.declared.value.Value.TheVariants.{Whole, Text}
 use Rattle.ss_base.specs.Layout.{mode_of}
-use Rattle.ss_world.specs.State.{State, modes_of, members_of, entity as entity_in, number_in}
+use Rattle.ss_world.specs.State.{State, modes_of, members_of, entity_in, number_in}
 use Rattle.ss_world.specs.Sets.{member_class, owner_kind, owner_by as owner_of_kind, joiner, owner, first_in, last_in, count_in, next_in, previous_in, owner_of_member, filed_first, filed_last, filed_before, filed_after, removed}
 use Rattle.ss_world.specs.Disciplines.{member_test, filed}
 use Rattle.ss_program.specs.declared.expression.Fold.{Fold}
@@ -32,7 +32,7 @@ use Rattle.ss_program.specs.declared.sections.Statistic.{Statistic}
 use Rattle.ss_program.specs.declared.statement.End.{End}
 use Rattle.ss_program.specs.declared.statement.End.TheVariants as ends
 use Rattle.ss_program.specs.Program.{Program}
-use Rattle.ss_program.specs.WellTyped.{WellTyped, IsSet, IsOwned, owner_of, GoodDiscipline, GoodKeys, GoodSubject, IsAlone, IsOfEntities}
+use Rattle.ss_program.specs.WellTyped.{WellTyped, IsSet, IsOwned, owner_of_set, GoodDiscipline, GoodKeys, GoodSubject, IsAlone, IsOfEntities}
 use Rattle.ss_stats.specs.History.{History, sum_of, mean_of}
 use Rattle.ss_meaning.specs.Values.{Trouble, Misfit, Fails, if_ok, turned, due, sure, where_fit, unless_fault, number_of}
 use Rattle.ss_meaning.specs.Store.{Store, with_heap, with_histories, fetched}
@@ -63,11 +63,11 @@ module _ (p : Program) (typed : WellTyped p) (ms : List Mode) where
 
   -- whose set it is: an entity's, or the system's
   abbrev pub OwnerOk : (set : ℕ) → Option Value → Type 0
-  OwnerOk set None = owner_of p set ≡ Some System
+  OwnerOk set None = owner_of_set p set ≡ Some System
   OwnerOk set (Some x) = IsOwned p set × (mode_of x ≡ Integer)
 
   -- who owns a set
-  owner_said : (set : ℕ) (o : Owner) → owner_of p set ≡ Some o → (t : SetLayout) × (slice_get p.layout.sets set ≡ Some t) × (t.owner ≡ o)
+  owner_said : (set : ℕ) (o : Owner) → owner_of_set p set ≡ Some o → (t : SetLayout) × (slice_get p.layout.sets set ≡ Some t) × (t.owner ≡ o)
   owner_said set o q = by (slice_get p.layout.sets set) refl q
     where
       by : (l : Option SetLayout) → slice_get p.layout.sets set ≡ l → option_map (λ (t : SetLayout). t.owner) l ≡ Some o → (t : SetLayout) × (slice_get p.layout.sets set ≡ Some t) × (t.owner ≡ o)
@@ -78,7 +78,7 @@ module _ (p : Program) (typed : WellTyped p) (ms : List Mode) where
   set_of set None q = let t = owner_said set System q in (t.0, t.1)
   set_of set (Some x) q = let t = owner_said set (Class q.0.0) q.0.1 in (t.0, t.1)
 
-  as_fine : (o : Owner) (x : Option Value) (set : ℕ) → owner_of p set ≡ Some o → OwnerOk set x → Fine (λ n. (o ≡ System → n ≡ pos 0)) (owner_as o x)
+  as_fine : (o : Owner) (x : Option Value) (set : ℕ) → owner_of_set p set ≡ Some o → OwnerOk set x → Fine (λ n. (o ≡ System → n ≡ pos 0)) (owner_as o x)
   as_fine System None set q g = λ e. refl
   as_fine System (Some x) set q g =
       let both : Some System ≡ Some (Class g.0.0) = sym q ∙ g.0.1 in
@@ -96,7 +96,7 @@ module _ (p : Program) (typed : WellTyped p) (ms : List Mode) where
   owner_number_fine set o s q f =
       let t = set_of set o q in
       let here : set_at set s ≡ Some t.0 = set_here set t.0 s t.1 f in
-      let said : owner_of p set ≡ Some t.0.owner = ap (λ l. option_map (λ (u : SetLayout). u.owner) l) t.1 in
+      let said : owner_of_set p set ≡ Some t.0.owner = ap (λ l. option_map (λ (u : SetLayout). u.owner) l) t.1 in
       let kind : owner_kind s.scene.heap.layout set ≡ t.0.owner = ap (λ l. Rattle.ss_world.specs.Sets.owner_in l) here in
       subst (λ l. Fine (IsOwnerNumber s.scene.heap set) (owner_by_layout l o)) (sym here)
       (fine_weaker (IsOwnerNumber s.scene.heap set) (owner_as t.0.owner o) (as_fine t.0.owner o set said q) (λ n h e. h (sym kind ∙ e)))

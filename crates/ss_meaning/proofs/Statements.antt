@@ -11,16 +11,16 @@ use Rattle.ss_base.specs.declared.layout.Mode.TheVariants.{Integer, Alpha}
 use Rattle.ss_base.specs.declared.value.Value.{Value}
 use Rattle.ss_base.specs.declared.value.Value.TheVariants.{Whole, Text}
 use Rattle.ss_base.specs.Layout.{mode_of}
-use Rattle.ss_picture.specs.declared.items.Item.{Item as Shown}
+use Rattle.ss_picture.specs.declared.items.FieldValue.{FieldValue as Shown}
 use Rattle.ss_picture.specs.Pictures.{picture_fields}
-use Rattle.ss_input.specs.Words.{Given, value_given, next_word, read_word as word_read, word_value, if_read, as_whole, as_text, number_read}
+use Rattle.ss_input.specs.Words.{Given, value_given, next_word, read_word, word_value, if_read, as_whole, as_text, number_read}
 use Rattle.ss_base.specs.Values.{text_of}
 use Rattle.ss_program.specs.declared.expression.Sign.{Sign}
 use Rattle.ss_program.specs.declared.expression.Variable.{Variable}
 use Rattle.ss_program.specs.declared.head.PhraseKind.{PhraseKind}
 use Rattle.ss_program.specs.declared.head.PhraseKind.TheVariants as kinds
 use Rattle.ss_program.specs.declared.statement.End.{End}
-use Rattle.ss_program.specs.declared.statement.Counted.{Counted}
+use Rattle.ss_program.specs.declared.statement.CountedClass.{CountedClass}
 use Rattle.ss_program.specs.Program.{Expression, SetOwner, Head, Numbers, Members, Each, Start, AtEnd, From, After, Phrase, Guard, Place, ToVariable, Target, Position, When, Restart, Item, Statement, Let, Change, Call, Return, Stop, Read, Simulate, If, Loop, For, Find, Create, CreateEvery, Destroy, File, RemoveEnd, Remove, ScheduleNew, Schedule, Cancel, Reset, Print, Skip, Block, Done, Then, Routine, Program}
 use Rattle.ss_program.specs.WellTyped.{Scope, WellTyped, HasMode, OwnerFits, GoodCondition, TakesMode, GoodStart, GoodHead, GoodPhrase, GoodPosition, GoodWhen, GoodGiven, GoodRestart, GoodPrint, Good, GoodBlock, kind_of_class as kind_said}
 use Rattle.ss_meaning.specs.Values.{if_ok, turned, due, sure, unless_fault, number_of, calculated, operator_of, take_all, lines_with, printed, empty_lines}
@@ -31,9 +31,9 @@ use Rattle.ss_meaning.specs.Sets.{is_none, begun, begun_at, coming, goes_on, fil
 use Rattle.ss_meaning.specs.Events.{made_notice, filed_notice, rescheduled, unscheduled, is_awaited}
 use Rattle.ss_meaning.specs.Statistics.{reset}
 use Rattle.ss_meaning.specs.Expressions.{value, values, shown_items as items_meant, value_if_any, entity_value, member_value, owner_value, owner_looked_at, spot, filing, time_value, holds, all_pass}
-use Rattle.ss_meaning.specs.Parts.{World, Returned, Stopped, Faulted, OutOfTicks, Wrong, Outcome, WentOn, Left, Part, and_then, choose, look, get, tick_from, Again, Over, go_on, loop}
-use Rattle.ss_meaning.specs.Loops.{Turn, GoesOn, EndsLoop, IsFound, phrase, phrases, visit, range_items, after_turn, over_items, step_number, range_of, range, indices, Outset, from_member, outset, next_member, member_turn, over, guarded}
-use Rattle.ss_meaning.specs.Statements.{give_to, give_each, change_by, with_input, read_word, read_each, print, create_every, file, remove, remove_end, schedule_new, schedule, next_due, event_turn, simulate, restart_each, Calls, effect, effects}
+use Rattle.ss_meaning.specs.Parts.{World, Returned, Stopped, Faulted, OutOfTicks, Wrong, Outcome, WentOn, Left, Part, outcome_then, choose, look, get, tick_from, Again, Over, go_on, loop}
+use Rattle.ss_meaning.specs.Loops.{Turn, GoesOn, EndsLoop, IsFound, phrase, phrases, visit, range_items, after_turn, over_items, step_number, range_of, range, indices, Outset, from_member, loop_outset, next_member, member_turn, over, guarded}
+use Rattle.ss_meaning.specs.Statements.{give_to, give_each, change_by, with_input, read_value, read_each, print, create_every, file, remove, remove_end, schedule_new, schedule, next_due, event_turn, simulate, restart_each, Calls, effect, effects}
 use Rattle.ss_meaning.specs.Fitting.{Hold, Fits}
 use Rattle.ss_meaning.proofs.Fine.{Fine, There, Any, fine_then, fine_turned, sure_fine, fit_fine, unless_fine}
 use Rattle.ss_meaning.proofs.Kept.{number_fine}
@@ -85,7 +85,7 @@ word_fine mode s = by (next_word s.scene.input)
     read Integer word rest = whole_read (number_read word) rest
     read Alpha word rest = text_read (text_of word) rest
 
-    by : (r : Result (Given (List ℕ)) Rattle.ss_base.specs.declared.fault.FaultKind.FaultKind) → Fine (λ (g : Given Value). mode_of g.value ≡ mode) (due (word_read mode r))
+    by : (r : Result (Given (List ℕ)) Rattle.ss_base.specs.declared.fault.FaultKind.FaultKind) → Fine (λ (g : Given Value). mode_of g.value ≡ mode) (due (read_word mode r))
     by (Err k) = tt
     by (Ok word) = read mode word.value word.rest
 
@@ -122,7 +122,7 @@ module _ (p : Program) (typed : WellTyped p) (ms : List Mode) (b : Bool) where
   items_safe : (go : ℤ → Part Turn) (is : List ℤ) → ((v : ℤ) → Safe p ms Any (go v)) → Safe p ms Any (over_items go is)
   items_safe go [] h = record { by = λ w fits. (tt, fits) }
   items_safe go (i ∷ is) h =
-      record { by = λ w fits. (safe_tick {go = λ w. and_then (go i w) (λ t. after_turn t (over_items go is))} (safe_then {P = Any} (h i) (λ t u. after_safe t (over_items go is) (items_safe go is h)))).by w fits }
+      record { by = λ w fits. (safe_tick {go = λ w. outcome_then (go i w) (λ t. after_turn t (over_items go is))} (safe_then {P = Any} (h i) (λ t u. after_safe t (over_items go is) (items_safe go is h)))).by w fits }
 
   step_fine : (c : Option Expression) → IfSome c (λ e. HasMode here e Integer) → (s : Store) → Fits p ms s → Fine (λ v. Fine Any (step_number v)) (value_if_any c s)
   step_fine None h s f = tt
@@ -146,7 +146,7 @@ module _ (p : Program) (typed : WellTyped p) (ms : List Mode) (b : Bool) where
       fine_then (OutsetOk set) (member_value set e s) (λ y. turned (λ x. record { first = x; owner = o }) (begun_at reverse after set y o s)) (member_value_fine p typed ms b set e (set_of_owner p typed ms b set owner q) h s f) (λ y k.
       fine_turned (OutsetOk set) (λ x. record { first = x; owner = o }) (begun_at reverse after set y o s) (begun_at_fine p typed ms reverse after set y o s k g f) (λ x u. g)))
 
-  outset_fine : (start : Start) (reverse : Bool) (set : ℕ) (owner : SetOwner) → GoodStart here start → OwnerFits here set owner → (s : Store) → Fits p ms s → Fine (OutsetOk set) (outset start reverse set owner s)
+  outset_fine : (start : Start) (reverse : Bool) (set : ℕ) (owner : SetOwner) → GoodStart here start → OwnerFits here set owner → (s : Store) → Fits p ms s → Fine (OutsetOk set) (loop_outset start reverse set owner s)
   outset_fine AtEnd reverse set owner h q s f =
       fine_then (OutsetOk set) (owner_value owner s) (λ o. turned (λ x. record { first = x; owner = o }) (begun reverse set o s)) (owner_value_fine p typed ms b set owner q s f) (λ o g.
       fine_turned (OutsetOk set) (λ x. record { first = x; owner = o }) (begun reverse set o s) (begun_fine p typed ms reverse set o s g f) (λ x u. g))
@@ -168,7 +168,7 @@ module _ (p : Program) (typed : WellTyped p) (ms : List Mode) (b : Bool) where
   over_safe n l (Each x class) turn g h =
       safe_then {P = Any} (safe_look l (indices class) (indices_fine class g.1)) (λ r u. items_safe (visit l x turn) (range_items (suc n) r) (visit_safe l x turn g.0 h))
   over_safe n l (Members x set owner start reverse) turn g h =
-      safe_then {P = OutsetOk set} (safe_look l (outset start reverse set owner) (outset_fine start reverse set owner g.2 g.1)) (λ o q.
+      safe_then {P = OutsetOk set} (safe_look l (loop_outset start reverse set owner) (outset_fine start reverse set owner g.2 g.1)) (λ o q.
       safe_choose (is_none o.first) (safe_went false tt) (safe_loop (member_safe l set reverse o.owner (visit l x turn) q (visit_safe l x turn g.0 h)) n o.first))
 
   pub guarded_safe : (n : ℕ) (l : Line) (gs : List Guard) (body : Part (Unit {0})) → Every (λ (g : Guard). GoodCondition here g.condition) gs → Safe p ms Any body → Safe p ms Any (guarded n l gs body)
@@ -219,7 +219,7 @@ module _ (p : Program) (typed : WellTyped p) (ms : List Mode) (b : Bool) where
   reads_safe : (l : Line) (ts : List Target) → Every (λ (t : Target). TakesMode here t.place t.mode) ts → Safe p ms Any (read_each l ts)
   reads_safe l [] g = record { by = λ w fits. (tt, fits) }
   reads_safe l (t ∷ ts) g =
-      safe_then {P = Any} (give_safe l t.place t.mode (get l (read_word t.mode)) g.0 (safe_get l (read_word t.mode) t.mode (λ s f.
+      safe_then {P = Any} (give_safe l t.place t.mode (get l (read_value t.mode)) g.0 (safe_get l (read_value t.mode) t.mode (λ s f.
       fine_turned (λ r. HasMode_is t.mode r.0 × Fits p ms r.1) (with_input s) (due (value_given t.mode s.scene.input)) (word_fine t.mode s) (λ r q. (q, input_fits s r.rest f))))) (λ u v.
       reads_safe l ts g.1)
 
@@ -229,7 +229,7 @@ module _ (p : Program) (typed : WellTyped p) (ms : List Mode) (b : Bool) where
       fine_then Any (items_meant xs s) (λ ys. sure (printed pictures ys)) (items_fine p typed ms b (flat_map picture_fields pictures) xs g s f) (λ ys q. sure_fine Any (printed pictures ys) (printed_there pictures ys q)))) (λ bytes u.
       safe_send bytes)
 
-  every_safe : (l : Line) (cs : List Counted) → Every (Contains p.counts) cs → Safe p ms Any (create_every l cs)
+  every_safe : (l : Line) (cs : List CountedClass) → Every (Contains p.counts) cs → Safe p ms Any (create_every l cs)
   every_safe l [] g = record { by = λ w fits. (tt, fits) }
   every_safe l (c ∷ cs) g = safe_then {P = Any} (safe_change l (made_all c) (λ s f. made_all_fine p typed ms c s g.0 f)) (λ u v. every_safe l cs g.1)
 
@@ -287,11 +287,11 @@ module _ (p : Program) (typed : WellTyped p) (ms : List Mode) (b : Bool) where
   abbrev EventsKept : Calls → ℕ → Type 0
   EventsKept h n = (w : World) → Fits p ms w.store → is_awaited w.store ≡ true → Kept p ms Any (loop n (event_turn h.event) tt w)
 
-  over_or_on : (h : Calls) (n : ℕ) → EventsKept h n → (w : World) → Fits p ms w.store → (c : Bool) → is_awaited w.store ≡ c → Kept p ms Any (and_then (choose c (WentOn (Again tt)) (WentOn (Over tt)) w) (go_on (loop n (event_turn h.event))))
+  over_or_on : (h : Calls) (n : ℕ) → EventsKept h n → (w : World) → Fits p ms w.store → (c : Bool) → is_awaited w.store ≡ c → Kept p ms Any (outcome_then (choose c (WentOn (Again tt)) (WentOn (Over tt)) w) (go_on (loop n (event_turn h.event))))
   over_or_on h n more w fits true q = more w fits q
   over_or_on h n more w fits false q = (tt, fits)
 
-  event_went : (h : Calls) (n : ℕ) → EventsKept h n → (o : Outcome (Unit {0})) → Kept p ms Any o → Kept p ms Any (and_then (and_then o (λ u. next_due)) (go_on (loop n (event_turn h.event))))
+  event_went : (h : Calls) (n : ℕ) → EventsKept h n → (o : Outcome (Unit {0})) → Kept p ms Any o → Kept p ms Any (outcome_then (outcome_then o (λ u. next_due)) (go_on (loop n (event_turn h.event))))
   event_went h n more (WentOn u w) k = over_or_on h n more w k.1 (is_awaited w.store) refl
   event_went h n more (Left Returned w) k = k
   event_went h n more (Left Stopped w) k = k
@@ -299,7 +299,7 @@ module _ (p : Program) (typed : WellTyped p) (ms : List Mode) (b : Bool) where
   event_went h n more (Left OutOfTicks w) k = k
   event_went h n more (Left Wrong w) k = absurd k
 
-  event_ticked : (h : Calls) (n : ℕ) → CallsSafe p h → EventsKept h n → (w : World) → Fits p ms w.store → is_awaited w.store ≡ true → (t : ℕ) → Kept p ms Any (tick_from t (λ w. and_then (event_turn h.event tt w) (go_on (loop n (event_turn h.event)))) w)
+  event_ticked : (h : Calls) (n : ℕ) → CallsSafe p h → EventsKept h n → (w : World) → Fits p ms w.store → is_awaited w.store ≡ true → (t : ℕ) → Kept p ms Any (tick_from t (λ w. outcome_then (event_turn h.event tt w) (go_on (loop n (event_turn h.event)))) w)
   event_ticked h n ok more w fits a zero = fits.sound
   event_ticked h n ok more w fits a (suc t) = event_went h n more (h.event (record w { ticks = t })) (ok.event ms (record w { ticks = t }) fits a)
 
@@ -331,8 +331,8 @@ module _ (p : Program) (typed : WellTyped p) (ms : List Mode) (b : Bool) where
       statement_safe (If l c x y) g = safe_then {P = Any} (safe_look l (holds c) (holds_fine p typed ms b c g.0)) (λ t u. safe_choose t (block_safe x g.1) (block_safe y g.2))
       statement_safe (Loop l guards x) g = guarded_safe n l guards (effects h n x) g.0 (block_safe x g.1)
       statement_safe (For l head ps x) g =
-          safe_then {P = Any} (over_safe n l head (phrases l ps (λ w. and_then (effects h n x w) (λ _. WentOn GoesOn))) g.0
-          (phrases_safe l ps (λ w. and_then (effects h n x w) (λ _. WentOn GoesOn)) g.1 (safe_then {P = Any} (block_safe x g.2) (λ u v. safe_went GoesOn tt)))) (λ u v. safe_went tt tt)
+          safe_then {P = Any} (over_safe n l head (phrases l ps (λ w. outcome_then (effects h n x w) (λ _. WentOn GoesOn))) g.0
+          (phrases_safe l ps (λ w. outcome_then (effects h n x w) (λ _. WentOn GoesOn)) g.1 (safe_then {P = Any} (block_safe x g.2) (λ u v. safe_went GoesOn tt)))) (λ u v. safe_went tt tt)
       statement_safe (Find l head ps x y) g =
           safe_then {P = Any} (over_safe n l head (phrases l ps (WentOn IsFound)) g.0 (phrases_safe l ps (WentOn IsFound) g.1 (safe_went IsFound tt))) (λ t u. safe_choose t (block_safe x g.2) (block_safe y g.3))
       statement_safe (Create l c t) g = give_safe l t Integer (get l (made_one c)) g.1 (safe_get l (made_one c) Integer (λ s f. made_one_fine p typed ms c s g.0 f))

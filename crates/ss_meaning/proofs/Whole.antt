@@ -21,8 +21,8 @@ use Rattle.ss_program.specs.WellTyped.{WellTyped, GoodRoutine, GoodEvent, GoodBl
 use Rattle.ss_meaning.specs.Values.{same_mode}
 use Rattle.ss_meaning.specs.Store.{Column, Store, prepended, first_values, taken_by_modes, appended, opened, front, yielded}
 use Rattle.ss_meaning.specs.Histories.{home, no_history, no_histories, starting}
-use Rattle.ss_meaning.specs.Events.{Beginning, Coming, next_event, begun, is_awaited}
-use Rattle.ss_meaning.specs.Parts.{World, Returned, Stopped, Faulted, OutOfTicks, Wrong, Outcome, WentOn, Left, Part, and_then, needed, take_tick}
+use Rattle.ss_meaning.specs.Events.{Beginning, Coming, next_event, event_begun, is_awaited}
+use Rattle.ss_meaning.specs.Parts.{World, Returned, Stopped, Faulted, OutOfTicks, Wrong, Outcome, WentOn, Left, Part, outcome_then, needed, take_tick}
 use Rattle.ss_meaning.specs.Statements.{Calls, effects}
 use Rattle.ss_meaning.specs.Meaning.{with_locals, go_back, come_back, enclosed, routine_called, event_routine, begin, event_taken, calls, WentWrong, run_of, first_store, first_world, meaning}
 use Rattle.ss_meaning.specs.Fitting.{Hold, made, LivesAs, BearsBy, Has, Sound, Fits}
@@ -97,7 +97,7 @@ other_locals p s ls f = record { globals = f.globals; scene = f.scene }
 back_kept : (p : Program) (ms : List Mode) (P : List Value → Type 0) (first count : ℕ) (ls : List Value) (w : World) → There P (yielded first count w.store.locals) → Sound p w.store → Hold ls ms → Stays p ms P (go_back first count ls w)
 back_kept p ms P first count ls w h f g = by (yielded first count w.store.locals) h
   where
-    by : (o : Option (List Value)) → There P o → Stays p ms P (and_then (needed o w) (λ vs w. WentOn vs (with_locals ls w)))
+    by : (o : Option (List Value)) → There P o → Stays p ms P (outcome_then (needed o w) (λ vs w. WentOn vs (with_locals ls w)))
     by (Some us) q = (q, record { sound = other_locals p w.store ls f; locals = g })
     by None q = absurd q
 
@@ -112,7 +112,7 @@ come_kept p ms ns P first count ls (Left Wrong w) h g k = absurd k
 enclosed_safe : (p : Program) (ms given others : List Mode) (P : List Value → Type 0) (body : Part (Unit {0})) (vs : List Value) (count : ℕ) → Hold vs given → ((us : List Value) → Hold us (given ++ others) → There P (yielded (length given) count us)) → Safe p (given ++ others) Any body → Safe p ms P (enclosed given others body vs count)
 enclosed_safe p ms given others P body vs count q h safe = record { by = λ w fits. by w fits (opened given others vs) (opened_there given others vs q) }
   where
-    by : (w : World) → Fits p ms w.store → (o : Option (List Value)) → There (λ ls. Hold ls (given ++ others)) o → Stays p ms P (and_then (needed o w) (λ ls w. come_back (length given) count w.store.locals (body (with_locals ls w))))
+    by : (w : World) → Fits p ms w.store → (o : Option (List Value)) → There (λ ls. Hold ls (given ++ others)) o → Stays p ms P (outcome_then (needed o w) (λ ls w. come_back (length given) count w.store.locals (body (with_locals ls w))))
     by w fits (Some ls) g =
         come_kept p ms (given ++ others) P (length given) count w.store.locals (body (with_locals ls w)) h fits.locals
         (safe.by (with_locals ls w) (record { sound = other_locals p w.store ls fits.sound; locals = g }))
@@ -167,9 +167,9 @@ module _ (p : Program) (typed : WellTyped p) where
       started_with : (b : Beginning) → BegunAs p typed ms b → Safe p ms Any (λ w. event_routine (slice_get p.events b.rank) h n b.given (record w { store = b.store }))
       started_with b g = record { by = λ w f. (body b g).by (record w { store = b.store }) g.fits }
 
-      by : (o : Option Coming) → There (ComingAs p typed ms) o → Stays p ms Any (and_then (needed o w) (λ c. begin c (λ b. event_routine (slice_get p.events b.rank) h n b.given)))
+      by : (o : Option Coming) → There (ComingAs p typed ms) o → Stays p ms Any (outcome_then (needed o w) (λ c. begin c (λ b. event_routine (slice_get p.events b.rank) h n b.given)))
       by (Some c) g =
-          (safe_then {P = BegunAs p typed ms} (safe_looked c.ranked.said.line (begun c) (begun_fine p typed ms c g)) started_with).by w fits
+          (safe_then {P = BegunAs p typed ms} (safe_looked c.ranked.said.line (event_begun c) (begun_fine p typed ms c g)) started_with).by w fits
       by None g = absurd g
 
   pub calls_safe : (n : ℕ) → CallsSafe p (calls p n)

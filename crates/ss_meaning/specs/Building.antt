@@ -12,7 +12,7 @@ use Rattle.ss_base.specs.declared.layout.Owner.TheVariants.{System, Class}
 use Rattle.ss_base.specs.declared.layout.Discipline.{Discipline}
 use Rattle.ss_base.specs.declared.layout.Discipline.TheVariants.{Fifo, Ranked}
 use Rattle.ss_program.specs.declared.expression.Variable.TheVariants.{Global, Local}
-use Rattle.ss_program.specs.declared.statement.Counted.{Counted}
+use Rattle.ss_program.specs.declared.statement.CountedClass.{CountedClass}
 use Rattle.ss_program.specs.Program.{Expression, Constant, Fetch, AValue, Test, Condition, Place, ToVariable, Statement, Print, Block, Done, Then, Program}
 use Rattle.ss_meaning.specs.Meaning.{Ending, Ended, Fault, Paused, Run}
 
@@ -82,7 +82,7 @@ tool = 2
 abbrev pub bell : ℕ
 bell = 3
 
-abbrev pub machines : Counted
+abbrev pub machines : CountedClass
 machines = record { class = machine; variable = 4 }
 
 abbrev pub queue : ℕ

@@ -11,7 +11,7 @@ use Rattle.ss_base.specs.declared.layout.Owner.TheVariants.{Class}
 use Rattle.ss_world.specs.State.{State, modes_of, known_in, value_in, time_in, created, created_all, records_in, destroyed}
 use Rattle.ss_world.specs.PendingList.{is_pending}
 use Rattle.ss_program.specs.declared.expression.Variable.TheVariants.{Global}
-use Rattle.ss_program.specs.declared.statement.Counted.{Counted}
+use Rattle.ss_program.specs.declared.statement.CountedClass.{CountedClass}
 use Rattle.ss_meaning.specs.Values.{Trouble, if_ok, turned, due, sure, where_fit, unless_fault, number_of}
 use Rattle.ss_meaning.specs.Store.{Store, with_heap, fetched}
 use Rattle.ss_meaning.specs.Histories.{started, all_started, ended}
@@ -74,7 +74,7 @@ made_one class s = where_fit (is_single (class_at class s)) (turned (with_new cl
 abbrev pub with_all : ℕ → Store → State → Store
 with_all class s h = let t : Store = with_heap s h in all_started class (made_count class t) t
 
-abbrev pub made_all : Counted → Store → Result Store Trouble
+abbrev pub made_all : CountedClass → Store → Result Store Trouble
 made_all c s =
     if_ok (sure (fetched (Global c.variable) s)) (λ v. if_ok (number_of v) (λ n.
     where_fit (is_permanent (class_at c.class s)) (turned (with_all c.class s) (due (created_all s.scene.heap c.class n)))))

@@ -44,12 +44,12 @@ endowed class field x [] s = Ok s
 endowed class field x (v ∷ vs) s = if_ok (assigned_attribute class field x v s) (endowed class (field + 1) x vs)
 
 -- the store once TIME.A of a notice is set
-abbrev pub with_time : (x : Value) → (time : ℤ) → Store → Result Store Trouble
-with_time x t s = if_ok (number_of x) (λ n. turned (with_heap s) (due (timed s.scene.heap n t)))
+abbrev pub with_notice_time : (x : Value) → (time : ℤ) → Store → Result Store Trouble
+with_notice_time x t s = if_ok (number_of x) (λ n. turned (with_heap s) (due (timed s.scene.heap n t)))
 
 -- a notice gets values as its first attributes, and its time
 abbrev pub prepared : (class : ℕ) → (x : Value) → List Value → (time : ℤ) → Store → Result Store Trouble
-prepared class x given t s = if_ok (endowed class 0 x given s) (with_time x t)
+prepared class x given t s = if_ok (endowed class 0 x given s) (with_notice_time x t)
 
 -- a new notice, and the store with it
 abbrev pub made_notice : (class : ℕ) → List Value → (time : ℤ) → Store → Result (Value × Store) Trouble
@@ -139,8 +139,8 @@ abbrev pub next_event : Store → Option Coming
 next_event s = coming_with (next s.scene.pending) s
 
 -- an event begins
-abbrev pub begun : Coming → Result Beginning Trouble
-begun c =
+abbrev pub event_begun : Coming → Result Beginning Trouble
+event_begun c =
     if_ok (attributes_given c.ranked.said.class 0 c.ranked.said.given c.notice c.store) (λ vs.
     turned (λ t. record { rank = c.ranked.rank; given = vs; store = t })
     (saved_or_gone c.ranked.said.saved c.ranked.said.class c.notice c.store))

@@ -5,8 +5,8 @@ use Rattle.ss_input.specs.Words.{is_ended}
 use Rattle.ss_program.specs.declared.head.GuardKind.{GuardKind}
 use Rattle.ss_program.specs.declared.head.GuardKind.TheVariants.{While, Until}
 use Rattle.ss_program.specs.Program.{Expression, Constant, Fetch, Attribute, OfSystemSet, OfSet, OfMember, Clock, TimeOf, Figure, FigureOf, Signed, Absolute, Calculate, SetOwner, TheSystem, Entity, Test, Compare, DataEnded, Empty, Member, Condition, Guard, Place, ToVariable, ToAttribute, ToCount, Position, ByDiscipline, AsFirst, AsLast, BeforeMember, AfterMember, When, At, In, Now, Item, AValue, AMean, AMeanOf}
-use Rattle.ss_picture.specs.declared.items.Item.{Item as Shown}
-use Rattle.ss_picture.specs.declared.items.Item.TheVariants.{Is, Mean}
+use Rattle.ss_picture.specs.declared.items.FieldValue.{FieldValue as Shown}
+use Rattle.ss_picture.specs.declared.items.FieldValue.TheVariants.{Is, Mean}
 use Rattle.ss_meaning.specs.Values.{Trouble, if_ok, turned, due, sure, calculated, signed, absolute, related}
 use Rattle.ss_meaning.specs.Store.{Store, fetched}
 use Rattle.ss_meaning.specs.Entities.{entity, attribute, time_of}

@@ -4,11 +4,12 @@ use Rattle.std.specs.Ordering.{int_eq}
 use Rattle.ss_base.specs.declared.fault.FaultKind.TheVariants.{Overflow}
 use Rattle.ss_base.specs.declared.value.Value.{Value}
 use Rattle.ss_base.specs.declared.value.Value.TheVariants.{Whole}
+use Rattle.ss_base.specs.Layout.{same_owner}
 use Rattle.ss_base.specs.declared.layout.Owner.{Owner}
 use Rattle.ss_base.specs.declared.layout.Owner.TheVariants.{System, Class}
 use Rattle.ss_base.specs.declared.layout.Layout.{Layout}
 use Rattle.ss_world.specs.Sets.{owner_kind}
-use Rattle.ss_stats.specs.History.{History, Tally, Accumulate, is_full, with_value, restarted, number_noted as count_of, sum_of, mean_of, maximum_of, minimum_of}
+use Rattle.ss_stats.specs.History.{History, Tally, Accumulate, is_full, with_noted_value, restarted, number_noted as count_of, sum_of, mean_of, maximum_of, minimum_of}
 use Rattle.ss_program.specs.declared.expression.Fold.{Fold}
 use Rattle.ss_program.specs.declared.expression.Fold.TheVariants.{Number, Sum, Maximum, Minimum}
 use Rattle.ss_program.specs.declared.sections.Subject.{Subject}
@@ -37,12 +38,6 @@ abbrev pub home : Layout → Subject → Owner
 home l (OfVariable k) = System
 home l (OfAttribute class field) = Class class
 home l (OfCount set) = owner_kind l set
-
-abbrev pub same_owner : Owner → Owner → Bool
-same_owner System System = true
-same_owner System (Class d) = false
-same_owner (Class c) System = false
-same_owner (Class c) (Class d) = c == d
 
 -- a history as it starts, with the value 0
 abbrev pub at_start : Weighting → (now : ℤ) → History
@@ -104,7 +99,7 @@ with_history x h c y = if int_eq x y then Some h else c y
 abbrev pub noting_in : (entity now : ℤ) → Value → Option History → Column → Result Column Trouble
 noting_in x now v None c = Err Misfit
 noting_in x now v (Some h) c =
-    if_ok (number_of v) (λ z. unless_fault (is_full h) Overflow (Ok (with_history x (with_value h now z) c)))
+    if_ok (number_of v) (λ z. unless_fault (is_full h) Overflow (Ok (with_history x (with_noted_value h now z) c)))
 
 abbrev pub noting : (entity now : ℤ) → Value → Column → Result Column Trouble
 noting x now v c = noting_in x now v (c x) c

@@ -15,7 +15,7 @@ use Rattle.ss_meaning.specs.Entities.{class_at, is_permanent, made_count}
 use Rattle.ss_meaning.specs.Places.{InVariable}
 use Rattle.ss_meaning.specs.Sets.{is_none, begun, begun_at, coming, goes_on}
 use Rattle.ss_meaning.specs.Expressions.{value, value_if_any, member_value, owner_value, owner_looked_at, holds, all_pass}
-use Rattle.ss_meaning.specs.Parts.{Part, WentOn, and_then, choose, look, write, take_tick, Next, Again, Over, loop}
+use Rattle.ss_meaning.specs.Parts.{Part, WentOn, outcome_then, choose, look, write, take_tick, Next, Again, Over, loop}
 
 -- ## Phrases
 
@@ -35,11 +35,11 @@ phrase kinds.Until b more = choose b (WentOn EndsLoop) more
 -- the phrases in the order in which they are written, and then what the loop does
 abbrev pub phrases : Line → List Phrase → Part Turn → Part Turn
 phrases l [] turn w = turn w
-phrases l (p ∷ ps) turn w = and_then (look l (holds p.condition) w) (λ b. phrase p.kind b (phrases l ps turn))
+phrases l (p ∷ ps) turn w = outcome_then (look l (holds p.condition) w) (λ b. phrase p.kind b (phrases l ps turn))
 
 -- a candidate is assigned to the variable of the loop, and then comes its turn
 abbrev pub visit : Line → Variable → Part Turn → ℤ → Part Turn
-visit l x turn v w = and_then (write l (InVariable x) (Whole v) w) (λ _. turn)
+visit l x turn v w = outcome_then (write l (InVariable x) (Whole v) w) (λ _. turn)
 
 -- ## FOR over numbers, and over the entities of a permanent class: whether the case was found
 
@@ -71,7 +71,7 @@ after_turn IsFound later = WentOn true
 -- the candidates of a list in turn, a tick for each
 abbrev pub over_items : (go : ℤ → Part Turn) → List ℤ → Part Bool
 over_items go [] w = WentOn false w
-over_items go (i ∷ is) w = take_tick (λ w. and_then (go i w) (λ t. after_turn t (over_items go is))) w
+over_items go (i ∷ is) w = take_tick (λ w. outcome_then (go i w) (λ t. after_turn t (over_items go is))) w
 
 abbrev pub step_number : Option Value → Result ℤ Trouble
 step_number None = Ok (pos 1)
@@ -102,22 +102,22 @@ from_member after reverse set owner e s =
     if_ok (owner_looked_at set owner s) (λ o. if_ok (member_value set e s) (λ y.
     turned (λ x. record { first = x; owner = o }) (begun_at reverse after set y o s)))
 
-abbrev pub outset : Start → (reverse : Bool) → (set : ℕ) → SetOwner → Store → Result Outset Trouble
-outset AtEnd reverse set owner s =
+abbrev pub loop_outset : Start → (reverse : Bool) → (set : ℕ) → SetOwner → Store → Result Outset Trouble
+loop_outset AtEnd reverse set owner s =
     if_ok (owner_value owner s) (λ o. turned (λ x. record { first = x; owner = o }) (begun reverse set o s))
-outset (From e) reverse set owner s = from_member false reverse set owner e s
-outset (After e) reverse set owner s = from_member true reverse set owner e s
+loop_outset (From e) reverse set owner s = from_member false reverse set owner e s
+loop_outset (After e) reverse set owner s = from_member true reverse set owner e s
 
 -- the next member, which was fixed before
 abbrev pub next_member : Line → (set : ℕ) → Option Value → (next : ℤ) → Turn → Part (Next ℤ Bool)
-next_member l set o x GoesOn w = and_then (look l (goes_on set x o) w) (λ b. choose b (WentOn (Again x)) (WentOn (Over false)))
+next_member l set o x GoesOn w = outcome_then (look l (goes_on set x o) w) (λ b. choose b (WentOn (Again x)) (WentOn (Over false)))
 next_member l set o x EndsLoop w = WentOn (Over false) w
 next_member l set o x IsFound w = WentOn (Over true) w
 
 -- the turn of a member: the one after it is fixed as the turn begins
 abbrev pub member_turn : Line → (set : ℕ) → (reverse : Bool) → Option Value → (go : ℤ → Part Turn) → ℤ → Part (Next ℤ Bool)
 member_turn l set reverse o go x w =
-    and_then (look l (coming reverse set x) w) (λ next w. and_then (go x w) (next_member l set o next))
+    outcome_then (look l (coming reverse set x) w) (λ next w. outcome_then (go x w) (next_member l set o next))
 
 abbrev pub over_members : ℕ → Line → (set : ℕ) → (reverse : Bool) → (go : ℤ → Part Turn) → Outset → Part Bool
 over_members n l set reverse go b =
@@ -127,16 +127,16 @@ over_members n l set reverse go b =
 
 -- a FOR that makes at most n turns: whether the case was found. With n ticks no more than the first n + 1 items are reached
 abbrev pub over : ℕ → Line → Head → Part Turn → Part Bool
-over n l (Numbers x a b c) turn w = and_then (look l (range a b c) w) (λ r. over_items (visit l x turn) (range_items (suc n) r))
-over n l (Each x class) turn w = and_then (look l (indices class) w) (λ r. over_items (visit l x turn) (range_items (suc n) r))
+over n l (Numbers x a b c) turn w = outcome_then (look l (range a b c) w) (λ r. over_items (visit l x turn) (range_items (suc n) r))
+over n l (Each x class) turn w = outcome_then (look l (indices class) w) (λ r. over_items (visit l x turn) (range_items (suc n) r))
 over n l (Members x set owner start reverse) turn w =
-    and_then (look l (outset start reverse set owner) w) (over_members n l set reverse (visit l x turn))
+    outcome_then (look l (loop_outset start reverse set owner) w) (over_members n l set reverse (visit l x turn))
 
 -- a turn of a loop led by conditions, which are tested again after it
 abbrev pub guarded_turn : Line → List Guard → (body : Part (Unit {0})) → Unit {0} → Part (Next (Unit {0}) (Unit {0}))
 guarded_turn l guards body u w =
-    and_then (body w) (λ _ w. and_then (look l (all_pass guards) w) (λ b. choose b (WentOn (Again tt)) (WentOn (Over tt))))
+    outcome_then (body w) (λ _ w. outcome_then (look l (all_pass guards) w) (λ b. choose b (WentOn (Again tt)) (WentOn (Over tt))))
 
 abbrev pub guarded : ℕ → Line → List Guard → (body : Part (Unit {0})) → Part (Unit {0})
 guarded n l guards body w =
-    and_then (look l (all_pass guards) w) (λ b. choose b (loop n (guarded_turn l guards body) tt) (WentOn tt))
+    outcome_then (look l (all_pass guards) w) (λ b. choose b (loop n (guarded_turn l guards body) tt) (WentOn tt))

@@ -18,8 +18,8 @@ use Rattle.ss_world.specs.PendingList.{none_pending}
 use Rattle.ss_program.specs.Program.{Routine, Event, Program}
 use Rattle.ss_meaning.specs.Store.{Notices, Setting, Scene, Store, first_values, opened, yielded}
 use Rattle.ss_meaning.specs.Histories.{no_histories, started}
-use Rattle.ss_meaning.specs.Events.{Beginning, Coming, next_event, begun}
-use Rattle.ss_meaning.specs.Parts.{World, Exit, Returned, Stopped, Faulted, OutOfTicks, Wrong, Outcome, WentOn, Left, Part, and_then, then_nothing, looked, needed, take_tick}
+use Rattle.ss_meaning.specs.Events.{Beginning, Coming, next_event, event_begun}
+use Rattle.ss_meaning.specs.Parts.{World, Exit, Returned, Stopped, Faulted, OutOfTicks, Wrong, Outcome, WentOn, Left, Part, outcome_then, then_nothing, looked, needed, take_tick}
 use Rattle.ss_meaning.specs.Statements.{Calls, effects}
 
 -- ## Routines
@@ -30,7 +30,7 @@ with_locals ls w = record w { store = record w.store { locals = ls } }
 
 -- after a routine: the values of so many variables from a number on, and the caller's own variables
 abbrev pub go_back : (first count : ℕ) → List Value → Part (List Value)
-go_back first count ls w = and_then (needed (yielded first count w.store.locals) w) (λ vs w. WentOn vs (with_locals ls w))
+go_back first count ls w = outcome_then (needed (yielded first count w.store.locals) w) (λ vs w. WentOn vs (with_locals ls w))
 
 abbrev pub come_back : (first count : ℕ) → List Value → Outcome (Unit {0}) → Outcome (List Value)
 come_back first count ls (WentOn u w) = go_back first count ls w
@@ -44,7 +44,7 @@ come_back first count ls (Left Wrong w) = Left Wrong w
 -- many of the others
 abbrev pub enclosed : (given others : List Mode) → (body : Part (Unit {0})) → List Value → (count : ℕ) → Part (List Value)
 enclosed given others body vs count w =
-    and_then (needed (opened given others vs) w) (λ ls w. come_back (length given) count w.store.locals (body (with_locals ls w)))
+    outcome_then (needed (opened given others vs) w) (λ ls w. come_back (length given) count w.store.locals (body (with_locals ls w)))
 
 -- a routine yields as many values as it says
 abbrev pub routine_called : Option Routine → Calls → ℕ → List Value → (yielding : ℕ) → Part (List Value)
@@ -60,11 +60,11 @@ event_routine (Some e) h n vs w = then_nothing (enclosed e.given e.others (effec
 
 -- an event begins, at the line of its routine, and then comes the body
 abbrev pub begin : Coming → (Beginning → Part (Unit {0})) → Part (Unit {0})
-begin c go w = and_then (looked c.ranked.said.line (begun c) w) (λ b w. go b (record w { store = b.store }))
+begin c go w = outcome_then (looked c.ranked.said.line (event_begun c) w) (λ b w. go b (record w { store = b.store }))
 
 abbrev pub event_taken : List Event → Calls → ℕ → Part (Unit {0})
 event_taken es h n w =
-    and_then (needed (next_event w.store) w) (λ c. begin c (λ b. event_routine (slice_get es b.rank) h n b.given))
+    outcome_then (needed (next_event w.store) w) (λ c. begin c (λ b. event_routine (slice_get es b.rank) h n b.given))
 
 -- ## The whole
 

@@ -31,13 +31,13 @@ abbrev pub Part : Type 0 → Type 0
 Part A = World → Outcome A
 
 -- one part, and then another that takes its value
-abbrev pub and_then : {A B : Type 0} → Outcome A → (A → Part B) → Outcome B
-and_then (WentOn a w) go = go a w
-and_then (Left e w) go = Left e w
+abbrev pub outcome_then : {A B : Type 0} → Outcome A → (A → Part B) → Outcome B
+outcome_then (WentOn a w) go = go a w
+outcome_then (Left e w) go = Left e w
 
 -- a part whose value is not needed
 abbrev pub then_nothing : {A : Type 0} → Outcome A → Outcome (Unit {0})
-then_nothing o = and_then o (λ _. WentOn tt)
+then_nothing o = outcome_then o (λ _. WentOn tt)
 
 abbrev pub choose : {A : Type 0} → Bool → Part A → Part A → Part A
 choose true a b w = a w
@@ -65,14 +65,14 @@ settle s w = WentOn tt (record w { store = s })
 
 -- changes the store
 abbrev pub change : Line → (Store → Result Store Trouble) → Part (Unit {0})
-change l f w = and_then (look l f w) settle
+change l f w = outcome_then (look l f w) settle
 
 -- changes the store, and gives a value
 abbrev pub settle_with : Value × Store → Part Value
 settle_with b w = WentOn b.0 (record w { store = b.1 })
 
 abbrev pub get : Line → (Store → Result (Value × Store) Trouble) → Part Value
-get l f w = and_then (look l f w) settle_with
+get l f w = outcome_then (look l f w) settle_with
 
 -- the one write: a value is assigned to a place
 abbrev pub write : Line → Spot → Value → Part (Unit {0})
@@ -104,4 +104,4 @@ go_on more (Over a) w = WentOn a w
 -- a loop whose turns take a tick each, from c on. It makes at most n turns, and no more than n ticks are ever left
 abbrev pub loop : {C A : Type 0} → ℕ → (turn : C → Part (Next C A)) → C → Part A
 loop zero turn c w = Left OutOfTicks w
-loop (suc n) turn c w = take_tick (λ w. and_then (turn c w) (go_on (loop n turn))) w
+loop (suc n) turn c w = take_tick (λ w. outcome_then (turn c w) (go_on (loop n turn))) w

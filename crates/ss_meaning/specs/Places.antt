@@ -8,7 +8,7 @@ use Rattle.ss_world.specs.State.{assigned, is_made}
 use Rattle.ss_program.specs.declared.expression.Variable.{Variable}
 use Rattle.ss_program.specs.declared.expression.Variable.TheVariants.{Global, Local}
 use Rattle.ss_program.specs.declared.sections.Subject.TheVariants.{OfVariable, OfAttribute}
-use Rattle.ss_program.specs.declared.statement.Counted.{Counted}
+use Rattle.ss_program.specs.declared.statement.CountedClass.{CountedClass}
 use Rattle.ss_meaning.specs.Values.{Trouble, same_mode, if_ok, due, sure, where_fit, unless_fault}
 use Rattle.ss_meaning.specs.Store.{Store, with_heap, fetched, put}
 use Rattle.ss_meaning.specs.Histories.{noted}
@@ -18,7 +18,7 @@ use Rattle.ss_meaning.specs.Entities.{class_at, field_at, entity, attribute, is_
 pub data Spot : Type 0 where
   InVariable : Variable → Spot
   InAttribute : (class field : ℕ) (x : Value) → Spot
-  InCount : Counted → Spot
+  InCount : CountedClass → Spot
 
 -- what a place holds
 abbrev pub held : Spot → Store → Result Value Trouble
@@ -42,7 +42,7 @@ assigned_attribute class field x v s =
     (if_ok (due (assigned s.scene.heap class field n v)) (λ h. noted (OfAttribute class field) n v (with_heap s h))))
 
 -- N. of a permanent class is assigned a value, until its entities are made
-abbrev pub assigned_count : Counted → Value → Store → Result Store Trouble
+abbrev pub assigned_count : CountedClass → Value → Store → Result Store Trouble
 assigned_count c v s =
     where_fit (is_permanent (class_at c.class s))
     (unless_fault (is_made s.scene.heap c.class) CreatedTwice (assigned_variable (Global c.variable) v s))

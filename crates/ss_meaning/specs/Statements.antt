@@ -6,7 +6,7 @@ use Rattle.ss_base.specs.declared.layout.Mode.{Mode}
 use Rattle.ss_input.specs.Words.{Given, value_given}
 use Rattle.ss_program.specs.declared.expression.Sign.{Sign}
 use Rattle.ss_program.specs.declared.statement.End.{End}
-use Rattle.ss_program.specs.declared.statement.Counted.{Counted}
+use Rattle.ss_program.specs.declared.statement.CountedClass.{CountedClass}
 use Rattle.ss_program.specs.Program.{Expression, Item, SetOwner, Place, Target, Position, When, Restart, Statement, Let, Change, Call, Return, Stop, Read, Simulate, If, Loop, For, Find, Create, CreateEvery, Destroy, File, RemoveEnd, Remove, ScheduleNew, Schedule, Cancel, Reset, Print, Skip, Block, Done, Then}
 use Rattle.ss_meaning.specs.Values.{Trouble, if_ok, turned, due, sure, calculated, operator_of, printed, empty_lines}
 use Rattle.ss_meaning.specs.Store.{Store}
@@ -16,27 +16,27 @@ use Rattle.ss_meaning.specs.Sets.{filed_in, removed_from, removed_at}
 use Rattle.ss_meaning.specs.Events.{made_notice, filed_notice, rescheduled, unscheduled, is_awaited}
 use Rattle.ss_meaning.specs.Statistics.{reset}
 use Rattle.ss_meaning.specs.Expressions.{value, values, shown_items, value_if_any, entity_value, member_value, owner_value, spot, filing, time_value, holds}
-use Rattle.ss_meaning.specs.Parts.{Returned, Stopped, Wrong, WentOn, Left, Part, and_then, then_nothing, choose, look, change, get, write, send, Next, Again, Over, loop}
+use Rattle.ss_meaning.specs.Parts.{Returned, Stopped, Wrong, WentOn, Left, Part, outcome_then, then_nothing, choose, look, change, get, write, send, Next, Again, Over, loop}
 use Rattle.ss_meaning.specs.Loops.{GoesOn, IsFound, phrases, over, guarded}
 
 -- ## Values that go to places
 
 -- a place is resolved, a value comes, and is written
 abbrev pub give_to : Line → Place → Part Value → Part (Unit {0})
-give_to l t source w = and_then (look l (spot t) w) (λ p w. and_then (source w) (write l p))
+give_to l t source w = outcome_then (look l (spot t) w) (λ p w. outcome_then (source w) (write l p))
 
 -- each place is resolved and takes a value, in turn
 abbrev pub give_each : Line → List Place → List Value → Part (Unit {0})
 give_each l [] [] w = WentOn tt w
 give_each l [] (v ∷ vs) w = Left Wrong w
 give_each l (t ∷ ts) [] w = Left Wrong w
-give_each l (t ∷ ts) (v ∷ vs) w = and_then (give_to l t (WentOn v) w) (λ _. give_each l ts vs)
+give_each l (t ∷ ts) (v ∷ vs) w = outcome_then (give_to l t (WentOn v) w) (λ _. give_each l ts vs)
 
 -- ADD and SUBTRACT: the value, then the place, then what it held
 abbrev pub change_by : Line → Sign → Place → Expression → Part (Unit {0})
 change_by l sign t e w =
-    and_then (look l (value e) w) (λ y w. and_then (look l (spot t) w) (λ p w.
-    and_then (look l (λ s. if_ok (held p s) (λ x. calculated (operator_of sign) x y)) w) (write l p)))
+    outcome_then (look l (value e) w) (λ y w. outcome_then (look l (spot t) w) (λ p w.
+    outcome_then (look l (λ s. if_ok (held p s) (λ x. calculated (operator_of sign) x y)) w) (write l p)))
 
 -- ## Input and output
 
@@ -44,63 +44,63 @@ change_by l sign t e w =
 abbrev pub with_input : Store → Given Value → Value × Store
 with_input s g = (g.value, record s { scene = record s.scene { input = g.rest } })
 
-abbrev pub read_word : Mode → Store → Result (Value × Store) Trouble
-read_word mode s = turned (with_input s) (due (value_given mode s.scene.input))
+abbrev pub read_value : Mode → Store → Result (Value × Store) Trouble
+read_value mode s = turned (with_input s) (due (value_given mode s.scene.input))
 
 abbrev pub read_each : Line → List Target → Part (Unit {0})
 read_each l [] w = WentOn tt w
-read_each l (t ∷ ts) w = and_then (give_to l t.place (get l (read_word t.mode)) w) (λ _. read_each l ts)
+read_each l (t ∷ ts) w = outcome_then (give_to l t.place (get l (read_value t.mode)) w) (λ _. read_each l ts)
 
 -- the items, and then the lines with them
 abbrev pub print : Line → List Item → List (List ℕ) → Part (Unit {0})
 print l shown pictures w =
-    and_then (look l (λ s. if_ok (shown_items shown s) (λ xs. sure (printed pictures xs))) w) send
+    outcome_then (look l (λ s. if_ok (shown_items shown s) (λ xs. sure (printed pictures xs))) w) send
 
 -- ## Entities and sets
 
-abbrev pub create_every : Line → List Counted → Part (Unit {0})
+abbrev pub create_every : Line → List CountedClass → Part (Unit {0})
 create_every l [] w = WentOn tt w
-create_every l (c ∷ cs) w = and_then (change l (made_all c) w) (λ _. create_every l cs)
+create_every l (c ∷ cs) w = outcome_then (change l (made_all c) w) (λ _. create_every l cs)
 
 abbrev pub destroy : Line → (class : ℕ) → Expression → Part (Unit {0})
-destroy l class e w = and_then (look l (value e) w) (λ x. change l (without class x))
+destroy l class e w = outcome_then (look l (value e) w) (λ x. change l (without class x))
 
 -- the member, then the one beside it, then the owner
 abbrev pub file : Line → (set : ℕ) → Expression → Position → SetOwner → Part (Unit {0})
 file l set e position owner w =
-    and_then (look l (member_value set e) w) (λ x w. and_then (look l (filing set position) w) (λ f w.
-    and_then (look l (owner_value owner) w) (λ o. change l (filed_in f set x o))))
+    outcome_then (look l (member_value set e) w) (λ x w. outcome_then (look l (filing set position) w) (λ f w.
+    outcome_then (look l (owner_value owner) w) (λ o. change l (filed_in f set x o))))
 
 abbrev pub remove : Line → (set : ℕ) → Expression → SetOwner → Part (Unit {0})
 remove l set e owner w =
-    and_then (look l (member_value set e) w) (λ x w. and_then (look l (owner_value owner) w) (λ o. change l (removed_from set x o)))
+    outcome_then (look l (member_value set e) w) (λ x w. outcome_then (look l (owner_value owner) w) (λ o. change l (removed_from set x o)))
 
 abbrev pub remove_end : Line → End → (set : ℕ) → SetOwner → Part Value
-remove_end l end set owner w = and_then (look l (owner_value owner) w) (λ o. get l (removed_at end set o))
+remove_end l end set owner w = outcome_then (look l (owner_value owner) w) (λ o. get l (removed_at end set o))
 
 -- ## Events
 
 -- the place, the values, the time, the notice with its attributes; it is written, and then filed among those that are pending
 abbrev pub schedule_new : Line → (class : ℕ) → Place → List Expression → When → Part (Unit {0})
 schedule_new l class t given when w =
-    and_then (look l (spot t) w) (λ p w. and_then (look l (values given) w) (λ vs w. and_then (look l (time_value when) w) (λ time w.
-    and_then (get l (made_notice class vs time) w) (λ x w. and_then (write l p x w) (λ _. change l (filed_notice class x time))))))
+    outcome_then (look l (spot t) w) (λ p w. outcome_then (look l (values given) w) (λ vs w. outcome_then (look l (time_value when) w) (λ time w.
+    outcome_then (get l (made_notice class vs time) w) (λ x w. outcome_then (write l p x w) (λ _. change l (filed_notice class x time))))))
 
 -- the notice, the values, the time
 abbrev pub schedule : Line → (class : ℕ) → Expression → List Expression → When → Part (Unit {0})
 schedule l class e given when w =
-    and_then (look l (entity_value class e) w) (λ x w. and_then (look l (values given) w) (λ vs w.
-    and_then (look l (time_value when) w) (λ time. change l (rescheduled class x vs time))))
+    outcome_then (look l (entity_value class e) w) (λ x w. outcome_then (look l (values given) w) (λ vs w.
+    outcome_then (look l (time_value when) w) (λ time. change l (rescheduled class x vs time))))
 
 abbrev pub cancel : Line → (class : ℕ) → Expression → Part (Unit {0})
-cancel l class e w = and_then (look l (value e) w) (λ x. change l (unscheduled class x))
+cancel l class e w = outcome_then (look l (value e) w) (λ x. change l (unscheduled class x))
 
 -- whether another event is due
 abbrev pub next_due : Part (Next (Unit {0}) (Unit {0}))
 next_due w = choose (is_awaited w.store) (WentOn (Again tt)) (WentOn (Over tt)) w
 
 abbrev pub event_turn : (event : Part (Unit {0})) → Unit {0} → Part (Next (Unit {0}) (Unit {0}))
-event_turn event u w = and_then (event w) (λ _. next_due)
+event_turn event u w = outcome_then (event w) (λ _. next_due)
 
 -- event after event, a tick for each, until none is pending
 abbrev pub simulate : ℕ → (event : Part (Unit {0})) → Part (Unit {0})
@@ -111,7 +111,7 @@ simulate n event w = choose (is_awaited w.store) (loop n (event_turn event) tt) 
 abbrev pub restart_each : Line → List Restart → Part (Unit {0})
 restart_each l [] w = WentOn tt w
 restart_each l (r ∷ rs) w =
-    and_then (and_then (look l (value_if_any r.of) w) (λ x. change l (reset r.statistic x))) (λ _. restart_each l rs)
+    outcome_then (outcome_then (look l (value_if_any r.of) w) (λ x. change l (reset r.statistic x))) (λ _. restart_each l rs)
 
 -- ## Statements
 
@@ -126,17 +126,17 @@ abbrev mutual
   effect h n (Let l t e) w = give_to l t (look l (value e)) w
   effect h n (Change l sign t e) w = change_by l sign t e w
   effect h n (Call l routine given yielding) w =
-      and_then (look l (values given) w) (λ vs w. and_then (h.call routine vs (length yielding) w) (give_each l yielding))
+      outcome_then (look l (values given) w) (λ vs w. outcome_then (h.call routine vs (length yielding) w) (give_each l yielding))
   effect h n Return w = Left Returned w
   effect h n Stop w = Left Stopped w
   effect h n (Read l targets) w = read_each l targets w
   effect h n Simulate w = simulate n h.event w
-  effect h n (If l c a b) w = and_then (look l (holds c) w) (λ t. choose t (effects h n a) (effects h n b))
+  effect h n (If l c a b) w = outcome_then (look l (holds c) w) (λ t. choose t (effects h n a) (effects h n b))
   effect h n (Loop l guards a) w = guarded n l guards (effects h n a) w
   effect h n (For l head ps a) w =
-      then_nothing (over n l head (phrases l ps (λ w. and_then (effects h n a w) (λ _. WentOn GoesOn))) w)
+      then_nothing (over n l head (phrases l ps (λ w. outcome_then (effects h n a w) (λ _. WentOn GoesOn))) w)
   effect h n (Find l head ps a b) w =
-      and_then (over n l head (phrases l ps (WentOn IsFound)) w) (λ t. choose t (effects h n a) (effects h n b))
+      outcome_then (over n l head (phrases l ps (WentOn IsFound)) w) (λ t. choose t (effects h n a) (effects h n b))
   effect h n (Create l class t) w = give_to l t (get l (made_one class)) w
   effect h n (CreateEvery l classes) w = create_every l classes w
   effect h n (Destroy l class e) w = destroy l class e w
@@ -148,9 +148,9 @@ abbrev mutual
   effect h n (Cancel l class e) w = cancel l class e w
   effect h n (Reset l restarts) w = restart_each l restarts w
   effect h n (Print l shown_items pictures) w = print l shown_items pictures w
-  effect h n (Skip l e) w = and_then (look l (λ s. if_ok (value e s) empty_lines) w) send
+  effect h n (Skip l e) w = outcome_then (look l (λ s. if_ok (value e s) empty_lines) w) send
 
   -- one statement after another
   pub effects : Calls → ℕ → Block → Part (Unit {0})
   effects h n Done w = WentOn tt w
-  effects h n (Then s rest) w = and_then (effect h n s w) (λ _. effects h n rest)
+  effects h n (Then s rest) w = outcome_then (effect h n s w) (λ _. effects h n rest)

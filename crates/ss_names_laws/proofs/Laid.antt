@@ -27,7 +27,7 @@ use Rattle.ss_names.specs.Table.{Table}
 use Rattle.ss_program.specs.declared.sections.Statistic.{Statistic}
 use Rattle.ss_program.specs.declared.sections.Subject.{Subject}
 use Rattle.ss_program.specs.declared.sections.Subject.TheVariants.{OfVariable, OfAttribute, OfCount}
-use Rattle.ss_program.specs.declared.statement.Counted.{Counted}
+use Rattle.ss_program.specs.declared.statement.CountedClass.{CountedClass}
 use Rattle.ss_names_meaning.specs.Answers.{each, where_holds}
 use Rattle.ss_names_meaning.specs.Layouts.{attribute_named, class_laid, counted_kind, counted_variable, counts, discipline, discipline_ordered, discipline_ruled, field_mode, global_mode, key_of, layout, rank_keys, ranked_by, set_laid, statistic_kept, subject_of, tie_keys, tied_by}
 use Rattle.ss_names_meaning.specs.Words.{class_kind, mode_given, weighting_of}
@@ -128,13 +128,13 @@ module _ (t : Table) (is : IsTable t) (k : IsValidTable t) where
       let mode = value_mode_there (Some e.0.1.mode) (k.said.variable_modes n e.0.1 variable) in
       (mode.0, rw variable mode.1)
 
-  counted_there : (n : ℕ) → n < length t.variables → (found : List Counted) × (counted_variable t n ≡ Some found)
+  counted_there : (n : ℕ) → n < length t.variables → (found : List CountedClass) × (counted_variable t n ≡ Some found)
   counted_there n lt =
       let e = there t.variables n lt in
       let variable = value_at t.variables n e.0.0 e.0.1 e.1 in
       (counted_kind n e.0.1.kind, rw variable refl)
 
-  counts_there : (counted : List Counted) × (counts t ≡ Some counted)
+  counts_there : (counted : List CountedClass) × (counts t ≡ Some counted)
   counts_there =
       let found = numbers_there (counted_variable t) (length t.variables) counted_there in
       (flat_map (λ them. them) found.0, rw found.1 refl)

@@ -35,7 +35,7 @@ use Rattle.ss_program.specs.declared.expression.Variable.TheVariants.{Global}
 use Rattle.ss_program.specs.declared.sections.Statistic.{Statistic}
 use Rattle.ss_program.specs.declared.sections.Subject.{Subject}
 use Rattle.ss_program.specs.declared.sections.Subject.TheVariants.{OfVariable, OfAttribute, OfCount}
-use Rattle.ss_program.specs.declared.statement.Counted.{Counted}
+use Rattle.ss_program.specs.declared.statement.CountedClass.{CountedClass}
 use Rattle.ss_program.specs.Program.{Program}
 use Rattle.ss_program.specs.WellTyped as typed
 use Rattle.ss_names_meaning.specs.Answers.{◌>>=◌, each, upto, where_holds}
@@ -157,7 +157,7 @@ module _ (t : Table) (is : IsTable t) (k : IsValidTable t) (p : Program) (h : Ha
       (at.0, ap (λ o. o >>= λ x. mode_said x.mode) (sym e) ∙ at.2, at.1)
 
   -- the count is that of a variable of the table
-  abbrev pub IsCountOf : Counted → Type 0
+  abbrev pub IsCountOf : CountedClass → Type 0
   IsCountOf count = (v : VariableSaid) × (slice_get (values_of t.variables) count.variable ≡ Some v) × (v.kind ≡ kinds.CountOf count.class)
 
   kind_counted : (n : ℕ) (v : VariableSaid) (kind : VariableKind) → slice_get (values_of t.variables) n ≡ Some v → v.kind ≡ kind → Every IsCountOf (counted_kind n kind)
@@ -165,13 +165,13 @@ module _ (t : Table) (is : IsTable t) (k : IsValidTable t) (p : Program) (h : Ha
   kind_counted n v (kinds.OfClass class) e f = tt
   kind_counted n v (kinds.CountOf class) e f = ((v, e, f), tt)
 
-  variable_counted : (n : ℕ) (found : List Counted) → counted_variable t n ≡ Some found → Every IsCountOf found
+  variable_counted : (n : ℕ) (found : List CountedClass) → counted_variable t n ≡ Some found → Every IsCountOf found
   variable_counted n found e =
       let v = got (slice_get (values_of t.variables) n) (λ x. Some (counted_kind n x.kind)) found e in
       subst (Every IsCountOf) (same_Some (counted_kind n v.0.kind) found v.2) (kind_counted n v.0 v.0.kind v.1 refl)
 
   pub record Counts : Type 0 where
-    pub found : List (List Counted)
+    pub found : List (List CountedClass)
     pub each_found : each (counted_variable t) (upto (length t.variables)) ≡ Some found
     pub together : flat_map (λ them. them) found ≡ p.counts
 
@@ -186,20 +186,20 @@ module _ (t : Table) (is : IsTable t) (k : IsValidTable t) (p : Program) (h : Ha
       (every_flat IsCountOf counts_found.found (each_every (counted_variable t) (Every IsCountOf) (upto (length t.variables)) counts_found.found counts_found.each_found variable_counted))
 
   -- N. of a permanent class is one of the counts
-  pub count_there : (n class : ℕ) (v : VariableSaid) (count : Counted) → slice_get (values_of t.variables) n ≡ Some v → v.kind ≡ kinds.CountOf class → count ≡ record { class = class; variable = n } → Contains p.counts count
+  pub count_there : (n class : ℕ) (v : VariableSaid) (count : CountedClass) → slice_get (values_of t.variables) n ≡ Some v → v.kind ≡ kinds.CountOf class → count ≡ record { class = class; variable = n } → Contains p.counts count
   count_there n class v count e f g =
       let entry = entry_of_value t.variables n v e in
       let at = numbers_at (counted_variable t) (length t.variables) counts_found.found n counts_found.each_found (slice_get_within t.variables n (entry.0, v) entry.1) in
       let kind : Some (counted_kind n v.kind) ≡ Some at.0 = ap (λ o. o >>= λ (x : VariableSaid). Some (counted_kind n x.kind)) (sym e) ∙ at.2 in
       let here : counted_kind n (kinds.CountOf class) ≡ at.0 = ap (counted_kind n) (sym f) ∙ same_Some (counted_kind n v.kind) at.0 kind in
-      let single : slice_get counts_found.found n ≡ Some (count ∷ []) = at.1 ∙ ap Some (sym here) ∙ ap (λ (c : Counted). Some (c ∷ [])) (sym g) in
+      let single : slice_get counts_found.found n ≡ Some (count ∷ []) = at.1 ∙ ap Some (sym here) ∙ ap (λ (c : CountedClass). Some (c ∷ [])) (sym g) in
       subst (λ cs. Contains cs count) counts_found.together (contains_flat counts_found.found n count single)
 
   -- a variable other than N. of a class
   pub plain : (n : ℕ) (v : VariableSaid) → slice_get (values_of t.variables) n ≡ Some v → ((class : ℕ) → v.kind ≢ kinds.CountOf class) → typed.IsPlain p (Global n)
-  plain n v e f = every_map IsCountOf (λ (c : Counted). c.variable ≢ n) p.counts (λ c g same. other c g same) counts_are
+  plain n v e f = every_map IsCountOf (λ (c : CountedClass). c.variable ≢ n) p.counts (λ c g same. other c g same) counts_are
     where
-      other : (c : Counted) → IsCountOf c → c.variable ≢ n
+      other : (c : CountedClass) → IsCountOf c → c.variable ≢ n
       other c g same =
           let there : slice_get (values_of t.variables) n ≡ Some g.0 = subst (λ i. slice_get (values_of t.variables) i ≡ Some g.0) same g.1 in
           let one : g.0 ≡ v = cc in
@@ -208,7 +208,7 @@ module _ (t : Table) (is : IsTable t) (k : IsValidTable t) (p : Program) (h : Ha
   count_whole : (n class : ℕ) (name : NameBytes) (v : VariableSaid) → slice_get t.variables n ≡ Some (name, v) → v.kind ≡ kinds.CountOf class → v.mode ≡ mode_words.Integer
   count_whole n class name v e f = subst (λ kind. IsClassMode kind v.mode) f (is.class_modes n name v e)
 
-  count_good : (c : Counted) → IsCountOf c → typed.GoodCount p c
+  count_good : (c : CountedClass) → IsCountOf c → typed.GoodCount p c
   count_good c g =
       let class = k.said.counts c.variable g.0 c.class g.1 g.2 in
       let known = class_known c.class class.0 class.1 in

@@ -10,7 +10,7 @@ use Rattle.ss_base.specs.Plain.{PlainLayout}
 use Rattle.ss_tree.specs.Names.{NameBytes}
 use Rattle.ss_names.specs.Table.{Table}
 use Rattle.ss_program.specs.declared.sections.Statistic.{Statistic}
-use Rattle.ss_program.specs.declared.statement.Counted.{Counted}
+use Rattle.ss_program.specs.declared.statement.CountedClass.{CountedClass}
 use Rattle.ss_program.specs.Program.{Program}
 use Rattle.ss_program.specs.WellTyped.{GoodCount, GoodDiscipline, GoodKeys, GoodSubject}
 use Rattle.ss_names_meaning.specs.Answers.{each, upto}
@@ -21,7 +21,7 @@ pub record LaysOut (t : Table) : Type 0 where
   pub layout : (laid : PlainLayout) × (layout t ≡ Some laid)
   pub disciplines : (ordered : List Discipline) × (each (discipline t) (upto (length t.sets)) ≡ Some ordered)
   pub globals : (modes : List Mode) × (each (global_mode t) (upto (length t.variables)) ≡ Some modes)
-  pub counts : (counted : List Counted) × (counts t ≡ Some counted)
+  pub counts : (counted : List CountedClass) × (counts t ≡ Some counted)
   pub statistics : (kept : List Statistic) × (each (statistic_kept t) (upto (length t.histories)) ≡ Some kept)
   pub ties : (class : ℕ) (name : NameBytes) → slice_get (keys_of t.classes) class ≡ Some name → (keys : List RankKey) × (tie_keys t class name ≡ Some keys)
 

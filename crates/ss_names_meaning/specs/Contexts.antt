@@ -5,7 +5,7 @@ use Rattle.ss_base.specs.declared.layout.ClassKind.TheVariants.{Permanent, Tempo
 use Rattle.ss_tree.specs.declared.expression.Designator.{Designator}
 use Rattle.ss_tree.specs.Names.{NameBytes}
 use Rattle.ss_program.specs.declared.expression.Variable.{Variable}
-use Rattle.ss_program.specs.declared.statement.Counted.{Counted}
+use Rattle.ss_program.specs.declared.statement.CountedClass.{CountedClass}
 use Rattle.ss_names_meaning.specs.declared.meaning.Meaning.{Meaning}
 use Rattle.ss_names_meaning.specs.declared.meaning.SetMeant.{SetMeant}
 use Rattle.ss_names_meaning.specs.declared.meaning.ClassMeant.{ClassMeant}
@@ -59,7 +59,7 @@ permanent_class c name = do
   if_permanent class class.kind
 
 -- a permanent class with its N.
-abbrev pub counted : Context → NameBytes → Option Counted
+abbrev pub counted : Context → NameBytes → Option CountedClass
 counted c name = do
   class ← permanent_class c name
   variable ← class.count

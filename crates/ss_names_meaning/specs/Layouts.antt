@@ -25,12 +25,12 @@ use Rattle.ss_names.specs.Table.{Table}
 use Rattle.ss_program.specs.declared.sections.Statistic.{Statistic}
 use Rattle.ss_program.specs.declared.sections.Subject.{Subject}
 use Rattle.ss_program.specs.declared.sections.Subject.TheVariants.{OfVariable, OfAttribute, OfCount}
-use Rattle.ss_program.specs.declared.statement.Counted.{Counted}
+use Rattle.ss_program.specs.declared.statement.CountedClass.{CountedClass}
 use Rattle.ss_names_meaning.specs.Answers.{◌>>=◌, each, upto, where_holds}
 use Rattle.ss_names_meaning.specs.Words.{class_kind, mode_given, mode_said, weighting_of}
 
 -- N. of a permanent class, if the variable of this number is that
-abbrev pub counted_kind : ℕ → VariableKind → List Counted
+abbrev pub counted_kind : ℕ → VariableKind → List CountedClass
 counted_kind number Defined = []
 counted_kind number (OfClass class) = []
 counted_kind number (CountOf class) = record { class = class; variable = number } ∷ []
@@ -122,13 +122,13 @@ module _ (t : Table) where
     variable ← slice_get (values_of t.variables) n
     mode_said variable.mode
 
-  abbrev pub counted_variable : ℕ → Option (List Counted)
+  abbrev pub counted_variable : ℕ → Option (List CountedClass)
   counted_variable n = do
     variable ← slice_get (values_of t.variables) n
     Some (counted_kind n variable.kind)
 
   -- N. of each permanent class
-  abbrev pub counts : Option (List Counted)
+  abbrev pub counts : Option (List CountedClass)
   counts = do
     found ← each counted_variable (upto (length t.variables))
     Some (flat_map (λ them. them) found)
@@ -157,7 +157,7 @@ pub record ResolvedLayout : Type 0 where
   pub layout : PlainLayout
   pub disciplines : List Discipline
   pub globals : List Mode
-  pub counts : List Counted
+  pub counts : List CountedClass
   pub statistics : List Statistic
 
 abbrev pub laid_out : Table → Option ResolvedLayout

@@ -8,7 +8,7 @@ use crate::error::ResolveError;
 use crate::words::mode_said;
 use ss_base::Mode;
 use ss_names::{Names, VariableKind};
-use ss_program::statement::Counted;
+use ss_program::statement::CountedClass;
 use std::alloc::{AllocError, Global};
 
 // The mode of the global variable of this number.
@@ -41,12 +41,12 @@ fn counted_kind(
     alloc: Global,
     number: usize,
     kind: VariableKind,
-) -> Result<Vec<Counted>, AllocError>
+) -> Result<Vec<CountedClass>, AllocError>
     ensures { IfOk result (λ v. v.items ≡ counted_kind number kind) }
 {
     let mut counted = Vec::new(alloc);
     if let VariableKind::CountOf(class) = kind {
-        counted.push(Counted {
+        counted.push(CountedClass {
             class,
             variable: number,
         })?;
@@ -59,7 +59,7 @@ fn counted_variable(
     alloc: Global,
     names: &Names,
     number: usize,
-) -> Result<Vec<Counted>, ResolveError>
+) -> Result<Vec<CountedClass>, ResolveError>
     ensures { Gives (λ v. v.items) result (counted_variable names.now number) }
 {
     let Some(known) = names.variable(number) else {
@@ -70,7 +70,10 @@ fn counted_variable(
 }
 
 /// N. of each permanent class.
-pub(crate) fn resolve_counts(alloc: Global, names: &Names) -> Result<Vec<Counted>, ResolveError>
+pub(crate) fn resolve_counts(
+    alloc: Global,
+    names: &Names,
+) -> Result<Vec<CountedClass>, ResolveError>
     ensures { Gives (λ v. v.items) result (counts names.now) }
 {
     let mut resolved = Vec::new(alloc);

@@ -12,7 +12,7 @@ use crate::statistics::resolve_statistics;
 use ss_base::{Discipline, Layout, Mode};
 use ss_names::Names;
 use ss_program::sections::Statistic;
-use ss_program::statement::Counted;
+use ss_program::statement::CountedClass;
 use std::alloc::Global;
 
 /// What the table lays out: classes, sets and their disciplines, global variables and statistics.
@@ -21,7 +21,7 @@ pub struct Laid {
     pub layout: Layout,
     pub disciplines: Vec<Discipline>,
     pub globals: Vec<Mode>,
-    pub counts: Vec<Counted>,
+    pub counts: Vec<CountedClass>,
     pub statistics: Vec<Statistic>,
 }
 

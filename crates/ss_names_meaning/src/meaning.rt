@@ -2,7 +2,7 @@
 
 use ss_base::{ClassKind, Mode};
 use ss_program::expression::{Fold, MemberQuery, SetQuery, Variable};
-use ss_program::statement::Counted;
+use ss_program::statement::CountedClass;
 
 /// What a name means as a value or a target. Where it is of an entity, `implied` is the variable that has the
 /// entity if no subscript is written.
@@ -15,7 +15,7 @@ pub enum Meaning {
     },
     /// N. of a permanent class.
     Count {
-        count: Counted,
+        count: CountedClass,
     },
     /// An attribute of a class, and its mode, if anything gives it one.
     Attribute {

@@ -12,7 +12,7 @@ use ss_base::{Mode, Name};
 use ss_check_scopes::LocalModes;
 use ss_names::{GlobalMeaning as Global, Names};
 use ss_program::expression::Variable;
-use ss_program::statement::Counted;
+use ss_program::statement::CountedClass;
 use ss_tree::expression::Designator;
 
 // A global or derived name as a value or a target.
@@ -33,7 +33,7 @@ fn global_meaning(
         }
         Global::Count { class, variable } => {
             Ok(Meaning::Count {
-                count: Counted { class, variable },
+                count: CountedClass { class, variable },
             })
         }
         Global::Attribute(number) => attribute(names, locals, number),

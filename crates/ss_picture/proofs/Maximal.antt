@@ -4,15 +4,15 @@ use Rattle.std.specs.Bool.{⊤}
 use Rattle.std.proofs.lemmas.Bool.{cond_both, eqb-false, ne_eqb}
 use Rattle.std.proofs.lemmas.List.{append_assoc, drop_at, length-replicate}
 use Rattle.ss_picture.specs.declared.field.Field.{Field}
-use Rattle.ss_picture.specs.Pictures.{Piece, Literal, Slot, stars, decimals_at, field_of, field_at, characters_of, characters, byte_before, pieces_after, pieces_of, joined}
-use Rattle.ss_picture.specs.MaximalRuns.{HasNoAsterisk, HasRoom, EndsBefore, AreMaximalRuns, PiecesCut, OnlyPiecesCut}
+use Rattle.ss_picture.specs.Pictures.{Piece, Literal, Slot, stars, decimals_at, field_of, leading_field, characters_of, characters, byte_before, pieces_after, pieces_of, joined}
+use Rattle.ss_picture.specs.MaximalRuns.{HasNoAsterisk, IsWideEnough, EndsBefore, AreMaximalRuns, PiecesCut, OnlyPiecesCut}
 use Rattle.ss_picture.proofs.Stars.{stars_more, stars_none, stars-replicate, field_some, after_field, after_plain_field}
 use Rattle.ss_picture.proofs.Pieces.{pieces_after-drop, drop_less, pieces_of_other, pieces_of_field, joined-pieces_of}
 
 -- ---- the pieces are maximal runs
 
 -- a field found has room for what belongs to it
-room_of : (whole decimals : ℕ) → 0 < whole → HasRoom (field_of whole decimals).width (field_of whole decimals).decimals
+room_of : (whole decimals : ℕ) → 0 < whole → IsWideEnough (field_of whole decimals).width (field_of whole decimals).decimals
 room_of whole zero some = some
 room_of whole (suc more) some = omega arith
 
@@ -28,7 +28,7 @@ starred [] field rest = λ is. absurd (nothing is)
     nothing : [] ≡ Slot field ∷ rest → ⊥
     nothing e = cc
 starred (byte ∷ bytes) field rest =
-    cond_both (eqb byte 42) (Slot (field_at (byte ∷ bytes)) ∷ pieces_after ((field_at (byte ∷ bytes)).width - 1) bytes) (byte_before byte (pieces_after 0 bytes)) (λ front. front ≡ Slot field ∷ rest → 0 < stars (byte ∷ bytes))
+    cond_both (eqb byte 42) (Slot (leading_field (byte ∷ bytes)) ∷ pieces_after ((leading_field (byte ∷ bytes)).width - 1) bytes) (byte_before byte (pieces_after 0 bytes)) (λ front. front ≡ Slot field ∷ rest → 0 < stars (byte ∷ bytes))
     (λ same is. subst (λ test. 0 < cond test (suc (stars bytes)) 0) (sym same) (omega arith))
     (λ other is. absurd (not_byte byte (pieces_after 0 bytes) rest field is))
 
@@ -56,7 +56,7 @@ full-byte_before byte (Slot field ∷ rest) = tt
 full : (skipped : ℕ) (bytes : List ℕ) → IsFull (pieces_after skipped bytes)
 full skipped [] = tt
 full zero (byte ∷ bytes) =
-    cond_both (eqb byte 42) (Slot (field_at (byte ∷ bytes)) ∷ pieces_after ((field_at (byte ∷ bytes)).width - 1) bytes) (byte_before byte (pieces_after 0 bytes)) IsFull
+    cond_both (eqb byte 42) (Slot (leading_field (byte ∷ bytes)) ∷ pieces_after ((leading_field (byte ∷ bytes)).width - 1) bytes) (byte_before byte (pieces_after 0 bytes)) IsFull
     (λ same. tt)
     (λ other. full-byte_before byte (pieces_after 0 bytes))
 full (suc skipped) (byte ∷ bytes) = full skipped bytes
@@ -96,7 +96,7 @@ ends_before field (byte ∷ bytes) none plain_none =
 maximal-pieces_after : (skipped : ℕ) (bytes : List ℕ) → AreMaximalRuns (pieces_after skipped bytes)
 maximal-pieces_after skipped [] = tt
 maximal-pieces_after zero (byte ∷ bytes) =
-    let field : Field = field_at (byte ∷ bytes) in
+    let field : Field = leading_field (byte ∷ bytes) in
     let after : List ℕ = drop field.width (byte ∷ bytes) in
     cond_both (eqb byte 42) (Slot field ∷ pieces_after (field.width - 1) bytes) (byte_before byte (pieces_after 0 bytes)) AreMaximalRuns
     (λ same.
@@ -135,9 +135,9 @@ shape width decimals = record { width = width; decimals = decimals }
 -- the bytes of a field, with those after it, begin with asterisks
 record Again (width decimals : ℕ) (bytes : List ℕ) : Type 0 where
   some : 0 < stars bytes
-  found : field_at bytes ≡ shape width decimals
+  found : leading_field bytes ≡ shape width decimals
 
-found_again : (width decimals : ℕ) (after : List ℕ) → HasRoom width decimals → stars after ≡ 0 → (decimals ≡ 0 → decimals_at after ≡ 0)
+found_again : (width decimals : ℕ) (after : List ℕ) → IsWideEnough width decimals → stars after ≡ 0 → (decimals ≡ 0 → decimals_at after ≡ 0)
     → Again width decimals (characters_of width decimals ++ after)
 found_again width zero after room none plain =
     let bytes : List ℕ = replicate width 42 ++ after in
@@ -161,25 +161,25 @@ found_again width (suc more) after room none plain =
     record {
       some = omega arith;
       found =
-          ap field_at regrouped
+          ap leading_field regrouped
           ∙ ap (λ (n : ℕ). field_of n (decimals_at (drop n (front ++ skipped)))) run
           ∙ ap (λ (rest : List ℕ). field_of whole (decimals_at rest)) (drop_at front skipped whole (length-replicate whole 42))
           ∙ ap (field_of whole) (stars-replicate (suc more) after none)
           ∙ ap (λ (n : ℕ). shape n (suc more)) as_wide;
     }
 
-length-characters : (width decimals : ℕ) → HasRoom width decimals → length (characters_of width decimals) ≡ width
+length-characters : (width decimals : ℕ) → IsWideEnough width decimals → length (characters_of width decimals) ≡ width
 length-characters width zero room = length-replicate width 42
 length-characters width (suc more) room =
     omega (arith, length-append {A = ℕ} (replicate (width - suc (suc more)) 42) (46 ∷ replicate (suc more) 42), length-replicate {A = ℕ} (width - suc (suc more)) 42, length-replicate {A = ℕ} (suc more) 42)
 
 -- a field is found again
-pieces_of-slot : (field : Field) (after : List ℕ) → HasRoom field.width field.decimals → stars after ≡ 0 → (field.decimals ≡ 0 → decimals_at after ≡ 0)
+pieces_of-slot : (field : Field) (after : List ℕ) → IsWideEnough field.width field.decimals → stars after ≡ 0 → (field.decimals ≡ 0 → decimals_at after ≡ 0)
     → pieces_of (characters field ++ after) ≡ Slot field ∷ pieces_of after
 pieces_of-slot field after room none plain =
     let bytes : List ℕ = characters field ++ after in
     let again = found_again field.width field.decimals after room none plain in
-    let is : field_at bytes ≡ field = again.found in
+    let is : leading_field bytes ≡ field = again.found in
     pieces_of_field bytes again.some
     ∙ ap (λ (f : Field). Slot f ∷ pieces_of (drop f.width bytes)) is
     ∙ ap (λ (rest : List ℕ). Slot field ∷ pieces_of rest) (drop_at (characters field) after field.width (length-characters field.width field.decimals room))

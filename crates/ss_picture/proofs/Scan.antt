@@ -2,7 +2,7 @@
 use Rattle.std.proofs.Common.{◌≡◌, ◌≢◌, ℕ, ◌+◌, ◌-◌, ◌<◌, ◌≤◌, List, [], ◌∷◌, ◌++◌, length, get_or, take, drop, sym, ap, ◌∙◌, subst, refl, arith}
 use Rattle.std.proofs.lemmas.List.{append_assoc, append-nil, drop-drop, drop_more, drop_all, length-drop, take_rest}
 use Rattle.ss_picture.specs.declared.field.Field.{Field}
-use Rattle.ss_picture.specs.Pictures.{Piece, stars, field_at, pieces_of, fields_among, picture_fields}
+use Rattle.ss_picture.specs.Pictures.{Piece, stars, leading_field, pieces_of, fields_among, picture_fields}
 use Rattle.ss_picture.specs.Fields.{starts_among, starts}
 use Rattle.ss_picture.proofs.Stars.{stars_more_at, field_some, field_within}
 use Rattle.ss_picture.proofs.Pieces.{pieces_of_other, pieces_of_field, fields-byte_before, starts-byte_before}
@@ -34,9 +34,9 @@ scan_text found_starts found place byte rest picture other scan = record {
 -- past a field
 scan_field : (found_starts : List ℕ) (found : List Field) (place : ℕ) (ahead picture : List ℕ) → 0 < stars ahead
     → Scan found_starts found place ahead picture
-    → Scan (found_starts ++ place ∷ []) (found ++ field_at ahead ∷ []) (place + (field_at ahead).width) (drop (field_at ahead).width ahead) picture
+    → Scan (found_starts ++ place ∷ []) (found ++ leading_field ahead ∷ []) (place + (leading_field ahead).width) (drop (leading_field ahead).width ahead) picture
 scan_field found_starts found place ahead picture some scan =
-    let field : Field = field_at ahead in
+    let field : Field = leading_field ahead in
     let rest : List Piece = pieces_of (drop field.width ahead) in
     record {
       starts_are =
@@ -62,24 +62,24 @@ pub field_begins : (place : ℕ) (picture : List ℕ) → place < length picture
 field_begins place picture inside is = let more = stars_more_at picture place inside is in omega arith
 
 -- .. and this is the field that begins with it
-pub field_there : (place : ℕ) (picture : List ℕ) (field : Field) → field ≡ field_at (take (length picture - place) (drop place picture)) → field ≡ field_at (drop place picture)
-field_there place picture field is = is ∙ ap field_at (take_rest picture place)
+pub field_there : (place : ℕ) (picture : List ℕ) (field : Field) → field ≡ leading_field (take (length picture - place) (drop place picture)) → field ≡ leading_field (drop place picture)
+field_there place picture field is = is ∙ ap leading_field (take_rest picture place)
 
-pub field_ends : (place : ℕ) (picture : List ℕ) (field : Field) → place < length picture → field ≡ field_at (take (length picture - place) (drop place picture)) → place + field.width ≤ length picture
+pub field_ends : (place : ℕ) (picture : List ℕ) (field : Field) → place < length picture → field ≡ leading_field (take (length picture - place) (drop place picture)) → place + field.width ≤ length picture
 field_ends place picture field inside is =
     let same = ap (λ f. f.width) (field_there place picture field is) in
     let within = field_within (drop place picture) in
     omega (arith, length-drop place picture)
 
 pub field_has_width : (place : ℕ) (picture : List ℕ) (field : Field) → place < length picture → get_or picture place 0 ≡ 42
-    → field ≡ field_at (take (length picture - place) (drop place picture)) → 0 < field.width
+    → field ≡ leading_field (take (length picture - place) (drop place picture)) → 0 < field.width
 field_has_width place picture field inside star is =
     let same = ap (λ f. f.width) (field_there place picture field is) in
     let some = field_some (drop place picture) (field_begins place picture inside star) in
     omega arith
 
 pub step_past_field : (found_starts : List ℕ) (found : List Field) (place : ℕ) (picture : List ℕ) (field : Field)
-    → place < length picture → get_or picture place 0 ≡ 42 → field ≡ field_at (take (length picture - place) (drop place picture))
+    → place < length picture → get_or picture place 0 ≡ 42 → field ≡ leading_field (take (length picture - place) (drop place picture))
     → Scan found_starts found place (drop place picture) picture
     → Scan (found_starts ++ place ∷ []) (found ++ field ∷ []) (place + field.width) (drop (place + field.width) picture) picture
 step_past_field found_starts found place picture field inside star is scan =

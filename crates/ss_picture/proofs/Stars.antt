@@ -2,7 +2,7 @@
 use Rattle.std.proofs.Common.{◌≡◌, ◌≢◌, ℕ, zero, suc, ◌+◌, ◌-◌, ◌<◌, ◌≤◌, Bool, true, false, eqb, cond, List, [], ◌∷◌, ◌++◌, length, get_or, drop, replicate, refl, sym, ap, ◌∙◌, subst, arith, length-append}
 use Rattle.std.proofs.lemmas.List.{append_assoc, drop_at, drop-drop, drop_more, drop_all, length-replicate, length-drop}
 use Rattle.std.proofs.lemmas.Bool.{cond_both, eqb-true, ne_eqb}
-use Rattle.ss_picture.specs.Pictures.{stars, decimals_at, field_of, field_at, characters}
+use Rattle.ss_picture.specs.Pictures.{stars, decimals_at, field_of, leading_field, characters}
 
 -- ---- tests
 
@@ -96,7 +96,7 @@ pub width_some : (whole decimals : ℕ) → 0 < whole → 0 < (field_of whole de
 width_some whole zero some = some
 width_some whole (suc more) some = omega arith
 
-pub field_some : (bytes : List ℕ) → 0 < stars bytes → 0 < (field_at bytes).width
+pub field_some : (bytes : List ℕ) → 0 < stars bytes → 0 < (leading_field bytes).width
 field_some bytes some = width_some (stars bytes) (decimals_at (drop (stars bytes) bytes)) some
 
 width_within : (long whole decimals : ℕ) → whole ≤ long → (0 < decimals → whole + (decimals + 1) ≤ long) → (field_of whole decimals).width ≤ long
@@ -104,7 +104,7 @@ width_within long whole zero within more_within = within
 width_within long whole (suc more) within more_within = let all = more_within (omega arith) in omega arith
 
 -- a field lies within the bytes that begin with it
-pub field_within : (bytes : List ℕ) → (field_at bytes).width ≤ length bytes
+pub field_within : (bytes : List ℕ) → (leading_field bytes).width ≤ length bytes
 field_within bytes =
     let rest : List ℕ = drop (stars bytes) bytes in
     let within = stars_within bytes in
@@ -136,10 +136,10 @@ characters_first whole (suc more) rest is =
     ∙ append_assoc stars_only (46 ∷ decimals) after
     ∙ ap (λ (end : List ℕ). stars_only ++ end) (sym (decimals_first rest more is))
 
-pub characters_at : (bytes : List ℕ) → characters (field_at bytes) ++ drop (field_at bytes).width bytes ≡ bytes
+pub characters_at : (bytes : List ℕ) → characters (leading_field bytes) ++ drop (leading_field bytes).width bytes ≡ bytes
 characters_at bytes =
     let rest : List ℕ = drop (stars bytes) bytes in
-    subst (λ (all : List ℕ). characters (field_at bytes) ++ drop (field_at bytes).width all ≡ all) (stars_first bytes)
+    subst (λ (all : List ℕ). characters (leading_field bytes) ++ drop (leading_field bytes).width all ≡ all) (stars_first bytes)
     (characters_first (stars bytes) (decimals_at rest) rest refl)
 
 -- after a field no asterisk follows, and after one without decimals no period and asterisk
@@ -148,12 +148,12 @@ after_width bytes zero is = stars_last bytes
 after_width bytes (suc more) is =
     ap stars (sym (drop-drop (suc (suc more)) (stars bytes) bytes)) ∙ decimals_last (drop (stars bytes) bytes) more is
 
-pub after_field : (bytes : List ℕ) → stars (drop (field_at bytes).width bytes) ≡ 0
+pub after_field : (bytes : List ℕ) → stars (drop (leading_field bytes).width bytes) ≡ 0
 after_field bytes = after_width bytes (decimals_at (drop (stars bytes) bytes)) refl
 
 plain_width : (bytes : List ℕ) (decimals : ℕ) → decimals ≡ decimals_at (drop (stars bytes) bytes) → (field_of (stars bytes) decimals).decimals ≡ 0 → decimals_at (drop (field_of (stars bytes) decimals).width bytes) ≡ 0
 plain_width bytes zero is plain = sym is
 plain_width bytes (suc more) is plain = absurd (omega arith)
 
-pub after_plain_field : (bytes : List ℕ) → (field_at bytes).decimals ≡ 0 → decimals_at (drop (field_at bytes).width bytes) ≡ 0
+pub after_plain_field : (bytes : List ℕ) → (leading_field bytes).decimals ≡ 0 → decimals_at (drop (leading_field bytes).width bytes) ≡ 0
 after_plain_field bytes plain = plain_width bytes (decimals_at (drop (stars bytes) bytes)) refl plain

@@ -10,15 +10,15 @@ abbrev pub HasNoAsterisk : List ℕ → Type 0
 HasNoAsterisk bytes = AllByRecursion (λ byte. byte ≢ asterisk) bytes
 
 -- a width has room for an asterisk, and, where there are decimals, for a period and so many asterisks after it
-abbrev pub HasRoom : ℕ → ℕ → Type 0
-HasRoom width zero = 0 < width
-HasRoom width (suc more) = suc (suc more) < width
+abbrev pub IsWideEnough : ℕ → ℕ → Type 0
+IsWideEnough width zero = 0 < width
+IsWideEnough width (suc more) = suc (suc more) < width
 
 -- a piece that is a run: it isn't empty, bytes that are no field have no asterisk, and a field has one before its period
 abbrev pub IsRun : Piece → Type 0
 IsRun (Literal []) = ⊥
 IsRun (Literal (byte ∷ bytes)) = HasNoAsterisk (byte ∷ bytes)
-IsRun (Slot field) = HasRoom field.width field.decimals
+IsRun (Slot field) = IsWideEnough field.width field.decimals
 
 -- these bytes are a period alone, and a field follows it directly
 abbrev pub IsPoint : List ℕ → List Piece → Type 0

@@ -1,5 +1,5 @@
 ghost use Rattle.std.specs.Prelude.{◌≡◌};
-ghost use Rattle.ss_picture.specs.Pictures.{decimals_at as decimals_of, field_at, stars as stars_of};
+ghost use Rattle.ss_picture.specs.Pictures.{decimals_at as decimals_of, leading_field, stars as stars_of};
 
 /// A field of a picture: a maximal run of asterisks, and where a period and then an asterisk follow
 /// it directly, the period and the run after it too. Fields are found from the left.
@@ -35,7 +35,7 @@ fn decimals_at(bytes: &[u8]) -> usize
 
 // The field that these bytes begin with.
 pub(crate) fn first_field(bytes: &[u8]) -> Field
-    ensures { result ≡ field_at bytes.now }
+    ensures { result ≡ leading_field bytes.now }
 {
     let whole = stars(bytes);
     let decimals = decimals_at(&bytes[whole..]);

@@ -1,7 +1,7 @@
 ghost use Rattle.std.specs.Prelude.{◌≡◌, ℕ, length, nat_le};
-ghost use Rattle.ss_picture.specs.Pictures.{at_right as right, at_left as left, shown};
+ghost use Rattle.ss_picture.specs.Pictures.{at_right as right, at_left as left, shown_characters};
 ghost use Rattle.ss_picture.specs.Suited.{Suits};
-ghost use Rattle.ss_picture.specs.declared.items.Item.TheVariants.{Is};
+ghost use Rattle.ss_picture.specs.declared.items.FieldValue.TheVariants.{Is};
 
 use crate::means::fill_mean;
 use itoa::Buffer;
@@ -9,7 +9,7 @@ use ss_base::Value;
 
 /// What a field of a line shows.
 #[derive(Clone, Copy, Debug, PartialEq, Eq)]
-pub enum Item {
+pub enum FieldValue {
     /// A value, in a field without decimals: a number at the right, a text at the left.
     Is(Value),
     /// A mean, as a sum and the number by which it is divided.
@@ -20,20 +20,20 @@ pub enum Item {
 }
 
 // Writes an item to its field, which has so many decimals.
-pub(crate) fn fill_field(field: &mut [u8], decimals: usize, item: &Item)
+pub(crate) fn fill_field(field: &mut [u8], decimals: usize, item: &FieldValue)
     requires { Suits decimals item.now }
-    ensures { field.new ≡ shown field.old decimals item.now }
+    ensures { field.new ≡ shown_characters field.old decimals item.now }
 {
     match item {
-        Item::Is(value) => fill_value(field, value),
-        Item::Mean(sum, number) => fill_mean(field, decimals, *sum, *number),
+        FieldValue::Is(value) => fill_value(field, value),
+        FieldValue::Mean(sum, number) => fill_mean(field, decimals, *sum, *number),
     }
 }
 
 // Writes a value to its field: a whole number to the right end, a text to the left.
 #[tactic(auto, using(crate::proofs::Decimal::whole_text_is_signed_decimal))]
 fn fill_value(field: &mut [u8], value: &Value)
-    ensures { (decimals : ℕ) → field.new ≡ shown field.old decimals (Is value.now) }
+    ensures { (decimals : ℕ) → field.new ≡ shown_characters field.old decimals (Is value.now) }
 {
     match value {
         Value::Whole(number) => at_right(field, Buffer::new().format(*number).as_bytes()),

@@ -16,7 +16,7 @@ use Rattle.ss_program.specs.declared.condition.Relation.{Relation}
 use Rattle.ss_program.specs.declared.head.GuardKind.{GuardKind}
 use Rattle.ss_program.specs.declared.head.PhraseKind.{PhraseKind}
 use Rattle.ss_program.specs.declared.statement.End.{End}
-use Rattle.ss_program.specs.declared.statement.Counted.{Counted}
+use Rattle.ss_program.specs.declared.statement.CountedClass.{CountedClass}
 use Rattle.ss_program.specs.declared.sections.Statistic.{Statistic}
 
 -- ---- expressions
@@ -103,7 +103,7 @@ pub data Place : Type 0 where
   ToVariable : Variable → Place
   ToAttribute : (class field : ℕ) → (of : Expression) → Place
   -- N. of a permanent class
-  ToCount : Counted → Place
+  ToCount : CountedClass → Place
 
 -- what takes a word of input, and its mode
 pub record Target : Type 0 where
@@ -156,7 +156,7 @@ mutual
     -- FIND THE FIRST CASE: what follows where one was found, and where none was
     Find : Line → Head → List Phrase → (found none : Block) → Statement
     Create : Line → (class : ℕ) → Place → Statement
-    CreateEvery : Line → List Counted → Statement
+    CreateEvery : Line → List CountedClass → Statement
     Destroy : Line → (class : ℕ) → Expression → Statement
     File : Line → (set : ℕ) → (member : Expression) → Position → SetOwner → Statement
     -- REMOVE FIRST and REMOVE LAST
@@ -208,7 +208,7 @@ pub record Program : Type 0 where
   -- the modes of the global variables
   pub globals : List Mode
   -- N. of each permanent class
-  pub counts : List Counted
+  pub counts : List CountedClass
   pub statistics : List Statistic
   pub routines : List Routine
   -- in the order in which they come at one time

@@ -17,7 +17,7 @@ use Rattle.ss_picture.specs.declared.field.Field.{Field}
 use Rattle.ss_picture.specs.Pictures.{picture_fields}
 use Rattle.ss_program.specs.declared.expression.Variable.{Variable}
 use Rattle.ss_program.specs.declared.expression.Variable.TheVariants.{Global, Local}
-use Rattle.ss_program.specs.declared.statement.Counted.{Counted}
+use Rattle.ss_program.specs.declared.statement.CountedClass.{CountedClass}
 use Rattle.ss_program.specs.declared.sections.Subject.{Subject}
 use Rattle.ss_program.specs.declared.sections.Subject.TheVariants.{OfVariable, OfAttribute, OfCount}
 use Rattle.ss_program.specs.declared.sections.Statistic.{Statistic}
@@ -35,12 +35,12 @@ fields_of p class = option_map (λ c. c.fields) (slice_get p.layout.classes clas
 abbrev pub field_mode : Program → (class field : ℕ) → Option Mode
 field_mode p class field = option_and_then (λ modes. slice_get modes field) (fields_of p class)
 
-abbrev pub owner_of : Program → (set : ℕ) → Option Owner
-owner_of p set = option_map (λ s. s.owner) (slice_get p.layout.sets set)
+abbrev pub owner_of_set : Program → (set : ℕ) → Option Owner
+owner_of_set p set = option_map (λ s. s.owner) (slice_get p.layout.sets set)
 
 -- the sets of the name belong to entities of a class
 abbrev pub IsOwned : Program → (set : ℕ) → Type 0
-IsOwned p k = (class : ℕ) × (owner_of p k ≡ Some (OfClass class))
+IsOwned p k = (class : ℕ) × (owner_of_set p k ≡ Some (OfClass class))
 
 -- the sets of the name are there
 abbrev pub IsSet : Program → (set : ℕ) → Type 0
@@ -57,7 +57,7 @@ is_created_singly (Some Notice) = true
 abbrev pub IsAlone : Program → Subject → Type 0
 IsAlone p (OfVariable k) = Unit {0}
 IsAlone p (OfAttribute class field) = ⊥
-IsAlone p (OfCount set) = owner_of p set ≡ Some System
+IsAlone p (OfCount set) = owner_of_set p set ≡ Some System
 
 -- each entity has a subject of the statistic of its own
 abbrev pub IsOfEntities : Program → Subject → Type 0
@@ -86,7 +86,7 @@ abbrev pub HasMode : Scope → Expression → Mode → Type 0
 HasMode s (Constant v) m = mode_of v ≡ m
 HasMode s (Fetch x) m = mode_at s x ≡ Some m
 HasMode s (Attribute class field e) m = (field_mode s.program class field ≡ Some m) × HasMode s e Integer
-HasMode s (OfSystemSet query set) m = (m ≡ Integer) × (owner_of s.program set ≡ Some System)
+HasMode s (OfSystemSet query set) m = (m ≡ Integer) × (owner_of_set s.program set ≡ Some System)
 HasMode s (OfSet query set e) m = (m ≡ Integer) × IsOwned s.program set × HasMode s e Integer
 HasMode s (OfMember query set e) m = (m ≡ Integer) × IsSet s.program set × HasMode s e Integer
 HasMode s Clock m = m ≡ Integer
@@ -103,7 +103,7 @@ HaveModes s = AllZip (HasMode s)
 
 -- the owner is such as the sets of the name have
 abbrev pub OwnerFits : Scope → (set : ℕ) → SetOwner → Type 0
-OwnerFits s set TheSystem = owner_of s.program set ≡ Some System
+OwnerFits s set TheSystem = owner_of_set s.program set ≡ Some System
 OwnerFits s set (Entity e) = IsOwned s.program set × HasMode s e Integer
 
 abbrev pub GoodTest : Scope → Test → Type 0
@@ -223,7 +223,7 @@ GoodDiscipline p set Lifo = Unit {0}
 GoodDiscipline p set (Ranked keys) = GoodKeys p set.member keys
 
 -- N. of a class is that of a permanent one
-abbrev pub GoodCount : Program → Counted → Type 0
+abbrev pub GoodCount : Program → CountedClass → Type 0
 GoodCount p count = (kind_of_class p count.class ≡ Some Permanent) × (slice_get p.globals count.variable ≡ Some Integer)
 
 -- the subject of a statistic is there, and a whole number

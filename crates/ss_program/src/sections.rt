@@ -1,6 +1,6 @@
 //! Programs and their parts.
 
-use crate::statement::{Counted, Statement};
+use crate::statement::{CountedClass, Statement};
 use ss_base::{Discipline, Layout, Line, Mode, RankKeys};
 
 /// What a statistic is of.
@@ -65,7 +65,7 @@ pub struct Program {
     /// The mode of each global variable.
     pub globals: Vec<Mode>,
     /// N. of each permanent class.
-    pub counts: Vec<Counted>,
+    pub counts: Vec<CountedClass>,
     pub statistics: Vec<Statistic>,
     pub routines: Vec<Routine>,
     /// The notice classes, in the order in which they come at one time.

@@ -15,7 +15,7 @@ pub enum End {
 /// A permanent class, and the number of the global variable N. of the class, which says how many
 /// entities of it are to be made.
 #[derive(Clone, Copy, Debug, PartialEq, Eq)]
-pub struct Counted {
+pub struct CountedClass {
     pub class: usize,
     pub variable: usize,
 }
@@ -34,7 +34,7 @@ pub enum Place {
     },
     /// N. of a permanent class.
     ToCount {
-        count: Counted,
+        count: CountedClass,
     },
 }
 
@@ -164,7 +164,7 @@ pub enum Statement {
     /// CREATE EVERY: all entities of permanent classes, one class after the other.
     CreateEvery {
         line: Line,
-        classes: Vec<Counted>,
+        classes: Vec<CountedClass>,
     },
     /// DESTROY: an entity of a temporary or notice class goes.
     Destroy {

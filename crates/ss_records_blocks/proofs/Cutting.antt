@@ -10,7 +10,7 @@ use types.Kit.{Item, Goal, Seq, ‵, raw, ◌⊛◌, ◌$◌, ◌∵◌, !, qed,
 use contract.Monad.{fact, fact_i, fact_use}
 use denote.Steps.{nothing}
 use denote.RawPtr.{Ptr, block_ptr, null_ptr}
-use Rattle.ss_records_blocks.specs.Cells.{Word, Cells, same_ptr, words_at, without, blanks}
+use Rattle.ss_records_blocks.specs.Cells.{Word, Cells, same_ptr, words_at, without_block, blanks}
 use Rattle.ss_records_blocks.specs.Ownership.{word_owns, words_own, block_type, deed_owns, store_owns}
 use Rattle.ss_records_blocks.proofs.Numbers.{same_ptr_eq}
 use Rattle.ss_records_blocks.proofs.Memory.{word_room, null_word}
@@ -35,13 +35,13 @@ module _ {M : Type 1} {𝓤 : Ura M} (𝓛 : Logic 𝓤) where
   abbrev Leaves : Cells → Ptr → List Word → Cells → Type 1
   Leaves cs p ws ds = ent 𝓤 ⟦ store_owns cs ⟧ (sep 𝓤 ⟦ words_own p ws ⟧ (sep 𝓤 ⟦ deed_owns p (length ws) ⟧ ⟦ store_owns ds ⟧))
 
-  pub store_leave : (cs : Cells) (p : Ptr) → 0 < length (words_at cs p) → Leaves cs p (words_at cs p) (without cs p)
+  pub store_leave : (cs : Cells) (p : Ptr) → 0 < length (words_at cs p) → Leaves cs p (words_at cs p) (without_block cs p)
   store_leave [] p = λ inside. absurd (omega (arith, inside))
-  store_leave (c ∷ cs) p = elim (same_ptr c.0 p) as (λ y. (y ≡ true → c.0 ≡ p) → 0 < length (cond y c.1 (words_at cs p)) → Leaves (c ∷ cs) p (cond y c.1 (words_at cs p)) (cond y cs (c ∷ without cs p))) [
+  store_leave (c ∷ cs) p = elim (same_ptr c.0 p) as (λ y. (y ≡ true → c.0 ≡ p) → 0 < length (cond y c.1 (words_at cs p)) → Leaves (c ∷ cs) p (cond y c.1 (words_at cs p)) (cond y cs (c ∷ without_block cs p))) [
     | true ↦ λ is inside. subst (λ (q : Ptr). Leaves (c ∷ cs) q c.1 cs) (is refl)
         (qed 𝓛 (‵ (store_owns (c ∷ cs)) ∷ []) ∵ fsplit ! $ fsplit ! $ move ! (1 ∷ 2 ∷ []) $ join ! $ move ! (1 ∷ 0 ∷ []) $ join ! $ done !)
     | false ↦ λ is inside. qed 𝓛 (‵ (store_owns (c ∷ cs)) ∷ []) ∵ fsplit ! $ move ! (1 ∷ []) $
-        use1 𝓛 (‵ (words_own p (words_at cs p)) ⊛ ‵ (deed_owns p (length (words_at cs p))) ⊛ ‵ (store_owns (without cs p))) (store_leave cs p inside) $ split ! $ move ! (1 ∷ []) $ split ! $
+        use1 𝓛 (‵ (words_own p (words_at cs p)) ⊛ ‵ (deed_owns p (length (words_at cs p))) ⊛ ‵ (store_owns (without_block cs p))) (store_leave cs p inside) $ split ! $ move ! (1 ∷ []) $ split ! $
         move ! (3 ∷ 1 ∷ []) $ fjoin ! $ move ! (1 ∷ 0 ∷ []) $ join ! $ move ! (1 ∷ 0 ∷ []) $ join ! $ done !
   ] (same_ptr_eq c.0 p)
 

@@ -9,7 +9,7 @@ use Rattle.std.specs.Map.{lookup, keys_of, set_value, remove_entry}
 use Rattle.std.specs.List.{AllByRecursion, filter}
 use Rattle.std.specs.List.Sorted.{IsStrictlySortedBy}
 use Rattle.std.proofs.lemmas.List.{length-append}
-use Rattle.ss_records_blocks.specs.Pages.{Page, Pages, Spots, Rises, under, page_of, with_page, held}
+use Rattle.ss_records_blocks.specs.Pages.{Page, Pages, Spots, Rises, under, page_of, with_page, pages_held}
 use Rattle.ss_records_blocks.proofs.Same.{by_same}
 use Rattle.ss_records_blocks.proofs.Paging.{is_at_same, is_at_other}
 use Rattle.ss_records_blocks.proofs.Rising.{less_is, held_at, one_number, written, updates_without, absent}
@@ -22,35 +22,35 @@ abbrev pub in_spot : Option (Option Page) → Option Page
 in_spot None = None
 in_spot (Some s) = s
 
-above : (x : ℕ) (ss : Spots) → AllByRecursion (λ y. nat_cmp x y ≡ Less) (keys_of ss) → AllByRecursion (λ y. nat_cmp x y ≡ Less) (keys_of (held ss))
+above : (x : ℕ) (ss : Spots) → AllByRecursion (λ y. nat_cmp x y ≡ Less) (keys_of ss) → AllByRecursion (λ y. nat_cmp x y ≡ Less) (keys_of (pages_held ss))
 above x [] a = a
-above x (s ∷ ss) a = elim s.1 as (λ o. AllByRecursion (λ y. nat_cmp x y ≡ Less) (keys_of (with_page s.0 o (held ss)))) [ None ↦ above x ss a.1 | Some p ↦ (a.0, above x ss a.1) ]
+above x (s ∷ ss) a = elim s.1 as (λ o. AllByRecursion (λ y. nat_cmp x y ≡ Less) (keys_of (with_page s.0 o (pages_held ss)))) [ None ↦ above x ss a.1 | Some p ↦ (a.0, above x ss a.1) ]
 
-pub rises_held : (ss : Spots) → Rises ss → Rises (held ss)
+pub rises_held : (ss : Spots) → Rises ss → Rises (pages_held ss)
 unfolding IsStrictlySortedBy
 rises_held [] r = r
-rises_held (s ∷ ss) r = elim s.1 as (λ o. Rises (with_page s.0 o (held ss))) [ None ↦ rises_held ss r.1 | Some p ↦ (above s.0 ss r.0, rises_held ss r.1) ]
+rises_held (s ∷ ss) r = elim s.1 as (λ o. Rises (with_page s.0 o (pages_held ss))) [ None ↦ rises_held ss r.1 | Some p ↦ (above s.0 ss r.0, rises_held ss r.1) ]
 
 -- no later page has the first number
 none_later : (x q : ℕ) (ps : Pages) → AllByRecursion (λ y. nat_cmp x y ≡ Less) (keys_of ps) → q ≡ x → page_of ps q ≡ None
 none_later x q [] a e = refl
 none_later x q (p ∷ ps) a e = ap (λ b. cond b (Some p.1) (page_of ps q)) (is_at_other q p.0 (λ s. omega (arith, less_is x p.0 a.0, s, e))) ∙ none_later x q ps a.1 e
 
-pub page_held : (ss : Spots) → Rises ss → (q : ℕ) → page_of (held ss) q ≡ in_spot (under ss q)
+pub page_held : (ss : Spots) → Rises ss → (q : ℕ) → page_of (pages_held ss) q ≡ in_spot (under ss q)
 unfolding IsStrictlySortedBy
 page_held [] r q = refl
-page_held (s ∷ ss) r q = elim s.1 as (λ o. page_of (with_page s.0 o (held ss)) q ≡ in_spot (cond (is_at (nat_cmp q) s.0) (Some o) (under ss q))) [
+page_held (s ∷ ss) r q = elim s.1 as (λ o. page_of (with_page s.0 o (pages_held ss)) q ≡ in_spot (cond (is_at (nat_cmp q) s.0) (Some o) (under ss q))) [
   | None ↦ by_same q s.0
-      (λ _ same. none_later s.0 q (held ss) (above s.0 ss r.0) same ∙ sym (ap (λ b. in_spot (cond b (Some None) (under ss q))) (ap (is_at (nat_cmp q)) (sym same) ∙ is_at_same q)))
+      (λ _ same. none_later s.0 q (pages_held ss) (above s.0 ss r.0) same ∙ sym (ap (λ b. in_spot (cond b (Some None) (under ss q))) (ap (is_at (nat_cmp q)) (sym same) ∙ is_at_same q)))
       (λ _ apart. page_held ss r.1 q ∙ sym (ap (λ b. in_spot (cond b (Some None) (under ss q))) (is_at_other q s.0 apart)))
-  | Some p ↦ elim (is_at (nat_cmp q) s.0) as (λ b. cond b (Some p) (page_of (held ss) q) ≡ in_spot (cond b (Some (Some p)) (under ss q))) [ true ↦ refl | false ↦ page_held ss r.1 q ]
+  | Some p ↦ elim (is_at (nat_cmp q) s.0) as (λ b. cond b (Some p) (page_of (pages_held ss) q) ≡ in_spot (cond b (Some (Some p)) (under ss q))) [ true ↦ refl | false ↦ page_held ss r.1 q ]
 ]
 
 -- the page of a spot
-pub page_in : (ss : Spots) → Rises ss → (k q : ℕ) (o : Option Page) → slice_get ss k ≡ Some (q, o) → page_of (held ss) q ≡ o
+pub page_in : (ss : Spots) → Rises ss → (k q : ℕ) (o : Option Page) → slice_get ss k ≡ Some (q, o) → page_of (pages_held ss) q ≡ o
 page_in ss r k q o g = page_held ss r q ∙ ap in_spot (held_at ss r k q o g)
 
-pub no_page : (ss : Spots) → Rises ss → (q : ℕ) → under ss q ≡ None → page_of (held ss) q ≡ None
+pub no_page : (ss : Spots) → Rises ss → (q : ℕ) → under ss q ≡ None → page_of (pages_held ss) q ≡ None
 no_page ss r q e = page_held ss r q ∙ ap in_spot e
 
 pub none_is : (p : Page) → None ≡ Some p → ⊥
@@ -58,41 +58,41 @@ none_is p e = cc
 
 -- ## A new page
 
-pub held_pushed : (ss : Spots) (q : ℕ) (p : Page) → held (ss ++ (q, Some p) ∷ []) ≡ held ss ++ (q, p) ∷ []
+pub held_pushed : (ss : Spots) (q : ℕ) (p : Page) → pages_held (ss ++ (q, Some p) ∷ []) ≡ pages_held ss ++ (q, p) ∷ []
 held_pushed [] q p = refl
-held_pushed (s ∷ ss) q p = elim s.1 as (λ o. with_page s.0 o (held (ss ++ (q, Some p) ∷ [])) ≡ with_page s.0 o (held ss) ++ (q, p) ∷ []) [ None ↦ held_pushed ss q p | Some v ↦ ap (λ l. (s.0, v) ∷ l) (held_pushed ss q p) ]
+held_pushed (s ∷ ss) q p = elim s.1 as (λ o. with_page s.0 o (pages_held (ss ++ (q, Some p) ∷ [])) ≡ with_page s.0 o (pages_held ss) ++ (q, p) ∷ []) [ None ↦ held_pushed ss q p | Some v ↦ ap (λ l. (s.0, v) ∷ l) (held_pushed ss q p) ]
 
-pub count_pushed : (n : ℕ) (ss : Spots) (q : ℕ) (p : Page) → n + length (held ss) ≡ length ss → n + length (held (ss ++ (q, Some p) ∷ [])) ≡ length (ss ++ (q, Some p) ∷ [])
+pub count_pushed : (n : ℕ) (ss : Spots) (q : ℕ) (p : Page) → n + length (pages_held ss) ≡ length ss → n + length (pages_held (ss ++ (q, Some p) ∷ [])) ≡ length (ss ++ (q, Some p) ∷ [])
 count_pushed n ss q p h =
     let page : Pages = (q, p) ∷ [] in let spot : Spots = (q, Some p) ∷ [] in
-    omega (arith, h, ap length (held_pushed ss q p), length-append (held ss) page, length-append ss spot)
+    omega (arith, h, ap length (held_pushed ss q p), length-append (pages_held ss) page, length-append ss spot)
 
 -- ## A write, and a page that goes
 
 no_spot : (p : Page) → Some None ≡ Some (Some p) → ⊥
 no_spot p e = cc
 
-pub held_written : (test : ℕ → Bool) (ss : Spots) (p w : Page) → lookup test ss ≡ Some (Some p) → held (set_value test ss (Some w)) ≡ set_value test (held ss) w
+pub held_written : (test : ℕ → Bool) (ss : Spots) (p w : Page) → lookup test ss ≡ Some (Some p) → pages_held (set_value test ss (Some w)) ≡ set_value test (pages_held ss) w
 held_written test [] p w h = cc
-held_written test (s ∷ ss) p w h = (elim s.1 as (λ o. cond (test s.0) (Some o) (lookup test ss) ≡ Some (Some p) → held (cond (test s.0) ((s.0, Some w) ∷ ss) ((s.0, o) ∷ set_value test ss (Some w))) ≡ set_value test (with_page s.0 o (held ss)) w) [
-  | None ↦ elim (test s.0) as (λ b. cond b (Some None) (lookup test ss) ≡ Some (Some p) → held (cond b ((s.0, Some w) ∷ ss) ((s.0, None) ∷ set_value test ss (Some w))) ≡ set_value test (held ss) w) [
+held_written test (s ∷ ss) p w h = (elim s.1 as (λ o. cond (test s.0) (Some o) (lookup test ss) ≡ Some (Some p) → pages_held (cond (test s.0) ((s.0, Some w) ∷ ss) ((s.0, o) ∷ set_value test ss (Some w))) ≡ set_value test (with_page s.0 o (pages_held ss)) w) [
+  | None ↦ elim (test s.0) as (λ b. cond b (Some None) (lookup test ss) ≡ Some (Some p) → pages_held (cond b ((s.0, Some w) ∷ ss) ((s.0, None) ∷ set_value test ss (Some w))) ≡ set_value test (pages_held ss) w) [
     | true ↦ λ e. absurd (no_spot p e)
     | false ↦ λ e. held_written test ss p w e
   ]
-  | Some v ↦ elim (test s.0) as (λ b. cond b (Some (Some v)) (lookup test ss) ≡ Some (Some p) → held (cond b ((s.0, Some w) ∷ ss) ((s.0, Some v) ∷ set_value test ss (Some w))) ≡ cond b ((s.0, w) ∷ held ss) ((s.0, v) ∷ set_value test (held ss) w)) [
+  | Some v ↦ elim (test s.0) as (λ b. cond b (Some (Some v)) (lookup test ss) ≡ Some (Some p) → pages_held (cond b ((s.0, Some w) ∷ ss) ((s.0, Some v) ∷ set_value test ss (Some w))) ≡ cond b ((s.0, w) ∷ pages_held ss) ((s.0, v) ∷ set_value test (pages_held ss) w)) [
     | true ↦ λ e. refl
     | false ↦ λ e. ap (λ l. (s.0, v) ∷ l) (held_written test ss p w e)
   ]
 ]) h
 
-pub held_emptied : (test : ℕ → Bool) (ss : Spots) (p : Page) → lookup test ss ≡ Some (Some p) → held (set_value test ss None) ≡ remove_entry test (held ss)
+pub held_emptied : (test : ℕ → Bool) (ss : Spots) (p : Page) → lookup test ss ≡ Some (Some p) → pages_held (set_value test ss None) ≡ remove_entry test (pages_held ss)
 held_emptied test [] p h = cc
-held_emptied test (s ∷ ss) p h = (elim s.1 as (λ o. cond (test s.0) (Some o) (lookup test ss) ≡ Some (Some p) → held (cond (test s.0) ((s.0, None) ∷ ss) ((s.0, o) ∷ set_value test ss None)) ≡ remove_entry test (with_page s.0 o (held ss))) [
-  | None ↦ elim (test s.0) as (λ b. cond b (Some None) (lookup test ss) ≡ Some (Some p) → held (cond b ((s.0, None) ∷ ss) ((s.0, None) ∷ set_value test ss None)) ≡ remove_entry test (held ss)) [
+held_emptied test (s ∷ ss) p h = (elim s.1 as (λ o. cond (test s.0) (Some o) (lookup test ss) ≡ Some (Some p) → pages_held (cond (test s.0) ((s.0, None) ∷ ss) ((s.0, o) ∷ set_value test ss None)) ≡ remove_entry test (with_page s.0 o (pages_held ss))) [
+  | None ↦ elim (test s.0) as (λ b. cond b (Some None) (lookup test ss) ≡ Some (Some p) → pages_held (cond b ((s.0, None) ∷ ss) ((s.0, None) ∷ set_value test ss None)) ≡ remove_entry test (pages_held ss)) [
     | true ↦ λ e. absurd (no_spot p e)
     | false ↦ λ e. held_emptied test ss p e
   ]
-  | Some v ↦ elim (test s.0) as (λ b. cond b (Some (Some v)) (lookup test ss) ≡ Some (Some p) → held (cond b ((s.0, None) ∷ ss) ((s.0, Some v) ∷ set_value test ss None)) ≡ cond b (held ss) ((s.0, v) ∷ remove_entry test (held ss))) [
+  | Some v ↦ elim (test s.0) as (λ b. cond b (Some (Some v)) (lookup test ss) ≡ Some (Some p) → pages_held (cond b ((s.0, None) ∷ ss) ((s.0, Some v) ∷ set_value test ss None)) ≡ cond b (pages_held ss) ((s.0, v) ∷ remove_entry test (pages_held ss))) [
     | true ↦ λ e. refl
     | false ↦ λ e. ap (λ l. (s.0, v) ∷ l) (held_emptied test ss p e)
   ]
@@ -107,26 +107,26 @@ module _ (ss : Spots) (r : Rises ss) (k q : ℕ) (p : Page) (g : slice_get ss k 
   abbrev at_it : ℕ → Bool
   at_it = is_at (nat_cmp q)
 
-  it_is : page_of (held ss) q ≡ Some p
+  it_is : page_of (pages_held ss) q ≡ Some p
   it_is = page_in ss r k q (Some p) g
 
-  pub page_written : (w : Page) → held (slice_set ss k (q, Some w)) ≡ set_value at_it (held ss) w
-  page_written w = ap held (written ss r k q (Some p) g (Some w)) ∙ held_written at_it ss p w (held_at ss r k q (Some p) g)
+  pub page_written : (w : Page) → pages_held (slice_set ss k (q, Some w)) ≡ set_value at_it (pages_held ss) w
+  page_written w = ap pages_held (written ss r k q (Some p) g (Some w)) ∙ held_written at_it ss p w (held_at ss r k q (Some p) g)
 
-  pub written_updates : (w : Page) (n : ℕ) → page_of (held (slice_set ss k (q, Some w))) n ≡ cond (at_it n) (Some w) (page_of (held ss) n)
-  written_updates w n = ap (λ (ps : Pages). page_of ps n) (page_written w) ∙ lookup-set_value (eq_by_cmp_equiv nat_cmp_total) at_it (one_number q) n w (held ss) (subst IsSome (sym it_is) refl)
+  pub written_updates : (w : Page) (n : ℕ) → page_of (pages_held (slice_set ss k (q, Some w))) n ≡ cond (at_it n) (Some w) (page_of (pages_held ss) n)
+  written_updates w n = ap (λ (ps : Pages). page_of ps n) (page_written w) ∙ lookup-set_value (eq_by_cmp_equiv nat_cmp_total) at_it (one_number q) n w (pages_held ss) (subst IsSome (sym it_is) refl)
 
-  pub written_count : (w : Page) (n : ℕ) → n + length (held ss) ≡ length ss → n + length (held (slice_set ss k (q, Some w))) ≡ length (slice_set ss k (q, Some w))
-  written_count w n h = omega (arith, h, ap length (page_written w), length-set_value at_it (held ss) w, ap length (written ss r k q (Some p) g (Some w)), length-set_value at_it ss (Some w))
+  pub written_count : (w : Page) (n : ℕ) → n + length (pages_held ss) ≡ length ss → n + length (pages_held (slice_set ss k (q, Some w))) ≡ length (slice_set ss k (q, Some w))
+  written_count w n h = omega (arith, h, ap length (page_written w), length-set_value at_it (pages_held ss) w, ap length (written ss r k q (Some p) g (Some w)), length-set_value at_it ss (Some w))
 
-  pub page_gone : held (slice_set ss k (q, None)) ≡ remove_entry at_it (held ss)
-  page_gone = ap held (written ss r k q (Some p) g None) ∙ held_emptied at_it ss p (held_at ss r k q (Some p) g)
+  pub page_gone : pages_held (slice_set ss k (q, None)) ≡ remove_entry at_it (pages_held ss)
+  page_gone = ap pages_held (written ss r k q (Some p) g None) ∙ held_emptied at_it ss p (held_at ss r k q (Some p) g)
 
-  pub gone_count : (n : ℕ) → n + length (held ss) ≡ length ss → (n + 1) + length (held (slice_set ss k (q, None))) ≡ length (slice_set ss k (q, None))
-  gone_count n h = omega (arith, h, ap length page_gone, one_fewer at_it (held ss) p it_is, ap length (written ss r k q (Some p) g None), length-set_value at_it ss None)
+  pub gone_count : (n : ℕ) → n + length (pages_held ss) ≡ length ss → (n + 1) + length (pages_held (slice_set ss k (q, None))) ≡ length (slice_set ss k (q, None))
+  gone_count n h = omega (arith, h, ap length page_gone, one_fewer at_it (pages_held ss) p it_is, ap length (written ss r k q (Some p) g None), length-set_value at_it ss None)
 
-pub gone_updates : (ss : Spots) → Rises ss → (q n : ℕ) (ps : Pages) → ps ≡ remove_entry (is_at (nat_cmp q)) (held ss) → page_of ps n ≡ cond (is_at (nat_cmp q) n) None (page_of (held ss) n)
-gone_updates ss r q n ps is = ap (λ (xs : Pages). page_of xs n) is ∙ updates_without (held ss) (rises_held ss r) q n
+pub gone_updates : (ss : Spots) → Rises ss → (q n : ℕ) (ps : Pages) → ps ≡ remove_entry (is_at (nat_cmp q)) (pages_held ss) → page_of ps n ≡ cond (is_at (nat_cmp q) n) None (page_of (pages_held ss) n)
+gone_updates ss r q n ps is = ap (λ (xs : Pages). page_of xs n) is ∙ updates_without (pages_held ss) (rises_held ss r) q n
 
 same_spot : (s t : ℕ × Option Page) → Some s ≡ Some t → t ≡ s
 same_spot s t e = cc
@@ -138,21 +138,21 @@ same_again (x ∷ ss) zero s g = ap (λ y. y ∷ ss) (same_spot x s g)
 same_again (x ∷ ss) (suc k) s g = ap (λ l. x ∷ l) (same_again ss k s g)
 
 -- no page has this number
-pub none_gone : (ss : Spots) (q : ℕ) → page_of (held ss) q ≡ None → held ss ≡ remove_entry (is_at (nat_cmp q)) (held ss)
-none_gone ss q e = sym (absent (is_at (nat_cmp q)) (held ss) e)
+pub none_gone : (ss : Spots) (q : ℕ) → page_of (pages_held ss) q ≡ None → pages_held ss ≡ remove_entry (is_at (nat_cmp q)) (pages_held ss)
+none_gone ss q e = sym (absent (is_at (nat_cmp q)) (pages_held ss) e)
 
 -- ## A row without empty spots
 
 abbrev pub has_page : ℕ × Option Page → Bool
 has_page s = is_some s.1
 
-pub held_cut : (ss : Spots) → held (filter has_page ss) ≡ held ss
+pub held_cut : (ss : Spots) → pages_held (filter has_page ss) ≡ pages_held ss
 held_cut [] = refl
-held_cut (s ∷ ss) = elim s.1 as (λ o. held (cond (is_some o) ((s.0, o) ∷ filter has_page ss) (filter has_page ss)) ≡ with_page s.0 o (held ss)) [ None ↦ held_cut ss | Some v ↦ ap (λ l. (s.0, v) ∷ l) (held_cut ss) ]
+held_cut (s ∷ ss) = elim s.1 as (λ o. pages_held (cond (is_some o) ((s.0, o) ∷ filter has_page ss) (filter has_page ss)) ≡ with_page s.0 o (pages_held ss)) [ None ↦ held_cut ss | Some v ↦ ap (λ l. (s.0, v) ∷ l) (held_cut ss) ]
 
-pub all_held : (ss : Spots) → length (held (filter has_page ss)) ≡ length (filter has_page ss)
+pub all_held : (ss : Spots) → length (pages_held (filter has_page ss)) ≡ length (filter has_page ss)
 all_held [] = refl
-all_held (s ∷ ss) = elim s.1 as (λ o. length (held (cond (is_some o) ((s.0, o) ∷ filter has_page ss) (filter has_page ss))) ≡ length (cond (is_some o) ((s.0, o) ∷ filter has_page ss) (filter has_page ss))) [ None ↦ all_held ss | Some v ↦ ap suc (all_held ss) ]
+all_held (s ∷ ss) = elim s.1 as (λ o. length (pages_held (cond (is_some o) ((s.0, o) ∷ filter has_page ss) (filter has_page ss))) ≡ length (cond (is_some o) ((s.0, o) ∷ filter has_page ss) (filter has_page ss))) [ None ↦ all_held ss | Some v ↦ ap suc (all_held ss) ]
 
 above_cut : (x : ℕ) (ss : Spots) → AllByRecursion (λ y. nat_cmp x y ≡ Less) (keys_of ss) → AllByRecursion (λ y. nat_cmp x y ≡ Less) (keys_of (filter has_page ss))
 above_cut x [] a = a
@@ -177,7 +177,7 @@ each_has (s ∷ ss) q o k g = (elim s.1 as (λ (e : Option Page). slice_get (con
   | Some v ↦ λ h. first_or s.0 v (filter has_page ss) q o k h (λ j e. each_has ss q o j e)
 ]) g
 
-pub all_below : (ss : Spots) → Rises ss → (n : ℕ) → ((q : ℕ) (p : Page) → page_of (held ss) q ≡ Some p → q < n) → (k q : ℕ) (o : Option Page) → slice_get (filter has_page ss) k ≡ Some (q, o) → q < n
+pub all_below : (ss : Spots) → Rises ss → (n : ℕ) → ((q : ℕ) (p : Page) → page_of (pages_held ss) q ≡ Some p → q < n) → (k q : ℕ) (o : Option Page) → slice_get (filter has_page ss) k ≡ Some (q, o) → q < n
 all_below ss r n low k q o g =
     let is = each_has ss q o k g in
     low q is.0 (sym (ap (λ ps. page_of ps q) (held_cut ss)) ∙ page_in (filter has_page ss) (rises_cut ss r) k q o g ∙ is.1)

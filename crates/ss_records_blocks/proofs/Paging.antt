@@ -14,7 +14,7 @@ use Rattle.std.proofs.lemmas.List.{map-append}
 use Rattle.std.proofs.lemmas.List.Sums.{sum_by-cons, sum_by_push}
 use Rattle.std.proofs.lemmas.Bool.{le-leb, leb-true, ltb-true, ltb-false}
 use Rattle.ss_records_blocks.specs.declared.store.Address.{Address}
-use Rattle.ss_records_blocks.specs.Places.{living}
+use Rattle.ss_records_blocks.specs.Places.{living_count}
 use Rattle.ss_records_blocks.specs.Pages.{Page, Pages, in_page, slot, page_of, entry, upto, Paged}
 use Rattle.ss_records_blocks.proofs.Same.{same, differs, equal, by_same}
 use Rattle.ss_records_blocks.proofs.Entries.{get_inside, get_there, living_push, living_bound, living_gone, length_set}
@@ -78,23 +78,23 @@ upto_set f g (suc n) i v h e o = by_same i n
 
 -- ## Pages by themselves
 
-pub none_living : (p : Page) (k : ℕ) → living p ≡ 0 → slot (Some p) k ≡ None
+pub none_living : (p : Page) (k : ℕ) → living_count p ≡ 0 → slot (Some p) k ≡ None
 none_living [] k h = refl
 none_living (None ∷ ps) zero h = refl
 none_living (None ∷ ps) (suc k) h = none_living ps k h
 none_living (Some q ∷ ps) k h = absurd (omega (arith, h))
 
-pub living_set : (p : Page) (k : ℕ) (q : Address) → slice_get p k ≡ Some None → living (slice_set p k (Some q)) ≡ living p + 1
+pub living_set : (p : Page) (k : ℕ) (q : Address) → slice_get p k ≡ Some None → living_count (slice_set p k (Some q)) ≡ living_count p + 1
 living_set [] k q h = cc
 living_set (None ∷ ps) zero q h = omega arith
 living_set (Some r ∷ ps) zero q h = cc
 living_set (None ∷ ps) (suc k) q h = living_set ps k q h
 living_set (Some r ∷ ps) (suc k) q h = omega (arith, living_set ps k q h)
 
-pub some_living : (p : Page) (k : ℕ) (q : Address) → slice_get p k ≡ Some (Some q) → 1 ≤ living p
+pub some_living : (p : Page) (k : ℕ) (q : Address) → slice_get p k ≡ Some (Some q) → 1 ≤ living_count p
 some_living p k q h = omega (arith, living_gone p k q h)
 
-pub living_none : (n : ℕ) → living (replicate n None) ≡ 0
+pub living_none : (n : ℕ) → living_count (replicate n None) ≡ 0
 living_none zero = refl
 living_none (suc n) = living_none n
 
@@ -102,7 +102,7 @@ pub length_none : (n : ℕ) → length (replicate {A = Option Address} n None) �
 length_none zero = refl
 length_none (suc n) = ap suc (length_none n)
 
-pub page_few : (p : Page) → length p ≡ 256 → living p ≤ 256
+pub page_few : (p : Page) → length p ≡ 256 → living_count p ≤ 256
 page_few p h = omega (arith, living_bound p, h)
 
 slot_set : (p : Page) (k : ℕ) (v : Option Address) → k < length p → slot (Some (slice_set p k v)) k ≡ v
@@ -169,14 +169,14 @@ page_turned ps q cur none r = by_same q r
     (λ _ e. last_passes (is_at (nat_cmp r)) ps q cur (ap (page_of ps) (sym e) ∙ none) (ap (is_at (nat_cmp r)) e ∙ is_at_same r) ∙ sym (ap (λ b. cond b (Some cur) (page_of ps r)) (ap (is_at (nat_cmp q)) (sym e) ∙ is_at_same q)))
     (λ _ n. last_fails (is_at (nat_cmp r)) ps q cur (is_at_other r q (λ e. n (sym e))) ∙ sym (ap (λ b. cond b (Some cur) (page_of ps r)) (is_at_other q r n)))
 
-sum_turned : (ps : Pages) (q : ℕ) (cur : Page) → sum_by living (values_of (ps ++ (q, cur) ∷ [])) ≡ sum_by living (values_of ps) + living cur
-sum_turned ps q cur = ap (sum_by living) (map-append (λ (e : ℕ × Page). e.1) ps ((q, cur) ∷ [])) ∙ sum_by_push living (values_of ps) cur
+sum_turned : (ps : Pages) (q : ℕ) (cur : Page) → sum_by living_count (values_of (ps ++ (q, cur) ∷ [])) ≡ sum_by living_count (values_of ps) + living_count cur
+sum_turned ps q cur = ap (sum_by living_count) (map-append (λ (e : ℕ × Page). e.1) ps ((q, cur) ∷ [])) ∙ sum_by_push living_count (values_of ps) cur
 
 module _ (ps : Pages) (cur : Page) (start issued : ℕ) (P : Paged ps cur start issued) where
   abbrev f : ℕ → Option Address
   f = entry ps cur start
 
-  pub living_in_all : sum_by living (values_of ps) + living cur ≡ living (upto f issued)
+  pub living_in_all : sum_by living_count (values_of ps) + living_count cur ≡ living_count (upto f issued)
   living_in_all = P.total
 
   -- the slot of the next number
@@ -208,7 +208,7 @@ module _ (ps : Pages) (cur : Page) (start issued : ℕ) (P : Paged ps cur start 
       low = omega (arith, P.low);
       high = omega (arith, room);
       rest = λ k h. slot_other cur (issued - start) (Some q) k (λ e. absurd (later k h e)) ∙ P.rest k (omega (arith, h));
-      total = omega (arith, P.total, living_set cur (issued - start) q (next_slot room), ap living places_pushed, living_push (upto f issued) q);
+      total = omega (arith, P.total, living_set cur (issued - start) q (next_slot room), ap living_count places_pushed, living_push (upto f issued) q);
     } where
       later : (k : ℕ) → issued + 1 ≤ start + k → issued - start ≡ k → ⊥
       later k h e = omega (arith, h, e, P.low)
@@ -234,7 +234,7 @@ module _ (ps : Pages) (cur : Page) (start issued : ℕ) (P : Paged ps cur start 
       by_case (Some p) e = let k = (P.pages here p e).2 in absurd (omega (arith, k, start_is))
 
     -- and all its numbers are destroyed: it serves the next
-    module _ (none : living cur ≡ 0) where
+    module _ (none : living_count cur ≡ 0) where
       pub places_again : upto (entry ps cur (start + 256)) issued ≡ upto f issued
       places_again = upto_same f (entry ps cur (start + 256)) issued (λ i h. at_earlier ps cur (start + 256) i (omega (arith, h, full)) ∙ by_part start i
           (λ a. (λ z. slot (page_of ps ((in_current i a h).0 z)) (i % 256)) ∙ ap (λ o. slot o (i % 256)) no_page_here ∙ sym (at_current ps cur start i a ∙ none_living cur (i - start) none))
@@ -248,14 +248,14 @@ module _ (ps : Pages) (cur : Page) (start issued : ℕ) (P : Paged ps cur start 
         low = omega (arith, full);
         high = omega (arith, full);
         rest = λ k h. none_living cur k none;
-        total = P.total ∙ ap living (sym places_again);
+        total = P.total ∙ ap living_count (sym places_again);
       }
 
     pub below_here : (q : ℕ) (p : Page) → page_of ps q ≡ Some p → q < here
     below_here q p e = let k = (P.pages q p e).2 in omega (arith, k, start_is)
 
     -- it goes after the others, and a new one serves the next
-    module _ (some : 1 ≤ living cur) where
+    module _ (some : 1 ≤ living_count cur) where
       abbrev es : Pages
       es = ps ++ (here, cur) ∷ []
 
@@ -276,14 +276,14 @@ module _ (ps : Pages) (cur : Page) (start issued : ℕ) (P : Paged ps cur start 
       pub paged_turned : Paged es new (start + 256) issued
       paged_turned = record {
         pages = λ q p e. by_same here q
-            (λ z n. let s : cur ≡ p = the_same (sym has_here ∙ ap (page_of es) n ∙ e) in (ap length (sym s) ∙ P.size, subst (λ v. 1 ≤ living v) s some, omega (arith, n, start_is)))
+            (λ z n. let s : cur ≡ p = the_same (sym has_here ∙ ap (page_of es) n ∙ e) in (ap length (sym s) ∙ P.size, subst (λ v. 1 ≤ living_count v) s some, omega (arith, n, start_is)))
             (λ z n. let k = P.pages q p (sym (has_other q n) ∙ e) in (k.0, k.1, omega (arith, k.2)));
         size = length_none 256;
         whole = omega (arith, start_is);
         low = omega (arith, full);
         high = omega (arith, full);
         rest = λ k h. none_living new k (living_none 256);
-        total = omega (arith, sum_turned ps here cur, P.total, ap living places_turned, living_none 256);
+        total = omega (arith, sum_turned ps here cur, P.total, ap living_count places_turned, living_none 256);
       } where
         the_same : {v w : Page} → Some v ≡ Some w → v ≡ w
         the_same e = cc
@@ -298,7 +298,7 @@ module _ (ps : Pages) (cur : Page) (start issued : ℕ) (P : Paged ps cur start 
       the_same : {v w : Option Address} → Some v ≡ Some w → v ≡ w
       the_same e = cc
 
-    pub gone : living (slice_set (upto f issued) i None) + 1 ≡ living (upto f issued)
+    pub gone : living_count (slice_set (upto f issued) i None) + 1 ≡ living_count (upto f issued)
     gone = living_gone (upto f issued) i p g
 
     module _ (a : start ≤ i) where
@@ -326,7 +326,7 @@ module _ (ps : Pages) (cur : Page) (start issued : ℕ) (P : Paged ps cur start 
         low = P.low;
         high = P.high;
         rest = λ k h. slot_other cur (i - start) None k (λ e. absurd (later k h e)) ∙ P.rest k h;
-        total = omega (arith, P.total, living_gone cur (i - start) p in_cur, gone, ap living places_cleared);
+        total = omega (arith, P.total, living_gone cur (i - start) p in_cur, gone, ap living_count places_cleared);
       } where
         later : (k : ℕ) → issued ≤ start + k → i - start ≡ k → ⊥
         later k h e = omega (arith, h, e, a, inside)
@@ -349,7 +349,7 @@ module _ (ps : Pages) (cur : Page) (start issued : ℕ) (P : Paged ps cur start 
 
       -- the pages with another, or none, in its place
       module _ (pg : Page) (was : page_of ps q ≡ Some pg) (es : Pages) (w : Option Page) (has : (r : ℕ) → page_of es r ≡ cond (is_at (nat_cmp q) r) w (page_of ps r)) (slots : (k : ℕ) → slot w k ≡ slot (Some (slice_set pg (i % 256) None)) k)
-          (good : (v : Page) → w ≡ Some v → (length v ≡ 256) × (1 ≤ living v)) (sum : sum_by living (values_of es) + 1 ≡ sum_by living (values_of ps)) where
+          (good : (v : Page) → w ≡ Some v → (length v ≡ 256) × (1 ≤ living_count v)) (sum : sum_by living_count (values_of es) + 1 ≡ sum_by living_count (values_of ps)) where
         size : length pg ≡ 256
         size = (P.pages q pg was).0
 
@@ -382,7 +382,7 @@ module _ (ps : Pages) (cur : Page) (start issued : ℕ) (P : Paged ps cur start 
           low = P.low;
           high = P.high;
           rest = P.rest;
-          total = omega (arith, sum, P.total, gone, ap living places_dropped);
+          total = omega (arith, sum, P.total, gone, ap living_count places_dropped);
         }
 
 -- ## Reading, and how many pages there are
@@ -453,12 +453,12 @@ get_beyond [] i h = refl
 get_beyond (x ∷ xs) zero h = absurd (omega (arith, h))
 get_beyond (x ∷ xs) (suc i) h = get_beyond xs i (omega (arith, h))
 
-each_living : (es : Pages) → ((i q : ℕ) (p : Page) → slice_get es i ≡ Some (q, p) → 1 ≤ living p) → length es ≤ sum_by living (values_of es)
+each_living : (es : Pages) → ((i q : ℕ) (p : Page) → slice_get es i ≡ Some (q, p) → 1 ≤ living_count p) → length es ≤ sum_by living_count (values_of es)
 each_living [] h = omega arith
-each_living (e ∷ es) h = omega (arith, each_living es (λ i q p g. h (suc i) q p g), h 0 e.0 e.1 refl, sum_by-cons living e.1 (values_of es))
+each_living (e ∷ es) h = omega (arith, each_living es (λ i q p g. h (suc i) q p g), h 0 e.0 e.1 refl, sum_by-cons living_count e.1 (values_of es))
 
 -- each earlier page has a living number
-pub pages_few : (ps : Pages) (cur : Page) (start issued : ℕ) → Paged ps cur start issued → ((i q : ℕ) (p : Page) → slice_get ps i ≡ Some (q, p) → page_of ps q ≡ Some p) → length ps ≤ living (upto (entry ps cur start) issued)
+pub pages_few : (ps : Pages) (cur : Page) (start issued : ℕ) → Paged ps cur start issued → ((i q : ℕ) (p : Page) → slice_get ps i ≡ Some (q, p) → page_of ps q ≡ Some p) → length ps ≤ living_count (upto (entry ps cur start) issued)
 pages_few ps cur start issued P found = omega (arith, P.total, each_living ps (λ i q p g. (P.pages q p (found i q p g)).1))
 
 pub paged_first : Paged [] (replicate 256 None) 0 0
@@ -481,16 +481,16 @@ module _ (ps : Pages) (cur : Page) (start issued : ℕ) (P : Paged ps cur start 
   abbrev left : Page
   left = slice_set found.0 (i % 256) None
 
-  less_one : living left + 1 ≡ living found.0
+  less_one : living_count left + 1 ≡ living_count found.0
   less_one = living_gone found.0 (i % 256) p found.3
 
   module _ (ms : Pages) (is : ms ≡ set_value (is_at (nat_cmp (i / 256))) ps left) (has : (r : ℕ) → page_of ms r ≡ cond (is_at (nat_cmp (i / 256)) r) (Some left) (page_of ps r)) where
-    sum_set : sum_by living (values_of ms) + 1 ≡ sum_by living (values_of ps)
-    sum_set = omega (arith, ap (λ (e : Pages). sum_by living (values_of e)) is, sum_by-set_value living (is_at (nat_cmp (i / 256))) ps found.0 left found.1, less_one)
+    sum_set : sum_by living_count (values_of ms) + 1 ≡ sum_by living_count (values_of ps)
+    sum_set = omega (arith, ap (λ (e : Pages). sum_by living_count (values_of e)) is, sum_by-set_value living_count (is_at (nat_cmp (i / 256))) ps found.0 left found.1, less_one)
 
-    module _ (some : nat_eq (living left) 0 ≡ false) where
-      good : (v : Page) → Some left ≡ Some v → (length v ≡ 256) × (1 ≤ living v)
-      good v e = subst (λ (u : Page). (length u ≡ 256) × (1 ≤ living u)) (the_same e) (length_set found.0 (i % 256) None ∙ found.2, not_zero (living left) some) where
+    module _ (some : nat_eq (living_count left) 0 ≡ false) where
+      good : (v : Page) → Some left ≡ Some v → (length v ≡ 256) × (1 ≤ living_count v)
+      good v e = subst (λ (u : Page). (length u ≡ 256) × (1 ≤ living_count u)) (the_same e) (length_set found.0 (i % 256) None ∙ found.2, not_zero (living_count left) some) where
         the_same : {u w : Page} → Some u ≡ Some w → u ≡ w
         the_same z = cc
 
@@ -506,9 +506,9 @@ module _ (ps : Pages) (cur : Page) (start issued : ℕ) (P : Paged ps cur start 
       pub paged_fewer : Paged ms cur start issued
       paged_fewer = paged_dropped ps cur start issued P i p g a found.0 found.1 ms (Some left) has (λ k. refl) good sum_set
 
-    module _ (none : nat_eq (living left) 0 ≡ true) (es : Pages) (rest_is : es ≡ remove_entry (is_at (nat_cmp (i / 256))) ms) (without : (r : ℕ) → page_of es r ≡ cond (is_at (nat_cmp (i / 256)) r) None (page_of ms r)) where
-      zero_left : living left ≡ 0
-      zero_left = equal (living left) 0 none
+    module _ (none : nat_eq (living_count left) 0 ≡ true) (es : Pages) (rest_is : es ≡ remove_entry (is_at (nat_cmp (i / 256))) ms) (without : (r : ℕ) → page_of es r ≡ cond (is_at (nat_cmp (i / 256)) r) None (page_of ms r)) where
+      zero_left : living_count left ≡ 0
+      zero_left = equal (living_count left) 0 none
 
       drops : (r : ℕ) → page_of es r ≡ cond (is_at (nat_cmp (i / 256)) r) None (page_of ps r)
       drops r = without r ∙ ap (cond (is_at (nat_cmp (i / 256)) r) None) (has r) ∙ twice (is_at (nat_cmp (i / 256)) r) (Some left) (page_of ps r) where
@@ -516,14 +516,14 @@ module _ (ps : Pages) (cur : Page) (start issued : ℕ) (P : Paged ps cur start 
         twice true x y = refl
         twice false x y = refl
 
-      of_none : (v : Page) → None ≡ Some v → (length v ≡ 256) × (1 ≤ living v)
+      of_none : (v : Page) → None ≡ Some v → (length v ≡ 256) × (1 ≤ living_count v)
       of_none v e = cc
 
       there : page_of ms (i / 256) ≡ Some left
       there = has (i / 256) ∙ ap (λ b. cond b (Some left) (page_of ps (i / 256))) (is_at_same (i / 256))
 
-      sum_less : sum_by living (values_of es) + 1 ≡ sum_by living (values_of ps)
-      sum_less = omega (arith, sum_set, zero_left, ap (λ (e : Pages). sum_by living (values_of e)) rest_is, sum_by-remove_entry living (is_at (nat_cmp (i / 256))) ms, ap (λ o. unwrap_or (option_map living o) 0) there)
+      sum_less : sum_by living_count (values_of es) + 1 ≡ sum_by living_count (values_of ps)
+      sum_less = omega (arith, sum_set, zero_left, ap (λ (e : Pages). sum_by living_count (values_of e)) rest_is, sum_by-remove_entry living_count (is_at (nat_cmp (i / 256))) ms, ap (λ o. unwrap_or (option_map living_count o) 0) there)
 
       pub places_given : upto (entry es cur start) issued ≡ slice_set (upto (entry ps cur start) issued) i None
       places_given = places_dropped ps cur start issued P i p g a found.0 found.1 es None drops (λ k. sym (none_living left k zero_left)) of_none sum_less

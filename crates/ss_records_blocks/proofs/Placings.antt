@@ -2,7 +2,7 @@
 use Rattle.std.proofs.Common.{◌≡◌, ℕ, zero, suc, ◌+◌, ◌<◌, ◌≤◌, List, [], ◌∷◌, ◌++◌, length, slice_get, slice_index_or, Some, ◌⊎◌, inl, inr, refl, sym, ap, subst, ◌∙◌, arith, length-append}
 use denote.RawPtr.{Ptr}
 use Rattle.ss_records_blocks.specs.declared.store.Address.{Address}
-use Rattle.ss_records_blocks.specs.Cells.{Cells, words_at, blanks, without}
+use Rattle.ss_records_blocks.specs.Cells.{Cells, words_at, blanks, without_block}
 use Rattle.ss_records_blocks.specs.Writes.{NoneAt, Placed, Unchanged}
 use Rattle.ss_records_blocks.proofs.Puts.{words_new, words_old, words_without}
 use Rattle.ss_records_blocks.proofs.Count.{blocks_without}
@@ -25,7 +25,7 @@ pub record Backed (cs bs : Cells) (ps : List Address) (n : ℕ) : Type 0 where
 pub backed_none : (cs : Cells) (ps : List Address) → Backed cs cs ps 0
 backed_none cs ps = record { rest = λ j p h g. refl; others = λ q h. refl; count = omega arith }
 
-pub backed_more : (cs bs : Cells) (ps : List Address) (n : ℕ) (p : Address) → slice_get ps n ≡ Some p → AreApart ps → 0 < length (words_at cs p.at) → Backed cs bs ps n → Backed cs (without bs p.at) ps (n + 1)
+pub backed_more : (cs bs : Cells) (ps : List Address) (n : ℕ) (p : Address) → slice_get ps n ≡ Some p → AreApart ps → 0 < length (words_at cs p.at) → Backed cs bs ps n → Backed cs (without_block bs p.at) ps (n + 1)
 backed_more cs bs ps n p g apart some b = record {
   rest = λ j q h k. words_without bs p.at q.at (λ z. past n j h (apart n j p q g k z)) ∙ b.rest j q (omega (arith, h)) k;
   others = λ q h. words_without bs p.at q (λ z. h n p g z) ∙ b.others q h;

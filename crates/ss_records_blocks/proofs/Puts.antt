@@ -1,7 +1,7 @@
 -- What a word is once another was written.
 use Rattle.std.proofs.Common.{◌≡◌, ℕ, zero, suc, ◌<◌, true, false, cond, ◌==◌, List, [], ◌∷◌, length, refl, sym, ap, subst, ◌∙◌, arith}
 use denote.RawPtr.{Ptr}
-use Rattle.ss_records_blocks.specs.Cells.{Word, blank, Cells, same_ptr, words_at, word_of, with_word, word_at, put_word, without, blanks}
+use Rattle.ss_records_blocks.specs.Cells.{Word, blank, Cells, same_ptr, words_at, word_of, with_word, word_at, put_word, without_block, blanks}
 use Rattle.ss_records_blocks.specs.Writes.{Written}
 use Rattle.ss_records_blocks.proofs.Numbers.{same_ptr_eq, same_ptr_refl, length-with_word}
 use Rattle.ss_records_blocks.proofs.Same.{same, differs, by_same, false_is_not_true}
@@ -58,14 +58,14 @@ written_twice cs ds es p a b = record { others = λ q n. b.others q n ∙ a.othe
 pub words_written : (cs : Cells) (p : Ptr) (k : ℕ) (w : Word) → words_at (put_word cs p k w) p ≡ with_word (words_at cs p) k w
 words_written cs p k w = rw (words_put cs p k w p, same_ptr_refl p) refl
 
-pub words_without : (cs : Cells) (p q : Ptr) → (p ≡ q → ⊥) → words_at (without cs p) q ≡ words_at cs q
+pub words_without : (cs : Cells) (p q : Ptr) → (p ≡ q → ⊥) → words_at (without_block cs p) q ≡ words_at cs q
 words_without [] p q n = refl
 words_without (c ∷ cs) p q n = by_ptr c.0 p
     (λ e i. rw (e, ptr_differs c.0 q (λ j. n (sym i ∙ j))) refl)
-    (λ e m. rw e (elim (same_ptr c.0 q) as (λ t. cond t c.1 (words_at (without cs p) q) ≡ cond t c.1 (words_at cs q)) [ true ↦ refl | false ↦ words_without cs p q n ]))
+    (λ e m. rw e (elim (same_ptr c.0 q) as (λ t. cond t c.1 (words_at (without_block cs p) q) ≡ cond t c.1 (words_at cs q)) [ true ↦ refl | false ↦ words_without cs p q n ]))
 
 -- a new block that is given back leaves what was
-pub without_new : (cs : Cells) (p : Ptr) (ws : List Word) → without ((p, ws) ∷ cs) p ≡ cs
+pub without_new : (cs : Cells) (p : Ptr) (ws : List Word) → without_block ((p, ws) ∷ cs) p ≡ cs
 without_new cs p ws = rw (same_ptr_refl p) refl
 
 pub words_new : (cs : Cells) (p : Ptr) (ws : List Word) → words_at ((p, ws) ∷ cs) p ≡ ws

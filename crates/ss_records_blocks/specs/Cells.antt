@@ -51,9 +51,9 @@ abbrev pub word_at : Cells → Ptr → ℕ → Word
 word_at cs p k = word_of (words_at cs p) k
 
 -- the blocks without that at p
-abbrev pub without : Cells → Ptr → Cells
-without [] p = []
-without (c ∷ cs) p = cond (same_ptr c.0 p) cs (c ∷ without cs p)
+abbrev pub without_block : Cells → Ptr → Cells
+without_block [] p = []
+without_block (c ∷ cs) p = cond (same_ptr c.0 p) cs (c ∷ without_block cs p)
 
 -- n words that nothing was written to
 abbrev pub blanks : ℕ → List Word

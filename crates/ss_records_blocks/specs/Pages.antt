@@ -6,7 +6,7 @@ use Rattle.std.specs.List.Sorted.{IsStrictlySortedBy}
 use Rattle.std.specs.Map.{lookup, keys_of, values_of}
 use Rattle.std.specs.List.{sum_by}
 use Rattle.ss_records_blocks.specs.declared.store.Address.{Address}
-use Rattle.ss_records_blocks.specs.Places.{living}
+use Rattle.ss_records_blocks.specs.Places.{living_count}
 
 -- what a contract sees of the directory: the place of each number, none where it is destroyed; how many pages
 -- are held; where the page of the next number begins
@@ -50,9 +50,9 @@ with_page q None ps = ps
 with_page q (Some p) ps = (q, p) ∷ ps
 
 -- the pages of a row that are held
-abbrev pub held : Spots → Pages
-held [] = []
-held (s ∷ ss) = with_page s.0 s.1 (held ss)
+abbrev pub pages_held : Spots → Pages
+pages_held [] = []
+pages_held (s ∷ ss) = with_page s.0 s.1 (pages_held ss)
 
 -- the place of the number i, from 0 on. The current page begins at `start`
 abbrev pub entry : Pages → Page → ℕ → ℕ → Option Address
@@ -65,10 +65,10 @@ upto f (suc n) = upto f n ++ f n ∷ []
 
 -- the pages of numbers before the current one have a living number each
 pub record Paged (ps : Pages) (cur : Page) (start issued : ℕ) : Type 0 where
-  pub pages : (q : ℕ) (p : Page) → page_of ps q ≡ Some p → (length p ≡ 256) × (1 ≤ living p) × (q * 256 < start)
+  pub pages : (q : ℕ) (p : Page) → page_of ps q ≡ Some p → (length p ≡ 256) × (1 ≤ living_count p) × (q * 256 < start)
   pub size : length cur ≡ 256
   pub whole : start % 256 ≡ 0
   pub low : start ≤ issued
   pub high : issued ≤ start + 256
   pub rest : (k : ℕ) → issued ≤ start + k → slot (Some cur) k ≡ None
-  pub total : sum_by living (values_of ps) + living cur ≡ living (upto (entry ps cur start) issued)
+  pub total : sum_by living_count (values_of ps) + living_count cur ≡ living_count (upto (entry ps cur start) issued)

@@ -7,10 +7,10 @@ abbrev pub Numbers : Type 0
 Numbers = List (Option Address)
 
 -- how many numbers have a place
-abbrev pub living : Numbers → ℕ
-living [] = 0
-living (None ∷ ps) = living ps
-living (Some p ∷ ps) = suc (living ps)
+abbrev pub living_count : Numbers → ℕ
+living_count [] = 0
+living_count (None ∷ ps) = living_count ps
+living_count (Some p ∷ ps) = suc (living_count ps)
 
 -- the places of the entities of a class, none until they are made
 abbrev pub row_in : Option (Option (List Address)) → List Address

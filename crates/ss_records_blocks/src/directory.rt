@@ -1,7 +1,7 @@
 // Where the block of each creation number lies, and two numbers whose places are remembered.
 ghost use Rattle.std.specs.Prelude.{◌≡◌, ℕ, ◌+◌, ◌*◌, ◌/◌, ◌^◌, ◌<◌, ◌≤◌, ◌++◌, [], ◌∷◌, length, false, Some, None, IfSome, slice_get, slice_set, MatchResult, ⊤};
 ghost use Rattle.ss_records_blocks.specs.declared.store.Address.{Address};
-ghost use Rattle.ss_records_blocks.specs.Places.{living};
+ghost use Rattle.ss_records_blocks.specs.Places.{living_count};
 ghost use Rattle.ss_records_blocks.specs.Pages.{in_page};
 
 use crate::register::Register;
@@ -56,7 +56,7 @@ impl Directory {
     /// How many pages are held: at most one more than numbers are living.
     pub fn pages(&self) -> usize
         ensures value { result ≡ self.now.pages }
-        ensures bound { result ≤ living self.now.places + 1 }
+        ensures bound { result ≤ living_count self.now.places + 1 }
     {
         self.register.pages()
     }

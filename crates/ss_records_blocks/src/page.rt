@@ -1,7 +1,7 @@
 // A page of the directory.
 ghost use Rattle.std.specs.Prelude.{◌≡◌, ◌<◌, List, length, replicate, slice_get, slice_set, nat_eq, Option, Some, None, MatchResult, ⊤};
 ghost use Rattle.ss_records_blocks.specs.declared.store.Address.{Address};
-ghost use Rattle.ss_records_blocks.specs.Places.{living};
+ghost use Rattle.ss_records_blocks.specs.Places.{living_count};
 
 use crate::store::Address;
 use std::alloc::{AllocError, Global};
@@ -21,13 +21,13 @@ pub(crate) struct Page {
 impl Model for Page {
     ghost use Rattle.std.specs.Prelude.{◌≡◌, List, Option, length};
     ghost use Rattle.ss_records_blocks.specs.declared.store.Address.{Address};
-    ghost use Rattle.ss_records_blocks.specs.Places.{living};
+    ghost use Rattle.ss_records_blocks.specs.Places.{living_count};
 
     ghost Value = { List (Option Address) };
 
     ghost view = { λ p. p.places.items };
 
-    ghost invariant = { λ p. (length p.places.items ≡ 256) × (p.count ≡ living p.places.items) };
+    ghost invariant = { λ p. (length p.places.items ≡ 256) × (p.count ≡ living_count p.places.items) };
 }
 
 impl Page {
@@ -69,7 +69,7 @@ impl Page {
     /// Whether no number has a place.
     pub(crate) fn is_empty(&self) -> bool
         ensures length { length self.now ≡ 256 }
-        ensures value { result ≡ nat_eq (living self.now) 0 }
+        ensures value { result ≡ nat_eq (living_count self.now) 0 }
     {
         self.count == 0
     }

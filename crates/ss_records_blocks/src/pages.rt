@@ -3,9 +3,9 @@ ghost use Rattle.std.specs.Prelude.{◌≡◌, ℕ, ◌+◌, ◌^◌, ◌<◌, �
 ghost use Rattle.std.specs.Ordering.{nat_cmp};
 ghost use Rattle.std.specs.BTreeMap.{is_at};
 ghost use Rattle.std.specs.Map.{set_value, remove_entry};
-ghost use Rattle.ss_records_blocks.specs.Pages.{page_of, under, held, Rises};
+ghost use Rattle.ss_records_blocks.specs.Pages.{page_of, under, pages_held, Rises};
 ghost use Rattle.ss_records_blocks.specs.declared.store.Address.{Address};
-ghost use Rattle.ss_records_blocks.specs.Places.{living};
+ghost use Rattle.ss_records_blocks.specs.Places.{living_count};
 
 use crate::page::Page;
 use std::alloc::{AllocError, Global};
@@ -24,13 +24,13 @@ pub(crate) struct PageMap {
 
 impl Model for PageMap {
     ghost use Rattle.std.specs.Prelude.{◌≡◌, ◌+◌, length};
-    ghost use Rattle.ss_records_blocks.specs.Pages.{Pages, Rises, held};
+    ghost use Rattle.ss_records_blocks.specs.Pages.{Pages, Rises, pages_held};
 
     ghost Value = { Pages };
 
-    ghost view = { λ m. held m.spots.items };
+    ghost view = { λ m. pages_held m.spots.items };
 
-    ghost invariant = { λ m. Rises m.spots.items × (m.empty + length (held m.spots.items) ≡ length m.spots.items) };
+    ghost invariant = { λ m. Rises m.spots.items × (m.empty + length (pages_held m.spots.items) ≡ length m.spots.items) };
 }
 
 impl PageMap {
@@ -100,7 +100,7 @@ impl PageMap {
     pub(crate) fn clear(&mut self, number: usize, k: usize) -> bool
         requires there { (page : List (Option Address)) × (p : Address) × (page_of self.old number ≡ Some page) × (slice_get page k ≡ Some (Some p)) }
         ensures cleared { (page : List (Option Address)) → page_of self.old number ≡ Some page → (self.new ≡ set_value (is_at (nat_cmp number)) self.old (slice_set page k None)) × ((q : ℕ) → page_of self.new q ≡ cond (is_at (nat_cmp number) q) (Some (slice_set page k None)) (page_of self.old q)) }
-        ensures empty { (page : List (Option Address)) → page_of self.old number ≡ Some page → result ≡ nat_eq (living (slice_set page k None)) 0 }
+        ensures empty { (page : List (Option Address)) → page_of self.old number ≡ Some page → result ≡ nat_eq (living_count (slice_set page k None)) 0 }
     {
         match spot(&self.spots, self.missing, number) {
             Some(at) => clear_in(&mut self.spots[at].1, k),
@@ -127,7 +127,7 @@ impl PageMap {
 fn clear_in(page: &mut Option<Page>, k: usize) -> bool
     requires { (p : List (Option Address)) × (a : Address) × (page.old ≡ Some p) × (slice_get p k ≡ Some (Some a)) }
     ensures cleared { (p : List (Option Address)) → page.old ≡ Some p → page.new ≡ Some (slice_set p k None) }
-    ensures empty { (p : List (Option Address)) → page.old ≡ Some p → result ≡ nat_eq (living (slice_set p k None)) 0 }
+    ensures empty { (p : List (Option Address)) → page.old ≡ Some p → result ≡ nat_eq (living_count (slice_set p k None)) 0 }
 {
     match page {
         Some(page) => {
@@ -204,11 +204,11 @@ fn searched(spots: &[(usize, Option<Page>)], number: usize) -> Option<usize>
 // how many are left.
 fn tidy(spots: &mut Vec<(usize, Option<Page>)>, empty: usize, number: usize) -> usize
     requires rises { Rises spots.old.items }
-    requires count { empty + length (held spots.old.items) ≡ length spots.old.items }
-    requires above { (q : ℕ) (p : List (Option Address)) → page_of (held spots.old.items) q ≡ Some p → q < number }
+    requires count { empty + length (pages_held spots.old.items) ≡ length spots.old.items }
+    requires above { (q : ℕ) (p : List (Option Address)) → page_of (pages_held spots.old.items) q ≡ Some p → q < number }
     ensures rises { Rises spots.new.items }
-    ensures count { result + length (held spots.new.items) ≡ length spots.new.items }
-    ensures held { held spots.new.items ≡ held spots.old.items }
+    ensures count { result + length (pages_held spots.new.items) ≡ length spots.new.items }
+    ensures pages_held { pages_held spots.new.items ≡ pages_held spots.old.items }
     ensures above { (k q : ℕ) (page : Option (List (Option Address))) → slice_get spots.new.items k ≡ Some (q, page) → q < number }
 {
     if empty <= spots.len() / 2 && are_below(spots, number) {

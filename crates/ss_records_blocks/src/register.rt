@@ -1,7 +1,7 @@
 // Where the block of each creation number lies, in pages.
 ghost use Rattle.std.specs.Prelude.{◌≡◌, ℕ, ◌+◌, ◌*◌, ◌/◌, ◌^◌, ◌<◌, ◌≤◌, ◌++◌, [], ◌∷◌, length, nat_eq, false, Some, None, IfSome, slice_get, slice_set, MatchResult, ⊤};
 ghost use Rattle.ss_records_blocks.specs.declared.store.Address.{Address};
-ghost use Rattle.ss_records_blocks.specs.Places.{living};
+ghost use Rattle.ss_records_blocks.specs.Places.{living_count};
 ghost use Rattle.ss_records_blocks.specs.Pages.{in_page};
 
 use crate::page::{PAGE, Page};
@@ -57,7 +57,7 @@ impl Register {
     /// How many pages are held: at most one more than numbers are living.
     pub(crate) fn pages(&self) -> usize
         ensures value { result ≡ self.now.pages }
-        ensures bound { result ≤ living self.now.places + 1 }
+        ensures bound { result ≤ living_count self.now.places + 1 }
     {
         self.earlier.len() + 1
     }

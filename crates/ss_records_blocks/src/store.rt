@@ -1,6 +1,6 @@
 // The functions with a pointer, and the blocks as all others see them.
 ghost use Rattle.std.specs.Prelude.{◌≡◌, ℕ, ◌+◌, ◌*◌, ◌^◌, ◌<◌, List, [], ◌∷◌, length, MatchResult, IfOk};
-ghost use Rattle.ss_records_blocks.specs.Cells.{Word, blank, number, counter, link, Cells, words_at, word_at, put_word, without, blanks, IsNumber, IsCounter, IsLink, MayBeNumber, MayBeCounter, MayBeLink};
+ghost use Rattle.ss_records_blocks.specs.Cells.{Word, blank, number, counter, link, Cells, words_at, word_at, put_word, without_block, blanks, IsNumber, IsCounter, IsLink, MayBeNumber, MayBeCounter, MayBeLink};
 ghost use Rattle.ss_records_blocks.specs.Ownership.{store_owns, store_lent};
 
 use std::alloc::{AllocError, Allocator, Global};
@@ -64,7 +64,7 @@ impl Store {
 
     fn give_back(&mut self, alloc: &Global, place: Address, words: usize)
         requires { (length (words_at self.old.cells place.at) ≡ words) × (0 < words) }
-        ensures { (self.new.cells ≡ without self.old.cells place.at) × (self.new.total ≡ self.old.total) }
+        ensures { (self.new.cells ≡ without_block self.old.cells place.at) × (self.new.total ≡ self.old.total) }
     {
         let at = place.at as *mut u8;
         unsafe {
@@ -252,7 +252,7 @@ impl Blocks {
     #[tactic(auto, using(crate::proofs::Count::blocks_without))]
     pub fn give_back(&mut self, alloc: &Global, place: Address, words: usize)
         requires size { (length (words_at self.old.cells place.at) ≡ words) × (0 < words) }
-        ensures cells { self.new.cells ≡ without self.old.cells place.at }
+        ensures cells { self.new.cells ≡ without_block self.old.cells place.at }
         ensures touches { (self.new.touches ≡ self.old.touches) × (self.new.total ≡ self.old.total) }
     {
         self.store.give_back(alloc, place, words);

@@ -7,10 +7,10 @@ use Rattle.ss_base.specs.declared.layout.ClassKind.TheVariants.{Permanent, Tempo
 use Rattle.ss_base.specs.declared.layout.Layout.{Layout}
 use Rattle.ss_records_blocks.specs.declared.store.Address.{Address}
 use Rattle.ss_records_blocks.specs.Cells.{Cells, words_at}
-use Rattle.ss_world.specs.State.{State, Members, and_then, of_class, entity, entity_of_kind, kind_of, numbered, indexed, number_in, members_of, owner_of}
+use Rattle.ss_world.specs.State.{State, Members, and_then, of_class, entity_in, entity_of_kind, kind_of, numbered, indexed, number_in, members_of, owner_of}
 use Rattle.ss_world.specs.Sets.{member_in, member_class, Apart}
 use Rattle.ss_records_words.specs.Reading.{record_of}
-use Rattle.ss_records_words.specs.Places.{Directory, Lists, class_at}
+use Rattle.ss_records_words.specs.Places.{Directory, Lists, class_at_place}
 use Rattle.ss_records_words.specs.Kept.{Kept, IsPermanent, state_of, issued_place, numbered_place}
 use Rattle.ss_records_words.specs.Slotted.{IsOf}
 use Rattle.ss_records_blocks.proofs.Same.{same}
@@ -32,7 +32,7 @@ module _ (l : Layout) (cs : Cells) (sys : Ptr) (d : Directory) (ms : List Member
   st = state_of l cs d ms
 
   -- what an entity of a class is
-  pub entity_is : (c n i : ℕ) (p : Address) → n ≡ suc i → class_at cs p ≡ c → Lists d i p → entity st c (pos n) ≡ Ok (record_of l (words_at cs p.at))
+  pub entity_is : (c n i : ℕ) (p : Address) → n ≡ suc i → class_at_place cs p ≡ c → Lists d i p → entity_in st c (pos n) ≡ Ok (record_of l (words_at cs p.at))
   entity_is c n i p e k (inl m) =
       let kind = subst (λ b. IsPermanent (kind_of l b) → ⊥) k (K.kinds i p m) in
       let place : numbered_place d.numbers (pos n) ≡ Ok p = ap (λ z. numbered_place d.numbers (pos z)) e ∙ ap issued_place m in
@@ -44,7 +44,7 @@ module _ (l : Layout) (cs : Cells) (sys : Ptr) (d : Directory) (ms : List Member
       of_permanent st (kind_of l c) c (pos n) (subst (λ a. IsPermanent (kind_of l a)) q y.permanent) ∙ ap (λ z. indexed st c (pos z)) e ∙ indexed_there l cs d ms c ps i p (subst (λ a. slice_get d.classes a ≡ Some (Some ps)) q m) h
 
   -- an entity of a class is what its number means
-  pub is_entity : (c n : ℕ) → IsOf cs d c n → and_then (entity st c (pos n)) (λ r. Ok (number_in (pos n))) ≡ Ok n
+  pub is_entity : (c n : ℕ) → IsOf cs d c n → and_then (entity_in st c (pos n)) (λ r. Ok (number_in (pos n))) ≡ Ok n
   is_entity c n h = let a = entry_of cs d c n h in ap (λ z. and_then z (λ r. Ok (number_in (pos n)))) (entity_is c n a.0 a.1 a.2 a.4 (listed d c a.0 a.1 a.3))
 
   pub sets_apart : Apart st

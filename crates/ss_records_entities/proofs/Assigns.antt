@@ -16,12 +16,12 @@ use Rattle.ss_base.specs.declared.layout.Layout.{Layout}
 use Rattle.ss_base.specs.Layout.{mode_of}
 use Rattle.ss_records_blocks.specs.declared.store.Address.{Address}
 use Rattle.ss_records_blocks.specs.Cells.{Word, number, Cells, IsNumber, MayBeNumber, words_at, word_of, word_at, with_word, put_word}
-use Rattle.ss_world.specs.State.{Record, State, Members, and_then, entity, numbered, of_notice, notice, value_in, time_in, number_in, kind_in, kind_of, modes_of, is_notice, with_value, with_time, with_indexed, with_entity, with_entity_of_kind, assigned, timed}
+use Rattle.ss_world.specs.State.{Record, State, Members, and_then, entity_in, numbered, of_notice, notice, value_in, time_in, number_in, kind_in, kind_of, modes_of, is_notice, with_value, with_time, with_indexed, with_entity, with_entity_of_kind, assigned, timed}
 use Rattle.ss_records_words.specs.Shape.{values_end, links_start}
 use Rattle.ss_records_words.specs.Reading.{plain, class_in_words, record_of, record_at, records_at, value_at, put_two, PutsValue}
 use Rattle.ss_records_blocks.specs.Writes.{Written}
 use Rattle.ss_records_words.specs.Kept.{Kept, Formed, IsPermanent, state_of}
-use Rattle.ss_records_words.specs.Places.{Made, Directory, Lists, class_at}
+use Rattle.ss_records_words.specs.Places.{Made, Directory, Lists, class_at_place}
 use Rattle.ss_records_blocks.proofs.Numbers.{length-with_word}
 use Rattle.ss_records_blocks.proofs.Same.{by_same}
 use Rattle.ss_records_blocks.proofs.Puts.{word_other, word_here, words_written, written_put, written_twice}
@@ -71,24 +71,24 @@ record Headed (l : Layout) (cs ds : Cells) (p : Address) (n : ℕ) (us : List Wo
   pub words : words_at ds p.at ≡ us
   pub written : Written cs ds p.at
   pub its_class : word_of us 0 ≡ word_at cs p.at 0
-  pub formed : Formed l (class_at cs p) n us
-  pub links : (j : ℕ) → links_start l (class_at cs p) ≤ j → word_of us j ≡ word_at cs p.at j
+  pub formed : Formed l (class_at_place cs p) n us
+  pub links : (j : ℕ) → links_start l (class_at_place cs p) ≤ j → word_of us j ≡ word_at cs p.at j
 
 module _ (l : Layout) (cs : Cells) (sys : Ptr) (d : Directory) (ms : List Members) (K : Kept l cs sys d ms) (i : ℕ) (p : Address) (g : Lists d i p) where
   module _ (ds : Cells) (us : List Word) (h : Headed l cs ds p (suc i) us) where
-    class_put : class_at ds p ≡ class_at cs p
+    class_put : class_at_place ds p ≡ class_at_place cs p
     class_put = ap class_in_words h.words ∙ ap plain h.its_class
 
-    form_put : Formed l (class_at cs p) (suc i) (words_at ds p.at)
-    form_put = subst (λ vs. Formed l (class_at cs p) (suc i) vs) (sym h.words) h.formed
+    form_put : Formed l (class_at_place cs p) (suc i) (words_at ds p.at)
+    form_put = subst (λ vs. Formed l (class_at_place cs p) (suc i) vs) (sym h.words) h.formed
 
-    links_put : (j : ℕ) → links_start l (class_at cs p) ≤ j → word_at ds p.at j ≡ word_at cs p.at j
+    links_put : (j : ℕ) → links_start l (class_at_place cs p) ≤ j → word_at ds p.at j ≡ word_at cs p.at j
     links_put j a = ap (λ vs. word_of vs j) h.words ∙ h.links j a
 
     kept_put : Kept l ds sys d ms
     kept_put = kept_written l cs sys d ms K ds i p g h.written class_put form_put links_put
 
-    module _ (r : Record) (e : read_as l (class_at cs p) us ≡ r) where
+    module _ (r : Record) (e : read_as l (class_at_place cs p) us ≡ r) where
       read_put : record_of l (words_at ds p.at) ≡ r
       read_put = (λ t. read_as l (class_put t) (h.words t)) ∙ e
 
@@ -106,34 +106,34 @@ module _ (l : Layout) (cs : Cells) (sys : Ptr) (d : Directory) (ms : List Member
           λ t. record (state_of l cs d ms) { records = one t; permanents = two t }
 
   -- the number k of the head of the block is written
-  module _ (k w : ℕ) (low : 2 ≤ k) (high : k < links_start l (class_at cs p)) where
+  module _ (k w : ℕ) (low : 2 ≤ k) (high : k < links_start l (class_at_place cs p)) where
     may_put : (k < length (words_at cs p.at)) × MayBeNumber (word_at cs p.at k)
-    may_put = let f = K.formed i p g in (omega (arith, high, head_room l (class_at cs p) (suc i) (words_at cs p.at) f), number_may (word_at cs p.at k) (f.values k high))
+    may_put = let f = K.formed i p g in (omega (arith, high, head_room l (class_at_place cs p) (suc i) (words_at cs p.at) f), number_may (word_at cs p.at k) (f.values k high))
 
     one_put : Headed l cs (put_word cs p.at k (number w)) p (suc i) (with_word (words_at cs p.at) k (number w))
     one_put = record {
       words = words_written cs p.at k (number w);
       written = written_put cs p.at k (number w);
       its_class = word_other (words_at cs p.at) k (number w) 0 (λ e. absurd (omega (arith, e, low)));
-      formed = formed_put l (class_at cs p) (suc i) (words_at cs p.at) k w (K.formed i p g) low high;
+      formed = formed_put l (class_at_place cs p) (suc i) (words_at cs p.at) k w (K.formed i p g) low high;
       links = λ j a. word_other (words_at cs p.at) k (number w) j (λ z. absurd (omega (arith, a, high, z)));
     }
 
   -- the numbers k and k + 1 are
-  module _ (k a b : ℕ) (low : 2 ≤ k) (high : k + 1 < links_start l (class_at cs p)) where
+  module _ (k a b : ℕ) (low : 2 ≤ k) (high : k + 1 < links_start l (class_at_place cs p)) where
     two_put : Headed l cs (put_two cs p.at k a b) p (suc i) (with_two (words_at cs p.at) k a b)
     two_put = record {
       words = words_written (put_word cs p.at k (number a)) p.at (k + 1) (number b) ∙ ap (λ ws. with_word ws (k + 1) (number b)) (words_written cs p.at k (number a));
       written = written_twice cs (put_word cs p.at k (number a)) (put_two cs p.at k a b) p.at (written_put cs p.at k (number a)) (written_put (put_word cs p.at k (number a)) p.at (k + 1) (number b));
       its_class = two_other (words_at cs p.at) k a b 0 (λ e. absurd (omega (arith, e, low))) (λ e. absurd (omega (arith, e, low)));
-      formed = formed_put l (class_at cs p) (suc i) (with_word (words_at cs p.at) k (number a)) (k + 1) b (formed_put l (class_at cs p) (suc i) (words_at cs p.at) k a (K.formed i p g) low (omega (arith, high))) (omega (arith, low)) high;
+      formed = formed_put l (class_at_place cs p) (suc i) (with_word (words_at cs p.at) k (number a)) (k + 1) b (formed_put l (class_at_place cs p) (suc i) (words_at cs p.at) k a (K.formed i p g) low (omega (arith, high))) (omega (arith, low)) high;
       links = λ j x. two_other (words_at cs p.at) k a b j (λ z. absurd (omega (arith, x, high, z))) (λ z. absurd (omega (arith, x, high, z)));
     }
 
   -- the attribute f, whose words begin at k
-  module _ (c : ℕ) (is : class_at cs p ≡ c) (x : ℤ) (at : x ≡ pos (suc i)) (found : entity (state_of l cs d ms) c x ≡ Ok (record_of l (words_at cs p.at))) (f k : ℕ) (start : k ≡ 2 + 2 * f) where
+  module _ (c : ℕ) (is : class_at_place cs p ≡ c) (x : ℤ) (at : x ≡ pos (suc i)) (found : entity_in (state_of l cs d ms) c x ≡ Ok (record_of l (words_at cs p.at))) (f k : ℕ) (start : k ≡ 2 + 2 * f) where
     module _ (m : Mode) (mode : slice_get (modes_of l c) f ≡ Some m) where
-      field_in : k + 1 < links_start l (class_at cs p)
+      field_in : k + 1 < links_start l (class_at_place cs p)
       field_in = rw is (omega (arith, start, get_inside (modes_of l c) f m mode))
 
       pub first_number : IsNumber (word_at cs p.at k)
@@ -145,7 +145,7 @@ module _ (l : Layout) (cs : Cells) (sys : Ptr) (d : Directory) (ms : List Member
       pub is_value : value_in (state_of l cs d ms) c f x ≡ Ok (value_at m cs p.at k)
       is_value =
           ap (λ r. and_then r (λ r. Ok (slice_index_or r.values f (Whole (pos 0))))) found
-          ∙ ap Ok (value_read (modes_of l (class_at cs p)) (words_at cs p.at) 2 f m (Whole (pos 0)) (subst (λ b. slice_get (modes_of l b) f ≡ Some m) (sym is) mode) ∙ (λ t. value_at m cs p.at (sym start t)))
+          ∙ ap Ok (value_read (modes_of l (class_at_place cs p)) (words_at cs p.at) 2 f m (Whole (pos 0)) (subst (λ b. slice_get (modes_of l b) f ≡ Some m) (sym is) mode) ∙ (λ t. value_at m cs p.at (sym start t)))
 
     module _ (v : Value) (mode : slice_get (modes_of l c) f ≡ Some (mode_of v)) (ds : Cells) (w : PutsValue cs ds p.at k v) where
       abbrev new : Record
@@ -166,12 +166,12 @@ module _ (l : Layout) (cs : Cells) (sys : Ptr) (d : Directory) (ms : List Member
       pub is_assigned : assigned (state_of l cs d ms) c f x v ≡ Ok (state_of l ds d ms)
       is_assigned =
           let ws = words_at cs p.at in
-          let room : k + 1 < length ws = omega (arith, field_in (mode_of v) mode, head_room l (class_at cs p) (suc i) ws (K.formed i p g)) in
-          let value : read_as l (class_at cs p) us ≡ new =
-          record_value l (class_at cs p) ws f k w.first w.second (mode_of v) v start (subst (λ b. slice_get (modes_of l b) f ≡ Some (mode_of v)) (sym is) mode) w.value room (subst (λ b. f < length (modes_of l b)) (sym is) (get_inside (modes_of l c) f (mode_of v) mode)) in
+          let room : k + 1 < length ws = omega (arith, field_in (mode_of v) mode, head_room l (class_at_place cs p) (suc i) ws (K.formed i p g)) in
+          let value : read_as l (class_at_place cs p) us ≡ new =
+          record_value l (class_at_place cs p) ws f k w.first w.second (mode_of v) v start (subst (λ b. slice_get (modes_of l b) f ≡ Some (mode_of v)) (sym is) mode) w.value room (subst (λ b. f < length (modes_of l b)) (sym is) (get_inside (modes_of l c) f (mode_of v) mode)) in
           let n : number_in x - 1 ≡ i = ap (λ y. number_in y - 1) at ∙ omega arith in
           ap (λ r. and_then r (λ r. Ok (with_entity (state_of l cs d ms) c (number_in x) (with_value r f v)))) found ∙ ap Ok (by_entry value n g) where
-            by_entry : read_as l (class_at cs p) us ≡ new → number_in x - 1 ≡ i → Lists d i p → with_entity (state_of l cs d ms) c (number_in x) new ≡ state_of l ds d ms
+            by_entry : read_as l (class_at_place cs p) us ≡ new → number_in x - 1 ≡ i → Lists d i p → with_entity (state_of l cs d ms) c (number_in x) new ≡ state_of l ds d ms
             by_entry value n (inl m) =
                 with_numbered (state_of l cs d ms) (kind_of l c) c (number_in x) new (subst (λ b. IsPermanent (kind_of l b) → ⊥) is (K.kinds i p m))
                 ∙ ap (λ j. record (state_of l cs d ms) { records = slice_set (map (record_at l cs) d.numbers) j (Some new) }) n
@@ -186,7 +186,7 @@ module _ (l : Layout) (cs : Cells) (sys : Ptr) (d : Directory) (ms : List Member
 
   -- the time of a notice
   module _ (x : ℤ) (at : x ≡ pos (suc i)) (found : notice (state_of l cs d ms) x ≡ Ok (record_of l (words_at cs p.at))) where
-    pub is_timed : is_notice (kind_of l (class_at cs p)) ≡ true
+    pub is_timed : is_notice (kind_of l (class_at_place cs p)) ≡ true
     is_timed = notice_kind (numbered (state_of l cs d ms) x) (record_of l (words_at cs p.at)) found where
       notice_kind : (r : Result Record FaultKind) (t : Record) → and_then r (of_notice l) ≡ Ok t → is_notice (kind_of l t.class) ≡ true
       notice_kind (Err e) t h = cc
@@ -195,40 +195,40 @@ module _ (l : Layout) (cs : Cells) (sys : Ptr) (d : Directory) (ms : List Member
         by_kind true e = let q : Ok r ≡ Ok t = sym (rw e refl) ∙ h in let w : r ≡ t = cc in subst (λ (z : Record). is_notice (kind_of l z.class) ≡ true) w e
         by_kind false e = let q : Err WrongClass ≡ Ok t = sym (rw e refl) ∙ h in cc
 
-    time_in_head : values_end l (class_at cs p) < links_start l (class_at cs p)
+    time_in_head : values_end l (class_at_place cs p) < links_start l (class_at_place cs p)
     time_in_head = rw is_timed (omega arith)
 
-    pub time_number : IsNumber (word_at cs p.at (values_end l (class_at cs p)))
-    time_number = (K.formed i p g).values (values_end l (class_at cs p)) time_in_head
+    pub time_number : IsNumber (word_at cs p.at (values_end l (class_at_place cs p)))
+    time_number = (K.formed i p g).values (values_end l (class_at_place cs p)) time_in_head
 
-    pub is_time : (n : ℕ) → word_at cs p.at (values_end l (class_at cs p)) ≡ number n → time_in (state_of l cs d ms) x ≡ Ok (cast_signed w64 n)
+    pub is_time : (n : ℕ) → word_at cs p.at (values_end l (class_at_place cs p)) ≡ number n → time_in (state_of l cs d ms) x ≡ Ok (cast_signed w64 n)
     is_time n e =
         ap (λ r. and_then r (λ r. Ok r.time)) found
-        ∙ ap (λ b. Ok (cond b (cast_signed w64 (plain (word_at cs p.at (values_end l (class_at cs p))))) (pos 0))) is_timed ∙ ap (λ w. Ok (cast_signed w64 (plain w))) e
+        ∙ ap (λ b. Ok (cond b (cast_signed w64 (plain (word_at cs p.at (values_end l (class_at_place cs p))))) (pos 0))) is_timed ∙ ap (λ w. Ok (cast_signed w64 (plain w))) e
 
     module _ (w : ℕ) (t : ℤ) (val : cast_signed w64 w ≡ t) where
       abbrev time_words : Cells
-      time_words = put_word cs p.at (values_end l (class_at cs p)) (number w)
+      time_words = put_word cs p.at (values_end l (class_at_place cs p)) (number w)
 
       abbrev time_us : List Word
-      time_us = with_word (words_at cs p.at) (values_end l (class_at cs p)) (number w)
+      time_us = with_word (words_at cs p.at) (values_end l (class_at_place cs p)) (number w)
 
       time_put : Headed l cs time_words p (suc i) time_us
-      time_put = one_put (values_end l (class_at cs p)) w (omega arith) time_in_head
+      time_put = one_put (values_end l (class_at_place cs p)) w (omega arith) time_in_head
 
-      pub may_time : (values_end l (class_at cs p) < length (words_at cs p.at)) × MayBeNumber (word_at cs p.at (values_end l (class_at cs p)))
-      may_time = may_put (values_end l (class_at cs p)) w (omega arith) time_in_head
+      pub may_time : (values_end l (class_at_place cs p) < length (words_at cs p.at)) × MayBeNumber (word_at cs p.at (values_end l (class_at_place cs p)))
+      may_time = may_put (values_end l (class_at_place cs p)) w (omega arith) time_in_head
 
-      pub kept_timed : Kept l (put_word cs p.at (values_end l (class_at cs p)) (number w)) sys d ms
+      pub kept_timed : Kept l (put_word cs p.at (values_end l (class_at_place cs p)) (number w)) sys d ms
       kept_timed = kept_put time_words time_us time_put
 
-      pub length_timed : length (put_word cs p.at (values_end l (class_at cs p)) (number w)) ≡ length cs
+      pub length_timed : length (put_word cs p.at (values_end l (class_at_place cs p)) (number w)) ≡ length cs
       length_timed = time_put.written.count
 
-      pub is_set : slice_get d.numbers i ≡ Some (Some p) → timed (state_of l cs d ms) x t ≡ Ok (state_of l (put_word cs p.at (values_end l (class_at cs p)) (number w)) d ms)
+      pub is_set : slice_get d.numbers i ≡ Some (Some p) → timed (state_of l cs d ms) x t ≡ Ok (state_of l (put_word cs p.at (values_end l (class_at_place cs p)) (number w)) d ms)
       is_set m =
           let ws = words_at cs p.at in
-          let value : read_as l (class_at cs p) (with_word ws (values_end l (class_at cs p)) (number w)) ≡ with_time (record_of l ws) t = record_time l (class_at cs p) ws w t is_timed val may_time.0 in
+          let value : read_as l (class_at_place cs p) (with_word ws (values_end l (class_at_place cs p)) (number w)) ≡ with_time (record_of l ws) t = record_time l (class_at_place cs p) ws w t is_timed val may_time.0 in
           let n : number_in x - 1 ≡ i = ap (λ y. number_in y - 1) at ∙ omega arith in
           ap (λ r. and_then r (λ r. Ok (record (state_of l cs d ms) { records = slice_set (map (record_at l cs) d.numbers) (number_in x - 1) (Some (with_time r t)) }))) found
           ∙ ap (λ j. Ok (record (state_of l cs d ms) { records = slice_set (map (record_at l cs) d.numbers) j (Some (with_time (record_of l ws) t)) })) n

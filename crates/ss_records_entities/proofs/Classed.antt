@@ -9,7 +9,7 @@ use Rattle.ss_records_entities.specs.declared.records.Records.{Records}
 use Rattle.ss_records_blocks.specs.declared.store.Address.{Address}
 use Rattle.ss_records_blocks.specs.Cells.{number, words_at, word_at}
 use Rattle.ss_records_words.specs.Reading.{plain, record_of}
-use Rattle.ss_records_words.specs.Places.{class_at}
+use Rattle.ss_records_words.specs.Places.{class_at_place}
 use Rattle.ss_records_words.specs.Kept.{IsPermanent, numbered_place}
 use Rattle.ss_records_entities.specs.Parts.{IsKept, state, places}
 use Rattle.ss_records_entities.specs.Classed.{HasClass}
@@ -20,7 +20,7 @@ use Rattle.ss_records_blocks.proofs.Same.{same, differs}
 pub class_there : (r : Records) (K : IsKept r) (x : ℤ) (p : Address) (c : ℕ) → numbered_place r.directory.places x ≡ Ok p → word_at r.blocks.cells p.at 0 ≡ number c → HasClass (state r) x c
 class_there r K x p c h w =
     let t = there r.directory.places x p h in
-    let is : class_at r.blocks.cells p ≡ c = ap plain w in
+    let is : class_at_place r.blocks.cells p ≡ c = ap plain w in
     record {
       seen = record_of r.layout (words_at r.blocks.cells p.at);
       found = numbered_is r.layout r.blocks.cells (places r) r.notes.lists x ∙ ap (read_place r.layout r.blocks.cells) h;

@@ -17,7 +17,7 @@ use Rattle.ss_records_words.specs.Shape.{values_end, links_start, block_words}
 use Rattle.ss_records_words.specs.Reading.{plain, value_of_words, values_from, class_in_words, record_of, record_at, records_at}
 use Rattle.ss_records_words.specs.Kept.{Kept, Formed, IsPermanent, state_of}
 use Rattle.ss_records_blocks.specs.Places.{Numbers}
-use Rattle.ss_records_words.specs.Places.{Made, Directory, lying, own_or, listing, Lists, class_at, made_count}
+use Rattle.ss_records_words.specs.Places.{Made, Directory, lying, own_or, listing, Lists, class_at_place, permanent_count}
 use Rattle.ss_records_words.specs.Laid.{Laid, Born}
 use Rattle.ss_records_blocks.proofs.Same.{by_same}
 use Rattle.ss_records_blocks.proofs.Puts.{words_new, words_old, length-blanks}
@@ -102,12 +102,12 @@ born_formed l ds end p c n b = record {
 }
 
 -- how many permanent entities there may be
-made_bound : (ms : Made) → ((c : ℕ) (ps : List Address) → slice_get ms c ≡ Some (Some ps) → length ps ≤ 2 ^ 20) → made_count ms ≤ length ms * 1048576
+made_bound : (ms : Made) → ((c : ℕ) (ps : List Address) → slice_get ms c ≡ Some (Some ps) → length ps ≤ 2 ^ 20) → permanent_count ms ≤ length ms * 1048576
 made_bound [] h = omega arith
 made_bound (None ∷ ms) h = omega (arith, made_bound ms (λ c ps e. h (suc c) ps e))
 made_bound (Some ps ∷ ms) h = omega (arith, made_bound ms (λ c qs e. h (suc c) qs e), h zero ps refl)
 
-pub few_made : (l : Layout) (cs : Cells) (sys : Ptr) (d : Directory) (ms : List Members) → Kept l cs sys d ms → made_count d.classes ≤ 2 ^ 40
+pub few_made : (l : Layout) (cs : Cells) (sys : Ptr) (d : Directory) (ms : List Members) → Kept l cs sys d ms → permanent_count d.classes ≤ 2 ^ 40
 few_made l cs sys d ms K = omega (arith, made_bound d.classes (λ c ps e. (K.made c ps e).few), K.width, K.small.classes)
 
 module _ (l : Layout) (cs : Cells) (sys : Ptr) (d : Directory) (ms : List Members) (K : Kept l cs sys d ms) where
@@ -120,7 +120,7 @@ module _ (l : Layout) (cs : Cells) (sys : Ptr) (d : Directory) (ms : List Member
     apart_from p n h low i = no_words (sym (ap length fresh) ∙ ap (λ r. length (words_at cs r)) i) h low
 
     pub off_entry : (i : ℕ) (p : Address) → Lists d i p → q ≡ p.at → ⊥
-    off_entry i p h = apart_from p.at (block_words l (Class (class_at cs p))) (K.formed i p h).size (omega arith)
+    off_entry i p h = apart_from p.at (block_words l (Class (class_at_place cs p))) (K.formed i p h).size (omega arith)
 
     pub off_sys : q ≡ sys → ⊥
     off_sys = apart_from sys (block_words l System) K.system (omega arith)
@@ -131,7 +131,7 @@ module _ (l : Layout) (cs : Cells) (sys : Ptr) (d : Directory) (ms : List Member
     less_self : {m k : ℕ} → suc m ≡ suc k → k < m → ⊥
     less_self x y = omega (arith, x, y)
 
-    by_entry : (i : ℕ) (p : Address) → suc (length d.numbers) ≡ suc i → class_at cs p ≡ c → Lists d i p → ⊥
+    by_entry : (i : ℕ) (p : Address) → suc (length d.numbers) ≡ suc i → class_at_place cs p ≡ c → Lists d i p → ⊥
     by_entry i p e k (inl m) = less_self e (get_inside d.numbers i (Some p) m)
     by_entry i p e k (inr (b, ps, m, x)) = let y = K.made b ps m in kind (subst (λ a. IsPermanent (kind_of l a)) (sym (y.class i p x) ∙ k) y.permanent)
 
@@ -158,16 +158,16 @@ module _ (l : Layout) (cs : Cells) (sys : Ptr) (d : Directory) (ms : List Member
       owned = laid.owned;
     }
 
-    new_class : class_at ds q ≡ c
+    new_class : class_at_place ds q ≡ c
     new_class = ap plain laid.its_class
 
     by_entry : {P : Type 0} (i : ℕ) (p : Address) → Lists e i p → ((i ≡ length d.numbers) → (q ≡ p) → P) → (Lists d i p → P) → P
     by_entry {P} i p (inl h) new was = elim (get_cases d.numbers q p i h) as (λ _. P) [ inl x ↦ new x.0 x.1 | inr x ↦ was (inl x) ]
     by_entry {P} i p (inr m) new was = was (inr m)
 
-    new_of : (b i : ℕ) (p : Address) → i ≡ length d.numbers → q ≡ p → class_at ds p ≡ b → Born l ds sys p.at b (suc i) × (IsOf cs d b (suc i) → ⊥)
+    new_of : (b i : ℕ) (p : Address) → i ≡ length d.numbers → q ≡ p → class_at_place ds p ≡ b → Born l ds sys p.at b (suc i) × (IsOf cs d b (suc i) → ⊥)
     new_of b i p x y k =
-        let same : c ≡ b = sym new_class ∙ ap (class_at ds) y ∙ k in
+        let same : c ≡ b = sym new_class ∙ ap (class_at_place ds) y ∙ k in
         let at : Born l ds sys p.at c (suc (length d.numbers)) = subst (λ (r : Address). Born l ds sys r.at c (suc (length d.numbers))) y born in
         subst (λ j. Born l ds sys p.at b (suc j) × (IsOf cs d b (suc j) → ⊥)) (sym x) (subst (λ a. Born l ds sys p.at a (suc (length d.numbers))) same at, not_yet b (subst (λ a. IsPermanent (kind_of l a) → ⊥) same kind))
 
@@ -178,16 +178,16 @@ module _ (l : Layout) (cs : Cells) (sys : Ptr) (d : Directory) (ms : List Member
       width = K.width;
       system = ap length (kept_words sys (off_sys q.at fresh)) ∙ K.system;
       end = ap (λ us. word_of us 1) (kept_words sys (off_sys q.at fresh)) ∙ K.end;
-      kinds = λ i p h. elim (get_cases d.numbers q p i h) as (λ _. IsPermanent (kind_of l (class_at ds p)) → ⊥) [
-        | inl x ↦ subst (λ (r : Address). IsPermanent (kind_of l (class_at ds r)) → ⊥) x.1 (subst (λ b. IsPermanent (kind_of l b) → ⊥) (sym new_class) kind)
+      kinds = λ i p h. elim (get_cases d.numbers q p i h) as (λ _. IsPermanent (kind_of l (class_at_place ds p)) → ⊥) [
+        | inl x ↦ subst (λ (r : Address). IsPermanent (kind_of l (class_at_place ds r)) → ⊥) x.1 (subst (λ b. IsPermanent (kind_of l b) → ⊥) (sym new_class) kind)
         | inr x ↦ subst (λ us. IsPermanent (kind_of l (class_in_words us)) → ⊥) (sym (old i p (inl x))) (K.kinds i p x)
       ];
       made = λ b ps h. let m = K.made b ps h in record { permanent = m.permanent; class = λ i p x. ap class_in_words (old i p (inr (b, ps, h, x))) ∙ m.class i p x; few = m.few };
       classes = λ i p h. by_entry i p h
-          (λ x y. subst (λ (r : Address). class_at ds r < length l.classes) y (subst (λ b. b < length l.classes) (sym new_class) inside))
+          (λ x y. subst (λ (r : Address). class_at_place ds r < length l.classes) y (subst (λ b. b < length l.classes) (sym new_class) inside))
           (λ x. subst (λ us. class_in_words us < length l.classes) (sym (old i p x)) (K.classes i p x));
       formed = λ i p h. by_entry i p h
-          (λ x y. subst (λ (r : Address). Formed l (class_at ds r) (suc i) (words_at ds r.at)) y (subst (λ b. Formed l b (suc i) (words_at ds q.at)) (sym new_class) (subst (λ j. Formed l c (suc j) (words_at ds q.at)) (sym x) (born_formed l ds sys q.at c (suc (length d.numbers)) born))))
+          (λ x y. subst (λ (r : Address). Formed l (class_at_place ds r) (suc i) (words_at ds r.at)) y (subst (λ b. Formed l b (suc i) (words_at ds q.at)) (sym new_class) (subst (λ j. Formed l c (suc j) (words_at ds q.at)) (sym x) (born_formed l ds sys q.at c (suc (length d.numbers)) born))))
           (λ x. subst (λ us. Formed l (class_in_words us) (suc i) us) (sym (old i p x)) (K.formed i p x));
       apart = λ i j p r h k z. by_entry i p h
           (λ x y. by_entry j r k (λ x' y'. x ∙ sym x') (λ x'. absurd (off_entry q.at fresh j r x' (ap (λ (o : Address). o.at) y ∙ z))))

@@ -6,13 +6,13 @@ use Rattle.ss_base.specs.declared.layout.Layout.{Layout}
 use Rattle.ss_base.specs.declared.layout.SetLayout.{SetLayout}
 use Rattle.ss_base.specs.declared.layout.Owner.TheVariants.{Class}
 use Rattle.ss_records_blocks.specs.declared.store.Address.{Address}
-use Rattle.ss_records_blocks.specs.Cells.{Cells, words_at, word_of, without}
-use Rattle.ss_world.specs.State.{Members, members_of, kind_of, and_then, entity, number_in, in_a_set, owns_members, let_go, destroyed}
+use Rattle.ss_records_blocks.specs.Cells.{Cells, words_at, word_of, without_block}
+use Rattle.ss_world.specs.State.{Members, members_of, kind_of, and_then, entity_in, number_in, in_a_set, owns_members, let_go, destroyed}
 use Rattle.ss_records_words.specs.Shape.{block_words}
 use Rattle.ss_records_words.specs.Reading.{class_in_words, record_of, record_at, records_at}
 use Rattle.ss_records_words.specs.Kept.{Kept, Formed, IsPermanent, state_of}
 use Rattle.ss_records_blocks.specs.Places.{Numbers}
-use Rattle.ss_records_words.specs.Places.{Directory, lying, own_or, listing, IsMade, Lists, class_at}
+use Rattle.ss_records_words.specs.Places.{Directory, lying, own_or, listing, IsMade, Lists, class_at_place}
 use Rattle.ss_records_blocks.proofs.Same.{by_same}
 use Rattle.ss_records_blocks.proofs.Puts.{words_without}
 use Rattle.ss_records_words.proofs.Listing.{listed}
@@ -61,9 +61,9 @@ module _ (l : Layout) (cs : Cells) (sys : Ptr) (d : Directory) (ms : List Member
   e = lying (slice_set d.numbers i None) d.classes
 
   abbrev ds : Cells
-  ds = without cs p.at
+  ds = without_block cs p.at
 
-  pub its_size : (c : ℕ) → class_at cs p ≡ c → length (words_at cs p.at) ≡ block_words l (Class c)
+  pub its_size : (c : ℕ) → class_at_place cs p ≡ c → length (words_at cs p.at) ≡ block_words l (Class c)
   its_size c h = (K.formed i p (inl g)).size ∙ ap (λ b. block_words l (Class b)) h
 
   pub not_made : (j : ℕ) (q : Address) → IsMade d.classes j q → p.at ≡ q.at → ⊥
@@ -77,8 +77,8 @@ module _ (l : Layout) (cs : Cells) (sys : Ptr) (d : Directory) (ms : List Member
 
   -- in no set, and without members
   pub record Free : Type 0 where
-    pub unfiled : (s : ℕ) (t : SetLayout) → slice_get l.sets s ≡ Some t → t.member ≡ class_at cs p → (o : ℕ) → NotIn (suc i) (members_of ms s o)
-    pub owns_none : (s : ℕ) (t : SetLayout) → slice_get l.sets s ≡ Some t → t.owner ≡ Class (class_at cs p) → members_of ms s (suc i) ≡ []
+    pub unfiled : (s : ℕ) (t : SetLayout) → slice_get l.sets s ≡ Some t → t.member ≡ class_at_place cs p → (o : ℕ) → NotIn (suc i) (members_of ms s o)
+    pub owns_none : (s : ℕ) (t : SetLayout) → slice_get l.sets s ≡ Some t → t.owner ≡ Class (class_at_place cs p) → members_of ms s (suc i) ≡ []
 
   pub kept_destroyed : Free → Kept l ds sys e ms
   kept_destroyed free = record {
@@ -98,7 +98,7 @@ module _ (l : Layout) (cs : Cells) (sys : Ptr) (d : Directory) (ms : List Member
     counted = omega (arith, K.counted, living_gone d.numbers i p g, blocks_without cs p.at (omega (arith, (K.formed i p (inl g)).size)));
     names = λ s t h. name_gone l cs sys d ms K s t h ds e i p (words_without cs p.at sys (K.off_system i p (inl g))) (free.unfiled s t h) (free.owns_none s t h)
         (λ b j q k. (dropped d i b j q k, entry j q (listed e b j q k) (λ n was w. w)))
-        (λ b j q k x not_it. not_dropped d i b j q k (λ n m. let same : p ≡ q = entry_is (sym g ∙ ap (slice_get d.numbers) n ∙ m) in not_it (sym n) (sym x ∙ ap (class_at cs) (sym same))));
+        (λ b j q k x not_it. not_dropped d i b j q k (λ n m. let same : p ≡ q = entry_is (sym g ∙ ap (slice_get d.numbers) n ∙ m) in not_it (sym n) (sym x ∙ ap (class_at_place cs) (sym same))));
   }
 
   pub records_destroyed : map (record_at l ds) e.numbers ≡ slice_set (map (record_at l cs) d.numbers) i None
@@ -117,7 +117,7 @@ module _ (l : Layout) (cs : Cells) (sys : Ptr) (d : Directory) (ms : List Member
   permanents_kept : map (records_at l ds) d.classes ≡ map (records_at l cs) d.classes
   permanents_kept = made_same l cs ds d.classes (λ j q h. ap (record_of l) (words_without cs p.at q.at (not_made j q h)))
 
-  pub is_destroyed : (c : ℕ) (x : ℤ) → x ≡ pos (suc i) → entity (state_of l cs d ms) c x ≡ Ok (record_of l (words_at cs p.at)) → in_a_set l.sets 0 ms c (suc i) ≡ false → owns_members l.sets 0 ms c (suc i) ≡ false
+  pub is_destroyed : (c : ℕ) (x : ℤ) → x ≡ pos (suc i) → entity_in (state_of l cs d ms) c x ≡ Ok (record_of l (words_at cs p.at)) → in_a_set l.sets 0 ms c (suc i) ≡ false → owns_members l.sets 0 ms c (suc i) ≡ false
       → destroyed (state_of l cs d ms) c x ≡ Ok (state_of l ds e ms)
   is_destroyed c x at found not_it none =
       let n : number_in x ≡ suc i = ap number_in at in
@@ -125,12 +125,12 @@ module _ (l : Layout) (cs : Cells) (sys : Ptr) (d : Directory) (ms : List Member
       ap (λ r. and_then r (λ r. let_go (state_of l cs d ms) c (number_in x))) found
       ∙ rw (n, not_it, none, k) (λ z. Ok (record (state_of l cs d ms) { records = sym records_destroyed z; permanents = sym permanents_kept z }))
 
-  pub in_a_set_is : (c : ℕ) (x : ℤ) → x ≡ pos (suc i) → entity (state_of l cs d ms) c x ≡ Ok (record_of l (words_at cs p.at)) → in_a_set l.sets 0 ms c (suc i) ≡ true → destroyed (state_of l cs d ms) c x ≡ Err InASet
+  pub in_a_set_is : (c : ℕ) (x : ℤ) → x ≡ pos (suc i) → entity_in (state_of l cs d ms) c x ≡ Ok (record_of l (words_at cs p.at)) → in_a_set l.sets 0 ms c (suc i) ≡ true → destroyed (state_of l cs d ms) c x ≡ Err InASet
   in_a_set_is c x at found is_it =
       let n : number_in x ≡ suc i = ap number_in at in
       ap (λ r. and_then r (λ r. let_go (state_of l cs d ms) c (number_in x))) found ∙ rw (n, is_it) refl
 
-  pub owns_members_is : (c : ℕ) (x : ℤ) → x ≡ pos (suc i) → entity (state_of l cs d ms) c x ≡ Ok (record_of l (words_at cs p.at)) → in_a_set l.sets 0 ms c (suc i) ≡ false → owns_members l.sets 0 ms c (suc i) ≡ true → destroyed (state_of l cs d ms) c x ≡ Err OwnsMembers
+  pub owns_members_is : (c : ℕ) (x : ℤ) → x ≡ pos (suc i) → entity_in (state_of l cs d ms) c x ≡ Ok (record_of l (words_at cs p.at)) → in_a_set l.sets 0 ms c (suc i) ≡ false → owns_members l.sets 0 ms c (suc i) ≡ true → destroyed (state_of l cs d ms) c x ≡ Err OwnsMembers
   owns_members_is c x at found not_it is_it =
       let n : number_in x ≡ suc i = ap number_in at in
       ap (λ r. and_then r (λ r. let_go (state_of l cs d ms) c (number_in x))) found ∙ rw (n, not_it, is_it) refl

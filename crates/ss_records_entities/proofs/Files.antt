@@ -13,7 +13,7 @@ use Rattle.ss_records_words.specs.Places.{entity_at, owner_at}
 use Rattle.ss_records_words.specs.Kept.{Kept, state_of}
 use Rattle.ss_records_blocks.specs.Links.{linked_in, unlinked_in, slots_at}
 use Rattle.ss_records_words.specs.Slotted.{slots_of, member_base, owner_base, IsOf, MayOwn}
-use Rattle.ss_records_entities.specs.Parts.{IsKept, state, places, held, Lies, Owns, Joins, Between, Around}
+use Rattle.ss_records_entities.specs.Parts.{IsKept, state, places, uncounted, Lies, Owns, Joins, Between, Around}
 use Rattle.ss_records_blocks.proofs.Same.{by_same, false_is_not_true}
 use Rattle.ss_records_words.proofs.Splice.{not_in, not_and_in, before_in, after_in, in_left, in_mid, distinct_less}
 use Rattle.ss_records_blocks.proofs.Entries.{get_there}
@@ -23,23 +23,23 @@ use Rattle.ss_records_entities.proofs.Leading.{is_link, first_to, last_to, is_co
 use Rattle.ss_records_entities.proofs.Relinked.{kept_linked, state_linked, kept_unlinked, state_unlinked}
 
 -- a call that only looks leaves what holds
-pub unmoved : (r q : Records) → q ≡ record r { blocks = q.blocks } → q.blocks.cells ≡ r.blocks.cells → held q ≡ held r
-unmoved r q h e = ap held h ∙ (λ i. record r { blocks = record { cells = e i; touches = 0; total = 0 } })
+pub unmoved : (r q : Records) → q ≡ record r { blocks = q.blocks } → q.blocks.cells ≡ r.blocks.cells → uncounted q ≡ uncounted r
+unmoved r q h e = ap uncounted h ∙ (λ i. record r { blocks = record { cells = e i; touches = 0; total = 0 } })
 
-pub looked : (r p : Records) (b : Memory) → p ≡ record r { blocks = p.blocks } → p.blocks.cells ≡ r.blocks.cells → b.cells ≡ p.blocks.cells → held (record p { blocks = b }) ≡ held r
+pub looked : (r p : Records) (b : Memory) → p ≡ record r { blocks = p.blocks } → p.blocks.cells ≡ r.blocks.cells → b.cells ≡ p.blocks.cells → uncounted (record p { blocks = b }) ≡ uncounted r
 looked r p b h e k = (λ i. record p { blocks = record { cells = k i; touches = 0; total = 0 } }) ∙ unmoved r p h e
 
 -- what lies between two neighbours, and around a member, still does
-pub still_between : (r q : Records) (s o : ℕ) (a b : Entry) (xs ys : List ℕ) → held q ≡ held r → Between r s o a b xs ys → Between q s o a b xs ys
+pub still_between : (r q : Records) (s o : ℕ) (a b : Entry) (xs ys : List ℕ) → uncounted q ≡ uncounted r → Between r s o a b xs ys → Between q s o a b xs ys
 still_between r q s o a b xs ys h w =
-    let v : Between (held r) s o a b xs ys = record { list = w.list; before = w.before; last = w.last; after = w.after; first = w.first } in
-    let u : Between (held q) s o a b xs ys = subst (λ (z : Records). Between z s o a b xs ys) (sym h) v in
+    let v : Between (uncounted r) s o a b xs ys = record { list = w.list; before = w.before; last = w.last; after = w.after; first = w.first } in
+    let u : Between (uncounted q) s o a b xs ys = subst (λ (z : Records). Between z s o a b xs ys) (sym h) v in
     record { list = u.list; before = u.before; last = u.last; after = u.after; first = u.first }
 
-pub still_around : (r q : Records) (s o x : ℕ) (a b : Entry) (xs ys : List ℕ) → held q ≡ held r → Around r s o x a b xs ys → Around q s o x a b xs ys
+pub still_around : (r q : Records) (s o x : ℕ) (a b : Entry) (xs ys : List ℕ) → uncounted q ≡ uncounted r → Around r s o x a b xs ys → Around q s o x a b xs ys
 still_around r q s o x a b xs ys h w =
-    let v : Around (held r) s o x a b xs ys = record { list = w.list; before = w.before; last = w.last; after = w.after; first = w.first } in
-    let u : Around (held q) s o x a b xs ys = subst (λ (z : Records). Around z s o x a b xs ys) (sym h) v in
+    let v : Around (uncounted r) s o x a b xs ys = record { list = w.list; before = w.before; last = w.last; after = w.after; first = w.first } in
+    let u : Around (uncounted q) s o x a b xs ys = subst (λ (z : Records). Around z s o x a b xs ys) (sym h) v in
     record { list = u.list; before = u.before; last = u.last; after = u.after; first = u.first }
 
 pub is_not_zero : (n : ℕ) → (n == 0) ≡ false → n ≡ 0 → ⊥

@@ -8,7 +8,7 @@ use Rattle.ss_records_entities.specs.declared.records.Records.{Records}
 use Rattle.ss_records_blocks.specs.declared.store.Address.{Address}
 use Rattle.ss_records_blocks.specs.Cells.{Cells}
 use Rattle.ss_world.specs.State.{Members, kind_of, members_of, is_filed, has_members, in_a_set, owns_members}
-use Rattle.ss_records_words.specs.Places.{Directory, Lists, class_at}
+use Rattle.ss_records_words.specs.Places.{Directory, Lists, class_at_place}
 use Rattle.ss_records_words.specs.Kept.{Kept, IsPermanent}
 use Rattle.ss_records_entities.specs.Parts.{IsKept, places, Found}
 use Rattle.ss_records_words.proofs.Filed.{in_none_of, owns_none_of, not_filed_in, no_members}
@@ -21,7 +21,7 @@ by_number r K c x p f kind = by_entry f.entry where
   by_entry (inl m) = m
   by_entry (inr (b, ps, m, h)) = let y = K.made b ps m in absurd (kind (subst (λ a. IsPermanent (kind_of r.layout a)) (sym (y.class f.index p h) ∙ f.class) y.permanent))
 
-pub free_by : (l : Layout) (cs : Cells) (sys : Ptr) (d : Directory) (ms : List Members) (K : Kept l cs sys d ms) (i : ℕ) (p : Address) (g : slice_get d.numbers i ≡ Some (Some p)) (c : ℕ) → class_at cs p ≡ c
+pub free_by : (l : Layout) (cs : Cells) (sys : Ptr) (d : Directory) (ms : List Members) (K : Kept l cs sys d ms) (i : ℕ) (p : Address) (g : slice_get d.numbers i ≡ Some (Some p)) (c : ℕ) → class_at_place cs p ≡ c
     → in_a_set l.sets 0 ms c (suc i) ≡ false → owns_members l.sets 0 ms c (suc i) ≡ false → Free l cs sys d ms K i p g
 free_by l cs sys d ms K i p g c class none few = record {
   unfiled = λ s t h e. not_filed_in ms s (suc i) (ap (λ n. is_filed ms n (suc i)) (sym (zero-add s)) ∙ in_none_of l.sets 0 c (suc i) ms none s t h (e ∙ class));

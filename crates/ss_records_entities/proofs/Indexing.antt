@@ -8,9 +8,9 @@ use Rattle.ss_base.specs.declared.layout.Layout.{Layout}
 use Rattle.ss_records_entities.specs.declared.records.Records.{Records}
 use Rattle.ss_records_blocks.specs.declared.store.Address.{Address}
 use Rattle.ss_records_blocks.specs.Cells.{Cells, words_at}
-use Rattle.ss_world.specs.State.{State, Members, and_then, numbered, of_class, entity, entity_of_kind, kind_of, indexed, indexed_record, records_in}
+use Rattle.ss_world.specs.State.{State, Members, and_then, numbered, of_class, entity_in, entity_of_kind, kind_of, indexed, indexed_record, records_in}
 use Rattle.ss_records_words.specs.Reading.{record_of, records_at}
-use Rattle.ss_records_words.specs.Places.{Made, Directory, class_at}
+use Rattle.ss_records_words.specs.Places.{Made, Directory, class_at_place}
 use Rattle.ss_records_blocks.specs.Places.{row_in}
 use Rattle.ss_records_words.specs.Kept.{IsPermanent, state_of, place_or, indexed_place, numbered_place}
 use Rattle.ss_records_entities.specs.Parts.{IsKept, state, places, Found}
@@ -54,7 +54,7 @@ of_row (Some None) i p h = cc
 of_row (Some (Some ps)) i p h = (ps, refl, h)
 
 module _ (r : Records) (K : IsKept r) (c : ℕ) (x : ℤ) (kind : IsPermanent (kind_of r.layout c)) where
-  by_index : entity (state r) c x ≡ read_place r.layout r.blocks.cells (indexed_place (row_in (slice_get (places r).classes c)) x)
+  by_index : entity_in (state r) c x ≡ read_place r.layout r.blocks.cells (indexed_place (row_in (slice_get (places r).classes c)) x)
   by_index = of_permanent (state r) (kind_of r.layout c) c x kind ∙ indexed_is r.layout r.blocks.cells (places r) r.notes.lists c x
 
   found_at : (p : Address) → indexed_place (row_in (slice_get (places r).classes c)) x ≡ Ok p → Found r c x p
@@ -63,7 +63,7 @@ module _ (r : Records) (K : IsKept r) (c : ℕ) (x : ℤ) (kind : IsPermanent (k
       let o = of_row (slice_get (places r).classes c) a.0 p a.2 in
       record { index = a.0; is = a.1; entry = inr (c, o.0, o.1, o.2); class = (K.made c o.0 o.1).class a.0 p o.2; entity = by_index ∙ ap (read_place r.layout r.blocks.cells) h }
 
-  pub find_indexed : (v : Result Address FaultKind) → v ≡ indexed_place (row_in (slice_get (places r).classes c)) x → MatchResult v (λ p. Found r c x p) (λ e. entity (state r) c x ≡ Err e)
+  pub find_indexed : (v : Result Address FaultKind) → v ≡ indexed_place (row_in (slice_get (places r).classes c)) x → MatchResult v (λ p. Found r c x p) (λ e. entity_in (state r) c x ≡ Err e)
   find_indexed (Ok p) h = found_at p (sym h)
   find_indexed (Err e) h = by_index ∙ ap (read_place r.layout r.blocks.cells) (sym h)
 
@@ -75,9 +75,9 @@ of_temporary st k c x e = ap (λ z. entity_of_kind st z c x) (sym e)
 pub of_notices : (st : State) (k : ClassKind) (c : ℕ) (x : ℤ) → Notice ≡ k → entity_of_kind st k c x ≡ and_then (numbered st x) (of_class c)
 of_notices st k c x e = ap (λ z. entity_of_kind st z c x) (sym e)
 
-module _ (r : Records) (c : ℕ) (x : ℤ) (same : entity (state r) c x ≡ and_then (numbered (state r) x) (of_class c)) where
-  pub find_numbered : (v : Result Address FaultKind) → MatchResult v (λ p. (numbered_place r.directory.places x ≡ Ok p) × (class_at r.blocks.cells p ≡ c) × (and_then (numbered (state r) x) (of_class c) ≡ Ok (record_of r.layout (words_at r.blocks.cells p.at)))) (λ e. and_then (numbered (state r) x) (of_class c) ≡ Err e)
-      → MatchResult v (λ p. Found r c x p) (λ e. entity (state r) c x ≡ Err e)
+module _ (r : Records) (c : ℕ) (x : ℤ) (same : entity_in (state r) c x ≡ and_then (numbered (state r) x) (of_class c)) where
+  pub find_numbered : (v : Result Address FaultKind) → MatchResult v (λ p. (numbered_place r.directory.places x ≡ Ok p) × (class_at_place r.blocks.cells p ≡ c) × (and_then (numbered (state r) x) (of_class c) ≡ Ok (record_of r.layout (words_at r.blocks.cells p.at)))) (λ e. and_then (numbered (state r) x) (of_class c) ≡ Err e)
+      → MatchResult v (λ p. Found r c x p) (λ e. entity_in (state r) c x ≡ Err e)
   find_numbered (Ok p) h =
       let t = there r.directory.places x p h.0 in
       record { index = t.0; is = t.1; entry = inl t.2; class = h.1; entity = same ∙ h.2 }

@@ -14,7 +14,7 @@ use Rattle.ss_records_words.specs.Reading.{plain, class_in_words, record_of, rec
 use Rattle.ss_records_blocks.specs.Writes.{Written}
 use Rattle.ss_records_words.specs.Kept.{Kept, IsPermanent, Formed, MadeOf, state_of, issued_place, numbered_place}
 use Rattle.ss_records_blocks.specs.Places.{Numbers}
-use Rattle.ss_records_words.specs.Places.{Made, Directory, IsMade, Lists, class_at}
+use Rattle.ss_records_words.specs.Places.{Made, Directory, IsMade, Lists, class_at_place}
 use Rattle.ss_records_words.specs.Shape.{links_start}
 use Rattle.ss_records_words.specs.Slotted.{OfName}
 use Rattle.ss_records_blocks.proofs.Puts.{by_ptr}
@@ -94,21 +94,21 @@ made_set l cs ds (None ∷ zs) (suc c) ps i v m e o = ap (λ rs. None ∷ rs) (m
 made_set l cs ds (Some rs ∷ zs) (suc c) ps i v m e o = λ t. Some (row_same l cs ds rs (λ j q h. o zero rs refl (λ n. absurd (omega (arith, n))) j q h) t) ∷ made_set l cs ds zs c ps i v m e (λ b qs h n. o (suc b) qs h (λ k. n (omega (arith, k)))) t
 
 module _ (l : Layout) (cs : Cells) (sys : Ptr) (d : Directory) (ms : List Members) (K : Kept l cs sys d ms) where
-  pub formed_there : (x : ℤ) (p : Address) → numbered_place d.numbers x ≡ Ok p → (n : ℕ) × Formed l (class_at cs p) n (words_at cs p.at)
+  pub formed_there : (x : ℤ) (p : Address) → numbered_place d.numbers x ≡ Ok p → (n : ℕ) × Formed l (class_at_place cs p) n (words_at cs p.at)
   formed_there x p h = let t = there d.numbers x p h in (suc t.0, K.formed t.0 p (inl t.2))
 
   pub class_number : (x : ℤ) (p : Address) → numbered_place d.numbers x ≡ Ok p → IsNumber (word_at cs p.at 0)
   class_number x p h = let t = formed_there x p h in subst IsNumber (sym t.1.class) tt
 
   pub class_right : (x : ℤ) (p : Address) (c n : ℕ) → numbered_place d.numbers x ≡ Ok p → word_at cs p.at 0 ≡ number n → n ≡ c
-      → (class_at cs p ≡ c) × (and_then (numbered (state_of l cs d ms) x) (of_class c) ≡ Ok (record_of l (words_at cs p.at)))
+      → (class_at_place cs p ≡ c) × (and_then (numbered (state_of l cs d ms) x) (of_class c) ≡ Ok (record_of l (words_at cs p.at)))
   class_right x p c n h w e =
-      let is : class_at cs p ≡ c = ap plain w ∙ e in
+      let is : class_at_place cs p ≡ c = ap plain w ∙ e in
       (is, ap (λ r. and_then r (of_class c)) (numbered_is l cs d ms x ∙ ap (read_place l cs) h) ∙ rw (is, same c) refl)
 
   pub class_wrong : (x : ℤ) (p : Address) (c n : ℕ) → numbered_place d.numbers x ≡ Ok p → word_at cs p.at 0 ≡ number n → (n ≡ c → ⊥) → and_then (numbered (state_of l cs d ms) x) (of_class c) ≡ Err WrongClass
   class_wrong x p c n h w e =
-      let is : class_at cs p ≡ n = ap plain w in
+      let is : class_at_place cs p ≡ n = ap plain w in
       ap (λ r. and_then r (of_class c)) (numbered_is l cs d ms x ∙ ap (read_place l cs) h) ∙ rw (is, differs n c e) refl
 
   pub class_none : (x : ℤ) (c : ℕ) (e : FaultKind) → numbered_place d.numbers x ≡ Err e → and_then (numbered (state_of l cs d ms) x) (of_class c) ≡ Err e
@@ -116,26 +116,26 @@ module _ (l : Layout) (cs : Cells) (sys : Ptr) (d : Directory) (ms : List Member
 
   pub notice_right : (x : ℤ) (p : Address) (n : ℕ) → numbered_place d.numbers x ≡ Ok p → word_at cs p.at 0 ≡ number n → is_notice (kind_of l n) ≡ true → notice (state_of l cs d ms) x ≡ Ok (record_of l (words_at cs p.at))
   notice_right x p n h w e =
-      let is : class_at cs p ≡ n = ap plain w in
+      let is : class_at_place cs p ≡ n = ap plain w in
       ap (λ r. and_then r (of_notice l)) (numbered_is l cs d ms x ∙ ap (read_place l cs) h) ∙ rw (is, e) refl
 
   pub notice_wrong : (x : ℤ) (p : Address) (n : ℕ) → numbered_place d.numbers x ≡ Ok p → word_at cs p.at 0 ≡ number n → is_notice (kind_of l n) ≡ false → notice (state_of l cs d ms) x ≡ Err WrongClass
   notice_wrong x p n h w e =
-      let is : class_at cs p ≡ n = ap plain w in
+      let is : class_at_place cs p ≡ n = ap plain w in
       ap (λ r. and_then r (of_notice l)) (numbered_is l cs d ms x ∙ ap (read_place l cs) h) ∙ rw (is, e) refl
 
   pub notice_none : (x : ℤ) (e : FaultKind) → numbered_place d.numbers x ≡ Err e → notice (state_of l cs d ms) x ≡ Err e
   notice_none x e h = ap (λ r. and_then r (of_notice l)) (numbered_is l cs d ms x ∙ ap (read_place l cs) h)
 
   -- only the block of an entry is written, and keeps its class and its form
-  module _ (ds : Cells) (i : ℕ) (p : Address) (g : Lists d i p) (w : Written cs ds p.at) (same_class : class_at ds p ≡ class_at cs p) (f : Formed l (class_at cs p) (suc i) (words_at ds p.at)) (links : (k : ℕ) → links_start l (class_at cs p) ≤ k → word_at ds p.at k ≡ word_at cs p.at k) where
+  module _ (ds : Cells) (i : ℕ) (p : Address) (g : Lists d i p) (w : Written cs ds p.at) (same_class : class_at_place ds p ≡ class_at_place cs p) (f : Formed l (class_at_place cs p) (suc i) (words_at ds p.at)) (links : (k : ℕ) → links_start l (class_at_place cs p) ≤ k → word_at ds p.at k ≡ word_at cs p.at k) where
     entries : (j : ℕ) (q : Address) → Lists d j q → {P : Type 0} → ((i ≡ j) → (p.at ≡ q.at) → P) → ((p.at ≡ q.at → ⊥) → P) → P
     entries j q h {P} here other = by_ptr p.at q.at (λ e k. here (K.apart i j p q g h k) k) (λ e n. other n)
 
     abbrev class_in : Ptr → ℕ
     class_in r = class_in_words (words_at ds r)
 
-    pub class_kept : (j : ℕ) (q : Address) → Lists d j q → class_at ds q ≡ class_at cs q
+    pub class_kept : (j : ℕ) (q : Address) → Lists d j q → class_at_place ds q ≡ class_at_place cs q
     class_kept j q h = entries j q h (λ k e. ap class_in (sym e) ∙ same_class ∙ ap (λ (r : Ptr). class_in_words (words_at cs r)) e) (λ n. ap class_in_words (w.others q.at n))
 
     made_kept : (c : ℕ) (ps : List Address) → slice_get d.classes c ≡ Some (Some ps) → MadeOf l ds c ps
@@ -151,14 +151,14 @@ module _ (l : Layout) (cs : Cells) (sys : Ptr) (d : Directory) (ms : List Member
       kinds = λ j q h k. K.kinds j q h (subst (λ c. IsPermanent (kind_of l c)) (class_kept j q (inl h)) k);
       made = made_kept;
       classes = λ j q h. subst (λ c. c < length l.classes) (sym (class_kept j q h)) (K.classes j q h);
-      formed = λ j q h. subst (λ c. Formed l c (suc j) (words_at ds q.at)) (sym (class_kept j q h)) (entries j q h {P = Formed l (class_at cs q) (suc j) (words_at ds q.at)}
-          (λ k e. subst (λ (r : Ptr). Formed l (class_in_words (words_at cs r)) (suc j) (words_at ds r)) e (subst (λ n. Formed l (class_at cs p) (suc n) (words_at ds p.at)) k f))
-          (λ n. subst (λ us. Formed l (class_at cs q) (suc j) us) (sym (w.others q.at n)) (K.formed j q h)));
+      formed = λ j q h. subst (λ c. Formed l c (suc j) (words_at ds q.at)) (sym (class_kept j q h)) (entries j q h {P = Formed l (class_at_place cs q) (suc j) (words_at ds q.at)}
+          (λ k e. subst (λ (r : Ptr). Formed l (class_in_words (words_at cs r)) (suc j) (words_at ds r)) e (subst (λ n. Formed l (class_at_place cs p) (suc n) (words_at ds p.at)) k f))
+          (λ n. subst (λ us. Formed l (class_at_place cs q) (suc j) us) (sym (w.others q.at n)) (K.formed j q h)));
       apart = K.apart;
       off_system = K.off_system;
       counted = w.count ∙ K.counted;
       names = λ s t h. names_same l cs sys d ms K ds class_kept s t h (λ q k o. by_ptr p.at q
-          (λ e z. subst (λ r. word_at ds r k ≡ word_at cs r k) z (links k (at_least (links_start l (class_at cs p)) k (λ small. above_head l cs sys d ms K s t h i p k g small (subst (λ r. OfName l cs sys d s t r k) (sym z) o)))))
+          (λ e z. subst (λ r. word_at ds r k ≡ word_at cs r k) z (links k (at_least (links_start l (class_at_place cs p)) k (λ small. above_head l cs sys d ms K s t h i p k g small (subst (λ r. OfName l cs sys d s t r k) (sym z) o)))))
           (λ e n. ap (λ us. word_of us k) (w.others q n)));
     }
 

@@ -6,13 +6,13 @@ use Rattle.ss_base.specs.declared.layout.ClassLayout.{ClassLayout}
 use Rattle.ss_base.specs.declared.layout.Layout.{Layout}
 use Rattle.ss_base.specs.declared.layout.Owner.TheVariants.{System, Class}
 use Rattle.ss_records_blocks.specs.declared.store.Address.{Address}
-use Rattle.ss_records_blocks.specs.Cells.{Cells, words_at, blanks, without}
+use Rattle.ss_records_blocks.specs.Cells.{Cells, words_at, blanks, without_block}
 use Rattle.ss_world.specs.State.{Members, not_made as unmade, living_numbers, made_entities, living_records}
 use Rattle.ss_records_words.specs.Shape.{block_words}
 use Rattle.ss_records_words.specs.Reading.{class_in_words, record_of, record_at, records_at}
-use Rattle.ss_records_blocks.specs.Places.{row_in, Numbers, living}
+use Rattle.ss_records_blocks.specs.Places.{row_in, Numbers, living_count}
 use Rattle.ss_records_words.specs.Kept.{Kept, Small, RowsHeld, state_of}
-use Rattle.ss_records_words.specs.Places.{Made, Directory, lying, IsMade, Lists, made_count}
+use Rattle.ss_records_words.specs.Places.{Made, Directory, lying, IsMade, Lists, permanent_count}
 use Rattle.ss_records_words.specs.Laid.{LaidSystem}
 use Rattle.ss_records_blocks.specs.Pages.{in_page}
 use Rattle.ss_records_blocks.proofs.Puts.{words_new, words_without, length-blanks}
@@ -21,7 +21,7 @@ use Rattle.ss_records_words.proofs.Listing.{listed}
 use Rattle.ss_records_entities.proofs.Destroys.{not_made}
 use Rattle.ss_records_entities.proofs.NamesGone.{name_first}
 
-pub numbers_are : (l : Layout) (cs : Cells) (d : Numbers) → living_numbers (map (record_at l cs) d) ≡ living d
+pub numbers_are : (l : Layout) (cs : Cells) (d : Numbers) → living_numbers (map (record_at l cs) d) ≡ living_count d
 numbers_are l cs [] = refl
 numbers_are l cs (None ∷ ps) = numbers_are l cs ps
 numbers_are l cs (Some p ∷ ps) = ap suc (numbers_are l cs ps)
@@ -30,12 +30,12 @@ length_row : (l : Layout) (cs : Cells) (ps : List Address) → length (map (λ (
 length_row l cs [] = refl
 length_row l cs (p ∷ ps) = ap suc (length_row l cs ps)
 
-made_are : (l : Layout) (cs : Cells) (ms : Made) → made_entities (map (records_at l cs) ms) ≡ made_count ms
+made_are : (l : Layout) (cs : Cells) (ms : Made) → made_entities (map (records_at l cs) ms) ≡ permanent_count ms
 made_are l cs [] = refl
 made_are l cs (None ∷ ms) = made_are l cs ms
 made_are l cs (Some ps ∷ ms) = omega (arith, length_row l cs ps, made_are l cs ms)
 
-pub living_is : (l : Layout) (cs : Cells) (d : Directory) (ms : List Members) → living d.numbers + made_count d.classes + 1 ≡ living_records (state_of l cs d ms) + 1
+pub living_is : (l : Layout) (cs : Cells) (d : Directory) (ms : List Members) → living_count d.numbers + permanent_count d.classes + 1 ≡ living_records (state_of l cs d ms) + 1
 living_is l cs d ms = omega (arith, numbers_are l cs d.numbers, made_are l cs d.classes)
 
 -- nothing is listed at first
@@ -44,7 +44,7 @@ nothing_made zero c ps h = cc
 nothing_made (suc n) zero ps h = cc
 nothing_made (suc n) (suc c) ps h = nothing_made n c ps h
 
-none_counted : (n : ℕ) → made_count (replicate n None) ≡ 0
+none_counted : (n : ℕ) → permanent_count (replicate n None) ≡ 0
 none_counted zero = refl
 none_counted (suc n) = none_counted n
 
@@ -78,31 +78,31 @@ kept_first l ds q w small size laid = record {
   names = λ s t g. name_first l ds q.at ((q.at, blanks w) ∷ []) laid (lying [] (replicate (length l.classes) None)) (λ c i p h. none_listed (length l.classes) i p (listed (lying [] (replicate (length l.classes) None)) c i p h)) s t g;
 }
 
-pub living_drop : (d : Numbers) (i : ℕ) → length d ≤ i → living (drop i d) ≡ 0
+pub living_drop : (d : Numbers) (i : ℕ) → length d ≤ i → living_count (drop i d) ≡ 0
 living_drop [] zero h = refl
 living_drop [] (suc i) h = refl
 living_drop (z ∷ zs) zero h = absurd (omega (arith, h))
 living_drop (z ∷ zs) (suc i) h = living_drop zs i (omega (arith, h))
 
-pub living_step : (d : Numbers) (i : ℕ) (p : Address) → slice_get d i ≡ Some (Some p) → living (drop i d) ≡ living (drop (i + 1) d) + 1
+pub living_step : (d : Numbers) (i : ℕ) (p : Address) → slice_get d i ≡ Some (Some p) → living_count (drop i d) ≡ living_count (drop (i + 1) d) + 1
 living_step [] i p h = cc
 living_step (None ∷ zs) zero p h = cc
 living_step (Some q ∷ zs) zero p h = omega arith
 living_step (z ∷ zs) (suc i) p h = let q : suc i + 1 ≡ suc (i + 1) = omega arith in rw q (living_step zs i p h)
 
-pub living_skip : (d : Numbers) (i : ℕ) → slice_get d i ≡ Some None → living (drop i d) ≡ living (drop (i + 1) d)
+pub living_skip : (d : Numbers) (i : ℕ) → slice_get d i ≡ Some None → living_count (drop i d) ≡ living_count (drop (i + 1) d)
 living_skip [] i h = cc
 living_skip (None ∷ zs) zero h = refl
 living_skip (Some q ∷ zs) zero h = cc
 living_skip (z ∷ zs) (suc i) h = let q : suc i + 1 ≡ suc (i + 1) = omega arith in rw q (living_skip zs i h)
 
-pub made_drop : (ms : Made) (c : ℕ) → length ms ≤ c → made_count (drop c ms) ≡ 0
+pub made_drop : (ms : Made) (c : ℕ) → length ms ≤ c → permanent_count (drop c ms) ≡ 0
 made_drop [] zero h = refl
 made_drop [] (suc c) h = refl
 made_drop (m ∷ ms) zero h = absurd (omega (arith, h))
 made_drop (m ∷ ms) (suc c) h = made_drop ms c (omega (arith, h))
 
-pub made_step : (ms : Made) (c : ℕ) (o : Option (List Address)) → slice_get ms c ≡ Some o → made_count (drop c ms) ≡ length (row_in (Some o)) + made_count (drop (c + 1) ms)
+pub made_step : (ms : Made) (c : ℕ) (o : Option (List Address)) → slice_get ms c ≡ Some o → permanent_count (drop c ms) ≡ length (row_in (Some o)) + permanent_count (drop (c + 1) ms)
 made_step [] c o h = cc
 made_step (None ∷ ms) zero None h = omega arith
 made_step (None ∷ ms) zero (Some ps) h = cc
@@ -114,11 +114,11 @@ pub nothing : (cs : Cells) → length cs ≡ 0 → cs ≡ []
 nothing [] h = refl
 nothing (c ∷ cs) h = absurd (omega (arith, h))
 
-pub nothing_left : (cs : Cells) (p : Ptr) → length cs ≡ 1 → 0 < length (words_at cs p) → without cs p ≡ []
-nothing_left cs p h k = nothing (without cs p) (omega (arith, blocks_without cs p k, h))
+pub nothing_left : (cs : Cells) (p : Ptr) → length cs ≡ 1 → 0 < length (words_at cs p) → without_block cs p ≡ []
+nothing_left cs p h k = nothing (without_block cs p) (omega (arith, blocks_without cs p k, h))
 
 -- the blocks of the permanent entities, where the others were given back
-pub rows_held : (l : Layout) (cs bs : Cells) (sys : Ptr) (d : Directory) (ms : List Members) → Kept l cs sys d ms → ((i : ℕ) (p : Address) → IsMade d.classes i p → words_at bs p.at ≡ words_at cs p.at) → length bs ≡ made_count d.classes + 1 → RowsHeld l bs sys d.classes
+pub rows_held : (l : Layout) (cs bs : Cells) (sys : Ptr) (d : Directory) (ms : List Members) → Kept l cs sys d ms → ((i : ℕ) (p : Address) → IsMade d.classes i p → words_at bs p.at ≡ words_at cs p.at) → length bs ≡ permanent_count d.classes + 1 → RowsHeld l bs sys d.classes
 rows_held l cs bs sys d ms K same count = record {
   width = K.width;
   size = λ c i ps p m h. let x : IsMade d.classes i p = (c, ps, m, h) in ap length (same i p x) ∙ (K.formed i p (inr x)).size ∙ ap (λ b. block_words l (Class b)) ((K.made c ps m).class i p h);
@@ -135,15 +135,15 @@ pub record Left (cs bs : Cells) (sys : Ptr) (d : Directory) (i : ℕ) : Type 0 w
   pub kept : (j : ℕ) (p : Address) → i ≤ j → slice_get d.numbers j ≡ Some (Some p) → words_at bs p.at ≡ words_at cs p.at
   pub made : (j : ℕ) (p : Address) → IsMade d.classes j p → words_at bs p.at ≡ words_at cs p.at
   pub system : words_at bs sys ≡ words_at cs sys
-  pub count : length bs ≡ living (drop i d.numbers) + made_count d.classes + 1
+  pub count : length bs ≡ living_count (drop i d.numbers) + permanent_count d.classes + 1
 
 -- numbers that are not living have no block
-pub living_past : (d : Numbers) (n i : ℕ) → ((j : ℕ) → i ≤ j → j < i + n → in_page (slice_get d j) ≡ None) → living (drop i d) ≡ living (drop (i + n) d)
+pub living_past : (d : Numbers) (n i : ℕ) → ((j : ℕ) → i ≤ j → j < i + n → in_page (slice_get d j) ≡ None) → living_count (drop i d) ≡ living_count (drop (i + n) d)
 living_past d zero i h = let e : i + zero ≡ i = omega arith in rw e refl
 living_past d (suc n) i h =
     let e : i + suc n ≡ i + n + 1 = omega arith in
     rw e (living_past d n i (λ j a b. h j a (omega (arith, b))) ∙ one d (i + n) (h (i + n) (omega arith) (omega arith))) where
-      one : (ds : Numbers) (k : ℕ) → in_page (slice_get ds k) ≡ None → living (drop k ds) ≡ living (drop (k + 1) ds)
+      one : (ds : Numbers) (k : ℕ) → in_page (slice_get ds k) ≡ None → living_count (drop k ds) ≡ living_count (drop (k + 1) ds)
       one [] zero z = refl
       one [] (suc k) z = let q : suc k + 1 ≡ suc (k + 1) = omega arith in rw q refl
       one (None ∷ zs) zero z = refl
@@ -159,7 +159,7 @@ left_past cs bs sys d i n m e none h = record {
   kept = λ j q a g. h.kept j q (omega (arith, a, e)) g;
   made = h.made;
   system = h.system;
-  count = h.count ∙ ap (λ k. k + made_count d.classes + 1) (living_past d.numbers n i (λ j a b. none j a (omega (arith, b, e))) ∙ ap (λ k. living (drop k d.numbers)) e);
+  count = h.count ∙ ap (λ k. k + permanent_count d.classes + 1) (living_past d.numbers n i (λ j a b. none j a (omega (arith, b, e))) ∙ ap (λ k. living_count (drop k d.numbers)) e);
 }
 
 -- one more block of a number is given back
@@ -167,19 +167,19 @@ module _ (l : Layout) (cs bs : Cells) (sys : Ptr) (d : Directory) (ms : List Mem
   pub still_here : words_at bs p.at ≡ words_at cs p.at
   still_here = kept i p (omega arith) g
 
-  pub kept_rest : (j : ℕ) (q : Address) → i + 1 ≤ j → slice_get d.numbers j ≡ Some (Some q) → words_at (without bs p.at) q.at ≡ words_at cs q.at
+  pub kept_rest : (j : ℕ) (q : Address) → i + 1 ≤ j → slice_get d.numbers j ≡ Some (Some q) → words_at (without_block bs p.at) q.at ≡ words_at cs q.at
   kept_rest j q h k = words_without bs p.at q.at (λ z. absurd (less_is_not i j h (K.apart i j p q (inl g) (inl k) z))) ∙ kept j q (omega (arith, h)) k where
     less_is_not : (a b : ℕ) → a + 1 ≤ b → a ≡ b → ⊥
     less_is_not a b x y = omega (arith, x, y)
 
-  pub kept_system : words_at bs sys ≡ words_at cs sys → words_at (without bs p.at) sys ≡ words_at cs sys
+  pub kept_system : words_at bs sys ≡ words_at cs sys → words_at (without_block bs p.at) sys ≡ words_at cs sys
   kept_system h = words_without bs p.at sys (K.off_system i p (inl g)) ∙ h
 
-  pub kept_made : ((j : ℕ) (q : Address) → IsMade d.classes j q → words_at bs q.at ≡ words_at cs q.at) → (j : ℕ) (q : Address) → IsMade d.classes j q → words_at (without bs p.at) q.at ≡ words_at cs q.at
+  pub kept_made : ((j : ℕ) (q : Address) → IsMade d.classes j q → words_at bs q.at ≡ words_at cs q.at) → (j : ℕ) (q : Address) → IsMade d.classes j q → words_at (without_block bs p.at) q.at ≡ words_at cs q.at
   kept_made h j q m = words_without bs p.at q.at (not_made l cs sys d ms K i p g j q m) ∙ h j q m
 
-  pub count_rest : length bs ≡ living (drop i d.numbers) + made_count d.classes + 1 → length (without bs p.at) ≡ living (drop (i + 1) d.numbers) + made_count d.classes + 1
+  pub count_rest : length bs ≡ living_count (drop i d.numbers) + permanent_count d.classes + 1 → length (without_block bs p.at) ≡ living_count (drop (i + 1) d.numbers) + permanent_count d.classes + 1
   count_rest h = omega (arith, h, living_step d.numbers i p g, blocks_without bs p.at (subst (λ us. 0 < length us) (sym still_here) (omega (arith, (K.formed i p (inl g)).size))))
 
-  pub left_given : Left cs bs sys d i → Left cs (without bs p.at) sys d (i + 1)
+  pub left_given : Left cs bs sys d i → Left cs (without_block bs p.at) sys d (i + 1)
   left_given h = record { kept = kept_rest; made = kept_made h.made; system = kept_system h.system; count = count_rest h.count }

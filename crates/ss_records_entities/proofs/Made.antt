@@ -9,7 +9,7 @@ use Rattle.ss_records_blocks.specs.Cells.{Cells, words_at, word_of}
 use Rattle.ss_world.specs.State.{Record, Members, kind_of, first_record, with_made}
 use Rattle.ss_records_words.specs.Shape.{block_words}
 use Rattle.ss_records_words.specs.Reading.{plain, class_in_words, record_of, record_at, records_at}
-use Rattle.ss_records_words.specs.Places.{Made, Directory, lying, own_or, listing, IsMade, Lists, class_at, made_count}
+use Rattle.ss_records_words.specs.Places.{Made, Directory, lying, own_or, listing, IsMade, Lists, class_at_place, permanent_count}
 use Rattle.ss_records_words.specs.Kept.{Kept, Formed, MadeOf, IsPermanent, state_of}
 use Rattle.ss_records_blocks.specs.Writes.{NoneAt, Placed, Unchanged}
 use Rattle.ss_records_words.specs.Laid.{Born, LaidTo}
@@ -40,7 +40,7 @@ length_row_set [] c v = refl
 length_row_set (m ∷ ms) zero v = refl
 length_row_set (m ∷ ms) (suc c) v = ap suc (length_row_set ms c v)
 
-count_row_set : (ms : Made) (c : ℕ) (ps : List Address) → slice_get ms c ≡ Some None → made_count (slice_set ms c (Some ps)) ≡ made_count ms + length ps
+count_row_set : (ms : Made) (c : ℕ) (ps : List Address) → slice_get ms c ≡ Some None → permanent_count (slice_set ms c (Some ps)) ≡ permanent_count ms + length ps
 count_row_set [] c ps h = cc
 count_row_set (None ∷ ms) zero ps h = omega arith
 count_row_set (Some qs ∷ ms) zero ps h = cc
@@ -74,7 +74,7 @@ module _ (l : Layout) (cs : Cells) (sys : Ptr) (d : Directory) (ms : List Member
     some_words p n h low e = omega (arith, ap length e, h, low)
 
     same_words : (i : ℕ) (p : Address) → Lists d i p → words_at ds p.at ≡ words_at cs p.at
-    same_words i p h = u.words p.at (some_words p.at (block_words l (Class (class_at cs p))) (K.formed i p h).size (omega arith))
+    same_words i p h = u.words p.at (some_words p.at (block_words l (Class (class_at_place cs p))) (K.formed i p h).size (omega arith))
 
     same_system : words_at ds sys ≡ words_at cs sys
     same_system = u.words sys (some_words sys (block_words l System) K.system (omega arith))
@@ -130,13 +130,13 @@ module _ (l : Layout) (cs : Cells) (sys : Ptr) (d : Directory) (ms : List Member
     born : (i : ℕ) (p : Address) → slice_get ps i ≡ Some p → Born l ds sys p.at c (suc i)
     born i p h = laid.laid i p h (inside_row ps i p h)
 
-    new_class : (i : ℕ) (p : Address) → slice_get ps i ≡ Some p → class_at ds p ≡ c
+    new_class : (i : ℕ) (p : Address) → slice_get ps i ≡ Some p → class_at_place ds p ≡ c
     new_class i p h = ap plain (born i p h).its_class
 
     -- no entity is of the class yet
     none_yet : (n : ℕ) → IsOf cs d c n → ⊥
     none_yet n h = let a = entry_of cs d c n h in by_entry a.0 a.1 a.4 (listed d c a.0 a.1 a.3) where
-      by_entry : (i : ℕ) (p : Address) → class_at cs p ≡ c → Lists d i p → ⊥
+      by_entry : (i : ℕ) (p : Address) → class_at_place cs p ≡ c → Lists d i p → ⊥
       by_entry i p k (inl m) = K.kinds i p m (subst (λ b. IsPermanent (kind_of l b)) (sym k) kind)
       by_entry i p k (inr (b, qs, m, x)) = no_row (sym free ∙ subst (λ a. slice_get d.classes a ≡ Some (Some qs)) (sym ((K.made b qs m).class i p x) ∙ k) m)
 
@@ -156,13 +156,13 @@ module _ (l : Layout) (cs : Cells) (sys : Ptr) (d : Directory) (ms : List Member
     its_listing : listing e c ≡ map Some ps
     its_listing = ap (own_or d.numbers) (get_row_set d.classes c (Some ps) None free)
 
-    which : (b i : ℕ) (p : Address) → slice_get (listing e b) i ≡ Some (Some p) → class_at ds p ≡ b → (Born l ds sys p.at b (suc i) × (IsOf cs d b (suc i) → ⊥)) ⊎ ((slice_get (listing d b) i ≡ Some (Some p)) × (words_at ds p.at ≡ words_at cs p.at))
+    which : (b i : ℕ) (p : Address) → slice_get (listing e b) i ≡ Some (Some p) → class_at_place ds p ≡ b → (Born l ds sys p.at b (suc i) × (IsOf cs d b (suc i) → ⊥)) ⊎ ((slice_get (listing d b) i ≡ Some (Some p)) × (words_at ds p.at ≡ words_at cs p.at))
     which b i p h k = by_same c b
         (λ t z. let g = unmapped ps i p (ap (λ us. slice_get us i) (sym its_listing ∙ ap (listing e) z) ∙ h) in
         inl (subst (λ a. Born l ds sys p.at a (suc i) × (IsOf cs d a (suc i) → ⊥)) z (born i p g, none_yet (suc i))))
         (λ t n. let was = sym (ap (λ us. slice_get us i) (other_listing b n)) ∙ h in inr (was, old i p (listed d b i p was)))
 
-    still : (b i : ℕ) (p : Address) → slice_get (listing d b) i ≡ Some (Some p) → class_at cs p ≡ b → (slice_get (listing e b) i ≡ Some (Some p)) × (class_at ds p ≡ b)
+    still : (b i : ℕ) (p : Address) → slice_get (listing d b) i ≡ Some (Some p) → class_at_place cs p ≡ b → (slice_get (listing e b) i ≡ Some (Some p)) × (class_at_place ds p ≡ b)
     still b i p h k = by_same c b
         (λ t z. absurd (none_yet (suc i) (subst (λ a. IsOf cs d a (suc i)) (sym z) (is_of cs d b i p h k))))
         (λ t n. (ap (λ us. slice_get us i) (other_listing b n) ∙ h, ap class_in_words (old i p (listed d b i p h)) ∙ k))

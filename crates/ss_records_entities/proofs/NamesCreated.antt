@@ -10,7 +10,7 @@ use Rattle.ss_records_blocks.specs.Cells.{Cells, words_at, word_of, word_at, lin
 use Rattle.ss_world.specs.State.{Members, members_of}
 use Rattle.ss_records_words.specs.Shape.{owned_start, block_words, count_before, owned_by}
 use Rattle.ss_records_words.specs.Reading.{class_in_words}
-use Rattle.ss_records_words.specs.Places.{Directory, listing, place_in_record, entity_at, owner_at, class_at}
+use Rattle.ss_records_words.specs.Places.{Directory, listing, place_in_record, entity_at, owner_at, class_at_place}
 use Rattle.ss_records_words.specs.Kept.{Kept}
 use Rattle.ss_records_blocks.specs.Writes.{owned_word, owned_from}
 use Rattle.ss_records_words.specs.Laid.{Born}
@@ -42,8 +42,8 @@ module _ (l : Layout) (cs : Cells) (sys : Ptr) (d : Directory) (ms : List Member
   Newborn ds b n p = Born l ds sys p b n × (IsOf cs d b n → ⊥)
 
   module _ (e : Directory) (ds : Cells) (words_sys : words_at ds sys ≡ words_at cs sys)
-      (which : (b i : ℕ) (p : Address) → slice_get (listing e b) i ≡ Some (Some p) → class_at ds p ≡ b → Newborn ds b (suc i) p.at ⊎ ((slice_get (listing d b) i ≡ Some (Some p)) × (words_at ds p.at ≡ words_at cs p.at)))
-      (still : (b i : ℕ) (p : Address) → slice_get (listing d b) i ≡ Some (Some p) → class_at cs p ≡ b → (slice_get (listing e b) i ≡ Some (Some p)) × (class_at ds p ≡ b)) where
+      (which : (b i : ℕ) (p : Address) → slice_get (listing e b) i ≡ Some (Some p) → class_at_place ds p ≡ b → Newborn ds b (suc i) p.at ⊎ ((slice_get (listing d b) i ≡ Some (Some p)) × (words_at ds p.at ≡ words_at cs p.at)))
+      (still : (b i : ℕ) (p : Address) → slice_get (listing d b) i ≡ Some (Some p) → class_at_place cs p ≡ b → (slice_get (listing e b) i ≡ Some (Some p)) × (class_at_place ds p ≡ b)) where
     abbrev at : ℕ → Ptr
     at = entity_at sys d t.member
 
@@ -71,7 +71,7 @@ module _ (l : Layout) (cs : Cells) (sys : Ptr) (d : Directory) (ms : List Member
     -- an entity of a class is a new one or an old one
     entity : (b n : ℕ) → IsOf ds e b n → Newborn ds b n (entity_at sys e b n) ⊎ ((IsOf cs d b n) × Old (entity_at sys d b) (entity_at sys e b) n)
     entity b n h = by_entry (entry_of ds e b n h) where
-      by_entry : (i : ℕ) × (p : Address) × (n ≡ suc i) × (slice_get (listing e b) i ≡ Some (Some p)) × (class_at ds p ≡ b) → Newborn ds b n (entity_at sys e b n) ⊎ ((IsOf cs d b n) × Old (entity_at sys d b) (entity_at sys e b) n)
+      by_entry : (i : ℕ) × (p : Address) × (n ≡ suc i) × (slice_get (listing e b) i ≡ Some (Some p)) × (class_at_place ds p ≡ b) → Newborn ds b n (entity_at sys e b n) ⊎ ((IsOf cs d b n) × Old (entity_at sys d b) (entity_at sys e b) n)
       by_entry (i, p, q, r, c) = elim (which b i p r c) as (λ _. Newborn ds b n (entity_at sys e b n) ⊎ ((IsOf cs d b n) × Old (entity_at sys d b) (entity_at sys e b) n)) [
         | inl x ↦ inl (subst (λ v. Newborn ds b v (entity_at sys e b v)) (sym q) (subst (λ v. Newborn ds b (suc i) v) (sym (ap place_in_record r)) x))
         | inr x ↦

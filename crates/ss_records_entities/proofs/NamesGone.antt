@@ -10,7 +10,7 @@ use Rattle.ss_records_blocks.specs.Cells.{Cells, words_at, word_of, word_at, lin
 use Rattle.ss_world.specs.State.{Members, members_of}
 use Rattle.ss_records_words.specs.Shape.{owned_start, block_words, count_before, owned_by}
 use Rattle.ss_records_words.specs.Reading.{class_in_words}
-use Rattle.ss_records_words.specs.Places.{Directory, listing, place_in_record, entity_at, owner_at, class_at}
+use Rattle.ss_records_words.specs.Places.{Directory, listing, place_in_record, entity_at, owner_at, class_at_place}
 use Rattle.ss_records_words.specs.Kept.{Kept}
 use Rattle.ss_records_blocks.specs.Writes.{owned_from}
 use Rattle.ss_records_words.specs.Laid.{LaidSystem}
@@ -58,9 +58,9 @@ module _ (l : Layout) (ds : Cells) (sys : Ptr) (bs : Cells) (laid : LaidSystem l
 
 module _ (l : Layout) (cs : Cells) (sys : Ptr) (d : Directory) (ms : List Members) (K : Kept l cs sys d ms) (s : ℕ) (t : SetLayout) (g : slice_get l.sets s ≡ Some t)
     (ds : Cells) (e : Directory) (i : ℕ) (p : Address) (words_sys : words_at ds sys ≡ words_at cs sys)
-    (free : t.member ≡ class_at cs p → (o : ℕ) → NotIn (suc i) (members_of ms s o)) (owns : t.owner ≡ Class (class_at cs p) → members_of ms s (suc i) ≡ [])
+    (free : t.member ≡ class_at_place cs p → (o : ℕ) → NotIn (suc i) (members_of ms s o)) (owns : t.owner ≡ Class (class_at_place cs p) → members_of ms s (suc i) ≡ [])
     (entry : (b j : ℕ) (q : Address) → slice_get (listing e b) j ≡ Some (Some q) → (slice_get (listing d b) j ≡ Some (Some q)) × (words_at ds q.at ≡ words_at cs q.at))
-    (other : (b j : ℕ) (q : Address) → slice_get (listing d b) j ≡ Some (Some q) → class_at cs q ≡ b → (j ≡ i → b ≡ class_at cs p → ⊥) → slice_get (listing e b) j ≡ Some (Some q)) where
+    (other : (b j : ℕ) (q : Address) → slice_get (listing d b) j ≡ Some (Some q) → class_at_place cs q ≡ b → (j ≡ i → b ≡ class_at_place cs p → ⊥) → slice_get (listing e b) j ≡ Some (Some q)) where
   abbrev at : ℕ → Ptr
   at = entity_at sys d t.member
 
@@ -91,7 +91,7 @@ module _ (l : Layout) (cs : Cells) (sys : Ptr) (d : Directory) (ms : List Member
       let new : entity_at sys e b n ≡ a.1.at = ap (entity_at sys e b) a.2 ∙ ap place_in_record a.3 in let old : entity_at sys d b n ≡ a.1.at = ap (entity_at sys d b) a.2 ∙ ap place_in_record x.0 in
       (subst (IsOf cs d b) (sym a.2) (is_of cs d b a.0 a.1 x.0 (sym (ap class_in_words x.1) ∙ a.4)), new ∙ sym old, (λ k. (λ z. word_at ds (new z) k) ∙ ap (λ us. word_of us k) x.1 ∙ (λ z. word_at cs (sym old z) k)))
 
-  stays_entity : (b n : ℕ) → IsOf cs d b n → ((n ≡ suc i) → (b ≡ class_at cs p) → ⊥) → IsOf ds e b n
+  stays_entity : (b n : ℕ) → IsOf cs d b n → ((n ≡ suc i) → (b ≡ class_at_place cs p) → ⊥) → IsOf ds e b n
   stays_entity b n h not_it =
       let a = entry_of cs d b n h in
       let y = other b a.0 a.1 a.3 a.4 (λ x. not_it (a.2 ∙ ap suc x)) in
@@ -101,7 +101,7 @@ module _ (l : Layout) (cs : Cells) (sys : Ptr) (d : Directory) (ms : List Member
   owner_was System n h = (h, refl, (λ k. ap (λ us. word_of us k) words_sys))
   owner_was (Class b) n h = was b n h
 
-  owner_stays : (o : Owner) (n : ℕ) → MayOwn cs d o n → ((n ≡ suc i) → (o ≡ Class (class_at cs p)) → ⊥) → MayOwn ds e o n
+  owner_stays : (o : Owner) (n : ℕ) → MayOwn cs d o n → ((n ≡ suc i) → (o ≡ Class (class_at_place cs p)) → ⊥) → MayOwn ds e o n
   owner_stays System n h not_it = h
   owner_stays (Class b) n h not_it = stays_entity b n h (λ x y. not_it x (ap Class y))
 

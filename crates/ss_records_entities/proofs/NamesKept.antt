@@ -8,7 +8,7 @@ use Rattle.ss_base.specs.declared.layout.Layout.{Layout}
 use Rattle.ss_records_blocks.specs.declared.store.Address.{Address}
 use Rattle.ss_records_blocks.specs.Cells.{Cells, word_at}
 use Rattle.ss_world.specs.State.{Members, members_of}
-use Rattle.ss_records_words.specs.Places.{Directory, Lists, entity_at, owner_at, class_at}
+use Rattle.ss_records_words.specs.Places.{Directory, Lists, entity_at, owner_at, class_at_place}
 use Rattle.ss_records_words.specs.Kept.{Kept}
 use Rattle.ss_records_words.specs.Links.{words_of}
 use Rattle.ss_records_words.specs.Slotted.{slots_of, IsOf, MayOwn, NameKept, OfName}
@@ -17,7 +17,7 @@ use Rattle.ss_records_words.proofs.Listing.{listed}
 use Rattle.ss_records_words.proofs.Disjoint.{entry_of, is_of}
 
 -- classes that stay the same
-module _ (cs ds : Cells) (d : Directory) (classes : (j : ℕ) (q : Address) → Lists d j q → class_at ds q ≡ class_at cs q) where
+module _ (cs ds : Cells) (d : Directory) (classes : (j : ℕ) (q : Address) → Lists d j q → class_at_place ds q ≡ class_at_place cs q) where
   pub of_back : (c n : ℕ) → IsOf ds d c n → IsOf cs d c n
   of_back c n h = let a = entry_of ds d c n h in subst (IsOf cs d c) (sym a.2) (is_of cs d c a.0 a.1 a.3 (sym (classes a.0 a.1 (listed d c a.0 a.1 a.3)) ∙ a.4))
 
@@ -32,7 +32,7 @@ module _ (cs ds : Cells) (d : Directory) (classes : (j : ℕ) (q : Address) → 
   own_on System n h = h
   own_on (Class c) n h = of_on c n h
 
-module _ (l : Layout) (cs : Cells) (sys : Ptr) (d : Directory) (ms : List Members) (K : Kept l cs sys d ms) (ds : Cells) (classes : (j : ℕ) (q : Address) → Lists d j q → class_at ds q ≡ class_at cs q) (s : ℕ) (t : SetLayout) (g : slice_get l.sets s ≡ Some t) where
+module _ (l : Layout) (cs : Cells) (sys : Ptr) (d : Directory) (ms : List Members) (K : Kept l cs sys d ms) (ds : Cells) (classes : (j : ℕ) (q : Address) → Lists d j q → class_at_place ds q ≡ class_at_place cs q) (s : ℕ) (t : SetLayout) (g : slice_get l.sets s ≡ Some t) where
   abbrev at : ℕ → Ptr
   at = entity_at sys d t.member
 

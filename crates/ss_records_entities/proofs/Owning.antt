@@ -9,7 +9,7 @@ use Rattle.ss_base.specs.declared.layout.Layout.{Layout}
 use Rattle.ss_records_entities.specs.declared.records.Records.{Records}
 use Rattle.ss_records_blocks.specs.declared.store.Address.{Address}
 use Rattle.ss_records_blocks.specs.Cells.{number, IsNumber, word_at}
-use Rattle.ss_world.specs.State.{State, and_then, entity, number_in}
+use Rattle.ss_world.specs.State.{State, and_then, entity_in, number_in}
 use Rattle.ss_world.specs.Sets.{member_class, owner_kind, joiner, owner_by, owner}
 use Rattle.ss_records_words.specs.Reading.{plain}
 use Rattle.ss_records_words.specs.Places.{listing, place_in_record, entity_at, owner_at}
@@ -44,7 +44,7 @@ module _ (r : Records) (K : IsKept r) (c : ℕ) (x : ℤ) (p : Address) (f : Fou
       pub joins_found : member_class r.layout s ≡ c → Joins r s (record { place = p; number = n }) × (joiner (state r) s x ≡ Ok n)
       joins_found e = (
         record { lies = subst (λ b. p.at ≡ entity_at r.system.at (places r) b n) (sym e) lies_at; is = subst (λ b. IsOf r.blocks.cells (places r) b n) (sym e) is_it },
-        ap (λ b. and_then (entity (state r) b x) (λ q. Ok (number_in x))) e ∙ ap (λ z. and_then z (λ q. Ok (number_in x))) f.entity ∙ ap Ok named,
+        ap (λ b. and_then (entity_in (state r) b x) (λ q. Ok (number_in x))) e ∙ ap (λ z. and_then z (λ q. Ok (number_in x))) f.entity ∙ ap Ok named,
       )
 
       pub owns_found : owner_kind r.layout s ≡ Class c → Owns r s (record { place = p; number = n }) × (owner (state r) s x ≡ Ok n)
@@ -56,10 +56,10 @@ module _ (r : Records) (K : IsKept r) (c : ℕ) (x : ℤ) (p : Address) (f : Fou
 pub system_owns : (r : Records) (s : ℕ) (x : ℤ) → owner_kind r.layout s ≡ System → Owns r s (record { place = r.system; number = 0 }) × (owner (state r) s x ≡ Ok 0)
 system_owns r s x e = (record { lies = subst (λ u. r.system.at ≡ owner_at r.system.at (places r) u 0) (sym e) refl; may = subst (λ u. MayOwn r.blocks.cells (places r) u 0) (sym e) refl }, ap (λ u. owner_by (state r) u x) e)
 
-pub not_joiner : (st : State) (s : ℕ) (c : ℕ) (x : ℤ) (e : FaultKind) → member_class st.layout s ≡ c → entity st c x ≡ Err e → joiner st s x ≡ Err e
-not_joiner st s c x e h k = ap (λ b. and_then (entity st b x) (λ q. Ok (number_in x))) h ∙ ap (λ z. and_then z (λ q. Ok (number_in x))) k
+pub not_joiner : (st : State) (s : ℕ) (c : ℕ) (x : ℤ) (e : FaultKind) → member_class st.layout s ≡ c → entity_in st c x ≡ Err e → joiner st s x ≡ Err e
+not_joiner st s c x e h k = ap (λ b. and_then (entity_in st b x) (λ q. Ok (number_in x))) h ∙ ap (λ z. and_then z (λ q. Ok (number_in x))) k
 
-pub not_owner : (st : State) (s : ℕ) (c : ℕ) (x : ℤ) (e : FaultKind) → owner_kind st.layout s ≡ Class c → entity st c x ≡ Err e → owner st s x ≡ Err e
+pub not_owner : (st : State) (s : ℕ) (c : ℕ) (x : ℤ) (e : FaultKind) → owner_kind st.layout s ≡ Class c → entity_in st c x ≡ Err e → owner st s x ≡ Err e
 not_owner st s c x e h k = ap (λ u. owner_by st u x) h ∙ ap (λ z. and_then z (λ q. Ok (number_in x))) k
 
 -- what a function that reads the layout of a set says

@@ -12,15 +12,15 @@ use Rattle.ss_records_blocks.specs.declared.store.Address.{Address}
 use Rattle.ss_records_entities.specs.declared.records.Records.{Records}
 use Rattle.ss_records_blocks.specs.declared.links.Entry.{Entry}
 use Rattle.ss_records_blocks.specs.Cells.{number, link, IsNumber, words_at, word_at}
-use Rattle.ss_world.specs.State.{members_of, modes_of, entity, value_in}
+use Rattle.ss_world.specs.State.{members_of, modes_of, entity_in, value_in}
 use Rattle.ss_world.specs.Sets.{member_class}
 use Rattle.ss_world.specs.Disciplines.{value_or_zero}
 use Rattle.ss_world.specs.Lists.{head0, succ, In, Distinct}
 use Rattle.ss_records_words.specs.Reading.{record_of, value_at}
-use Rattle.ss_records_words.specs.Places.{Lists, place_in_record, entity_at, class_at}
+use Rattle.ss_records_words.specs.Places.{Lists, place_in_record, entity_at, class_at_place}
 use Rattle.ss_records_blocks.specs.Links.{Leads}
 use Rattle.ss_records_words.specs.Slotted.{member_base}
-use Rattle.ss_records_entities.specs.Parts.{IsKept, state, places, held, Lies, Joins, Between}
+use Rattle.ss_records_entities.specs.Parts.{IsKept, state, places, uncounted, Lies, Joins, Between}
 use Rattle.ss_records_entities.specs.Passing.{ranks_past, first_where, before_where}
 use Rattle.ss_records_blocks.proofs.Entries.{get_there}
 use Rattle.ss_records_words.proofs.Listing.{listed}
@@ -33,8 +33,8 @@ use Rattle.ss_records_entities.proofs.Cuts.{lies_there}
 use Rattle.ss_records_entities.proofs.Ends.{joins_it}
 
 -- records of which only the counts of touches have changed
-pub as_before : (r m : Records) → m ≡ record r { blocks = m.blocks } → m.blocks.cells ≡ r.blocks.cells → held m ≡ held r
-as_before r m same cells = ap held same ∙ (λ i. record r { blocks = record { cells = cells i; touches = 0; total = 0 } })
+pub as_before : (r m : Records) → m ≡ record r { blocks = m.blocks } → m.blocks.cells ≡ r.blocks.cells → uncounted m ≡ uncounted r
+as_before r m same cells = ap uncounted same ∙ (λ i. record r { blocks = record { cells = cells i; touches = 0; total = 0 } })
 
 -- a test at the head of a list
 module _ (t : ℕ → Bool) (y : ℕ) (ys : List ℕ) where
@@ -57,11 +57,11 @@ module _ (r : Records) (K : IsKept r) (s : ℕ) (q : Entry) (j : Joins r s q) (f
   abbrev class : ℕ
   class = member_class r.layout s
 
-  place : (i : ℕ) × (p : Address) × (q.number ≡ suc i) × (Lists (places r) i p) × (class_at r.blocks.cells p ≡ class) × (q.place.at ≡ p.at)
+  place : (i : ℕ) × (p : Address) × (q.number ≡ suc i) × (Lists (places r) i p) × (class_at_place r.blocks.cells p ≡ class) × (q.place.at ≡ p.at)
   place = let a = entry_of r.blocks.cells (places r) class q.number j.is in
       (a.0, a.1, a.2, listed (places r) class a.0 a.1 a.3, a.4, j.lies ∙ ap (entity_at r.system.at (places r) class) a.2 ∙ ap place_in_record a.3)
 
-  its_entity : entity (state r) class (pos q.number) ≡ Ok (record_of r.layout (words_at r.blocks.cells place.1.at))
+  its_entity : entity_in (state r) class (pos q.number) ≡ Ok (record_of r.layout (words_at r.blocks.cells place.1.at))
   its_entity = entity_is r.layout r.blocks.cells r.system.at (places r) r.notes.lists K class q.number place.0 place.1 place.2 place.4 place.3
 
   pub is_number : IsNumber (word_at r.blocks.cells q.place.at k)

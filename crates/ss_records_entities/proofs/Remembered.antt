@@ -10,11 +10,11 @@ use Rattle.ss_records_entities.specs.declared.records.Records.{Records}
 use Rattle.ss_records_blocks.specs.declared.store.Address.{Address}
 use Rattle.ss_records_blocks.specs.declared.links.Entry.{Entry}
 use Rattle.ss_records_blocks.specs.Cells.{number, link, word_at}
-use Rattle.ss_world.specs.State.{entity, kind_of, members_of}
+use Rattle.ss_world.specs.State.{entity_in, kind_of, members_of}
 use Rattle.ss_world.specs.Sets.{member_class}
 use Rattle.ss_world.specs.Lists.{In}
 use Rattle.ss_records_blocks.specs.Places.{Numbers}
-use Rattle.ss_records_words.specs.Places.{Lists, place_in_record, entity_at, class_at}
+use Rattle.ss_records_words.specs.Places.{Lists, place_in_record, entity_at, class_at_place}
 use Rattle.ss_records_words.specs.Kept.{IsPermanent, issued_place, numbered_place}
 use Rattle.ss_records_words.specs.Slotted.{member_base}
 use Rattle.ss_records_words.specs.Plans.{is_permanent_kind}
@@ -37,10 +37,10 @@ numbered_at ps few (pos (suc k)) fits i is p h =
 numbered_at ps few (negsuc k) fits i is p h = absurd (omega (arith, ints, few, fits, is, slice_get_within ps _ (Some p) h))
 
 -- whatever the kind of its class is, since one that has a creation number is of no permanent class
-pub found_numbered : (r : Records) (K : IsKept r) (c : ℕ) (x : ℤ) (p : Address) → numbered_place r.directory.places x ≡ Ok p → class_at r.blocks.cells p ≡ c → Found r c x p
+pub found_numbered : (r : Records) (K : IsKept r) (c : ℕ) (x : ℤ) (p : Address) → numbered_place r.directory.places x ≡ Ok p → class_at_place r.blocks.cells p ≡ c → Found r c x p
 found_numbered r K c x p h k =
     let t = there r.directory.places x p h in
-    record { index = t.0; is = t.1; entry = inl t.2; class = k; entity = ap (entity (state r) c) t.1 ∙ entity_is r.layout r.blocks.cells r.system.at (places r) r.notes.lists K c (suc t.0) t.0 p refl k (inl t.2) }
+    record { index = t.0; is = t.1; entry = inl t.2; class = k; entity = ap (entity_in (state r) c) t.1 ∙ entity_is r.layout r.blocks.cells r.system.at (places r) r.notes.lists K c (suc t.0) t.0 p refl k (inl t.2) }
 
 pub comes_and_goes : (k : ClassKind) → is_permanent_kind k ≡ false → IsPermanent k → ⊥
 comes_and_goes Permanent e p = cc
@@ -62,7 +62,7 @@ numbered_entry r K s e h kind =
     let m = by_entry a.0 a.1 a.4 (listed (places r) (member_class r.layout s) a.0 a.1 a.3) in
     let before : e.number - 1 ≡ a.0 = omega (arith, a.2) in
     ap (λ n. slice_get r.directory.places n) before ∙ m ∙ ap (λ (q : Address). Some (Some q)) (same_place a.1 e.place (sym at)) where
-      by_entry : (i : ℕ) (p : Address) → class_at r.blocks.cells p ≡ member_class r.layout s → Lists (places r) i p → slice_get r.directory.places i ≡ Some (Some p)
+      by_entry : (i : ℕ) (p : Address) → class_at_place r.blocks.cells p ≡ member_class r.layout s → Lists (places r) i p → slice_get r.directory.places i ≡ Some (Some p)
       by_entry i p c (inl m) = m
       by_entry i p c (inr (b, ps, m, g)) = let y = K.made b ps m in absurd (kind (subst (λ k. IsPermanent (kind_of r.layout k)) (sym (y.class i p g) ∙ c) y.permanent))
 

@@ -8,7 +8,8 @@ use Rattle.ss_world.specs.State.{Members, in_a_set, owns_members, is_owner_class
 use Rattle.ss_world.specs.Sets.{owner_in}
 use Rattle.ss_records_words.proofs.Filed.{drop_at}
 use Rattle.ss_records_blocks.proofs.Same.{same, by_same, false_is_not_true}
-use Rattle.ss_records_words.specs.Shape.{joins, owned_by, same_owner, count_sets}
+use Rattle.ss_base.specs.Layout.{same_owner}
+use Rattle.ss_records_words.specs.Shape.{joins, owned_by, count_sets}
 
 none_of : (p : SetLayout → Bool) (t : SetLayout) (ts : List SetLayout) → count_sets p (t ∷ ts) ≡ 0 → (p t ≡ false) × (count_sets p ts ≡ 0)
 none_of p t ts h = by_test (p t) refl where

@@ -9,7 +9,7 @@ use Rattle.ss_records_blocks.specs.Cells.{Cells, IsNumber, words_at, word_at}
 use Rattle.ss_world.specs.State.{Members, kind_of, members_of}
 use Rattle.ss_records_words.specs.Shape.{links_start}
 use Rattle.ss_records_words.specs.Reading.{plain, record_of, record_at, records_at}
-use Rattle.ss_records_words.specs.Places.{Directory, Lists, entity_at, owner_at, class_at}
+use Rattle.ss_records_words.specs.Places.{Directory, Lists, entity_at, owner_at, class_at_place}
 use Rattle.ss_records_words.specs.Kept.{Kept, Formed, MadeOf, IsPermanent}
 use Rattle.ss_records_words.specs.Links.{Words, Shows, words_of}
 use Rattle.ss_records_words.specs.Slotted.{slots_of, NameKept, IsOf, MayOwn, OfName, Spares}
@@ -21,13 +21,13 @@ use Rattle.ss_records_entities.proofs.NamesKept.{of_back, of_on, own_back, own_o
 use Rattle.ss_records_words.proofs.Disjoint.{above_head, above_end, names_apart}
 
 module _ (l : Layout) (cs : Cells) (sys : Ptr) (d : Directory) (ms : List Members) (K : Kept l cs sys d ms) (s : ℕ) (t : SetLayout) (g : slice_get l.sets s ≡ Some t) (ds : Cells) (h : Spares (OfName l cs sys d s t) cs ds) where
-  head_same : (j : ℕ) (q : Address) → Lists d j q → (k : ℕ) → k < links_start l (class_at cs q) → word_at ds q.at k ≡ word_at cs q.at k
+  head_same : (j : ℕ) (q : Address) → Lists d j q → (k : ℕ) → k < links_start l (class_at_place cs q) → word_at ds q.at k ≡ word_at cs q.at k
   head_same j q e k low = h.word q.at k (λ o. above_head l cs sys d ms K s t g j q k e low o)
 
-  pub class_spared : (j : ℕ) (q : Address) → Lists d j q → class_at ds q ≡ class_at cs q
+  pub class_spared : (j : ℕ) (q : Address) → Lists d j q → class_at_place ds q ≡ class_at_place cs q
   class_spared j q e = ap plain (head_same j q e 0 (omega arith))
 
-  formed_spared : (j : ℕ) (q : Address) → Lists d j q → Formed l (class_at cs q) (suc j) (words_at ds q.at)
+  formed_spared : (j : ℕ) (q : Address) → Lists d j q → Formed l (class_at_place cs q) (suc j) (words_at ds q.at)
   formed_spared j q e = let f = K.formed j q e in record {
     size = h.size q.at ∙ f.size;
     class = head_same j q e 0 (omega arith) ∙ f.class;

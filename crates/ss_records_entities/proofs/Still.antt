@@ -7,10 +7,10 @@ use Rattle.ss_records_entities.specs.declared.records.Records.{Records}
 use Rattle.ss_records_blocks.specs.declared.links.Entry.{Entry}
 use Rattle.ss_world.specs.State.{modes_of, is_filed}
 use Rattle.ss_records_words.specs.Kept.{Small}
-use Rattle.ss_records_entities.specs.Parts.{IsKept, held, Owns, Joins}
+use Rattle.ss_records_entities.specs.Parts.{IsKept, uncounted, Owns, Joins}
 use Rattle.ss_records_blocks.proofs.Same.{false_is_not_true}
 
-module _ (r q : Records) (h : held q ≡ held r) where
+module _ (r q : Records) (h : uncounted q ≡ uncounted r) where
   pub kept_still : IsKept r → IsKept q
   kept_still K = subst IsKept (sym h) K
 
@@ -19,14 +19,14 @@ module _ (r q : Records) (h : held q ≡ held r) where
 
   pub owns_still : (s : ℕ) (e : Entry) → Owns r s e → Owns q s e
   owns_still s e w =
-      let v : Owns (held r) s e = record { lies = w.lies; may = w.may } in
-      let u : Owns (held q) s e = subst (λ (z : Records). Owns z s e) (sym h) v in
+      let v : Owns (uncounted r) s e = record { lies = w.lies; may = w.may } in
+      let u : Owns (uncounted q) s e = subst (λ (z : Records). Owns z s e) (sym h) v in
       record { lies = u.lies; may = u.may }
 
   pub joins_still : (s : ℕ) (e : Entry) → Joins r s e → Joins q s e
   joins_still s e w =
-      let v : Joins (held r) s e = record { lies = w.lies; is = w.is } in
-      let u : Joins (held q) s e = subst (λ (z : Records). Joins z s e) (sym h) v in
+      let v : Joins (uncounted r) s e = record { lies = w.lies; is = w.is } in
+      let u : Joins (uncounted q) s e = subst (λ (z : Records). Joins z s e) (sym h) v in
       record { lies = u.lies; is = u.is }
 
   pub free_still : (s x : ℕ) → is_filed r.notes.lists s x ≡ false → is_filed q.notes.lists s x ≡ false

@@ -3,13 +3,13 @@ use Rattle.std.specs.Prelude.{◌≡◌, ℕ, suc, ℤ, pos, List, ◌∷◌, �
 use Rattle.ss_records_blocks.specs.declared.store.Address.{Address}
 use Rattle.ss_records_entities.specs.declared.records.Records.{Records}
 use Rattle.ss_records_blocks.specs.declared.links.Entry.{Entry}
-use Rattle.ss_world.specs.State.{State, Heaped, entity, notice, members_of}
+use Rattle.ss_world.specs.State.{State, Heaped, entity_in, notice, members_of}
 use Rattle.ss_world.specs.Sets.{member_class, owner_kind}
 use Rattle.ss_world.specs.Lists.{head0, last_or}
 use Rattle.ss_records_blocks.specs.Cells.{words_at}
 use Rattle.ss_records_words.specs.Reading.{record_of}
 use Rattle.ss_records_words.specs.Kept.{Kept, state_of}
-use Rattle.ss_records_words.specs.Places.{Directory, lying, Lists, class_at, entity_at, owner_at}
+use Rattle.ss_records_words.specs.Places.{Directory, lying, Lists, class_at_place, entity_at, owner_at}
 use Rattle.ss_records_words.specs.Slotted.{IsOf, MayOwn}
 
 -- where the entities lie
@@ -30,8 +30,8 @@ pub record Found (r : Records) (c : ℕ) (x : ℤ) (p : Address) : Type 0 where
   pub index : ℕ
   pub is : x ≡ pos (suc index)
   pub entry : Lists (places r) index p
-  pub class : class_at r.blocks.cells p ≡ c
-  pub entity : entity (state r) c x ≡ Ok (record_of r.layout (words_at r.blocks.cells p.at))
+  pub class : class_at_place r.blocks.cells p ≡ c
+  pub entity : entity_in (state r) c x ≡ Ok (record_of r.layout (words_at r.blocks.cells p.at))
 
 -- p is the place of the notice x
 pub record FoundNotice (r : Records) (x : ℤ) (p : Address) : Type 0 where
@@ -71,5 +71,5 @@ pub record Around (r : Records) (s o x : ℕ) (a b : Entry) (xs ys : List ℕ) :
   pub first : b.number ≡ head0 ys
 
 -- what a call that only looks leaves: all but the counts of touches
-abbrev pub held : Records → Records
-held r = record r { blocks = record { cells = r.blocks.cells; touches = 0; total = 0 } }
+abbrev pub uncounted : Records → Records
+uncounted r = record r { blocks = record { cells = r.blocks.cells; touches = 0; total = 0 } }

@@ -3,7 +3,7 @@ ghost use Rattle.std.specs.Prelude.{◌≡◌, ℕ, ◌+◌, ◌<◌, ◌≤◌,
 ghost use Rattle.ss_world.specs.State.{State, and_then, is_filed, contains, members_of};
 ghost use Rattle.ss_world.specs.Disciplines.{first_removed, last_removed, member_test};
 ghost use Rattle.ss_world.specs.Sets.{joiner, owner, less, with_list_of, put_in, put_beside, taken_out, filed_first, filed_last, filed_before, filed_after, removed};
-ghost use Rattle.ss_records_entities.specs.Parts.{IsKept, state, held, Owns, Joins, Between, Around};
+ghost use Rattle.ss_records_entities.specs.Parts.{IsKept, state, uncounted, Owns, Joins, Between, Around};
 
 use crate::records::Records;
 use crate::sets;

@@ -1,11 +1,11 @@
 // Where the block of an entity lies, by its number.
 ghost use Rattle.std.specs.Prelude.{◌≡◌, ◌<◌, length, MatchResult, IfSome, Ok, Err, slice_get};
-ghost use Rattle.ss_world.specs.State.{entity, notice, numbered, and_then, of_class, kind_of, is_notice};
+ghost use Rattle.ss_world.specs.State.{entity_in, notice, numbered, and_then, of_class, kind_of, is_notice};
 ghost use Rattle.ss_records_blocks.specs.Cells.{words_at};
 ghost use Rattle.ss_records_words.specs.Reading.{record_of};
 ghost use Rattle.ss_records_blocks.specs.Places.{row_in};
 ghost use Rattle.ss_records_words.specs.Kept.{numbered_place, indexed_place, IsPermanent};
-ghost use Rattle.ss_records_words.specs.Places.{class_at};
+ghost use Rattle.ss_records_words.specs.Places.{class_at_place};
 ghost use Rattle.ss_records_entities.specs.Parts.{IsKept, state, Found, FoundNotice};
 ghost use Rattle.ss_records_entities.specs.Classed.{HasClass};
 
@@ -53,7 +53,7 @@ impl Records {
     pub fn find(&self, class: usize, r: i64) -> Result<Address, FaultKind>
         requires kept { IsKept self.now }
         requires class { class < length self.now.layout.classes }
-        ensures found { MatchResult result (λ p. Found self.now class r p) (λ e. entity (state self.now) class r ≡ Err e) }
+        ensures found { MatchResult result (λ p. Found self.now class r p) (λ e. entity_in (state self.now) class r ≡ Err e) }
     {
         match self.layout.kind(class) {
             ClassKind::Permanent => self.indexed(class, r),
@@ -67,7 +67,7 @@ impl Records {
         requires kept { IsKept self.now }
         requires class { class < length self.now.layout.classes }
         requires kind { IsPermanent (kind_of self.now.layout class) → ⊥ }
-        ensures found { MatchResult result (λ p. Found self.now class r p) (λ e. entity (state self.now) class r ≡ Err e) }
+        ensures found { MatchResult result (λ p. Found self.now class r p) (λ e. entity_in (state self.now) class r ≡ Err e) }
     {
         self.of_class(class, r)
     }
@@ -92,7 +92,7 @@ impl Records {
     #[inline(always)]
     fn of_class(&self, class: usize, r: i64) -> Result<Address, FaultKind>
         requires kept { IsKept self.now }
-        ensures found { MatchResult result (λ p. (numbered_place self.now.directory.places r ≡ Ok p) × (class_at self.now.blocks.cells p ≡ class) × (and_then (numbered (state self.now) r) (of_class class) ≡ Ok (record_of self.now.layout (words_at self.now.blocks.cells p.at)))) (λ e. and_then (numbered (state self.now) r) (of_class class) ≡ Err e) }
+        ensures found { MatchResult result (λ p. (numbered_place self.now.directory.places r ≡ Ok p) × (class_at_place self.now.blocks.cells p ≡ class) × (and_then (numbered (state self.now) r) (of_class class) ≡ Ok (record_of self.now.layout (words_at self.now.blocks.cells p.at)))) (λ e. and_then (numbered (state self.now) r) (of_class class) ≡ Err e) }
     {
         match self.numbered(r) {
             Ok(place) => {
@@ -139,7 +139,7 @@ impl Records {
     #[inline(always)]
     fn near_of_class(&self, class: usize, r: i64) -> Option<Address>
         requires kept { IsKept self.now }
-        ensures { IfSome result (λ p. (numbered_place self.now.directory.places r ≡ Ok p) × (class_at self.now.blocks.cells p ≡ class) × (and_then (numbered (state self.now) r) (of_class class) ≡ Ok (record_of self.now.layout (words_at self.now.blocks.cells p.at)))) }
+        ensures { IfSome result (λ p. (numbered_place self.now.directory.places r ≡ Ok p) × (class_at_place self.now.blocks.cells p ≡ class) × (and_then (numbered (state self.now) r) (of_class class) ≡ Ok (record_of self.now.layout (words_at self.now.blocks.cells p.at)))) }
     {
         match self.near_numbered(r) {
             Some(place) => {

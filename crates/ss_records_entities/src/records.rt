@@ -6,7 +6,7 @@ ghost use Rattle.ss_records_blocks.specs.Cells.{words_at};
 ghost use Rattle.ss_base.specs.Layout.{mode_of};
 ghost use Rattle.ss_records_words.specs.Shape.{values_end};
 ghost use Rattle.ss_records_words.specs.Kept.{Kept, Small, IsPermanent, RowsHeld};
-ghost use Rattle.ss_records_words.specs.Places.{class_at, lying};
+ghost use Rattle.ss_records_words.specs.Places.{class_at_place, lying};
 ghost use Rattle.ss_records_entities.specs.Parts.{IsKept, state};
 ghost use Rattle.ss_records_entities.specs.Added.{Added};
 
@@ -16,7 +16,7 @@ use ss_records_blocks::placing::{give_places_back, place_all};
 use ss_records_blocks::row::{self, Row};
 use ss_records_blocks::{Address, Blocks, CLASS, Directory, PAGE};
 use ss_records_words::notes::Notes;
-use ss_records_words::plan::Plan;
+use ss_records_words::plan::LayoutPlan;
 use ss_records_words::shape::value_start;
 use ss_records_words::{attributes, laying, placing};
 use std::alloc::{AllocError, Global};
@@ -28,7 +28,7 @@ const LAST_NUMBER: u64 = 4611686018427387903;
 const MOST_ENTITIES: i64 = 1048576;
 
 pub struct Records {
-    pub layout: Plan,
+    pub layout: LayoutPlan,
     pub blocks: Blocks,
     pub notes: Notes,
     pub system: Address,
@@ -41,7 +41,7 @@ impl Records {
     pub fn new(alloc: Global, layout: Layout) -> Result<Records, AllocError>
         ensures { MatchResult result (λ r. IsKept r × (state r ≡ first_state layout)) (λ _. ⊤) }
     {
-        let layout = Plan::new(alloc, layout)?;
+        let layout = LayoutPlan::new(alloc, layout)?;
         let words = layout.block_words(Owner::System);
         let permanents = row::not_made(alloc, layout.classes());
         let tables = beside(layout, permanents)?;
@@ -281,8 +281,8 @@ impl Records {
     fn time_word(&self, place: Address) -> usize
         requires kept { IsKept self.now }
         requires entry { (i : ℕ) × (slice_get self.now.directory.places i ≡ Some (Some place)) }
-        requires notice { is_notice (kind_of self.now.layout (class_at self.now.blocks.cells place)) ≡ true }
-        ensures { result ≡ values_end self.now.layout (class_at self.now.blocks.cells place) }
+        requires notice { is_notice (kind_of self.now.layout (class_at_place self.now.blocks.cells place)) ≡ true }
+        ensures { result ≡ values_end self.now.layout (class_at_place self.now.blocks.cells place) }
     {
         let class = self.blocks.number(place, CLASS) as usize;
         self.layout.values_end(class)
@@ -422,7 +422,7 @@ impl Records {
     fn in_a_set(&mut self, class: usize, place: Address, number: u64) -> bool
         requires kept { IsKept self.old }
         requires entry { (i : ℕ) × (slice_get self.old.directory.places i ≡ Some (Some place)) × (number ≡ suc i) }
-        requires class { class_at self.old.blocks.cells place ≡ class }
+        requires class { class_at_place self.old.blocks.cells place ≡ class }
         requires touches { self.old.blocks.touches ≤ 2 ^ 32 }
         ensures value { result ≡ in_a_set self.old.layout.sets 0 self.old.notes.lists class number }
         ensures same { self.new ≡ record self.old { blocks = self.new.blocks } }
@@ -447,7 +447,7 @@ impl Records {
     fn owns_members(&mut self, class: usize, place: Address, number: u64) -> bool
         requires kept { IsKept self.old }
         requires entry { (i : ℕ) × (slice_get self.old.directory.places i ≡ Some (Some place)) × (number ≡ suc i) }
-        requires class { class_at self.old.blocks.cells place ≡ class }
+        requires class { class_at_place self.old.blocks.cells place ≡ class }
         requires touches { self.old.blocks.touches ≤ 2 ^ 33 }
         ensures value { result ≡ owns_members self.old.layout.sets 0 self.old.notes.lists class number }
         ensures same { self.new ≡ record self.old { blocks = self.new.blocks } }
@@ -501,7 +501,7 @@ impl Records {
 fn give_all_back(
     blocks: &mut Blocks,
     alloc: &Global,
-    layout: &Plan,
+    layout: &LayoutPlan,
     directory: &Directory,
     permanents: &[Row],
     notes: &Notes,
@@ -533,7 +533,7 @@ fn give_all_back(
 fn give_rows_back(
     blocks: &mut Blocks,
     alloc: &Global,
-    layout: &Plan,
+    layout: &LayoutPlan,
     permanents: &[Row],
     system: Address,
 )

@@ -12,7 +12,7 @@ use crate::records::Records;
 use ss_base::{FaultKind, Mode, Owner, Value};
 use ss_records_blocks::{Directory, Entry, NUMBER};
 use ss_records_words::attributes;
-use ss_records_words::plan::Plan;
+use ss_records_words::plan::LayoutPlan;
 use ss_records_words::shape::value_start;
 
 /// What is read of a member of a set at once.
@@ -558,7 +558,7 @@ fn other_than(number: u64, member: u64) -> u64
 
 /// Remembers a member of a set, where its class is not permanent.
 #[inline(always)]
-pub fn keep(directory: &mut Directory, layout: &Plan, s: usize, member: Entry)
+pub fn keep(directory: &mut Directory, layout: &LayoutPlan, s: usize, member: Entry)
     requires set { s < length layout.now.sets }
     requires number { member.number ≡ 0 → ⊥ }
     requires entry { (IsPermanent (kind_of layout.now (member_class layout.now s)) → ⊥) → slice_get directory.old.places (member.number - 1) ≡ Some (Some member.place) }

@@ -3,19 +3,19 @@ ghost use Rattle.std.specs.Prelude.{◌≡◌, ℕ, suc, ◌+◌, ◌^◌, ◌<�
 ghost use Rattle.ss_base.specs.declared.layout.SetLayout.{SetLayout};
 ghost use Rattle.ss_world.specs.State.{in_a_set, owns_members, is_filed, has_members, members_of};
 ghost use Rattle.ss_records_words.specs.Kept.{Kept};
-ghost use Rattle.ss_records_words.specs.Places.{class_at, lying};
+ghost use Rattle.ss_records_words.specs.Places.{class_at_place, lying};
 ghost use Rattle.ss_records_words.specs.Slotted.{member_base};
 
 use ss_base::Owner;
 use ss_records_blocks::row::Row;
 use ss_records_blocks::{Address, Blocks, Directory, NUMBER};
 use ss_records_words::notes::Notes;
-use ss_records_words::plan::Plan;
+use ss_records_words::plan::LayoutPlan;
 
 /// Whether the entity is in the set whose links begin at the word k of its block: a touch.
 pub fn filed_in(
     blocks: &mut Blocks,
-    layout: &Plan,
+    layout: &LayoutPlan,
     directory: &Directory,
     permanents: &[Row],
     notes: &Notes,
@@ -25,10 +25,10 @@ pub fn filed_in(
     number: u64,
 ) -> bool
     requires kept { Kept layout.now blocks.old.cells system.at (lying directory.now.places permanents.now) notes.now.lists }
-    requires set { (s : ℕ) × (t : SetLayout) × (slice_get layout.now.sets s ≡ Some t) × (class_at blocks.old.cells place ≡ t.member) × (k ≡ member_base layout.now s t) }
+    requires set { (s : ℕ) × (t : SetLayout) × (slice_get layout.now.sets s ≡ Some t) × (class_at_place blocks.old.cells place ≡ t.member) × (k ≡ member_base layout.now s t) }
     requires entry { (i : ℕ) × (slice_get directory.now.places i ≡ Some (Some place)) × (number ≡ suc i) }
     requires touches { blocks.old.touches + 1 < 2 ^ 64 }
-    ensures value { (s : ℕ) (t : SetLayout) → slice_get layout.now.sets s ≡ Some t → class_at blocks.old.cells place ≡ t.member → k ≡ member_base layout.now s t → result ≡ is_filed notes.now.lists s number }
+    ensures value { (s : ℕ) (t : SetLayout) → slice_get layout.now.sets s ≡ Some t → class_at_place blocks.old.cells place ≡ t.member → k ≡ member_base layout.now s t → result ≡ is_filed notes.now.lists s number }
     ensures cells { blocks.new.cells ≡ blocks.old.cells }
     ensures touches { (blocks.new.touches ≡ blocks.old.touches + 1) × (blocks.new.total ≡ blocks.old.total + 1) }
 {
@@ -39,7 +39,7 @@ pub fn filed_in(
 /// Whether the entity has members in its set of the name s: a touch.
 pub fn owns_in(
     blocks: &mut Blocks,
-    layout: &Plan,
+    layout: &LayoutPlan,
     directory: &Directory,
     permanents: &[Row],
     notes: &Notes,
@@ -51,7 +51,7 @@ pub fn owns_in(
     requires kept { Kept layout.now blocks.old.cells system.at (lying directory.now.places permanents.now) notes.now.lists }
     requires set { s < length layout.now.sets }
     requires entry { (i : ℕ) × (slice_get directory.now.places i ≡ Some (Some place)) × (number ≡ suc i) }
-    requires class { (t : SetLayout) → slice_get layout.now.sets s ≡ Some t → t.owner ≡ Owner.Class (class_at blocks.old.cells place) }
+    requires class { (t : SetLayout) → slice_get layout.now.sets s ≡ Some t → t.owner ≡ Owner.Class (class_at_place blocks.old.cells place) }
     requires touches { blocks.old.touches + 1 < 2 ^ 64 }
     ensures value { result ≡ has_members (members_of notes.now.lists s number) }
     ensures cells { blocks.new.cells ≡ blocks.old.cells }
@@ -65,7 +65,7 @@ pub fn owns_in(
 #[inline(always)]
 pub fn in_a_set(
     blocks: &mut Blocks,
-    layout: &Plan,
+    layout: &LayoutPlan,
     directory: &Directory,
     permanents: &[Row],
     notes: &Notes,
@@ -76,7 +76,7 @@ pub fn in_a_set(
 ) -> bool
     requires kept { Kept layout.now blocks.old.cells system.at (lying directory.now.places permanents.now) notes.now.lists }
     requires entry { (i : ℕ) × (slice_get directory.now.places i ≡ Some (Some place)) × (number ≡ suc i) }
-    requires class { class_at blocks.old.cells place ≡ class }
+    requires class { class_at_place blocks.old.cells place ≡ class }
     requires touches { blocks.old.touches ≤ 2 ^ 32 }
     ensures value { result ≡ in_a_set layout.now.sets 0 notes.now.lists class number }
     ensures cells { blocks.new.cells ≡ blocks.old.cells }
@@ -99,7 +99,7 @@ pub fn in_a_set(
 #[inline(always)]
 pub fn owns_members(
     blocks: &mut Blocks,
-    layout: &Plan,
+    layout: &LayoutPlan,
     directory: &Directory,
     permanents: &[Row],
     notes: &Notes,
@@ -110,7 +110,7 @@ pub fn owns_members(
 ) -> bool
     requires kept { Kept layout.now blocks.old.cells system.at (lying directory.now.places permanents.now) notes.now.lists }
     requires entry { (i : ℕ) × (slice_get directory.now.places i ≡ Some (Some place)) × (number ≡ suc i) }
-    requires class { class_at blocks.old.cells place ≡ class }
+    requires class { class_at_place blocks.old.cells place ≡ class }
     requires touches { blocks.old.touches ≤ 2 ^ 33 }
     ensures value { result ≡ owns_members layout.now.sets 0 notes.now.lists class number }
     ensures cells { blocks.new.cells ≡ blocks.old.cells }

@@ -5,7 +5,7 @@ use Rattle.ss_base.specs.declared.fault.FaultKind.{FaultKind}
 use Rattle.ss_base.specs.declared.fault.FaultKind.TheVariants.{FiledTwice, NotFiled}
 use Rattle.ss_world.specs.State.{State, Members, members_of, with_members, and_then, is_filed, contains}
 use Rattle.ss_world.specs.Sets.{owner, joiner, with_list_of, put_in, put_beside, taken_out, put_before, put_after, less, filed_first, filed_last, filed_before, filed_after, removed}
-use Rattle.ss_records_laws.specs.Commands.{Changes, ChangesBeside, KeepsRecords}
+use Rattle.ss_records_laws.specs.Commands.{ChangesMembers, ChangesBeside, KeepsRecords}
 use Rattle.ss_records_laws.proofs.Same.{same}
 use Rattle.ss_records_laws.proofs.Lists.{members_with}
 use Rattle.ss_records_laws.proofs.Relisted.{Relists, both_ok, else_ok, then_ok, ok_is, put_in_relists, put_beside_relists, removed_relists}
@@ -18,7 +18,7 @@ relisted st t s m l h = ap (λ (u : State). members_of u.lists s m) (sym (ok_is 
 
 -- ## Its set
 
-put_in_changes : (put : ℕ → List ℕ → List ℕ) → Changes put (λ st s o x. and_then (joiner st s x) (λ n. and_then (owner st s o) (λ m. put_in put st s m n)))
+put_in_changes : (put : ℕ → List ℕ → List ℕ) → ChangesMembers put (λ st s o x. and_then (joiner st s x) (λ n. and_then (owner st s o) (λ m. put_in put st s m n)))
 put_in_changes put st t s o x h =
     let a = both_ok (joiner st s x) (λ n. and_then (owner st s o) (λ m. put_in put st s m n)) t h in
     let b = both_ok (owner st s o) (λ m. put_in put st s m a.0) t a.2 in
@@ -35,17 +35,17 @@ put_beside_changes put y st t s o x h =
     let d = else_ok (is_filed st.lists s a.0) FiledTwice (if has then Ok (with_list_of st s c.0 l) else Err NotFiled) t c.2 in
     (b.0, a.0, c.0, b.1, a.1, c.1, relisted st t s c.0 l (then_ok has NotFiled (Ok (with_list_of st s c.0 l)) t d))
 
-pub removed_changes : Changes less removed
+pub removed_changes : ChangesMembers less removed
 removed_changes st t s o x h =
     let a = both_ok (joiner st s x) (λ n. and_then (owner st s o) (λ m. taken_out st s m n)) t h in
     let b = both_ok (owner st s o) (λ m. taken_out st s m a.0) t a.2 in
     let l = less a.0 (members_of st.lists s b.0) in
     (a.0, b.0, a.1, b.1, relisted st t s b.0 l (then_ok (contains (members_of st.lists s b.0) a.0) NotFiled (Ok (with_list_of st s b.0 l)) t b.2))
 
-pub first_changes : Changes (λ x l. x ∷ l) filed_first
+pub first_changes : ChangesMembers (λ x l. x ∷ l) filed_first
 first_changes = put_in_changes (λ x l. x ∷ l)
 
-pub last_changes : Changes (λ x l. l ++ x ∷ []) filed_last
+pub last_changes : ChangesMembers (λ x l. l ++ x ∷ []) filed_last
 last_changes = put_in_changes (λ x l. l ++ x ∷ [])
 
 pub before_changes : ChangesBeside put_before filed_before

@@ -6,7 +6,7 @@ use Rattle.ss_base.specs.declared.fault.FaultKind.TheVariants.{Overflow, BadCoun
 use Rattle.ss_base.specs.declared.value.Value.{Value}
 use Rattle.ss_base.specs.declared.layout.ClassKind.{ClassKind}
 use Rattle.ss_base.specs.declared.layout.ClassKind.TheVariants.{Permanent, Temporary, Notice}
-use Rattle.ss_world.specs.State.{State, Record, members_of, with_members, and_then, number_in, entity, notice, kind_of, is_filed, contains, with_entity, with_entity_of_kind, with_value, with_time, created, created_all, made_many, destroyed, let_go, assigned, timed, is_made, with_made, with_created, in_a_set, owns_members, LAST_NUMBER, MOST_ENTITIES}
+use Rattle.ss_world.specs.State.{State, Record, members_of, with_members, and_then, number_in, entity_in, notice, kind_of, is_filed, contains, with_entity, with_entity_of_kind, with_value, with_time, created, created_all, made_many, destroyed, let_go, assigned, timed, is_made, with_made, with_created, in_a_set, owns_members, LAST_NUMBER, MOST_ENTITIES}
 use Rattle.ss_world.specs.Sets.{owner, joiner, with_list_of, put_in, put_beside, taken_out, put_before, put_after, less, filed_first, filed_last, filed_before, filed_after, removed}
 use Rattle.ss_records_laws.specs.Commands.{LeavesOthers, KeepsLists}
 use Rattle.ss_records_laws.proofs.Same.{differs, by_same}
@@ -100,7 +100,7 @@ created_all_keeps c n st t h = made_keeps c n st t (else_ok (is_made st c) _ (ma
 
 pub destroyed_keeps : (c : ℕ) (x : ℤ) → KeepsLists (λ st. destroyed st c x)
 destroyed_keeps c x st t h =
-    let a = both_ok (entity st c x) (λ r. let_go st c (number_in x)) t h in
+    let a = both_ok (entity_in st c x) (λ r. let_go st c (number_in x)) t h in
     let u : State = record st { records = slice_set st.records (number_in x - 1) None } in
     let b = else_ok (in_a_set st.layout.sets 0 st.lists c (number_in x)) InASet (if owns_members st.layout.sets 0 st.lists c (number_in x) then Err OwnsMembers else Ok u) t a.2 in
     let d = else_ok (owns_members st.layout.sets 0 st.lists c (number_in x)) OwnsMembers (Ok u) t b in
@@ -113,7 +113,7 @@ with_entity_keeps Notice st c n r = refl
 
 pub assigned_keeps : (c f : ℕ) (x : ℤ) (v : Value) → KeepsLists (λ st. assigned st c f x v)
 assigned_keeps c f x v st t h =
-    let a = both_ok (entity st c x) (λ r. Ok (with_entity st c (number_in x) (with_value r f v))) t h in
+    let a = both_ok (entity_in st c x) (λ r. Ok (with_entity st c (number_in x) (with_value r f v))) t h in
     let e : with_entity st c (number_in x) (with_value a.0 f v) ≡ t = cc in
     ap (λ (u : State). u.lists) (sym e) ∙ with_entity_keeps (kind_of st.layout c) st c (number_in x) (with_value a.0 f v)
 

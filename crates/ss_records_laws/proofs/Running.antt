@@ -2,9 +2,9 @@
 use Rattle.std.proofs.Common.{◌≡◌, ℕ, zero, suc, ◌+◌, ◌<◌, List, [], ◌∷◌, ◌++◌, length, get_or, take, drop, Result, Ok, Err, refl, sym, ap, ◌∙◌, arith}
 use Rattle.std.specs.Prelude.{OnErr}
 use Rattle.ss_records_laws.specs.declared.commands.Command.{Command}
-use Rattle.ss_records_laws.specs.declared.commands.Answer.{Answer}
+use Rattle.ss_records_laws.specs.declared.commands.CommandAnswer.{CommandAnswer}
 use Rattle.ss_world.specs.State.{State}
-use Rattle.ss_records_laws.specs.Commands.{answer_of, after_command, answers_of, after_commands}
+use Rattle.ss_records_laws.specs.Commands.{command_answer, after_command, command_answers, after_commands}
 
 drop_next : {X : Type 0} (xs : List X) (i : ℕ) (x : X) → i < length xs → x ≡ get_or xs i x → drop i xs ≡ x ∷ drop (i + 1) xs
 drop_next [] i x h e = absurd (none i h) where
@@ -34,8 +34,8 @@ on_err (Ok a) p = tt
 on_err (Err e) p = p
 
 module _ (xs : List Command) (i : ℕ) (x : Command) (h : i < length xs) (e : x ≡ get_or xs i x) (s : State) where
-  pub given_next : (given : List Answer) → (given ++ answer_of x s ∷ []) ++ answers_of (drop (i + 1) xs) (after_command x s) ≡ given ++ answers_of (drop i xs) s
-  given_next given = joined given (answer_of x s) (answers_of (drop (i + 1) xs) (after_command x s)) ∙ ap (λ zs. given ++ answers_of zs s) (sym (drop_next xs i x h e))
+  pub given_next : (given : List CommandAnswer) → (given ++ command_answer x s ∷ []) ++ command_answers (drop (i + 1) xs) (after_command x s) ≡ given ++ command_answers (drop i xs) s
+  given_next given = joined given (command_answer x s) (command_answers (drop (i + 1) xs) (after_command x s)) ∙ ap (λ zs. given ++ command_answers zs s) (sym (drop_next xs i x h e))
 
   pub rest_next : after_commands (drop (i + 1) xs) (after_command x s) ≡ after_commands (drop i xs) s
   rest_next = ap (λ zs. after_commands zs s) (sym (drop_next xs i x h e))

@@ -6,8 +6,8 @@ use Rattle.ss_base.specs.declared.layout.Mode.{Mode}
 use Rattle.ss_base.specs.Layout.{mode_of}
 use Rattle.ss_records_laws.specs.declared.commands.Command.{Command}
 use Rattle.ss_records_laws.specs.declared.commands.Command.TheVariants.{Create, CreateAll, Destroy, SetValue, SetTime, FileFirst, FileLast, FileBefore, FileAfter, Remove}
-use Rattle.ss_records_laws.specs.declared.commands.Answer.{Answer}
-use Rattle.ss_records_laws.specs.declared.commands.Answer.TheVariants.{Done, Number, Faulted}
+use Rattle.ss_records_laws.specs.declared.commands.CommandAnswer.{CommandAnswer}
+use Rattle.ss_records_laws.specs.declared.commands.CommandAnswer.TheVariants.{Done, Number, Faulted}
 use Rattle.ss_records.specs.Kept.{IsPermanent}
 use Rattle.ss_world.specs.State.{State, members_of, kind_of, modes_of, and_then, created, created_all, destroyed, assigned, timed}
 use Rattle.ss_world.specs.Sets.{joiner, owner, filed_first, filed_last, filed_before, filed_after, removed}
@@ -20,8 +20,8 @@ LeavesOthers call =
     (st t : State) (s : ℕ) (o x : ℤ) → call st s o x ≡ Ok t → (r m : ℕ) → ((s ≡ r) × (owner st s o ≡ Ok m) → ⊥) → members_of t.lists r m ≡ members_of st.lists r m
 
 -- a call on the set s of the owner o that goes well: x and o mean the entities n and m, and the members of the set of m are changed by `put`, with n
-abbrev pub Changes : (ℕ → List ℕ → List ℕ) → (State → ℕ → ℤ → ℤ → Result State FaultKind) → Type 0
-Changes put call =
+abbrev pub ChangesMembers : (ℕ → List ℕ → List ℕ) → (State → ℕ → ℤ → ℤ → Result State FaultKind) → Type 0
+ChangesMembers put call =
     (st t : State) (s : ℕ) (o x : ℤ) → call st s o x ≡ Ok t → (n : ℕ) × (m : ℕ) × (joiner st s x ≡ Ok n) × (owner st s o ≡ Ok m) × (members_of t.lists s m ≡ put n (members_of st.lists s m))
 
 -- what changes where x is put beside y, which is the entity k
@@ -65,16 +65,16 @@ FitsCommand l (FileAfter set o member beside) = set < length l.sets
 FitsCommand l (Remove set o member) = set < length l.sets
 
 -- what a call answers that gives no value
-abbrev pub answer_without_value : Result (Unit {0}) FaultKind → Answer
+abbrev pub answer_without_value : Result (Unit {0}) FaultKind → CommandAnswer
 answer_without_value (Ok u) = Done
 answer_without_value (Err kind) = Faulted kind
 
 -- done, with the state that a call makes
-abbrev pub done_with_state : Result State FaultKind → Result (Answer × State) FaultKind
+abbrev pub done_with_state : Result State FaultKind → Result (CommandAnswer × State) FaultKind
 done_with_state r = and_then r (λ s. Ok (Done, s))
 
 -- what a command answers and makes, or its fault
-abbrev pub commanded : Command → State → Result (Answer × State) FaultKind
+abbrev pub commanded : Command → State → Result (CommandAnswer × State) FaultKind
 commanded (Create class) s = and_then (created s class) (λ p. Ok (Number p.0, p.1))
 commanded (CreateAll class n) s = done_with_state (created_all s class n)
 commanded (Destroy class r) s = done_with_state (destroyed s class r)
@@ -87,27 +87,27 @@ commanded (FileAfter set o member beside) s = done_with_state (filed_after s set
 commanded (Remove set o member) s = done_with_state (removed s set o member)
 
 -- the answer, or the fault
-abbrev pub answer_in : Result (Answer × State) FaultKind → Answer
-answer_in (Ok p) = p.0
-answer_in (Err kind) = Faulted kind
+abbrev pub answer_or_fault : Result (CommandAnswer × State) FaultKind → CommandAnswer
+answer_or_fault (Ok p) = p.0
+answer_or_fault (Err kind) = Faulted kind
 
 -- the state that is left: s where there is a fault
-abbrev pub state_in : State → Result (Answer × State) FaultKind → State
+abbrev pub state_in : State → Result (CommandAnswer × State) FaultKind → State
 state_in s (Ok p) = p.1
 state_in s (Err kind) = s
 
 -- what a command answers
-abbrev pub answer_of : Command → State → Answer
-answer_of command s = answer_in (commanded command s)
+abbrev pub command_answer : Command → State → CommandAnswer
+command_answer command s = answer_or_fault (commanded command s)
 
 -- the state after a command: as it was where there is a fault
 abbrev pub after_command : Command → State → State
 after_command command s = state_in s (commanded command s)
 
 -- what each of some commands answers in turn
-abbrev pub answers_of : List Command → State → List Answer
-answers_of [] s = []
-answers_of (command ∷ commands) s = answer_of command s ∷ answers_of commands (after_command command s)
+abbrev pub command_answers : List Command → State → List CommandAnswer
+command_answers [] s = []
+command_answers (command ∷ commands) s = command_answer command s ∷ command_answers commands (after_command command s)
 
 -- the state after all of them
 abbrev pub after_commands : List Command → State → State

@@ -4,7 +4,7 @@ ghost use Rattle.ss_base.specs.declared.value.Value.{Value};
 ghost use Rattle.ss_records_laws.specs.declared.commands.Command.{Command};
 ghost use Rattle.ss_world.specs.State.{State, members_of, created, created_all, destroyed, assigned, timed};
 ghost use Rattle.ss_world.specs.Sets.{filed_first, filed_last, filed_before, filed_after, removed, put_before, put_after, less};
-ghost use Rattle.ss_records_laws.specs.Commands.{Changes, ChangesBeside, LeavesOthers, KeepsRecords, KeepsLists, IsMadeSingly, IsMadeTogether, HasField, IsOnOthers, after_commands, answer_without_value, FitsCommand, answer_of, after_command, answers_of, IsAfterSome};
+ghost use Rattle.ss_records_laws.specs.Commands.{ChangesMembers, ChangesBeside, LeavesOthers, KeepsRecords, KeepsLists, IsMadeSingly, IsMadeTogether, HasField, IsOnOthers, after_commands, answer_without_value, FitsCommand, command_answer, after_command, command_answers, IsAfterSome};
 
 use ss_base::{ClassKind, FaultKind, Layout, Mode, Refused, Value};
 use ss_records::{Heap, kind};
@@ -23,11 +23,11 @@ pub fn filing_leaves_other_sets()
 /// A call on the set of an owner that goes well changes the members of this set as it says: by the member first, last,
 /// directly before or after another, or without it.
 pub fn filing_changes_its_set()
-    ensures first { Changes (λ x l. x ∷ l) filed_first }
-    ensures last { Changes (λ x l. l ++ x ∷ []) filed_last }
+    ensures first { ChangesMembers (λ x l. x ∷ l) filed_first }
+    ensures last { ChangesMembers (λ x l. l ++ x ∷ []) filed_last }
     ensures before { ChangesBeside put_before filed_before }
     ensures after { ChangesBeside put_after filed_after }
-    ensures remove { Changes less removed }
+    ensures remove { ChangesMembers less removed }
 {}
 
 /// A call on the set of an owner leaves every record as it is: its class, its values, its time, and whether it is living.
@@ -113,7 +113,7 @@ pub enum Command {
 
 /// What a call of a heap answered.
 #[derive(Clone, Copy, PartialEq)]
-pub enum Answer {
+pub enum CommandAnswer {
     Done,
     /// The creation number of a new entity.
     Number(i64),
@@ -122,9 +122,13 @@ pub enum Answer {
 
 /// Makes calls in turn, and answers what each answered. A call that is refused with a fault leaves all as it was.
 /// Where memory is refused, the first of the calls were made, and no other.
-pub fn run(heap: &mut Heap, alloc: Global, commands: &[Command]) -> Result<Vec<Answer>, AllocError>
+pub fn run(
+    heap: &mut Heap,
+    alloc: Global,
+    commands: &[Command],
+) -> Result<Vec<CommandAnswer>, AllocError>
     requires { All (FitsCommand heap.old.state.layout) commands.now }
-    ensures answers { IfOk result (λ answers. answers.items ≡ answers_of commands.now heap.old.state) }
+    ensures answers { IfOk result (λ answers. answers.items ≡ command_answers commands.now heap.old.state) }
     ensures state { OnOk result (heap.new.state ≡ after_commands commands.now heap.old.state) }
     ensures refused { OnErr result (IsAfterSome commands.now heap.old.state heap.new.state) }
 {
@@ -166,9 +170,9 @@ fn fits(heap: &Heap, command: &Command) -> bool
 }
 
 // Makes one call.
-fn make(heap: &mut Heap, command: &Command) -> Result<Answer, AllocError>
+fn make(heap: &mut Heap, command: &Command) -> Result<CommandAnswer, AllocError>
     requires { FitsCommand heap.old.state.layout command.now }
-    ensures answer { IfOk result (λ answer. answer ≡ answer_of command.now heap.old.state) }
+    ensures answer { IfOk result (λ answer. answer ≡ command_answer command.now heap.old.state) }
     ensures ok { OnOk result (heap.new.state ≡ after_command command.now heap.old.state) }
     ensures err { OnErr result (heap.new.state ≡ heap.old.state) }
 {
@@ -207,38 +211,38 @@ fn make(heap: &mut Heap, command: &Command) -> Result<Answer, AllocError>
     }
 }
 
-fn make_one(heap: &mut Heap, class: usize) -> Result<Answer, AllocError>
+fn make_one(heap: &mut Heap, class: usize) -> Result<CommandAnswer, AllocError>
     requires { IsMadeSingly heap.old.state.layout class }
-    ensures answer { IfOk result (λ answer. answer ≡ answer_of (Command.Create class) heap.old.state) }
+    ensures answer { IfOk result (λ answer. answer ≡ command_answer (Command.Create class) heap.old.state) }
     ensures ok { OnOk result (heap.new.state ≡ after_command (Command.Create class) heap.old.state) }
     ensures err { OnErr result (heap.new.state ≡ heap.old.state) }
 {
     match heap.create(class) {
-        Ok(number) => Ok(Answer::Number(number)),
-        Err(Refused::Fault(kind)) => Ok(Answer::Faulted(kind)),
+        Ok(number) => Ok(CommandAnswer::Number(number)),
+        Err(Refused::Fault(kind)) => Ok(CommandAnswer::Faulted(kind)),
         Err(Refused::Memory) => Err(AllocError),
     }
 }
 
-fn make_all(heap: &mut Heap, class: usize, n: i64) -> Result<Answer, AllocError>
+fn make_all(heap: &mut Heap, class: usize, n: i64) -> Result<CommandAnswer, AllocError>
     requires { IsMadeTogether heap.old.state.layout class }
-    ensures answer { IfOk result (λ answer. answer ≡ answer_of (Command.CreateAll class n) heap.old.state) }
+    ensures answer { IfOk result (λ answer. answer ≡ command_answer (Command.CreateAll class n) heap.old.state) }
     ensures ok { OnOk result (heap.new.state ≡ after_command (Command.CreateAll class n) heap.old.state) }
     ensures err { OnErr result (heap.new.state ≡ heap.old.state) }
 {
     match heap.create_all(class, n) {
-        Ok(()) => Ok(Answer::Done),
-        Err(Refused::Fault(kind)) => Ok(Answer::Faulted(kind)),
+        Ok(()) => Ok(CommandAnswer::Done),
+        Err(Refused::Fault(kind)) => Ok(CommandAnswer::Faulted(kind)),
         Err(Refused::Memory) => Err(AllocError),
     }
 }
 
-fn answer_without_value(outcome: Result<(), FaultKind>) -> Answer
+fn answer_without_value(outcome: Result<(), FaultKind>) -> CommandAnswer
     ensures { result ≡ answer_without_value outcome }
 {
     match outcome {
-        Ok(()) => Answer::Done,
-        Err(kind) => Answer::Faulted(kind),
+        Ok(()) => CommandAnswer::Done,
+        Err(kind) => CommandAnswer::Faulted(kind),
     }
 }
 

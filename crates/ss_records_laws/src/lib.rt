@@ -4,6 +4,6 @@
 mod commands;
 
 pub use commands::{
-    Answer, Command, commands_leave_other_sets, filing_changes_its_set, filing_leaves_other_sets,
-    filing_leaves_the_records, fit, other_calls_leave_the_sets, run,
+    Command, CommandAnswer, commands_leave_other_sets, filing_changes_its_set,
+    filing_leaves_other_sets, filing_leaves_the_records, fit, other_calls_leave_the_sets, run,
 };

@@ -11,8 +11,9 @@ use Rattle.ss_base.specs.declared.layout.Layout.{Layout}
 use Rattle.ss_records_blocks.specs.declared.store.Address.{Address}
 use Rattle.ss_records_blocks.specs.Cells.{Word, Cells, words_at, put_word}
 use Rattle.ss_world.specs.State.{Members}
-use Rattle.ss_records_words.specs.Shape.{links_start, owned_start, block_words, joins, owned_by, same_owner, count_before, count_sets}
-use Rattle.ss_records_words.specs.Places.{Directory, listing, Lists, place_in_record, entity_at, owner_at, class_at}
+use Rattle.ss_base.specs.Layout.{same_owner}
+use Rattle.ss_records_words.specs.Shape.{links_start, owned_start, block_words, joins, owned_by, count_before, count_sets}
+use Rattle.ss_records_words.specs.Places.{Directory, listing, Lists, place_in_record, entity_at, owner_at, class_at_place}
 use Rattle.ss_records_words.specs.Kept.{Kept}
 use Rattle.ss_records_words.specs.Links.{Grounds, OfMember, OfOwner}
 use Rattle.ss_records_words.specs.Slotted.{member_base, owner_base, slots_of, is_entry, IsOf, MayOwn, OfName, Spares}
@@ -82,15 +83,15 @@ lower s r n a b = by_less (ltb s r) refl where
   by_less true e = a (ltb-true s r e)
   by_less false e = b (omega (arith, n, ltb-false s r e))
 
-pub entry_of : (cs : Cells) (d : Directory) (c n : ℕ) → IsOf cs d c n → (i : ℕ) × (p : Address) × (n ≡ suc i) × (slice_get (listing d c) i ≡ Some (Some p)) × (class_at cs p ≡ c)
+pub entry_of : (cs : Cells) (d : Directory) (c n : ℕ) → IsOf cs d c n → (i : ℕ) × (p : Address) × (n ≡ suc i) × (slice_get (listing d c) i ≡ Some (Some p)) × (class_at_place cs p ≡ c)
 entry_of cs d c zero h = absurd h
 entry_of cs d c (suc i) h = cases (slice_get (listing d c) i) refl h where
-  cases : (o : Option (Option Address)) → slice_get (listing d c) i ≡ o → is_entry cs c o → (j : ℕ) × (p : Address) × (suc i ≡ suc j) × (slice_get (listing d c) j ≡ Some (Some p)) × (class_at cs p ≡ c)
+  cases : (o : Option (Option Address)) → slice_get (listing d c) i ≡ o → is_entry cs c o → (j : ℕ) × (p : Address) × (suc i ≡ suc j) × (slice_get (listing d c) j ≡ Some (Some p)) × (class_at_place cs p ≡ c)
   cases None e h = absurd h
   cases (Some None) e h = absurd h
   cases (Some (Some p)) e h = (i, p, refl, e, h)
 
-pub is_of : (cs : Cells) (d : Directory) (c i : ℕ) (p : Address) → slice_get (listing d c) i ≡ Some (Some p) → class_at cs p ≡ c → IsOf cs d c (suc i)
+pub is_of : (cs : Cells) (d : Directory) (c i : ℕ) (p : Address) → slice_get (listing d c) i ≡ Some (Some p) → class_at_place cs p ≡ c → IsOf cs d c (suc i)
 is_of cs d c i p g e = subst (is_entry cs c) (sym g) e
 
 module _ (l : Layout) (cs : Cells) (sys : Ptr) (d : Directory) (ms : List Members) (K : Kept l cs sys d ms) where
@@ -152,14 +153,14 @@ module _ (l : Layout) (cs : Cells) (sys : Ptr) (d : Directory) (ms : List Member
     }
 
     -- no word of the name is in a block's head
-    pub above_head : (i : ℕ) (p : Address) (k : ℕ) → Lists d i p → k < links_start l (class_at cs p) → OfName l cs sys d s t p.at k → ⊥
+    pub above_head : (i : ℕ) (p : Address) (k : ℕ) → Lists d i p → k < links_start l (class_at_place cs p) → OfName l cs sys d s t p.at k → ⊥
     above_head i p k h small (inl m) =
-        let q = (apart_of (class_at cs p) t.member (suc i) m.0 (is_of cs d (class_at cs p) i p (lists_place l cs sys d ms K i p h) refl) m.1 (ap place_in_record (lists_place l cs sys d ms K i p h) ∙ m.2)).1 in
+        let q = (apart_of (class_at_place cs p) t.member (suc i) m.0 (is_of cs d (class_at_place cs p) i p (lists_place l cs sys d ms K i p h) refl) m.1 (ap place_in_record (lists_place l cs sys d ms K i p h) ∙ m.2)).1 in
         omega (arith, small, subst (λ c. links_start l c ≤ k) (sym q) (member_inside l s t k g m.3).0)
     above_head i p k h small (inr m) = by_owner t.owner m.1 m.2 (owner_inside l s t k g m.3).0 where
       by_owner : (o : Owner) → MayOwn cs d o m.0 → p.at ≡ home o m.0 → owned_start l o ≤ k → ⊥
       by_owner System a z b = K.off_system i p h z
-      by_owner (Class c) a z b = let q = (apart_of (class_at cs p) c (suc i) m.0 (is_of cs d (class_at cs p) i p (lists_place l cs sys d ms K i p h) refl) a (ap place_in_record (lists_place l cs sys d ms K i p h) ∙ z)).1 in
+      by_owner (Class c) a z b = let q = (apart_of (class_at_place cs p) c (suc i) m.0 (is_of cs d (class_at_place cs p) i p (lists_place l cs sys d ms K i p h) refl) a (ap place_in_record (lists_place l cs sys d ms K i p h) ∙ z)).1 in
           omega (arith, small, subst (λ n. owned_start l (Class n) ≤ k) (sym q) b)
 
     pub above_end : (k : ℕ) → k < 2 → OfName l cs sys d s t sys k → ⊥

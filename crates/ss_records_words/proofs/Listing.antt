@@ -5,7 +5,7 @@ use Rattle.ss_base.specs.declared.layout.Layout.{Layout}
 use Rattle.ss_records_blocks.specs.declared.store.Address.{Address}
 use Rattle.ss_records_blocks.specs.Cells.{Cells}
 use Rattle.ss_world.specs.State.{Members}
-use Rattle.ss_records_words.specs.Places.{Directory, own_or, listing, Lists, class_at}
+use Rattle.ss_records_words.specs.Places.{Directory, own_or, listing, Lists, class_at_place}
 use Rattle.ss_records_words.specs.Kept.{Kept}
 
 pub unmapped : (ps : List Address) (i : ℕ) (p : Address) → slice_get (map Some ps) i ≡ Some (Some p) → slice_get ps i ≡ Some p
@@ -31,12 +31,12 @@ listed d c i p h = by_class (slice_get d.classes c) refl h where
 
 module _ (l : Layout) (cs : Cells) (sys : Ptr) (d : Directory) (ms : List Members) (K : Kept l cs sys d ms) where
   -- an entity is listed under its class
-  pub lists_place : (i : ℕ) (p : Address) → Lists d i p → slice_get (listing d (class_at cs p)) i ≡ Some (Some p)
-  lists_place i p (inl g) = by_class (slice_get d.classes (class_at cs p)) refl where
-    by_class : (o : Option (Option (List Address))) → slice_get d.classes (class_at cs p) ≡ o → slice_get (listing d (class_at cs p)) i ≡ Some (Some p)
+  pub lists_place : (i : ℕ) (p : Address) → Lists d i p → slice_get (listing d (class_at_place cs p)) i ≡ Some (Some p)
+  lists_place i p (inl g) = by_class (slice_get d.classes (class_at_place cs p)) refl where
+    by_class : (o : Option (Option (List Address))) → slice_get d.classes (class_at_place cs p) ≡ o → slice_get (listing d (class_at_place cs p)) i ≡ Some (Some p)
     by_class None e = ap (λ o. slice_get (own_or d.numbers o) i) e ∙ g
     by_class (Some None) e = ap (λ o. slice_get (own_or d.numbers o) i) e ∙ g
-    by_class (Some (Some ps)) e = absurd (K.kinds i p g (K.made (class_at cs p) ps e).permanent)
+    by_class (Some (Some ps)) e = absurd (K.kinds i p g (K.made (class_at_place cs p) ps e).permanent)
   lists_place i p (inr m) = let h = K.made m.0 m.1 m.2 in ap (λ c. slice_get (listing d c) i) (h.class i p m.3) ∙ ap (λ o. slice_get (own_or d.numbers o) i) m.2 ∙ mapped m.1 i p m.3
 
   -- there are not too many of a class

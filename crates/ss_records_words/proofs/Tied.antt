@@ -10,7 +10,7 @@ use Rattle.ss_records_blocks.specs.Cells.{Word, number, counter, link, Cells, Is
 use Rattle.ss_world.specs.State.{Members, members_of, is_filed, has_members}
 use Rattle.ss_records_words.specs.Shape.{count_before, count_sets}
 use Rattle.ss_records_words.specs.Reading.{plain}
-use Rattle.ss_records_words.specs.Places.{Directory, Lists, listing, place_in_record, entity_at, owner_at, class_at}
+use Rattle.ss_records_words.specs.Places.{Directory, Lists, listing, place_in_record, entity_at, owner_at, class_at_place}
 use Rattle.ss_records_words.specs.Kept.{Kept}
 use Rattle.ss_records_words.specs.Slotted.{member_base, owner_base, IsOf, MayOwn}
 use Rattle.ss_records_blocks.proofs.Same.{differs, by_same}
@@ -40,7 +40,7 @@ module _ (l : Layout) (cs : Cells) (sys : Ptr) (d : Directory) (ms : List Member
   abbrev at : ℕ → Ptr
   at = entity_at sys d t.member
 
-  module _ (class : class_at cs p ≡ t.member) where
+  module _ (class : class_at_place cs p ≡ t.member) where
     its_place : slice_get (listing d t.member) i ≡ Some (Some p)
     its_place = subst (λ c. slice_get (listing d c) i ≡ Some (Some p)) class (lists_place l cs sys d ms K i p e)
 
@@ -69,9 +69,9 @@ module _ (l : Layout) (cs : Cells) (sys : Ptr) (d : Directory) (ms : List Member
         (λ z y. rw z (sym (ap is_some (its_next.out y).0)))
         (λ z y. rw z (sym (ap is_some (its_next.in_one y).1)))
 
-  module _ (owns : t.owner ≡ Class (class_at cs p)) where
+  module _ (owns : t.owner ≡ Class (class_at_place cs p)) where
     owner : MayOwn cs d t.owner (suc i)
-    owner = subst (λ o. MayOwn cs d o (suc i)) (sym owns) (is_of cs d (class_at cs p) i p (lists_place l cs sys d ms K i p e) refl)
+    owner = subst (λ o. MayOwn cs d o (suc i)) (sym owns) (is_of cs d (class_at_place cs p) i p (lists_place l cs sys d ms K i p e) refl)
 
     home : owner_at sys d t.owner (suc i) ≡ p.at
     home = ap (λ o. owner_at sys d o (suc i)) owns ∙ ap place_in_record (lists_place l cs sys d ms K i p e)

@@ -10,11 +10,11 @@ use Rattle.ss_base.specs.declared.layout.Owner.TheVariants.{System, Class}
 use Rattle.ss_base.specs.Layout.{is_sound}
 use Rattle.ss_records_blocks.specs.declared.store.Address.{Address}
 use Rattle.ss_records_blocks.specs.Cells.{Word, number, Cells, IsNumber, words_at, word_of}
-use Rattle.ss_world.specs.State.{Record, State, Members, entity, kind_of, modes_of}
+use Rattle.ss_world.specs.State.{Record, State, Members, entity_in, kind_of, modes_of}
 use Rattle.ss_records_words.specs.Shape.{links_start, block_words}
 use Rattle.ss_records_words.specs.Reading.{record_at, records_at}
-use Rattle.ss_records_blocks.specs.Places.{Numbers, living}
-use Rattle.ss_records_words.specs.Places.{Made, Directory, IsMade, Lists, class_at, made_count}
+use Rattle.ss_records_blocks.specs.Places.{Numbers, living_count}
+use Rattle.ss_records_words.specs.Places.{Made, Directory, IsMade, Lists, class_at_place, permanent_count}
 use Rattle.ss_records_words.specs.Slotted.{NameKept}
 use Rattle.ss_base.specs.declared.layout.SetLayout.{SetLayout}
 
@@ -23,8 +23,8 @@ is_here (Ok r) = Unit {0}
 is_here (Err e) = ⊥
 
 -- whether there is an entity n of a class
-abbrev pub Lives : State → ℕ → ℕ → Type 0
-Lives st c n = is_here (entity st c (pos n))
+abbrev pub IsLivingEntity : State → ℕ → ℕ → Type 0
+IsLivingEntity st c n = is_here (entity_in st c (pos n))
 
 abbrev pub IsPermanent : ClassKind → Type 0
 IsPermanent Permanent = Unit {0}
@@ -52,7 +52,7 @@ state_of l cs d ms = record { layout = l; records = map (record_at l cs) d.numbe
 -- the permanent entities of a class are of it
 pub record MadeOf (l : Layout) (cs : Cells) (c : ℕ) (ps : List Address) : Type 0 where
   pub permanent : IsPermanent (kind_of l c)
-  pub class : (i : ℕ) (p : Address) → slice_get ps i ≡ Some p → class_at cs p ≡ c
+  pub class : (i : ℕ) (p : Address) → slice_get ps i ≡ Some p → class_at_place cs p ≡ c
   pub few : length ps ≤ 2 ^ 20
 
 pub record Kept (l : Layout) (cs : Cells) (sys : Ptr) (d : Directory) (ms : List Members) : Type 0 where
@@ -61,13 +61,13 @@ pub record Kept (l : Layout) (cs : Cells) (sys : Ptr) (d : Directory) (ms : List
   pub width : length d.classes ≡ length l.classes
   pub system : length (words_at cs sys) ≡ block_words l System
   pub end : word_of (words_at cs sys) 1 ≡ number 0
-  pub kinds : (i : ℕ) (p : Address) → slice_get d.numbers i ≡ Some (Some p) → IsPermanent (kind_of l (class_at cs p)) → ⊥
+  pub kinds : (i : ℕ) (p : Address) → slice_get d.numbers i ≡ Some (Some p) → IsPermanent (kind_of l (class_at_place cs p)) → ⊥
   pub made : (c : ℕ) (ps : List Address) → slice_get d.classes c ≡ Some (Some ps) → MadeOf l cs c ps
-  pub classes : (i : ℕ) (p : Address) → Lists d i p → class_at cs p < length l.classes
-  pub formed : (i : ℕ) (p : Address) → Lists d i p → Formed l (class_at cs p) (suc i) (words_at cs p.at)
+  pub classes : (i : ℕ) (p : Address) → Lists d i p → class_at_place cs p < length l.classes
+  pub formed : (i : ℕ) (p : Address) → Lists d i p → Formed l (class_at_place cs p) (suc i) (words_at cs p.at)
   pub apart : (i j : ℕ) (p q : Address) → Lists d i p → Lists d j q → p.at ≡ q.at → i ≡ j
   pub off_system : (i : ℕ) (p : Address) → Lists d i p → p.at ≡ sys → ⊥
-  pub counted : length cs ≡ living d.numbers + made_count d.classes + 1
+  pub counted : length cs ≡ living_count d.numbers + permanent_count d.classes + 1
   pub names : (s : ℕ) (t : SetLayout) → slice_get l.sets s ≡ Some t → NameKept l cs sys d ms s t
 
 -- the blocks of the permanent entities are apart from one another and from that of the system, and no other is left
@@ -76,7 +76,7 @@ pub record RowsHeld (l : Layout) (cs : Cells) (sys : Ptr) (ms : Made) : Type 0 w
   pub size : (c i : ℕ) (ps : List Address) (p : Address) → slice_get ms c ≡ Some (Some ps) → slice_get ps i ≡ Some p → length (words_at cs p.at) ≡ block_words l (Class c)
   pub apart : (c b i j : ℕ) (ps qs : List Address) (p q : Address) → slice_get ms c ≡ Some (Some ps) → slice_get ms b ≡ Some (Some qs) → slice_get ps i ≡ Some p → slice_get qs j ≡ Some q → p.at ≡ q.at → (i ≡ j) × (c ≡ b)
   pub off_system : (i : ℕ) (p : Address) → IsMade ms i p → p.at ≡ sys → ⊥
-  pub counted : length cs ≡ made_count ms + 1
+  pub counted : length cs ≡ permanent_count ms + 1
 
 abbrev pub place_or : Option Address → Result Address FaultKind
 place_or None = Err Index

@@ -57,11 +57,11 @@ owner_at sys d System n = sys
 owner_at sys d (Class c) n = entity_at sys d c n
 
 -- the class that the words of a block give
-abbrev pub class_at : Cells → Address → ℕ
-class_at cs p = class_in_words (words_at cs p.at)
+abbrev pub class_at_place : Cells → Address → ℕ
+class_at_place cs p = class_in_words (words_at cs p.at)
 
 -- how many permanent entities there are
-abbrev pub made_count : Made → ℕ
-made_count [] = 0
-made_count (None ∷ ms) = made_count ms
-made_count (Some ps ∷ ms) = length ps + made_count ms
+abbrev pub permanent_count : Made → ℕ
+permanent_count [] = 0
+permanent_count (None ∷ ms) = permanent_count ms
+permanent_count (Some ps ∷ ms) = length ps + permanent_count ms

@@ -1,6 +1,7 @@
 -- Where the words of a block are: class, number, two for each value, the time of a notice, then three words
 -- for each set that the class may join, then three for each set that it owns.
-use Rattle.std.specs.Prelude.{ℕ, zero, suc, ◌+◌, ◌*◌, Bool, true, false, ◌==◌, cond, List, [], ◌∷◌, length}
+use Rattle.std.specs.Prelude.{ℕ, zero, suc, ◌+◌, ◌*◌, Bool, ◌==◌, cond, List, [], ◌∷◌, length}
+use Rattle.ss_base.specs.Layout.{same_owner}
 use Rattle.ss_base.specs.declared.layout.Owner.{Owner}
 use Rattle.ss_base.specs.declared.layout.Owner.TheVariants.{System, Class}
 use Rattle.ss_base.specs.declared.layout.SetLayout.{SetLayout}
@@ -17,12 +18,6 @@ links_start l c = values_end l c + cond (is_notice (kind_of l c)) 1 0
 
 abbrev pub joins : ℕ → SetLayout → Bool
 joins c t = t.member == c
-
-abbrev pub same_owner : Owner → Owner → Bool
-same_owner System System = true
-same_owner System (Class d) = false
-same_owner (Class c) System = false
-same_owner (Class c) (Class d) = c == d
 
 abbrev pub owned_by : Owner → SetLayout → Bool
 owned_by o t = same_owner t.owner o

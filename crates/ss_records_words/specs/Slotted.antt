@@ -9,7 +9,7 @@ use Rattle.ss_records_blocks.specs.declared.store.Address.{Address}
 use Rattle.ss_records_blocks.specs.Cells.{Cells, words_at, word_at}
 use Rattle.ss_world.specs.State.{Members, members_of}
 use Rattle.ss_records_words.specs.Shape.{links_start, owned_start, joins, owned_by, count_before}
-use Rattle.ss_records_words.specs.Places.{Directory, listing, entity_at, owner_at, class_at}
+use Rattle.ss_records_words.specs.Places.{Directory, listing, entity_at, owner_at, class_at_place}
 use Rattle.ss_records_blocks.specs.Links.{Slots}
 use Rattle.ss_records_words.specs.Links.{Shows, words_of, OfMember, OfOwner}
 
@@ -33,7 +33,7 @@ slots_of l s t = record {
 abbrev pub is_entry : Cells → ℕ → Option (Option Address) → Type 0
 is_entry cs c None = ⊥
 is_entry cs c (Some None) = ⊥
-is_entry cs c (Some (Some p)) = class_at cs p ≡ c
+is_entry cs c (Some (Some p)) = class_at_place cs p ≡ c
 
 -- n is an entity of the class c
 abbrev pub IsOf : Cells → Directory → ℕ → ℕ → Type 0

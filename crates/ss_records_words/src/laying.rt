@@ -5,7 +5,7 @@ ghost use Rattle.ss_records_words.specs.Laid.{Laid, LaidSystem};
 ghost use Rattle.ss_records_words.specs.Shape.{block_words};
 ghost use Rattle.ss_records_words.specs.Kept.{Small};
 
-use crate::plan::Plan;
+use crate::plan::LayoutPlan;
 use crate::shape::VALUES;
 use ss_base::Owner;
 use ss_records_blocks::filling::{fill_links, fill_numbers, fill_owned, lay_head};
@@ -15,7 +15,7 @@ use ss_records_blocks::{Address, Blocks};
 #[inline(always)]
 pub fn lay(
     blocks: &mut Blocks,
-    layout: &Plan,
+    layout: &LayoutPlan,
     place: Address,
     class: usize,
     number: u64,
@@ -43,7 +43,7 @@ pub fn lay(
 }
 
 /// Makes a blank block that of the system, without members.
-pub fn lay_system(blocks: &mut Blocks, layout: &Plan, place: Address)
+pub fn lay_system(blocks: &mut Blocks, layout: &LayoutPlan, place: Address)
     requires small { Small layout.now }
     requires room { length (words_at blocks.old.cells place.at) ≡ block_words layout.now Owner.System }
     requires blank { (k : ℕ) → word_at blocks.old.cells place.at k ≡ blank }

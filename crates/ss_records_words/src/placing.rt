@@ -8,11 +8,17 @@ ghost use Rattle.ss_records_words.specs.Shape.{block_words};
 ghost use Rattle.ss_records_words.specs.Kept.{Small};
 
 use crate::laying;
-use crate::plan::Plan;
+use crate::plan::LayoutPlan;
 use ss_records_blocks::{Address, Blocks};
 
 /// Makes the blank blocks at these places those of the entities of a class.
-pub fn lay_all(blocks: &mut Blocks, layout: &Plan, places: &[Address], class: usize, end: Address)
+pub fn lay_all(
+    blocks: &mut Blocks,
+    layout: &LayoutPlan,
+    places: &[Address],
+    class: usize,
+    end: Address,
+)
     requires small { Small layout.now }
     requires class { class < length layout.now.classes }
     requires blank { (i : ℕ) (p : Address) → slice_get places.now i ≡ Some p → words_at blocks.old.cells p.at ≡ blanks (block_words layout.now (Class class)) }

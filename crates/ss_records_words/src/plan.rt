@@ -16,7 +16,7 @@ use std::marker::Model;
 /// A layout, with the places that follow from it for the words of each class and of each set, so that a call looks
 /// them up. A contract sees the layout.
 #[derive(Drop)]
-pub struct Plan {
+pub struct LayoutPlan {
     layout: Layout,
     classes: Vec<Extent>,
     sets: Vec<Bases>,
@@ -45,7 +45,7 @@ struct Bases {
     system: bool,
 }
 
-impl Model for Plan {
+impl Model for LayoutPlan {
     ghost use Rattle.ss_base.specs.declared.layout.Layout.{Layout};
     ghost use Rattle.ss_records_words.specs.Plans.{IsPlan};
 
@@ -56,16 +56,16 @@ impl Model for Plan {
     ghost invariant = { λ p. IsPlan p.layout p.classes.items p.sets.items p.system_sets };
 }
 
-impl Plan {
+impl LayoutPlan {
     /// The plan of a layout. The error comes where memory was refused.
-    pub fn new(alloc: Global, layout: Layout) -> Result<Plan, AllocError>
+    pub fn new(alloc: Global, layout: Layout) -> Result<LayoutPlan, AllocError>
         ensures { MatchResult result (λ plan. (plan ≡ layout) × Small layout) (λ _. ⊤) }
     {
         shape::law(&layout);
         let classes = all_extents(alloc, &layout)?;
         let sets = all_bases(alloc, &layout)?;
         let system_sets = shape::owned_count(&layout, Owner::System);
-        Ok(Plan {
+        Ok(LayoutPlan {
             layout,
             classes,
             sets,

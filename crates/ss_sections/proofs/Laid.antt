@@ -8,7 +8,7 @@ use Rattle.ss_base.specs.declared.layout.ClassKind.TheVariants.{Permanent, Tempo
 use Rattle.ss_base.specs.declared.layout.Discipline.{Discipline}
 use Rattle.ss_base.specs.declared.layout.Discipline.TheVariants.{Fifo, Lifo, Ranked}
 use Rattle.ss_base.specs.declared.value.Value.{Value}
-use Rattle.ss_world.specs.State.{State, Record, and_then, entity, notice, number_in, kind_of, with_value, with_time, with_entity_of_kind, assigned, timed, with_created, created, LAST_NUMBER, MOST_ENTITIES, is_made, with_made, made_many, created_all, in_a_set, owns_members, let_go, destroyed, members_of, contains, is_filed}
+use Rattle.ss_world.specs.State.{State, Record, and_then, entity_in, notice, number_in, kind_of, with_value, with_time, with_entity_of_kind, assigned, timed, with_created, created, LAST_NUMBER, MOST_ENTITIES, is_made, with_made, made_many, created_all, in_a_set, owns_members, let_go, destroyed, members_of, contains, is_filed}
 use Rattle.ss_world.specs.Sets.{joiner, owner, member_class, first_in, last_in, less, with_list_of, put_in, put_beside, put_before, put_after, taken_out, filed_first, filed_last, filed_before, filed_after, removed}
 use Rattle.ss_world.specs.Disciplines.{take, put_ranked, filed}
 use Rattle.ss_program.specs.declared.statement.End.{End}
@@ -52,7 +52,7 @@ kind_laid h Temporary c n r = refl
 kind_laid h Notice c n r = refl
 
 pub assigned_laid : (h : State) (c f : ℕ) (x : ℤ) (v : Value) → Laid h (assigned h c f x v)
-assigned_laid h c f x v = laid_then h (entity h c x) _ (λ r. kind_laid h (kind_of h.layout c) c (number_in x) (with_value r f v))
+assigned_laid h c f x v = laid_then h (entity_in h c x) _ (λ r. kind_laid h (kind_of h.layout c) c (number_in x) (with_value r f v))
 
 pub timed_laid : (h : State) (x t : ℤ) → Laid h (timed h x t)
 timed_laid h x t = laid_then h (notice h x) _ (λ r. refl)
@@ -90,7 +90,7 @@ go_laid h c n = by (in_a_set h.layout.sets 0 h.lists c n) (owns_members h.layout
     by false false = refl
 
 pub destroyed_laid : (h : State) (c : ℕ) (x : ℤ) → Laid h (destroyed h c x)
-destroyed_laid h c x = laid_then h (entity h c x) _ (λ r. go_laid h c (number_in x))
+destroyed_laid h c x = laid_then h (entity_in h c x) _ (λ r. go_laid h c (number_in x))
 
 -- ## Sets
 

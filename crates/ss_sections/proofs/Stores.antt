@@ -16,7 +16,7 @@ use Rattle.ss_program.specs.declared.expression.Variable.{Variable}
 use Rattle.ss_program.specs.declared.expression.Variable.TheVariants.{Global, Local}
 use Rattle.ss_program.specs.declared.sections.Subject.{Subject}
 use Rattle.ss_program.specs.declared.sections.Subject.TheVariants.{OfVariable, OfAttribute, OfCount}
-use Rattle.ss_program.specs.declared.statement.Counted.{Counted}
+use Rattle.ss_program.specs.declared.statement.CountedClass.{CountedClass}
 use Rattle.ss_program.specs.declared.statement.End.{End}
 use Rattle.ss_meaning.specs.Values.{Trouble, Misfit, if_ok, turned, due, sure, where_fit, unless_fault, number_of, same_mode, calculated, operator_of}
 use Rattle.ss_meaning.specs.Store.{Store, with_heap, with_pending, with_histories, fetched, put_at, put}
@@ -24,9 +24,9 @@ use Rattle.ss_meaning.specs.Histories.{all_noting, noted, renewed}
 use Rattle.ss_meaning.specs.Entities.{class_at, field_at, entity, is_single, is_permanent, with_new, made_one, with_all, made_all, with_none, gone, without}
 use Rattle.ss_meaning.specs.Places.{Spot, InVariable, InAttribute, InCount, held, assigned_variable, is_of_mode, assigned_attribute, assigned_count, written}
 use Rattle.ss_meaning.specs.Sets.{Filing, member, owner_number, recounted, filed_by, filed_in, removed_from, end_removed, removed_at, coming}
-use Rattle.ss_meaning.specs.Events.{Ranked, ranked, ties_of, endowed, with_time, prepared, made_notice, filed_notice, rescheduled, unscheduled, Beginning, attributes_given, saved_or_gone, Coming, ranked_as, coming_as, coming_with, next_event, begun}
+use Rattle.ss_meaning.specs.Events.{Ranked, ranked, ties_of, endowed, with_notice_time, prepared, made_notice, filed_notice, rescheduled, unscheduled, Beginning, attributes_given, saved_or_gone, Coming, ranked_as, coming_as, coming_with, next_event, event_begun}
 use Rattle.ss_meaning.specs.Statistics.{subject_of, bearer, present, reset}
-use Rattle.ss_meaning.specs.Statements.{with_input, read_word}
+use Rattle.ss_meaning.specs.Statements.{with_input, read_value}
 use Rattle.ss_code_instructions.specs.Machine.{changed, visited}
 use Rattle.ss_sections.proofs.Only.{Only, Where, only_then, only_each, only_turned, only_made, only_weaker, only_fit, only_unless}
 use Rattle.ss_sections.proofs.Laid.{laid_due, with_due, assigned_laid, timed_laid, created_laid, all_laid, destroyed_laid, removed_laid, end_laid, filing_laid}
@@ -93,7 +93,7 @@ attribute_alike class field x v s =
     (laid_due s.scene.heap (assigned s.scene.heap class field n v) (assigned_laid s.scene.heap class field n v)) (λ h p.
     heaped_alike (OfAttribute class field) n v s h p)))
 
-count_alike : (c : Counted) (v : Value) (s : Store) → Only (Alike s) (assigned_count c v s)
+count_alike : (c : CountedClass) (v : Value) (s : Store) → Only (Alike s) (assigned_count c v s)
 count_alike c v s =
     only_fit (Alike s) (is_permanent (class_at c.class s)) (unless_fault (is_made s.scene.heap c.class) CreatedTwice (assigned_variable (Global c.variable) v s))
     (only_unless (Alike s) (is_made s.scene.heap c.class) CreatedTwice (assigned_variable (Global c.variable) v s) (assigned_alike (Global c.variable) v s))
@@ -108,7 +108,7 @@ changed_alike sign p y s =
     only_each (Alike s) (held p s) (λ x. if_ok (calculated (operator_of sign) x y) (λ v. written p v s)) (λ x.
     only_each (Alike s) (calculated (operator_of sign) x y) (λ v. written p v s) (λ v. written_alike p v s))
 
-pub read_alike : (mode : Mode) (s : Store) → Only (λ (b : Value × Store). Alike s b.1) (read_word mode s)
+pub read_alike : (mode : Mode) (s : Store) → Only (λ (b : Value × Store). Alike s b.1) (read_value mode s)
 read_alike mode s = only_made (λ (b : Value × Store). Alike s b.1) (with_input s) (due (value_given mode s.scene.input)) (λ g. (refl, refl, refl))
 
 -- ## Entities
@@ -118,7 +118,7 @@ made_alike class s =
     only_fit (λ (b : Value × Store). Alike s b.1) (is_single (class_at class s)) (turned (with_new class s) (due (created s.scene.heap class)))
     (only_turned (λ (b : Value × Store). Alike s b.1) (with_new class s) (due (created s.scene.heap class)) (with_due s.scene.heap (created s.scene.heap class) (created_laid s.scene.heap class)) (λ b p. (refl, refl, p)))
 
-pub all_made_alike : (c : Counted) (s : Store) → Only (Alike s) (made_all c s)
+pub all_made_alike : (c : CountedClass) (s : Store) → Only (Alike s) (made_all c s)
 all_made_alike c s =
     only_each (Alike s) (sure (fetched (Global c.variable) s)) (λ v. if_ok (number_of v) (λ n. where_fit (is_permanent (class_at c.class s)) (turned (with_all c.class s) (due (created_all s.scene.heap c.class n))))) (λ v.
     only_each (Alike s) (number_of v) (λ n. where_fit (is_permanent (class_at c.class s)) (turned (with_all c.class s) (due (created_all s.scene.heap c.class n)))) (λ n.
@@ -174,15 +174,15 @@ endowed_alike class field x (v ∷ vs) s =
     only_then (Alike s) (assigned_attribute class field x v s) (endowed class (field + 1) x vs) (attribute_alike class field x v s) (λ t p.
     on_from s t (endowed class (field + 1) x vs t) p (endowed_alike class (field + 1) x vs t))
 
-timed_alike : (x : Value) (time : ℤ) (s : Store) → Only (Alike s) (with_time x time s)
+timed_alike : (x : Value) (time : ℤ) (s : Store) → Only (Alike s) (with_notice_time x time s)
 timed_alike x time s =
     only_each (Alike s) (number_of x) (λ n. turned (with_heap s) (due (timed s.scene.heap n time))) (λ n.
     only_turned (Alike s) (with_heap s) (due (timed s.scene.heap n time)) (laid_due s.scene.heap (timed s.scene.heap n time) (timed_laid s.scene.heap n time)) (λ h p. (refl, refl, p)))
 
 prepared_alike : (class : ℕ) (x : Value) (given : List Value) (time : ℤ) (s : Store) → Only (Alike s) (prepared class x given time s)
 prepared_alike class x given time s =
-    only_then (Alike s) (endowed class 0 x given s) (with_time x time) (endowed_alike class 0 x given s) (λ t p.
-    on_from s t (with_time x time t) p (timed_alike x time t))
+    only_then (Alike s) (endowed class 0 x given s) (with_notice_time x time) (endowed_alike class 0 x given s) (λ t p.
+    on_from s t (with_notice_time x time t) p (timed_alike x time t))
 
 pub notice_alike : (class : ℕ) (given : List Value) (time : ℤ) (s : Store) → Only (λ (b : Value × Store). Alike s b.1) (made_notice class given time s)
 notice_alike class given time s =
@@ -226,7 +226,7 @@ saved_alike : (saved : Option ℕ) (class : ℕ) (x : Value) (s : Store) → Onl
 saved_alike (Some k) class x s = assigned_alike (Global k) x s
 saved_alike None class x s = gone_alike class x s
 
-pub begun_alike : (c : Coming) → Only (λ (b : Beginning). Alike c.store b.store) (begun c)
+pub begun_alike : (c : Coming) → Only (λ (b : Beginning). Alike c.store b.store) (event_begun c)
 begun_alike c =
     only_each (λ (b : Beginning). Alike c.store b.store) (attributes_given c.ranked.said.class 0 c.ranked.said.given c.notice c.store) (λ vs. turned (λ t. record { rank = c.ranked.rank; given = vs; store = t }) (saved_or_gone c.ranked.said.saved c.ranked.said.class c.notice c.store)) (λ vs.
     only_turned (λ (b : Beginning). Alike c.store b.store) (λ t. record { rank = c.ranked.rank; given = vs; store = t }) (saved_or_gone c.ranked.said.saved c.ranked.said.class c.notice c.store) (saved_alike c.ranked.said.saved c.ranked.said.class c.notice c.store) (λ t q. q))

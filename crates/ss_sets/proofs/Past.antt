@@ -8,7 +8,7 @@ use Rattle.ss_base.specs.declared.layout.RankKey.{RankKey}
 use Rattle.ss_world.specs.State.{State}
 use Rattle.ss_world.specs.Lists.{In}
 use Rattle.ss_world.specs.Sets.{owner, member_class, Apart}
-use Rattle.ss_world.specs.Disciplines.{value_of, ranks_after, passed, owned}
+use Rattle.ss_world.specs.Disciplines.{value_of, ranks_after, members_passed, owned}
 use Rattle.ss_records.specs.Passing.{ranks_past, first_where, before_where}
 use Rattle.ss_sets.specs.Walks.{first_after, as_member}
 use Rattle.ss_sets.proofs.Walking.{member_by}
@@ -33,7 +33,7 @@ module _ (st : State) (c : ℕ) (ks : List RankKey) (x : ℤ) (t : ℕ → Bool)
       (λ e. rw (e, same y ∙ e) (some_member y (some y (inl refl))))
       (λ e. rw (e, same y ∙ e) (first_is ys (λ z i. some z (inr i))))
 
-  before_is : (l : List ℕ) → before_where t l ≡ passed st c ks x l
+  before_is : (l : List ℕ) → before_where t l ≡ members_passed st c ks x l
   before_is [] = refl
   before_is (y ∷ ys) = by_test (t y) (λ e. rw (e, same y ∙ e) refl) (λ e. rw (e, same y ∙ e) (ap suc (before_is ys)))
 
@@ -48,5 +48,5 @@ module _ (st : State) (A : Apart st) (s : ℕ) (inside : s < length st.layout.se
   pub found_past : as_member (pos (first_where (ranks_past st class k.field k.high v) (owned st s o))) ≡ first_after st class (k ∷ []) x (owned st s o)
   found_past = first_is st class (k ∷ []) x (ranks_past st class k.field k.high v) as_test (owned st s o) (λ y i. (member_by st A s inside (owner st s o) y i).0)
 
-  pub passed_past : before_where (ranks_past st class k.field k.high v) (owned st s o) ≡ passed st class (k ∷ []) x (owned st s o)
+  pub passed_past : before_where (ranks_past st class k.field k.high v) (owned st s o) ≡ members_passed st class (k ∷ []) x (owned st s o)
   passed_past = before_is st class (k ∷ []) x (ranks_past st class k.field k.high v) as_test (owned st s o)

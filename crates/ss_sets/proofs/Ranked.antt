@@ -6,7 +6,7 @@ use Rattle.ss_base.specs.declared.fault.FaultKind.TheVariants.{FiledTwice, NotFi
 use Rattle.ss_base.specs.declared.layout.ClassKind.{ClassKind}
 use Rattle.ss_base.specs.declared.layout.ClassKind.TheVariants.{Permanent, Temporary, Notice}
 use Rattle.ss_base.specs.declared.layout.RankKey.{RankKey}
-use Rattle.ss_world.specs.State.{State, Record, and_then, entity, entity_of_kind, kind_of, number_in, members_of, contains, owner_of, is_filed}
+use Rattle.ss_world.specs.State.{State, Record, and_then, entity_in, entity_of_kind, kind_of, number_in, members_of, contains, owner_of, is_filed}
 use Rattle.ss_world.specs.Lists.{In}
 use Rattle.ss_world.specs.Sets.{joiner, owner, member_class, as_number, owner_of_member, put_before, put_in, put_beside, with_list_of, filed_last, filed_before, Apart}
 use Rattle.ss_world.specs.Disciplines.{ranks_after, put_ranked, members_owned_by, owned, filed_ranked}
@@ -58,9 +58,9 @@ no_negative st Notice c k r h = cc
 
 pub joined : (st : State) (s : ℕ) (x : ℤ) (n : ℕ) → joiner st s x ≡ Ok n → x ≡ pos n
 joined st s (pos k) n h =
-    let w = went_on (entity st (member_class st.layout s) (pos k)) (λ r. Ok (number_in (pos k))) n (sym h) in let q : k ≡ n = cc in ap pos q
+    let w = went_on (entity_in st (member_class st.layout s) (pos k)) (λ r. Ok (number_in (pos k))) n (sym h) in let q : k ≡ n = cc in ap pos q
 joined st s (negsuc k) n h =
-    let w = went_on (entity st (member_class st.layout s) (negsuc k)) (λ r. Ok (number_in (negsuc k))) n (sym h) in
+    let w = went_on (entity_in st (member_class st.layout s) (negsuc k)) (λ r. Ok (number_in (negsuc k))) n (sym h) in
     absurd (no_negative st (kind_of st.layout (member_class st.layout s)) (member_class st.layout s) k w.0 w.1)
 
 module _ (st : State) (A : Apart st) (ks : List RankKey) (s : ℕ) (inside : s < length st.layout.sets) (o x : ℤ) where

@@ -12,7 +12,7 @@ use Rattle.ss_world.specs.Lists.{head0, In, NotIn, Distinct}
 use Rattle.ss_world.specs.Sets.{joiner, owner, member_class, follower, members_by, companions, first_in, next_in, Apart}
 use Rattle.std.proofs.lemmas.List.Elements.{All-head, All-tail}
 use Rattle.ss_base.specs.declared.layout.Layout.{Layout}
-use Rattle.ss_world.specs.Disciplines.{AreFields, value_of, value_or_zero, ranks_after, passed, members_owned_by, owned}
+use Rattle.ss_world.specs.Disciplines.{AreFields, value_of, value_or_zero, ranks_after, members_passed, members_owned_by, owned}
 use Rattle.ss_sets.specs.Walks.{first_after, as_member}
 use Rattle.ss_sets.proofs.Same.{same, differs, by_same}
 use Rattle.ss_sets.proofs.Members.{stopped}
@@ -109,10 +109,10 @@ module _ (st : State) (A : Apart st) (s : ℕ) (inside : s < length st.layout.se
       rest_is = onward_follower (owned st s o) z zs (distinct_by (owner st s o)) h
 
 module _ (st : State) (c : ℕ) (ks : List RankKey) (x : ℤ) (z : ℕ) (zs : List ℕ) where
-  pub stops : ranks_after st c ks (pos z) x ≡ true → (first_after st c ks x (z ∷ zs) ≡ Some (pos z)) × (passed st c ks x (z ∷ zs) ≡ 0)
+  pub stops : ranks_after st c ks (pos z) x ≡ true → (first_after st c ks x (z ∷ zs) ≡ Some (pos z)) × (members_passed st c ks x (z ∷ zs) ≡ 0)
   stops e = (rw e refl, rw e refl)
 
-  pub passes : ranks_after st c ks (pos z) x ≡ false → (first_after st c ks x (z ∷ zs) ≡ first_after st c ks x zs) × (passed st c ks x (z ∷ zs) ≡ suc (passed st c ks x zs))
+  pub passes : ranks_after st c ks (pos z) x ≡ false → (first_after st c ks x (z ∷ zs) ≡ first_after st c ks x zs) × (members_passed st c ks x (z ∷ zs) ≡ suc (members_passed st c ks x zs))
   passes e = (rw e refl, rw e refl)
 
 shape : (rest : List ℕ) (y : ℤ) → Some y ≡ leader rest → (z : ℕ) × (zs : List ℕ) × (rest ≡ z ∷ zs) × (y ≡ pos z)

@@ -5,7 +5,7 @@ ghost use Rattle.std.specs.Cmp.Lexicographic.{slice_cmp};
 ghost use Rattle.ss_base.specs.Order.{value_cmp};
 ghost use Rattle.ss_world.specs.State.{and_then, modes_of};
 ghost use Rattle.ss_world.specs.Sets.{owner, member_class, first_in};
-ghost use Rattle.ss_world.specs.Disciplines.{value_of, ranks_after, passed, passed_by, owned, filed_ranked, filed, AreFields, FitsMembers};
+ghost use Rattle.ss_world.specs.Disciplines.{value_of, ranks_after, members_passed, passed_by, owned, filed_ranked, filed, AreFields, FitsMembers};
 ghost use Rattle.ss_sets.specs.Walks.{first_after, as_member, filed_at};
 
 use ss_base::{Alpha, Discipline, FaultKind, Mode, RankKey, Value};
@@ -47,7 +47,7 @@ fn file_ranked(
     requires set { set < length heap.old.state.layout.sets }
     requires keys { AreFields heap.old.state.layout (member_class heap.old.state.layout set) keys.now }
     ensures done { MatchResult result (λ _. filed_ranked heap.old.state keys.now set o x ≡ Ok heap.new.state) (λ e. (filed_ranked heap.old.state keys.now set o x ≡ Err e) × (heap.new.state ≡ heap.old.state)) }
-    ensures touches { (heap.old.total ≤ heap.new.total) × (heap.new.total ≤ heap.old.total + 16 + passed heap.old.state (member_class heap.old.state.layout set) keys.now x (owned heap.old.state set o)) }
+    ensures touches { (heap.old.total ≤ heap.new.total) × (heap.new.total ≤ heap.old.total + 16 + members_passed heap.old.state (member_class heap.old.state.layout set) keys.now x (owned heap.old.state set o)) }
     ensures least { IsOk result → heap.old.total + 4 ≤ heap.new.total }
 {
     heap.sets_are_apart();
@@ -86,7 +86,7 @@ fn first_after(
     requires keys { AreFields heap.old.state.layout (member_class heap.old.state.layout set) keys.now }
     ensures found { MatchResult result (λ y. IsOk (owner heap.old.state set o) × (y ≡ first_after heap.old.state (member_class heap.old.state.layout set) keys.now x (owned heap.old.state set o))) (λ e. owner heap.old.state set o ≡ Err e) }
     ensures same { heap.new.state ≡ heap.old.state }
-    ensures touches { (heap.old.total ≤ heap.new.total) × (heap.new.total ≤ heap.old.total + 2 + passed heap.old.state (member_class heap.old.state.layout set) keys.now x (owned heap.old.state set o)) }
+    ensures touches { (heap.old.total ≤ heap.new.total) × (heap.new.total ≤ heap.old.total + 2 + members_passed heap.old.state (member_class heap.old.state.layout set) keys.now x (owned heap.old.state set o)) }
 {
     match keys.split_first() {
         Some((key, others)) => first_after_by(heap, *key, others, set, o, x),
@@ -110,7 +110,7 @@ fn first_after_by(
     requires keys { AreFields heap.old.state.layout (member_class heap.old.state.layout set) (key ∷ others.now) }
     ensures found { MatchResult result (λ y. IsOk (owner heap.old.state set o) × (y ≡ first_after heap.old.state (member_class heap.old.state.layout set) (key ∷ others.now) x (owned heap.old.state set o))) (λ e. owner heap.old.state set o ≡ Err e) }
     ensures same { heap.new.state ≡ heap.old.state }
-    ensures touches { (heap.old.total ≤ heap.new.total) × (heap.new.total ≤ heap.old.total + 2 + passed heap.old.state (member_class heap.old.state.layout set) (key ∷ others.now) x (owned heap.old.state set o)) }
+    ensures touches { (heap.old.total ≤ heap.new.total) × (heap.new.total ≤ heap.old.total + 2 + members_passed heap.old.state (member_class heap.old.state.layout set) (key ∷ others.now) x (owned heap.old.state set o)) }
 {
     let class = class_of(heap, set);
     match whole_of(heap, class, key.field, x) {
@@ -136,7 +136,7 @@ fn first_after_number(
     requires own { value_of heap.old.state (member_class heap.old.state.layout set) key.field x ≡ Value.Whole own }
     ensures found { MatchResult result (λ y. IsOk (owner heap.old.state set o) × (y ≡ first_after heap.old.state (member_class heap.old.state.layout set) (key ∷ []) x (owned heap.old.state set o))) (λ e. owner heap.old.state set o ≡ Err e) }
     ensures same { heap.new.state ≡ heap.old.state }
-    ensures touches { (heap.old.total ≤ heap.new.total) × (heap.new.total ≤ heap.old.total + 1 + passed heap.old.state (member_class heap.old.state.layout set) (key ∷ []) x (owned heap.old.state set o)) }
+    ensures touches { (heap.old.total ≤ heap.new.total) × (heap.new.total ≤ heap.old.total + 1 + members_passed heap.old.state (member_class heap.old.state.layout set) (key ∷ []) x (owned heap.old.state set o)) }
 {
     heap.sets_are_apart();
     match heap.first_past(set, o, key.field, own, key.high) {
@@ -162,7 +162,7 @@ fn first_after_whole(
     requires own { value_of heap.old.state (member_class heap.old.state.layout set) key.field x ≡ Value.Whole own }
     ensures found { MatchResult result (λ y. IsOk (owner heap.old.state set o) × (y ≡ first_after heap.old.state (member_class heap.old.state.layout set) (key ∷ others.now) x (owned heap.old.state set o))) (λ e. owner heap.old.state set o ≡ Err e) }
     ensures same { heap.new.state ≡ heap.old.state }
-    ensures touches { (heap.old.total ≤ heap.new.total) × (heap.new.total ≤ heap.old.total + 2 + passed heap.old.state (member_class heap.old.state.layout set) (key ∷ others.now) x (owned heap.old.state set o)) }
+    ensures touches { (heap.old.total ≤ heap.new.total) × (heap.new.total ≤ heap.old.total + 2 + members_passed heap.old.state (member_class heap.old.state.layout set) (key ∷ others.now) x (owned heap.old.state set o)) }
 {
     heap.sets_are_apart();
     let class = class_of(heap, set);
@@ -197,7 +197,7 @@ fn first_after_value(
     requires keys { AreFields heap.old.state.layout (member_class heap.old.state.layout set) (key ∷ others.now) }
     ensures found { MatchResult result (λ y. IsOk (owner heap.old.state set o) × (y ≡ first_after heap.old.state (member_class heap.old.state.layout set) (key ∷ others.now) x (owned heap.old.state set o))) (λ e. owner heap.old.state set o ≡ Err e) }
     ensures same { heap.new.state ≡ heap.old.state }
-    ensures touches { (heap.old.total ≤ heap.new.total) × (heap.new.total ≤ heap.old.total + 2 + passed heap.old.state (member_class heap.old.state.layout set) (key ∷ others.now) x (owned heap.old.state set o)) }
+    ensures touches { (heap.old.total ≤ heap.new.total) × (heap.new.total ≤ heap.old.total + 2 + members_passed heap.old.state (member_class heap.old.state.layout set) (key ∷ others.now) x (owned heap.old.state set o)) }
 {
     heap.sets_are_apart();
     let class = class_of(heap, set);

@@ -7,7 +7,7 @@ use Rattle.std.proofs.lemmas.List.{map-append}
 use Rattle.std.proofs.lemmas.List.Sums.{fold-append}
 use Rattle.ss_stats.specs.declared.totals.Weighing.{Weighing}
 use Rattle.ss_stats.specs.declared.totals.Weighing.TheVariants.{Once, ByTime}
-use Rattle.ss_stats.specs.History.{History, Tally, Accumulate, Change, tally_limit, last_of, last_moment, weighed_sum, exact_sum_of, maximum_of, minimum_of, note_outcome, with_value, restarted}
+use Rattle.ss_stats.specs.History.{History, Tally, Accumulate, Change, tally_limit, last_of, last_moment, weighed_sum, exact_sum_of, maximum_of, minimum_of, note_outcome, with_noted_value, restarted}
 use Rattle.ss_stats.specs.Summary.{Summary, IsSummaryOf, weighing_of, last_given}
 
 -- ---- which kind of history
@@ -53,13 +53,13 @@ fold-noted f start changes c =
 
 -- ---- a history that counts each value once
 
-pub once_noted : (h : History) (number now value : ℤ) → weighing_of h ≡ Once number → weighing_of (with_value h now value) ≡ Once (number +ℤ pos 1)
+pub once_noted : (h : History) (number now value : ℤ) → weighing_of h ≡ Once number → weighing_of (with_noted_value h now value) ≡ Once (number +ℤ pos 1)
 once_noted (Tally values) number now value e =
     let n : pos (length values) ≡ number = once_is _ _ e in
     let l : pos (length (values ++ (value ∷ []))) ≡ number +ℤ pos 1 = omega (arith, ints, length-append values (value ∷ [])) in ap Once l
 once_noted (Accumulate start changes) number now value e = absurd (not_both _ _ _ _ (sym e))
 
-pub once_sum_noted : (h : History) (number now value : ℤ) → weighing_of h ≡ Once number → exact_sum_of (with_value h now value) (last_moment (with_value h now value)) ≡ exact_sum_of h now +ℤ value
+pub once_sum_noted : (h : History) (number now value : ℤ) → weighing_of h ≡ Once number → exact_sum_of (with_noted_value h now value) (last_moment (with_noted_value h now value)) ≡ exact_sum_of h now +ℤ value
 once_sum_noted (Tally values) number now value e = fold-append ◌+ℤ◌ (pos 0) values (value ∷ [])
 once_sum_noted (Accumulate start changes) number now value e = absurd (not_both _ _ _ _ (sym e))
 
@@ -79,13 +79,13 @@ once_restarted (Accumulate start changes) number now value e = absurd (not_both 
 
 -- ---- a history that weighs each value by its time
 
-pub by_time_noted : (h : History) (start last held now value : ℤ) → weighing_of h ≡ ByTime start last held → weighing_of (with_value h now value) ≡ ByTime start now value
+pub by_time_noted : (h : History) (start last held now value : ℤ) → weighing_of h ≡ ByTime start last held → weighing_of (with_noted_value h now value) ≡ ByTime start now value
 by_time_noted (Tally values) start last held now value e = absurd (not_both _ _ _ _ e)
 by_time_noted (Accumulate first changes) start last held now value e =
     let p = by_time_is _ _ _ _ _ _ e in
     let l = last_of-append first changes (record { moment = now; value = value }) in rw l (ap (λ m. ByTime m now value) p.0)
 
-pub by_time_sum_noted : (h : History) (start last held now value : ℤ) → weighing_of h ≡ ByTime start last held → exact_sum_of (with_value h now value) (last_moment (with_value h now value)) ≡ exact_sum_of h now
+pub by_time_sum_noted : (h : History) (start last held now value : ℤ) → weighing_of h ≡ ByTime start last held → exact_sum_of (with_noted_value h now value) (last_moment (with_noted_value h now value)) ≡ exact_sum_of h now
 by_time_sum_noted (Tally values) start last held now value e = absurd (not_both _ _ _ _ e)
 by_time_sum_noted (Accumulate first changes) start last held now value e =
     let c : Change = record { moment = now; value = value } in
@@ -110,23 +110,23 @@ none_noted : (n : ℕ) → Once (pos (suc n)) ≡ Once (pos 0) → ⊥
 none_noted n e = cc
 
 -- the first value of a tally
-pub first_maximum : (h : History) (now value : ℤ) → weighing_of h ≡ Once (pos 0) → maximum_of (with_value h now value) ≡ value
+pub first_maximum : (h : History) (now value : ℤ) → weighing_of h ≡ Once (pos 0) → maximum_of (with_noted_value h now value) ≡ value
 first_maximum (Tally []) now value e = refl
 first_maximum (Tally (x ∷ xs)) now value e = absurd (none_noted (length xs) e)
 first_maximum (Accumulate start changes) now value e = absurd (not_both _ _ _ _ (sym e))
 
-pub first_minimum : (h : History) (now value : ℤ) → weighing_of h ≡ Once (pos 0) → minimum_of (with_value h now value) ≡ value
+pub first_minimum : (h : History) (now value : ℤ) → weighing_of h ≡ Once (pos 0) → minimum_of (with_noted_value h now value) ≡ value
 first_minimum (Tally []) now value e = refl
 first_minimum (Tally (x ∷ xs)) now value e = absurd (none_noted (length xs) e)
 first_minimum (Accumulate start changes) now value e = absurd (not_both _ _ _ _ (sym e))
 
 -- any other value
-pub next_maximum : (h : History) (now value : ℤ) → (weighing_of h ≡ Once (pos 0) → ⊥) → maximum_of (with_value h now value) ≡ int_max (maximum_of h) value
+pub next_maximum : (h : History) (now value : ℤ) → (weighing_of h ≡ Once (pos 0) → ⊥) → maximum_of (with_noted_value h now value) ≡ int_max (maximum_of h) value
 next_maximum (Tally []) now value some = absurd (some refl)
 next_maximum (Tally (x ∷ xs)) now value some = fold-append int_max x xs (value ∷ [])
 next_maximum (Accumulate start changes) now value some = fold-noted int_max start changes (record { moment = now; value = value })
 
-pub next_minimum : (h : History) (now value : ℤ) → (weighing_of h ≡ Once (pos 0) → ⊥) → minimum_of (with_value h now value) ≡ int_min (minimum_of h) value
+pub next_minimum : (h : History) (now value : ℤ) → (weighing_of h ≡ Once (pos 0) → ⊥) → minimum_of (with_noted_value h now value) ≡ int_min (minimum_of h) value
 next_minimum (Tally []) now value some = absurd (some refl)
 next_minimum (Tally (x ∷ xs)) now value some = fold-append int_min x xs (value ∷ [])
 next_minimum (Accumulate start changes) now value some = fold-noted int_min start changes (record { moment = now; value = value })

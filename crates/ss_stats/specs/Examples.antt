@@ -3,7 +3,7 @@ use Rattle.std.specs.Prelude.{◌≡◌, ◌^◌, ◌-◌, [], ◌∷◌, ℤ, p
 use Rattle.std.proofs.Common.{refl}
 use Rattle.ss_base.specs.declared.fault.FaultKind.TheVariants.{Overflow}
 use Rattle.ss_base.specs.Arithmetic.{in_64_bits}
-use Rattle.ss_stats.specs.History.{History, Tally, Accumulate, number_noted, sum_of, mean_of, maximum_of, minimum_of, with_value, restarted}
+use Rattle.ss_stats.specs.History.{History, Tally, Accumulate, number_noted, sum_of, mean_of, maximum_of, minimum_of, with_noted_value, restarted}
 
 -- a variable that is given 4, -2 and 7
 abbrev pub three_values : History
@@ -45,7 +45,7 @@ none-maximum = refl
 -- a variable that is 0 at first, at once 2, and 4 from moment 5 on
 abbrev pub two_changes : History
 two_changes =
-    with_value (with_value (Accumulate (record { moment = pos 0; value = pos 0 }) []) (pos 0) (pos 2)) (pos 5) (pos 4)
+    with_noted_value (with_noted_value (Accumulate (record { moment = pos 0; value = pos 0 }) []) (pos 0) (pos 2)) (pos 5) (pos 4)
 
 pub two_changes-number : number_noted two_changes (pos 10) ≡ pos 10
 two_changes-number = refl
@@ -95,6 +95,6 @@ pub too_large-mean : mean_of too_large (pos 0) ≡ two_to_63_of_two
 too_large-mean = refl
 
 -- with -5 after them it fits again
-pub large_again-sum : sum_of (with_value too_large (pos 0) (negsuc 4)) (pos 0) ≡ Ok (pos 9223372036854775803)
+pub large_again-sum : sum_of (with_noted_value too_large (pos 0) (negsuc 4)) (pos 0) ≡ Ok (pos 9223372036854775803)
 unfolding in_64_bits
 large_again-sum = refl

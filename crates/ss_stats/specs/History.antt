@@ -60,20 +60,20 @@ values_of (Tally values) = values
 values_of (Accumulate start changes) = start.value ∷ map (λ c. c.value) changes
 
 -- the greatest and the least of some values, 0 of none
-abbrev pub greatest : List ℤ → ℤ
-greatest [] = pos 0
-greatest (first ∷ later) = fold int_max first later
+abbrev pub greatest_of : List ℤ → ℤ
+greatest_of [] = pos 0
+greatest_of (first ∷ later) = fold int_max first later
 
-abbrev pub least : List ℤ → ℤ
-least [] = pos 0
-least (first ∷ later) = fold int_min first later
+abbrev pub least_of : List ℤ → ℤ
+least_of [] = pos 0
+least_of (first ∷ later) = fold int_min first later
 
 -- MAXIMUM and MINIMUM
 abbrev pub maximum_of : History → ℤ
-maximum_of history = greatest (values_of history)
+maximum_of history = greatest_of (values_of history)
 
 abbrev pub minimum_of : History → ℤ
-minimum_of history = least (values_of history)
+minimum_of history = least_of (values_of history)
 
 -- ---- what becomes of a history
 
@@ -91,9 +91,9 @@ abbrev pub note_outcome : History → Result ⊤ FaultKind
 note_outcome history = if is_full history then Err Overflow else Ok tt
 
 -- the history with one value more, given now
-abbrev pub with_value : History → ℤ → ℤ → History
-with_value (Tally values) now value = Tally (values ++ (value ∷ []))
-with_value (Accumulate start changes) now value =
+abbrev pub with_noted_value : History → ℤ → ℤ → History
+with_noted_value (Tally values) now value = Tally (values ++ (value ∷ []))
+with_noted_value (Accumulate start changes) now value =
     Accumulate start (changes ++ (record { moment = now; value = value } ∷ []))
 
 -- the history afresh, from now and with the present value

@@ -1,5 +1,5 @@
 ghost use Rattle.std.specs.Prelude.{◌≡◌, ◌↔◌, ◌^◌, ℤ, pos, neg_ℤ, ◌*ℤ◌, ◌≤ℤ◌, [], OnOk, OnErr, IsTrue};
-ghost use Rattle.ss_stats.specs.History.{History, Tally, Accumulate, number_noted, sum_of, exact_sum_of, mean_of, maximum_of, minimum_of, note_outcome, with_value, restarted};
+ghost use Rattle.ss_stats.specs.History.{History, Tally, Accumulate, number_noted, sum_of, exact_sum_of, mean_of, maximum_of, minimum_of, note_outcome, with_noted_value, restarted};
 ghost use Rattle.ss_stats.specs.Summary.{IsSummaryOf, times_until};
 ghost use Rattle.ss_stats.specs.declared.totals.Weighing.TheVariants.{Once};
 
@@ -87,7 +87,7 @@ impl Totals {
     /// as they were.
     pub fn note(&mut self, now: i64, value: i64) -> Result<(), FaultKind>
         requires { self.old.last_moment ≤ℤ now }
-        ensures noted { (h : History) → IsSummaryOf self.old h → OnOk result (IsSummaryOf self.new (with_value h now value)) }
+        ensures noted { (h : History) → IsSummaryOf self.old h → OnOk result (IsSummaryOf self.new (with_noted_value h now value)) }
         ensures outcome { (h : History) → IsSummaryOf self.old h → result ≡ note_outcome h }
         ensures unchanged { OnErr result (self.new ≡ self.old) }
         ensures moment { self.new.last_moment ≤ℤ now }
@@ -222,8 +222,8 @@ impl Totals {
 
     /// The greatest and the least value, once this one is noted.
     fn extremes_with(&self, value: i64) -> (i64, i64)
-        ensures maximum { (h : History) (now : ℤ) → IsSummaryOf self.now h → result.0 ≡ maximum_of (with_value h now value) }
-        ensures minimum { (h : History) (now : ℤ) → IsSummaryOf self.now h → result.1 ≡ minimum_of (with_value h now value) }
+        ensures maximum { (h : History) (now : ℤ) → IsSummaryOf self.now h → result.0 ≡ maximum_of (with_noted_value h now value) }
+        ensures minimum { (h : History) (now : ℤ) → IsSummaryOf self.now h → result.1 ≡ minimum_of (with_noted_value h now value) }
     {
         if self.is_empty() {
             (value, value)

@@ -10,7 +10,7 @@ use Rattle.ss_base.specs.declared.layout.Owner.{Owner}
 use Rattle.ss_base.specs.declared.layout.Layout.{Layout}
 use Rattle.ss_program.specs.declared.sections.Weighting.{Weighting}
 use Rattle.ss_program.specs.declared.sections.Weighting.TheVariants as weightings
-use Rattle.ss_stats.specs.History.{History, Tally, Accumulate, Change, last_of, last_moment, is_full, with_value, restarted}
+use Rattle.ss_stats.specs.History.{History, Tally, Accumulate, Change, last_of, last_moment, is_full, with_noted_value, restarted}
 use Rattle.ss_meaning.specs.Store.{Column}
 use Rattle.ss_meaning.specs.Histories.{at_start, begun_in, ended_in}
 use Rattle.ss_stats_histories.specs.Records.{Recorded, IsUntil, noted_to, noted_value, noted_column, renewed_to, renewed_column, statistics_of, rooms_of, HasRooms, is_up_to}
@@ -50,11 +50,11 @@ last_noted : (start : Change) (changes : List Change) (now value : ℤ) → (las
 last_noted start [] now value = refl
 last_noted start (c ∷ changes) now value = last_noted c changes now value
 
-value_until : (h : History) (now value : ℤ) → last_moment h ≤ℤ now → last_moment (with_value h now value) ≤ℤ now
+value_until : (h : History) (now value : ℤ) → last_moment h ≤ℤ now → last_moment (with_noted_value h now value) ≤ℤ now
 value_until (Tally values) now value l = l
 value_until (Accumulate start changes) now value l = omega (arith, ints, last_noted start changes now value)
 
-noted_until : (b : Bool) (h : History) (now value : ℤ) → last_moment h ≤ℤ now → last_moment (cond b h (with_value h now value)) ≤ℤ now
+noted_until : (b : Bool) (h : History) (now value : ℤ) → last_moment h ≤ℤ now → last_moment (cond b h (with_noted_value h now value)) ≤ℤ now
 noted_until true h now value l = l
 noted_until false h now value l = value_until h now value l
 

@@ -10,7 +10,7 @@ use Rattle.ss_base.specs.declared.value.Value.TheVariants.{Whole, Text}
 use Rattle.ss_base.specs.declared.layout.Owner.{Owner}
 use Rattle.ss_base.specs.declared.layout.Owner.TheVariants.{Class}
 use Rattle.ss_base.specs.declared.layout.Layout.{Layout}
-use Rattle.ss_stats.specs.History.{History, mean_of, is_full, with_value, restarted}
+use Rattle.ss_stats.specs.History.{History, mean_of, is_full, with_noted_value, restarted}
 use Rattle.ss_program.specs.declared.sections.Subject.{Subject}
 use Rattle.ss_program.specs.declared.sections.Statistic.{Statistic}
 use Rattle.ss_meaning.specs.Values.{Trouble, Misfit, if_ok, turned, due, sure, unless_fault}
@@ -19,7 +19,7 @@ use Rattle.ss_meaning.specs.Histories.{starting, ending, noting_in, all_noting, 
 use Rattle.ss_stats_histories.specs.declared.unnoted.Unnoted.{Unnoted}
 use Rattle.ss_stats_histories.specs.declared.unnoted.Unnoted.TheVariants.{Full}
 use Rattle.ss_stats_histories.specs.declared.unnoted.Unnoted.TheVariants as unnoted
-use Rattle.ss_stats_histories.specs.Places.{places, is_about, has_some}
+use Rattle.ss_stats_histories.specs.Places.{places_where, is_about, has_some}
 use Rattle.ss_stats_histories.specs.Records.{Records, Recorded, Rows, column_of, columns_of, statistics_of, rows_of, rooms_of, noted_to, renewed_to, figure_of, figured, mean_in, why}
 use Rattle.ss_stats_histories.specs.Each.{Shown, shown, bare, begun_shown, ended_shown, noted_by, renewed_one, changed_at, refused_in, refused_at, stops_at, first_at, has_at}
 use Rattle.ss_stats_histories.proofs.Columns.{head_of, tail_of, not_none, joined}
@@ -69,11 +69,11 @@ one_step : {X : Type 0} → (f : X → X) (b : Bool) (x : X) (xs : List X) (ps :
 one_step f true x xs ps = shifted f (f x) xs ps
 one_step f false x xs ps = shifted f x xs ps
 
-pub all_changed : {X : Type 0} → (f : X → X) (test : X → Bool) (xs : List X) → fold (changed_at f) xs (places test xs) ≡ map (λ x. if test x then f x else x) xs
+pub all_changed : {X : Type 0} → (f : X → X) (test : X → Bool) (xs : List X) → fold (changed_at f) xs (places_where test xs) ≡ map (λ x. if test x then f x else x) xs
 all_changed f test [] = refl
-all_changed f test (x ∷ xs) = one_step f (test x) x xs (places test xs) ∙ ap (λ ys. (if test x then f x else x) ∷ ys) (all_changed f test xs)
+all_changed f test (x ∷ xs) = one_step f (test x) x xs (places_where test xs) ∙ ap (λ ys. (if test x then f x else x) ∷ ys) (all_changed f test xs)
 
-pub places_of : {X Y : Type 0} → (g : X → Y) (test : Y → Bool) (xs : List X) → places test (map g xs) ≡ places (λ x. test (g x)) xs
+pub places_of : {X Y : Type 0} → (g : X → Y) (test : Y → Bool) (xs : List X) → places_where test (map g xs) ≡ places_where (λ x. test (g x)) xs
 places_of g test [] = refl
 places_of g test (x ∷ xs) = ap (λ (ps : List ℕ). if test (g x) then 0 ∷ map suc ps else map suc ps) (places_of g test xs)
 
@@ -112,10 +112,10 @@ stops_step x true v z zs ps =
     ap (λ (o : Option Unnoted). option_or o (first_at (stops_at v x (z ∷ zs)) (map suc ps))) (stops_first x v z zs) ∙ ap (option_or (stops_in v (z.1 x))) (stops_shifted x v z zs ps)
 stops_step x false v z zs ps = stops_shifted x v z zs ps
 
-pub stops_places : (s : Subject) (x : ℤ) (v : Value) (zs : List Shown) → first_at (stops_at v x zs) (places (λ z. is_about s z.0) zs) ≡ first_stopped s x v zs
+pub stops_places : (s : Subject) (x : ℤ) (v : Value) (zs : List Shown) → first_at (stops_at v x zs) (places_where (λ z. is_about s z.0) zs) ≡ first_stopped s x v zs
 stops_places s x v [] = refl
 stops_places s x v (z ∷ zs) =
-    stops_step x (is_about s z.0) v z zs (places (λ z. is_about s z.0) zs) ∙ ap (option_or (stopped s x v z)) (stops_places s x v zs)
+    stops_step x (is_about s z.0) v z zs (places_where (λ z. is_about s z.0) zs) ∙ ap (option_or (stopped s x v z)) (stops_places s x v zs)
 
 -- ## What noting changes
 
@@ -125,7 +125,7 @@ unless None a = Ok a
 unless (Some e) a = Err (why e)
 
 kept_or_full : (b : Bool) (x now v : ℤ) (h : History) (c : Column) →
-    unless_fault b Overflow (Ok (with_history x (with_value h now v) c)) ≡ unless (if b then Some Full else None) (with_history x (if b then h else with_value h now v) c)
+    unless_fault b Overflow (Ok (with_history x (with_noted_value h now v) c)) ≡ unless (if b then Some Full else None) (with_history x (if b then h else with_noted_value h now v) c)
 kept_or_full true x now v h c = refl
 kept_or_full false x now v h c = refl
 
@@ -173,9 +173,9 @@ some_step true ps = refl
 some_step false [] = refl
 some_step false (p ∷ ps) = refl
 
-pub some_about : {X : Type 0} → (test : X → Bool) (xs : List X) → has_some (places test xs) ≡ list_any test xs
+pub some_about : {X : Type 0} → (test : X → Bool) (xs : List X) → has_some (places_where test xs) ≡ list_any test xs
 some_about test [] = refl
-some_about test (x ∷ xs) = some_step (test x) (places test xs) ∙ ap (λ (b : Bool). test x || b) (some_about test xs)
+some_about test (x ∷ xs) = some_step (test x) (places_where test xs) ∙ ap (λ (b : Bool). test x || b) (some_about test xs)
 
 -- ## What starting afresh changes
 
@@ -238,31 +238,31 @@ one_within true ps n a zero d h = omega arith
 one_within true ps n a (suc k) d h = suc_within ps n a k d (omega (arith, h))
 one_within false ps n a k d h = suc_within ps n a k d h
 
-places_within : {X : Type 0} → (test : X → Bool) (xs : List X) → All (λ j. j < length xs) (places test xs)
+places_within : {X : Type 0} → (test : X → Bool) (xs : List X) → All (λ j. j < length xs) (places_where test xs)
 places_within test [] k d h = absurd (omega (arith, h))
-places_within test (x ∷ xs) k d h = one_within (test x) (places test xs) (length xs) (places_within test xs) k d h
+places_within test (x ∷ xs) k d h = one_within (test x) (places_where test xs) (length xs) (places_within test xs) k d h
 
-pub places_known : (s : Subject) (ks : List Recorded) (about : List Statistic) (ps : List ℕ) → about ≡ statistics_of ks → ps ≡ places (is_about s) about →
-    ps ≡ places (λ (z : Shown). is_about s z.0) (map shown ks)
+pub places_known : (s : Subject) (ks : List Recorded) (about : List Statistic) (ps : List ℕ) → about ≡ statistics_of ks → ps ≡ places_where (is_about s) about →
+    ps ≡ places_where (λ (z : Shown). is_about s z.0) (map shown ks)
 places_known s ks about ps a p =
-    p ∙ ap (places (is_about s)) a ∙ places_of (λ (k : Recorded). k.statistic) (is_about s) ks ∙ sym (places_of shown (λ (z : Shown). is_about s z.0) ks)
+    p ∙ ap (places_where (is_about s)) a ∙ places_of (λ (k : Recorded). k.statistic) (is_about s) ks ∙ sym (places_of shown (λ (z : Shown). is_about s z.0) ks)
 
-pub within_known : (s : Subject) (ks : List Recorded) (about : List Statistic) (ps : List ℕ) → about ≡ statistics_of ks → ps ≡ places (is_about s) about → All (λ j. j < length ks) ps
+pub within_known : (s : Subject) (ks : List Recorded) (about : List Statistic) (ps : List ℕ) → about ≡ statistics_of ks → ps ≡ places_where (is_about s) about → All (λ j. j < length ks) ps
 within_known s ks about ps a p =
-    subst (λ (qs : List ℕ). All (λ j. j < length ks) qs) (sym (p ∙ ap (places (is_about s)) a ∙ places_of (λ (k : Recorded). k.statistic) (is_about s) ks)) (places_within (λ (k : Recorded). is_about s k.statistic) ks)
+    subst (λ (qs : List ℕ). All (λ j. j < length ks) qs) (sym (p ∙ ap (places_where (is_about s)) a ∙ places_of (λ (k : Recorded). k.statistic) (is_about s) ks)) (places_within (λ (k : Recorded). is_about s k.statistic) ks)
 
-pub stops_known : (s : Subject) (x : ℤ) (v : Value) (ks : List Recorded) (about : List Statistic) (ps : List ℕ) (o : Option Unnoted) → about ≡ statistics_of ks → ps ≡ places (is_about s) about →
+pub stops_known : (s : Subject) (x : ℤ) (v : Value) (ks : List Recorded) (about : List Statistic) (ps : List ℕ) (o : Option Unnoted) → about ≡ statistics_of ks → ps ≡ places_where (is_about s) about →
     first_at (stops_at v x (map shown ks)) ps ≡ o → first_stopped s x v (map shown ks) ≡ o
 stops_known s x v ks about ps o a p e =
     sym (stops_places s x v (map shown ks)) ∙ ap (first_at (stops_at v x (map shown ks))) (sym (places_known s ks about ps a p)) ∙ e
 
-pub noted_known : (s : Subject) (x now : ℤ) (v : Value) (ks ns : List Recorded) (about : List Statistic) (ps : List ℕ) → about ≡ statistics_of ks → ps ≡ places (is_about s) about →
+pub noted_known : (s : Subject) (x now : ℤ) (v : Value) (ks ns : List Recorded) (about : List Statistic) (ps : List ℕ) → about ≡ statistics_of ks → ps ≡ places_where (is_about s) about →
     map shown ns ≡ fold (changed_at (noted_by x now v)) (map shown ks) ps → map shown ns ≡ map (noted_where s x now v) (map shown ks)
 noted_known s x now v ks ns about ps a p e =
     e ∙ ap (fold (changed_at (noted_by x now v)) (map shown ks)) (places_known s ks about ps a p) ∙ all_changed (noted_by x now v) (λ (z : Shown). is_about s z.0) (map shown ks)
 
-pub about_known : (s : Subject) (ks : List Recorded) (about : List Statistic) (ps : List ℕ) → about ≡ statistics_of ks → ps ≡ places (is_about s) about → ps ≡ places (is_about s) (statistics_of ks)
-about_known s ks about ps a p = p ∙ ap (places (is_about s)) a
+pub about_known : (s : Subject) (ks : List Recorded) (about : List Statistic) (ps : List ℕ) → about ≡ statistics_of ks → ps ≡ places_where (is_about s) about → ps ≡ places_where (is_about s) (statistics_of ks)
+about_known s ks about ps a p = p ∙ ap (places_where (is_about s)) a
 
 -- what noting ensures of the statistics and a moment, as records have it
 pub or_as_before : (s : Subject) (x now : ℤ) (v : Value) (ks ns : List Recorded) (latest later : ℤ) (r : Records) (result : Result Unit Unnoted) → records_of ks latest ≡ r →

@@ -7,7 +7,7 @@ use Rattle.ss_meaning.specs.Values.{Trouble}
 use Rattle.ss_meaning.specs.Store.{Column}
 use Rattle.ss_meaning.specs.Histories.{all_noting}
 use Rattle.ss_stats_histories.specs.declared.unnoted.Unnoted.{Unnoted}
-use Rattle.ss_stats_histories.specs.Places.{places, is_about}
+use Rattle.ss_stats_histories.specs.Places.{places_where, is_about}
 use Rattle.ss_stats_histories.specs.Records.{Records, Recorded, columns_of, statistics_of, rows_of, IsOnly, Takes}
 use Rattle.ss_stats_histories.specs.Each.{Shown, shown, noted_one, changed_at, refused_at, stops_at, first_at}
 use Rattle.ss_stats_histories.proofs.Fullness.{or_none}
@@ -15,7 +15,7 @@ use Rattle.ss_stats_histories.proofs.Noted.{records_of, unless, first_stopped, n
 
 -- ## Whatever number is noted
 
-pub taking_when : (set place : ℕ) (x now : ℤ) (ks : List Recorded) (about : List Statistic) (ps : List ℕ) (latest : ℤ) (r : Records) → about ≡ statistics_of ks → ps ≡ places (is_about (OfCount set)) about → ps ≡ place ∷ [] →
+pub taking_when : (set place : ℕ) (x now : ℤ) (ks : List Recorded) (about : List Statistic) (ps : List ℕ) (latest : ℤ) (r : Records) → about ≡ statistics_of ks → ps ≡ places_where (is_about (OfCount set)) about → ps ≡ place ∷ [] →
     refused_at x (map shown ks) place ≡ None → records_of ks latest ≡ r → IsOnly set place r.statistics × Takes (OfCount set) x now r.statistics (columns_of r.rows)
 taking_when set place x now ks about ps latest r a p one free same =
     subst (λ (r : Records). IsOnly set place r.statistics × Takes (OfCount set) x now r.statistics (columns_of r.rows)) same
@@ -35,7 +35,7 @@ place_within ks ps place w one = (subst (λ (qs : List ℕ). All (λ j. j < leng
 pub only_within : (set place : ℕ) (ks : List Recorded) (latest : ℤ) (r : Records) → records_of ks latest ≡ r → IsOnly set place r.statistics → place < length ks
 only_within set place ks latest r same only =
     let here : IsOnly set place (statistics_of ks) = subst (λ (r : Records). IsOnly set place r.statistics) (sym same) only in
-    place_within ks (places (is_about (OfCount set)) (statistics_of ks)) place (within_known (OfCount set) ks (statistics_of ks) (places (is_about (OfCount set)) (statistics_of ks)) refl refl) here
+    place_within ks (places_where (is_about (OfCount set)) (statistics_of ks)) place (within_known (OfCount set) ks (statistics_of ks) (places_where (is_about (OfCount set)) (statistics_of ks)) refl refl) here
 
 -- ## Noting it
 

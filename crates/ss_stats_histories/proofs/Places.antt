@@ -1,7 +1,7 @@
 -- Where items that pass a test are in a longer list.
 use Rattle.std.proofs.Common.{◌≡◌, ℕ, suc, Bool, true, false, ◌<◌, ◌+◌, ◌∙◌, sym, ap, if◌then◌else◌, List, [], ◌∷◌, ◌++◌, length, map, take, get_or, refl, arith}
 use Rattle.std.proofs.lemmas.List.{map-append, take_more, length-take-le}
-use Rattle.ss_stats_histories.specs.Places.{places}
+use Rattle.ss_stats_histories.specs.Places.{places_where}
 
 abbrev pub with_place : Bool → List ℕ → ℕ → List ℕ
 with_place b ps n = if b then ps ++ n ∷ [] else ps
@@ -17,16 +17,16 @@ alone : (b : Bool) → (if b then 0 ∷ [] else []) ≡ with_place b [] 0
 alone true = refl
 alone false = refl
 
-pub one_place : {X : Type 0} → (test : X → Bool) → (xs : List X) (x : X) → places test (xs ++ x ∷ []) ≡ with_place (test x) (places test xs) (length xs)
+pub one_place : {X : Type 0} → (test : X → Bool) → (xs : List X) (x : X) → places_where test (xs ++ x ∷ []) ≡ with_place (test x) (places_where test xs) (length xs)
 one_place test [] x = alone (test x)
-one_place test (y ∷ xs) x = one_later (test x) (test y) (places test xs) _ (length xs) (one_place test xs x)
+one_place test (y ∷ xs) x = one_later (test x) (test y) (places_where test xs) _ (length xs) (one_place test xs x)
 
 -- one item more of a list
 pub placed_more : {X : Type 0} → (test : X → Bool) (xs : List X) (i : ℕ) (d : X) → i < length xs →
-    places test (take (i + 1) xs) ≡ with_place (test (get_or xs i d)) (places test (take i xs)) i
+    places_where test (take (i + 1) xs) ≡ with_place (test (get_or xs i d)) (places_where test (take i xs)) i
 placed_more test xs i d h =
-    ap (places test) (take_more xs i d h) ∙ one_place test (take i xs) (get_or xs i d) ∙ ap (λ n. with_place (test (get_or xs i d)) (places test (take i xs)) n) (length-take-le i xs (omega arith))
+    ap (places_where test) (take_more xs i d h) ∙ one_place test (take i xs) (get_or xs i d) ∙ ap (λ n. with_place (test (get_or xs i d)) (places_where test (take i xs)) n) (length-take-le i xs (omega arith))
 
-pub next_place : {X : Type 0} → (test : X → Bool) (xs : List X) (i : ℕ) (d : X) (before now : List ℕ) → i < length xs → before ≡ places test (take i xs) →
-    now ≡ with_place (test (get_or xs i d)) before i → now ≡ places test (take (i + 1) xs)
+pub next_place : {X : Type 0} → (test : X → Bool) (xs : List X) (i : ℕ) (d : X) (before now : List ℕ) → i < length xs → before ≡ places_where test (take i xs) →
+    now ≡ with_place (test (get_or xs i d)) before i → now ≡ places_where test (take (i + 1) xs)
 next_place test xs i d before now h e n = n ∙ ap (λ (r : List ℕ). with_place (test (get_or xs i d)) r i) e ∙ sym (placed_more test xs i d h)

@@ -6,17 +6,17 @@ use Rattle.ss_program.specs.declared.sections.Statistic.{Statistic}
 use Rattle.ss_meaning.specs.Histories.{same_subject}
 
 -- a row of a table, which is empty beyond its end
-abbrev pub row_in : Option (List ℕ) → List ℕ
-row_in None = []
-row_in (Some row) = row
+abbrev pub row_or_empty : Option (List ℕ) → List ℕ
+row_or_empty None = []
+row_or_empty (Some row) = row
 
 abbrev pub row_at : List (List ℕ) → ℕ → List ℕ
-row_at rows k = row_in (slice_get rows k)
+row_at rows k = row_or_empty (slice_get rows k)
 
 -- the places in a list of the items that pass a test
-abbrev pub places : {X : Type 0} → (X → Bool) → List X → List ℕ
-places test [] = []
-places test (x ∷ xs) = if test x then 0 ∷ map suc (places test xs) else map suc (places test xs)
+abbrev pub places_where : {X : Type 0} → (X → Bool) → List X → List ℕ
+places_where test [] = []
+places_where test (x ∷ xs) = if test x then 0 ∷ map suc (places_where test xs) else map suc (places_where test xs)
 
 -- whether a statistic is about a subject
 abbrev pub is_about : Subject → Statistic → Bool

@@ -14,11 +14,12 @@ use Rattle.ss_program.specs.declared.expression.Fold.TheVariants.{Number, Sum, M
 use Rattle.ss_program.specs.declared.sections.Subject.{Subject}
 use Rattle.ss_program.specs.declared.sections.Subject.TheVariants.{OfCount}
 use Rattle.ss_program.specs.declared.sections.Statistic.{Statistic}
-use Rattle.ss_stats.specs.History.{History, last_moment, number_noted, sum_of, mean_of, maximum_of, minimum_of, is_full, with_value, restarted}
+use Rattle.ss_stats.specs.History.{History, last_moment, number_noted, sum_of, mean_of, maximum_of, minimum_of, is_full, with_noted_value, restarted}
 use Rattle.ss_meaning.specs.Values.{Trouble, Fails, Misfit, turned, due}
 use Rattle.ss_meaning.specs.Store.{Column}
-use Rattle.ss_meaning.specs.Histories.{history_of_subject, with_history, all_noting, home, same_owner, starting, ending}
-use Rattle.ss_stats_histories.specs.Places.{places, is_about}
+use Rattle.ss_base.specs.Layout.{same_owner}
+use Rattle.ss_meaning.specs.Histories.{history_of_subject, with_history, all_noting, home, starting, ending}
+use Rattle.ss_stats_histories.specs.Places.{places_where, is_about}
 use Rattle.ss_stats_histories.specs.declared.unnoted.Unnoted.{Unnoted}
 use Rattle.ss_stats_histories.specs.declared.unnoted.Unnoted.TheVariants.{Full}
 use Rattle.ss_stats_histories.specs.declared.unnoted.Unnoted.TheVariants as unnoted
@@ -69,7 +70,7 @@ pub record Recorded : Type 0 where
 
 -- a history with one value more, unless it is full
 abbrev pub noted_value : (now value : ℤ) → History → History
-noted_value now z h = if is_full h then h else with_value h now z
+noted_value now z h = if is_full h then h else with_noted_value h now z
 
 -- histories of which that of an entity has one value more, where there is one that isn't full
 abbrev pub noted_to : (entity now value : ℤ) → Option History → Column → Column
@@ -111,7 +112,7 @@ abbrev pub OwnsNone : Layout → (class : ℕ) → Type 0
 OwnsNone l class = (set : ℕ) → home l (OfCount set) ≡ Class class → ⊥
 
 -- the entities of a class have no history: there is room for any number of them, and none starts or ends
-pub record Spares (l : Layout) (class : ℕ) (r : Records) : Type 0 where
+pub record HasNoHistories (l : Layout) (class : ℕ) (r : Records) : Type 0 where
   pub rooms : (count : ℤ) → HasRooms l (Class class) count r.statistics r.room
   pub starts : (here : ℤ → Bool) (now : ℤ) → starting l (Class class) here now r.statistics (columns_of r.rows) ≡ columns_of r.rows
   pub ends : (entity : ℤ) → ending l class entity r.statistics (columns_of r.rows) ≡ columns_of r.rows
@@ -147,7 +148,7 @@ Takes subject x now ss cs = (n : ℤ) → (ds : List Column) × (all_noting subj
 
 -- the statistic at a place is the only one of N. of a set
 abbrev pub IsOnly : (set place : ℕ) → List Statistic → Type 0
-IsOnly set place ss = places (is_about (OfCount set)) ss ≡ place ∷ []
+IsOnly set place ss = places_where (is_about (OfCount set)) ss ≡ place ∷ []
 
 -- why a value is not noted
 abbrev pub why : Unnoted → Trouble

@@ -4,7 +4,7 @@ ghost use Rattle.std.specs.Prelude.{◌≡◌, ℕ, true, ◌++◌, ◌∷◌, [
 ghost use Rattle.ss_meaning.specs.Histories.{same_subject};
 ghost use Rattle.ss_program.specs.declared.sections.Subject.{Subject as TheSubject};
 ghost use Rattle.ss_program.specs.declared.sections.Subject.TheVariants.{OfAttribute, OfCount};
-ghost use Rattle.ss_stats_histories.specs.Places.{places, is_about, place_found};
+ghost use Rattle.ss_stats_histories.specs.Places.{places_where, is_about, place_found};
 
 use crate::table::{Grid, Table};
 use ss_program::sections::{Statistic, Subject};
@@ -94,13 +94,13 @@ impl Model for About {
     ghost use Rattle.std.specs.Prelude.{◌≡◌, List};
     ghost use Rattle.ss_program.specs.declared.sections.Statistic.{Statistic};
     ghost use Rattle.ss_program.specs.declared.sections.Subject.{Subject};
-    ghost use Rattle.ss_stats_histories.specs.Places.{places, is_about, place_found};
+    ghost use Rattle.ss_stats_histories.specs.Places.{places_where, is_about, place_found};
 
     ghost Value = { List Statistic };
 
     ghost view = { λ a. a.statistics.items };
 
-    ghost invariant = { λ a. (s : Subject) → place_found s a.tables.variables a.tables.attributes a.tables.sets ≡ places (is_about s) a.statistics.items };
+    ghost invariant = { λ a. (s : Subject) → place_found s a.tables.variables a.tables.attributes a.tables.sets ≡ places_where (is_about s) a.statistics.items };
 }
 
 impl About {
@@ -119,7 +119,7 @@ impl About {
     /// The places of the statistics of a subject.
     #[inline(always)]
     pub(crate) fn places(&self, subject: Subject) -> &[usize]
-        ensures { result.now ≡ places (is_about subject) self.now }
+        ensures { result.now ≡ places_where (is_about subject) self.now }
     {
         self.tables.at(subject)
     }
@@ -127,7 +127,7 @@ impl About {
     /// The places of the statistics of an attribute of a class.
     #[inline(always)]
     pub(crate) fn attribute_places(&self, class: usize, field: usize) -> &[usize]
-        ensures { result.now ≡ places (is_about (OfAttribute class field)) self.now }
+        ensures { result.now ≡ places_where (is_about (OfAttribute class field)) self.now }
     {
         self.tables.at_attribute(class, field)
     }
@@ -135,7 +135,7 @@ impl About {
     /// The places of the statistics of N. of a set.
     #[inline(always)]
     pub(crate) fn count_places(&self, set: usize) -> &[usize]
-        ensures { result.now ≡ places (is_about (OfCount set)) self.now }
+        ensures { result.now ≡ places_where (is_about (OfCount set)) self.now }
     {
         self.tables.at_count(set)
     }
@@ -143,7 +143,7 @@ impl About {
     /// Whether no statistic is about an attribute.
     #[inline(always)]
     pub(crate) fn has_no_attributes(&self) -> bool
-        ensures { result ≡ true → (class field : ℕ) → places (is_about (OfAttribute class field)) self.now ≡ [] }
+        ensures { result ≡ true → (class field : ℕ) → places_where (is_about (OfAttribute class field)) self.now ≡ [] }
     {
         self.tables.has_no_attributes()
     }
@@ -151,7 +151,7 @@ impl About {
 
 // The places of the statistics of each subject.
 fn tables_of(alloc: Global, statistics: &[Statistic]) -> Result<Tables, AllocError>
-    ensures { IfOk result (λ t. (s : TheSubject) → place_found s t.variables t.attributes t.sets ≡ places (is_about s) statistics.now) }
+    ensures { IfOk result (λ t. (s : TheSubject) → place_found s t.variables t.attributes t.sets ≡ places_where (is_about s) statistics.now) }
 {
     let mut tables = Tables::new(alloc);
     for (place, statistic) in statistics.iter().enumerate() {

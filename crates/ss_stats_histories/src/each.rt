@@ -4,7 +4,8 @@ ghost use Rattle.std.specs.Prelude.{◌≡◌, ◌<◌, [], ◌∷◌, true, fal
 ghost use Rattle.std.specs.List.{All};
 ghost use Rattle.std.specs.Ordering.{int_eq};
 ghost use Rattle.ss_base.specs.declared.value.Value.TheVariants.{Whole};
-ghost use Rattle.ss_meaning.specs.Histories.{same_owner, home};
+ghost use Rattle.ss_base.specs.Layout.{same_owner};
+ghost use Rattle.ss_meaning.specs.Histories.{home};
 ghost use Rattle.ss_stats_histories.specs.Each.{shown, bare, KeptUntil, HasRoom, begun_shown, ended_shown, noted_one, noted_by, renewed_one, changed_at, refused_at, stops_at, first_at, has_at};
 ghost use Rattle.ss_stats_histories.specs.Places.{has_some};
 ghost use Rattle.ss_stats_histories.specs.Records.{statistics_of, rows_of, none_in, is_home, is_up_to};

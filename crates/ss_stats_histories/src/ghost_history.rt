@@ -1,7 +1,7 @@
 // The history of which totals are the summary, for contracts alone.
 ghost use Rattle.std.specs.Prelude.{◌≡◌, []};
 ghost use base.Fml.{ftrue};
-ghost use Rattle.ss_stats.specs.History.{History, Tally, Accumulate, with_value, restarted};
+ghost use Rattle.ss_stats.specs.History.{History, Tally, Accumulate, with_noted_value, restarted};
 
 use std::marker::Model;
 
@@ -32,7 +32,7 @@ impl GhostHistory {
 
     /// The history gets one value more.
     pub(crate) fn note(&mut self, now: i64, value: i64)
-        ensures { self.new.history ≡ with_value self.old.history now value }
+        ensures { self.new.history ≡ with_noted_value self.old.history now value }
     {}
 
     /// The history starts afresh.

@@ -15,9 +15,9 @@ ghost use Rattle.ss_program.specs.declared.sections.Subject.TheVariants.{OfVaria
 ghost use Rattle.ss_picture.specs.Suited.{IsMean};
 ghost use Rattle.ss_meaning.specs.Values.{if_ok, sure};
 ghost use Rattle.ss_meaning.specs.Histories.{no_histories, starting, ending, all_noting, history_of_subject, folded, renewed};
-ghost use Rattle.ss_stats_histories.specs.Records.{columns_of, statistics_of, rows_of, figured, mean_in, HasRooms, IsOnly, OwnsNone, Spares, Takes, is_up_to, why, renewed_where};
+ghost use Rattle.ss_stats_histories.specs.Records.{columns_of, statistics_of, rows_of, figured, mean_in, HasRooms, IsOnly, OwnsNone, HasNoHistories, Takes, is_up_to, why, renewed_where};
 ghost use Rattle.ss_stats_histories.specs.Each.{KeptUntil};
-ghost use Rattle.ss_stats_histories.specs.Places.{is_about, places as places_of};
+ghost use Rattle.ss_stats_histories.specs.Places.{is_about, places_where as places_of};
 
 use crate::about::About;
 use crate::each;
@@ -136,7 +136,7 @@ impl Histories {
     /// Whether no statistic is kept of an attribute: then the entities of a class that owns no set have no history.
     #[inline(always)]
     pub fn spares_setless(&self) -> bool
-        ensures { result ≡ true → (l : TheLayout) (class : ℕ) → OwnsNone l class → Spares l class self.now }
+        ensures { result ≡ true → (l : TheLayout) (class : ℕ) → OwnsNone l class → HasNoHistories l class self.now }
     {
         let _kept = &self.kept;
         self.about.has_no_attributes()

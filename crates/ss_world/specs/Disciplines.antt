@@ -75,9 +75,9 @@ FitsMembers l s Lifo = Unit {0}
 FitsMembers l s (Ranked ks) = AreFields l (member_class l s) ks
 
 -- how many members x passes
-abbrev pub passed : State → ℕ → List RankKey → ℤ → List ℕ → ℕ
-passed st c ks x [] = 0
-passed st c ks x (y ∷ ys) = cond (ranks_after st c ks (pos y) x) 0 (suc (passed st c ks x ys))
+abbrev pub members_passed : State → ℕ → List RankKey → ℤ → List ℕ → ℕ
+members_passed st c ks x [] = 0
+members_passed st c ks x (y ∷ ys) = cond (ranks_after st c ks (pos y) x) 0 (suc (members_passed st c ks x ys))
 
 abbrev pub members_owned_by : State → ℕ → Result ℕ FaultKind → List ℕ
 members_owned_by st s (Ok m) = members_of st.lists s m
@@ -91,4 +91,4 @@ owned st s o = members_owned_by st s (owner st s o)
 abbrev pub passed_by : State → Discipline → ℕ → ℤ → ℤ → ℕ
 passed_by st Fifo s o x = 0
 passed_by st Lifo s o x = 0
-passed_by st (Ranked ks) s o x = passed st (member_class st.layout s) ks x (owned st s o)
+passed_by st (Ranked ks) s o x = members_passed st (member_class st.layout s) ks x (owned st s o)

@@ -32,8 +32,8 @@ abbrev pub is_pending : ℤ → List PendingNotice → Bool
 is_pending notice entries = list_any (λ e. int_eq notice e.notice) entries
 
 -- the entries without that of a notice
-abbrev pub without : ℤ → List PendingNotice → List PendingNotice
-without notice entries = filter (λ e. not (int_eq notice e.notice)) entries
+abbrev pub without_notice : ℤ → List PendingNotice → List PendingNotice
+without_notice notice entries = filter (λ e. not (int_eq notice e.notice)) entries
 
 -- the one of two entries that comes out first
 abbrev pub earlier : PendingNotice → PendingNotice → PendingNotice
@@ -67,7 +67,7 @@ IsRefusal Memory r = IsOk r
 -- the list after a notice is cancelled, or the fault
 abbrev pub cancelled : ℤ → PendingList → Result PendingList FaultKind
 cancelled notice p =
-    if is_pending notice p.entries then Ok (record p { entries = without notice p.entries })
+    if is_pending notice p.entries then Ok (record p { entries = without_notice notice p.entries })
     else Err NotScheduled
 
 -- the time and the notice of the least entry
@@ -76,4 +76,4 @@ next p = option_map (λ e. (e.key.time, e.notice)) (least p.entries)
 
 -- the list after the least entry came out
 abbrev pub after_next : PendingList → PendingList
-after_next p = record p { entries = option_map_or (λ e. without e.notice p.entries) (least p.entries) [] }
+after_next p = record p { entries = option_map_or (λ e. without_notice e.notice p.entries) (least p.entries) [] }

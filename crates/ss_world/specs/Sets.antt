@@ -7,7 +7,7 @@ use Rattle.ss_base.specs.declared.layout.Owner.TheVariants.{System, Class}
 use Rattle.ss_base.specs.declared.layout.SetLayout.{SetLayout}
 use Rattle.ss_base.specs.declared.layout.Layout.{Layout}
 use Rattle.ss_world.specs.Lists.{head0, last_or, In, Distinct}
-use Rattle.ss_world.specs.State.{State, Members, and_then, entity, number_in, members_of, contains, owner_of, is_filed, with_members}
+use Rattle.ss_world.specs.State.{State, Members, and_then, entity_in, number_in, members_of, contains, owner_of, is_filed, with_members}
 
 -- ## Owners and members
 
@@ -29,11 +29,11 @@ owner_kind l s = owner_in (slice_get l.sets s)
 
 -- what x means as one that may be a member of the set s
 abbrev pub joiner : State → ℕ → ℤ → Result ℕ FaultKind
-joiner st s x = and_then (entity st (member_class st.layout s) x) (λ r. Ok (number_in x))
+joiner st s x = and_then (entity_in st (member_class st.layout s) x) (λ r. Ok (number_in x))
 
 abbrev pub owner_by : State → Owner → ℤ → Result ℕ FaultKind
 owner_by st System o = Ok 0
-owner_by st (Class c) o = and_then (entity st c o) (λ r. Ok (number_in o))
+owner_by st (Class c) o = and_then (entity_in st c o) (λ r. Ok (number_in o))
 
 -- what o means as an owner of a set s. The system, known as 0, owns one set of each of its names
 abbrev pub owner : State → ℕ → ℤ → Result ℕ FaultKind

@@ -110,8 +110,8 @@ entity_of_kind s Temporary c x = and_then (numbered s x) (of_class c)
 entity_of_kind s Notice c x = and_then (numbered s x) (of_class c)
 
 -- what a number means as an entity of a class
-abbrev pub entity : State → ℕ → ℤ → Result Record FaultKind
-entity s c x = entity_of_kind s (kind_of s.layout c) c x
+abbrev pub entity_in : State → ℕ → ℤ → Result Record FaultKind
+entity_in s c x = entity_of_kind s (kind_of s.layout c) c x
 
 -- what a number means as a notice of any class
 abbrev pub notice : State → ℤ → Result Record FaultKind
@@ -150,11 +150,11 @@ with_entity s c n r = with_entity_of_kind s (kind_of s.layout c) c n r
 
 -- the value of the attribute f of an entity
 abbrev pub value_in : State → ℕ → ℕ → ℤ → Result Value FaultKind
-value_in s c f x = and_then (entity s c x) (λ r. Ok (slice_index_or r.values f (Whole (pos 0))))
+value_in s c f x = and_then (entity_in s c x) (λ r. Ok (slice_index_or r.values f (Whole (pos 0))))
 
 -- the state once the attribute f of an entity is v
 abbrev pub assigned : State → ℕ → ℕ → ℤ → Value → Result State FaultKind
-assigned s c f x v = and_then (entity s c x) (λ r. Ok (with_entity s c (number_in x) (with_value r f v)))
+assigned s c f x v = and_then (entity_in s c x) (λ r. Ok (with_entity s c (number_in x) (with_value r f v)))
 
 -- the time of a notice
 abbrev pub time_in : State → ℤ → Result ℤ FaultKind
@@ -262,7 +262,7 @@ let_go s c n =
 
 -- the state once a record is destroyed
 abbrev pub destroyed : State → ℕ → ℤ → Result State FaultKind
-destroyed s c x = and_then (entity s c x) (λ r. let_go s c (number_in x))
+destroyed s c x = and_then (entity_in s c x) (λ r. let_go s c (number_in x))
 
 -- ## The state at first, and what is counted
 
@@ -279,7 +279,7 @@ no_value (Err e) = Err e
 
 -- whether a number is an entity of a class, and whether it is a notice
 abbrev pub known_in : State → ℕ → ℤ → Result (Unit {0}) FaultKind
-known_in s c x = no_value (entity s c x)
+known_in s c x = no_value (entity_in s c x)
 
 abbrev pub known_notice_in : State → ℤ → Result (Unit {0}) FaultKind
 known_notice_in s x = no_value (notice s x)

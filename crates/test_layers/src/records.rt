@@ -1,7 +1,7 @@
 use crate::base::{ClassRow, laid_out};
 use ss_base::{Alpha, ClassKind, FaultKind, Layout, Mode, Owner, Refused, SetLayout, Value};
 use ss_records::Heap;
-use ss_records_laws::{Answer, Command};
+use ss_records_laws::{Command, CommandAnswer};
 use std::alloc::{AllocError, Global};
 use std::rt::HostRuntime;
 
@@ -546,7 +546,7 @@ fn a_million_linked_records_are_let_go(rt: HostRuntime) {
 }
 
 // Whether calls fit a heap and answer this.
-fn answers(alloc: Global, heap: &mut Heap, commands: &[Command], wanted: &[Answer]) -> bool {
+fn answers(alloc: Global, heap: &mut Heap, commands: &[Command], wanted: &[CommandAnswer]) -> bool {
     if !ss_records_laws::fit(heap, commands) {
         return false;
     }
@@ -580,7 +580,7 @@ static LEFT: [Step; 2] = [
 ];
 
 // Whether calls in a heap of its own answer this, and one job is left in the pool.
-fn leave_one(alloc: Global, commands: &[Command], wanted: &[Answer]) -> bool {
+fn leave_one(alloc: Global, commands: &[Command], wanted: &[CommandAnswer]) -> bool {
     match yard(alloc) {
         Some(mut heap) => {
             answers(alloc, &mut heap, commands, wanted) && all_come(&mut heap, &LEFT)
@@ -603,15 +603,15 @@ fn commands_go_on_after_faults(rt: HostRuntime) {
         Command::Destroy { class: JOB, r: 1 },
     ];
     let wanted = [
-        Answer::Number(1),
-        Answer::Number(2),
-        Answer::Done,
-        Answer::Done,
-        Answer::Faulted(FaultKind::FiledTwice),
-        Answer::Faulted(FaultKind::InASet),
-        Answer::Done,
-        Answer::Faulted(FaultKind::NotFiled),
-        Answer::Done,
+        CommandAnswer::Number(1),
+        CommandAnswer::Number(2),
+        CommandAnswer::Done,
+        CommandAnswer::Done,
+        CommandAnswer::Faulted(FaultKind::FiledTwice),
+        CommandAnswer::Faulted(FaultKind::InASet),
+        CommandAnswer::Done,
+        CommandAnswer::Faulted(FaultKind::NotFiled),
+        CommandAnswer::Done,
     ];
     assert!(rt; leave_one(rt.alloc(), &commands, &wanted));
 }

@@ -1,6 +1,6 @@
 // Where the slot of a notice is looked for.
 ghost use Rattle.std.specs.Prelude.{◌≡◌, ◌≢◌, ℕ, ℤ, true, false, OnOk};
-ghost use Rattle.ss_events.specs.Slots.{Leads, no_slot, cell_of, first_guess, second_guess};
+ghost use Rattle.ss_events.specs.Slots.{IsGuess, no_slot, cell_of, first_guess, second_guess};
 
 use std::alloc::{AllocError, Global};
 use std::collections::HashMap;
@@ -16,17 +16,17 @@ const FEWEST_CELLS: usize = 16;
 /// A notice has a cell, whose number is its last binary digits: notices with numbers in turn have cells of their own.
 /// Where another notice has taken the cell, a map names the slot.
 #[derive(Drop)]
-pub struct Directory {
+pub struct SlotDirectory {
     cells: Vec<usize>,
     // The last digits, all set.
     mask: usize,
     others: HashMap<i64, usize>,
 }
 
-impl Directory {
+impl SlotDirectory {
     /// A directory without cells.
-    pub(crate) fn new(alloc: Global) -> Directory {
-        Directory {
+    pub(crate) fn new(alloc: Global) -> SlotDirectory {
+        SlotDirectory {
             cells: Vec::new(alloc),
             mask: 0,
             others: HashMap::new(alloc),
@@ -34,9 +34,9 @@ impl Directory {
     }
 
     /// A directory of so many cells, all of them free.
-    pub(crate) fn of_cells(alloc: Global, count: usize) -> Result<Directory, AllocError> {
+    pub(crate) fn of_cells(alloc: Global, count: usize) -> Result<SlotDirectory, AllocError> {
         let count = count.max(FEWEST_CELLS);
-        Ok(Directory {
+        Ok(SlotDirectory {
             cells: Vec::from_elem(alloc, FREE, count)?,
             mask: count - 1,
             others: HashMap::new(alloc),
@@ -91,8 +91,8 @@ impl Directory {
     /// Notes the slot of a notice that is new here.
     #[inline(always)]
     pub(crate) fn note(&mut self, notice: i64, slot: usize) -> Result<(), AllocError>
-        ensures noted { OnOk result (Leads self.new notice slot) }
-        ensures others { (n : ℤ) → (s : ℕ) → n ≢ notice → s ≢ no_slot → Leads self.old n s → Leads self.new n s }
+        ensures noted { OnOk result (IsGuess self.new notice slot) }
+        ensures others { (n : ℤ) → (s : ℕ) → n ≢ notice → s ≢ no_slot → IsGuess self.old n s → IsGuess self.new n s }
     {
         let cell = self.cell(notice);
         if cell < self.cells.len() && self.cells[cell] == FREE {
@@ -106,8 +106,8 @@ impl Directory {
     #[inline(always)]
     pub(crate) fn note_at_once(&mut self, notice: i64, slot: usize) -> bool
         ensures fresh { result ≡ true → (first_guess self.old notice ≡ no_slot) × (second_guess self.old notice ≡ no_slot) }
-        ensures noted { result ≡ true → Leads self.new notice slot }
-        ensures others { (n : ℤ) → (s : ℕ) → n ≢ notice → s ≢ no_slot → Leads self.old n s → Leads self.new n s }
+        ensures noted { result ≡ true → IsGuess self.new notice slot }
+        ensures others { (n : ℤ) → (s : ℕ) → n ≢ notice → s ≢ no_slot → IsGuess self.old n s → IsGuess self.new n s }
         ensures kept { result ≡ false → self.new ≡ self.old }
     {
         let cell = self.cell(notice);
@@ -124,8 +124,8 @@ impl Directory {
     // Notes the slot of a notice in the map, whatever its cell names.
     #[inline(never)]
     fn note_in_map(&mut self, notice: i64, slot: usize) -> Result<(), AllocError>
-        ensures noted { OnOk result (Leads self.new notice slot) }
-        ensures others { (n : ℤ) → (s : ℕ) → n ≢ notice → s ≢ no_slot → Leads self.old n s → Leads self.new n s }
+        ensures noted { OnOk result (IsGuess self.new notice slot) }
+        ensures others { (n : ℤ) → (s : ℕ) → n ≢ notice → s ≢ no_slot → IsGuess self.old n s → IsGuess self.new n s }
     {
         self.others.insert(notice, slot)?;
         Ok(())
@@ -134,7 +134,7 @@ impl Directory {
     /// Forgets a notice that was in a slot. It needs no memory.
     #[inline(always)]
     pub(crate) fn forget(&mut self, notice: i64, slot: usize)
-        ensures others { (n : ℤ) → (s : ℕ) → n ≢ notice → s ≢ slot → Leads self.old n s → Leads self.new n s }
+        ensures others { (n : ℤ) → (s : ℕ) → n ≢ notice → s ≢ slot → IsGuess self.old n s → IsGuess self.new n s }
     {
         let cell = self.cell(notice);
         if cell < self.cells.len() && self.cells[cell] == slot {
@@ -147,7 +147,7 @@ impl Directory {
     // Forgets what the map names for a notice.
     #[inline(never)]
     fn forget_in_map(&mut self, notice: i64)
-        ensures { (n : ℤ) → (s : ℕ) → n ≢ notice → Leads self.old n s → Leads self.new n s }
+        ensures { (n : ℤ) → (s : ℕ) → n ≢ notice → IsGuess self.old n s → IsGuess self.new n s }
     {
         let _ = self.others.remove(&notice);
     }

@@ -20,13 +20,13 @@ use std::marker::Model;
 ///
 /// It counts each comparison of two keys and each write of an entry into a place.
 #[derive(Drop)]
-pub struct Heap {
+pub struct EntryHeap {
     entries: Places,
     comparisons: u64,
     moves: u64,
 }
 
-impl Model for Heap {
+impl Model for EntryHeap {
     ghost use Rattle.ss_events.specs.HeapEntries.{HeapEntries};
 
     ghost Value = { HeapEntries };
@@ -34,11 +34,11 @@ impl Model for Heap {
     ghost view = { λ h. record { entries = h.entries.heads; followers = h.entries.followers; comparisons = h.comparisons; moves = h.moves } };
 }
 
-impl Heap {
-    pub(crate) fn new(alloc: Global) -> Heap
+impl EntryHeap {
+    pub(crate) fn new(alloc: Global) -> EntryHeap
         ensures { result ≡ record { entries = []; followers = []; comparisons = 0; moves = 0 } }
     {
-        Heap {
+        EntryHeap {
             entries: Places::new(alloc),
             comparisons: 0,
             moves: 0,

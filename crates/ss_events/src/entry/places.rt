@@ -8,7 +8,7 @@ ghost use Rattle.ss_events.specs.declared.entry.places.HeapNode.{HeapNode as Hea
 ghost use Rattle.ss_events.specs.HeapEntries.{notices_of, event_of, Removes, Leaves, AreAfterHeads};
 ghost use Rattle.ss_events.specs.Slots.{no_entry, no_mark, blank_slot, no_slot, no_node, following, mark_of, not_plain, order_of, IsBut, plain_entry, plain_ranks, plain_numbers, slot_at, node, IsTaken, AreDistinct, AreLed, at_put, next_put, exchanged};
 
-use super::directory::Directory;
+use super::directory::SlotDirectory;
 use super::{Entry, Mark, NOT_PLAIN, PLAIN_NUMBERS, mark_of, plain_entry};
 use std::alloc::{AllocError, Global};
 use std::marker::Model;
@@ -68,16 +68,16 @@ pub struct Places {
     // How many slots are free.
     free: usize,
     hints: Vec<Hint>,
-    directory: Directory,
+    directory: SlotDirectory,
     // What `look_ahead` read. Nothing depends on it.
     ahead: u64,
 }
 
 impl Model for Places {
-    ghost use Rattle.ss_events.specs.HeapEntries.{Lines};
+    ghost use Rattle.ss_events.specs.HeapEntries.{HeadsAndFollowers};
     ghost use Rattle.ss_events.specs.Slots.{heads, followers, AreHeld};
 
-    ghost Value = { Lines };
+    ghost Value = { HeadsAndFollowers };
 
     ghost view = { λ p. record { heads = heads p.count p.slots.items p.entries.items p.nodes.items; followers = followers p.slots.items } };
 
@@ -95,7 +95,7 @@ impl Places {
             count: 0,
             free: 0,
             hints: Vec::new(alloc),
-            directory: Directory::new(alloc),
+            directory: SlotDirectory::new(alloc),
             ahead: 0,
         }
     }
@@ -450,7 +450,7 @@ fn put(entries: &mut Vec<Entry>, slot: usize, entry: Entry)
 
 // The slot of the entry of a notice.
 #[inline(always)]
-fn slot_of(directory: &Directory, slots: &[Slot], count: usize, notice: i64) -> Option<usize>
+fn slot_of(directory: &SlotDirectory, slots: &[Slot], count: usize, notice: i64) -> Option<usize>
     requires { AreLed directory.now count slots.now }
     ensures { MatchOption result ((s : ℕ) → s < length slots.now → IsTaken count (slot_at slots.now s) → (slot_at slots.now s).notice ≢ notice) (λ s. (s < length slots.now) × IsTaken count (slot_at slots.now s) × ((slot_at slots.now s).notice ≡ notice)) }
 {
@@ -650,7 +650,7 @@ fn new_slot(
 // turn, the oldest still pending may be far from the newest.
 #[inline(always)]
 fn make_cells(
-    directory: &mut Directory,
+    directory: &mut SlotDirectory,
     hints: &mut Vec<Hint>,
     slots: &[Slot],
     count: usize,
@@ -670,7 +670,7 @@ fn make_cells(
 // Makes a directory of twice as many cells; and hints, the first time.
 #[inline(never)]
 fn make_twice_the_cells(
-    directory: &mut Directory,
+    directory: &mut SlotDirectory,
     hints: &mut Vec<Hint>,
     slots: &[Slot],
     count: usize,
@@ -695,11 +695,16 @@ fn make_twice_the_cells(
 }
 
 // A directory of so many cells that leads to each slot that is taken.
-fn noted(alloc: Global, slots: &[Slot], count: usize, cells: usize) -> Result<Directory, AllocError>
+fn noted(
+    alloc: Global,
+    slots: &[Slot],
+    count: usize,
+    cells: usize,
+) -> Result<SlotDirectory, AllocError>
     requires { AreDistinct count slots.now }
     ensures { IfOk result (λ d. AreLed d count slots.now) }
 {
-    let mut directory = Directory::of_cells(alloc, cells)?;
+    let mut directory = SlotDirectory::of_cells(alloc, cells)?;
     for slot in 0..slots.len() {
         let it = slots[slot];
         if it.at < count || it.at >= FOLLOWING {

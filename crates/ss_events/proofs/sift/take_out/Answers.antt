@@ -1,13 +1,13 @@
 use Rattle.std.proofs.Common.{◌≡◌, ℕ, ℤ, ◌∷◌, ◌++◌, ◌∙◌, ap, length, List, IsPermutation, sym, subst, arith}
 use Rattle.std.proofs.lemmas.List.Sorted.{IsPermutation-append_left, IsPermutation-cons, IsPermutation-trans}
 use Rattle.ss_events.specs.declared.entry.Entry.{Entry}
-use Rattle.ss_events.specs.HeapEntries.{HeapEntries, Lines, Removes, heap_lines, all_of}
+use Rattle.ss_events.specs.HeapEntries.{HeapEntries, HeadsAndFollowers, Removes, heap_lines, all_of}
 use Rattle.ss_events.proofs.Sifts.{take_work}
 use Rattle.ss_events.proofs.Taken.{removed_few, removed_heap, removed_end, removed_all}
 use Rattle.ss_events.proofs.sift.take_out.Goals as goal
 
 -- what went, of the entries that there were
-went : (old anew : HeapEntries) (mid : Lines) (at : ℕ) (event : ℤ × ℤ) → anew ≡ record old { comparisons = 0; moves = 0 } → Removes (heap_lines anew) mid at event → Removes (heap_lines old) mid at event
+went : (old anew : HeapEntries) (mid : HeadsAndFollowers) (at : ℕ) (event : ℤ × ℤ) → anew ≡ record old { comparisons = 0; moves = 0 } → Removes (heap_lines anew) mid at event → Removes (heap_lines old) mid at event
 went old anew mid at event is r = subst (λ (h : HeapEntries). Removes (heap_lines h) mid at event) is r
 
 pub returns-then-at-len-clause-order : goal.returns-then-at-len-clause-order

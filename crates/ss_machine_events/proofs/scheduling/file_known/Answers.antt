@@ -2,8 +2,8 @@ use Rattle.std.proofs.Common.{rules, ◌≡◌, ℤ, true, Bool, sym, subst, to_
 use Rattle.ss_base.specs.declared.value.Value.TheVariants.{Whole}
 use Rattle.ss_meaning.specs.Events.{filed_notice}
 use Rattle.ss_machine_world.specs.AtOnce.{Does}
-use Rattle.ss_machine_world.specs.Seen.{Seen, Grows}
-use Rattle.ss_machine_events.specs.Scheduled.{filing_of}
+use Rattle.ss_machine_world.specs.Seen.{Seen, ChangesWithMemory}
+use Rattle.ss_machine_events.specs.Scheduled.{result_of_filing}
 use Rattle.ss_machine_events.proofs.scheduling.file_known.Goals as goal
 
 pub returns-then-file_at_once : goal.returns-then-file_at_once
@@ -22,6 +22,6 @@ returns c =
     let old = c.args.scene.now in let mid = c.file_at_once.new.scene in let new = c.file_apart.new.scene in
     let same : to_z w64 (of_z w64 time) ≡ time = search rules in
     let kept : mid ≡ old = subst (λ (b : Bool). Does (filed_notice c.args.class (Whole n) (to_z w64 (of_z w64 time))) b old mid) c.if-file_at_once.false c.file_at_once.ensures in
-    subst (Grows (filed_notice c.args.class (Whole n) time) old new) (sym c.as_filed.ensures)
-    (subst (λ (m : Seen). Grows (filed_notice c.args.class (Whole n) time) m new (filing_of c.file_apart.result)) kept
-    (subst (λ (t : ℤ). Grows (filed_notice c.args.class (Whole n) t) mid new (filing_of c.file_apart.result)) same c.file_apart.ensures))
+    subst (ChangesWithMemory (filed_notice c.args.class (Whole n) time) old new) (sym c.as_filed.ensures)
+    (subst (λ (m : Seen). ChangesWithMemory (filed_notice c.args.class (Whole n) time) m new (result_of_filing c.file_apart.result)) kept
+    (subst (λ (t : ℤ). ChangesWithMemory (filed_notice c.args.class (Whole n) t) mid new (result_of_filing c.file_apart.result)) same c.file_apart.ensures))

@@ -4,7 +4,7 @@ use Rattle.ss_base.specs.declared.value.Value.TheVariants.{Whole}
 use Rattle.ss_world.specs.SortKey.{SortKey}
 use Rattle.ss_meaning.specs.Events.{filed_notice}
 use Rattle.ss_machine_entities.specs.declared.trouble.Unmade.{Unmade}
-use Rattle.ss_machine_world.specs.Seen.{Grows}
+use Rattle.ss_machine_world.specs.Seen.{ChangesWithMemory}
 use Rattle.ss_machine_events.specs.Scheduled.{Finds, key_meant}
 use Rattle.ss_machine_events.proofs.Stepping.{not_found, not_filed, filed}
 use Rattle.ss_machine_events.proofs.scheduling.file_pending.Goals as goal
@@ -12,7 +12,7 @@ use Rattle.ss_machine_events.proofs.scheduling.file_pending.Goals as goal
 pub returns-in-Err : goal.returns-in-Err
 returns-in-Err c =
     let class = c.args.class in let x = Whole c.args.notice.number in let time = c.args.time in let e = c.args.scene.now in
-    subst (λ (u : Unmade). Grows (filed_notice class x time) e e (Err u)) (sym c.lacking.ensures) (not_found class x time e c.in-Err.trouble (λ s. c.in-Err.ensures s))
+    subst (λ (u : Unmade). ChangesWithMemory (filed_notice class x time) e e (Err u)) (sym c.lacking.ensures) (not_found class x time e c.in-Err.trouble (λ s. c.in-Err.ensures s))
 
 pub returns-in-Err-key_known : goal.returns-in-Err-key_known
 returns-in-Err-key_known c =

@@ -4,7 +4,7 @@ use Rattle.ss_meaning.specs.Store.{Store}
 use Rattle.ss_meaning.specs.Events.{prepared, filed_notice}
 use Rattle.ss_machine_entities.specs.declared.trouble.Unmade.{Unmade}
 use Rattle.ss_machine_entities.specs.Answered.{to_meaning}
-use Rattle.ss_machine_world.specs.Seen.{Grows, with_seen}
+use Rattle.ss_machine_world.specs.Seen.{ChangesWithMemory, with_seen}
 use Rattle.ss_machine_events.specs.Scheduled.{Goes, scheduled_anew}
 use Rattle.ss_machine_events.proofs.Stepping.{goes_not, goes_on}
 use Rattle.ss_machine_events.proofs.scheduling.schedule_anew.Goals as goal
@@ -24,4 +24,4 @@ returns-in-Ok c =
     let same : to_z w64 (of_z w64 time) ≡ time = search rules in
     goes_on (prepared class x given time) (filed_notice class x time) e c.prepare.new.scene c.file_any.new.scene c.file_any.result
     (λ s. subst (λ (z : ℤ). prepared class x given z (with_seen s e) ≡ Ok (with_seen s c.prepare.new.scene)) same (c.in-Ok.ensures s))
-    (subst (λ (z : ℤ). Grows (filed_notice class x z) c.prepare.new.scene c.file_any.new.scene c.file_any.result) same c.file_any.ensures)
+    (subst (λ (z : ℤ). ChangesWithMemory (filed_notice class x z) c.prepare.new.scene c.file_any.new.scene c.file_any.result) same c.file_any.ensures)

@@ -1,7 +1,7 @@
 use Rattle.std.proofs.Common.{Err, sym, ap, ◌∙◌, subst}
 use Rattle.ss_machine_events.specs.Events.{Begins, coming_meant}
 use Rattle.ss_meaning.specs.Values.{Fails}
-use Rattle.ss_meaning.specs.Events.{begun}
+use Rattle.ss_meaning.specs.Events.{event_begun}
 use Rattle.ss_machine_instructions.specs.Beginning.{BeganAs}
 use Rattle.ss_machine_instructions.specs.Holding.{store_of}
 use Rattle.ss_machine_instructions.proofs.Began.{began}
@@ -24,6 +24,6 @@ returns-in-Ok-clause-store c = λ ties input.
     let s = store_of old input in
     let t = store_of c.save.new.working input in
     let vs = c.begin_event.new.values.items in
-    subst (λ l. BeganAs c.save.result event.rank l (begun (coming_meant event ties s)) t) (sym (ap (λ g. g.items) c.save.ensures.given))
+    subst (λ l. BeganAs c.save.result event.rank l (event_begun (coming_meant event ties s)) t) (sym (ap (λ g. g.items) c.save.ensures.given))
     (began event ties vs old.scene s t c.begin_event.new.scene c.in-Ok.fate c.save.result
     (subst (λ r. Begins event ties vs old.scene c.begin_event.new.scene r) c.in-Ok.is (c.begin_event.ensures ties)) (c.save.ensures.store input))

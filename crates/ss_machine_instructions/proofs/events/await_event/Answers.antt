@@ -1,5 +1,5 @@
 use Rattle.std.proofs.Common.{◌+◌, sym, ap, ◌∙◌, subst}
-use Rattle.ss_code_instructions.specs.States.{To, past, core_of as core_with}
+use Rattle.ss_code_instructions.specs.States.{To, past, core_with}
 use Rattle.ss_machine_instructions.specs.Holding.{frames_of, store_of, core_of, IsOutcome}
 use Rattle.ss_machine_instructions.proofs.Faults.{kept_scene}
 use Rattle.ss_machine_instructions.proofs.events.await_event.Goals as goal

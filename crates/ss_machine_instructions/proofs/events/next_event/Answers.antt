@@ -1,5 +1,5 @@
 use Rattle.std.proofs.Common.{sym, ap, ◌∙◌, subst}
-use Rattle.ss_code_instructions.specs.States.{To, core_of as core_with}
+use Rattle.ss_code_instructions.specs.States.{To, core_with}
 use Rattle.ss_code_instructions.specs.Machine.{backwards}
 use Rattle.ss_machine_instructions.specs.Holding.{frames_of, store_of, core_of, IsOutcome}
 use Rattle.ss_machine_instructions.proofs.Faults.{kept_scene}

@@ -3,7 +3,7 @@ use Rattle.std.specs.Int.{int_min}
 use Rattle.ss_base.specs.declared.value.Value.TheVariants.{Whole}
 use Rattle.ss_meaning.specs.Loops.{range_of, greatest}
 use Rattle.ss_code_instructions.specs.declared.instruction.Instruction.TheVariants.{Begin}
-use Rattle.ss_code_instructions.specs.States.{To, did, past, core_of as core_with}
+use Rattle.ss_code_instructions.specs.States.{To, did, past, core_with}
 use Rattle.ss_code_instructions.specs.Machine.{act, begin_range}
 use Rattle.ss_machine_frames.specs.Frames.{Stacked, frames_seen}
 use Rattle.ss_machine_frames.specs.Ranged.{range_said, ranged}

@@ -5,7 +5,7 @@ use Rattle.ss_base.specs.declared.value.Value.TheVariants.{Whole}
 use Rattle.ss_meaning.specs.Entities.{class_at, is_permanent, made_count}
 use Rattle.ss_meaning.specs.Loops.{Range, indices, greatest}
 use Rattle.ss_machine_entities.specs.Answered.{to_meaning}
-use Rattle.ss_code_instructions.specs.States.{To, did, past, core_of as core_with}
+use Rattle.ss_code_instructions.specs.States.{To, did, past, core_with}
 use Rattle.ss_code_instructions.specs.Machine.{begin_range}
 use Rattle.ss_machine_frames.specs.Frames.{Stacked, frames_seen}
 use Rattle.ss_machine_frames.specs.Ranged.{range_said}

@@ -7,8 +7,8 @@ use Rattle.ss_meaning.specs.Store.{Store}
 use Rattle.ss_meaning.specs.Values.{lines_with, take_all}
 use Rattle.ss_machine_world.specs.Seen.{with_seen}
 use Rattle.ss_code_instructions.specs.declared.instruction.Instruction.TheVariants.{Print}
-use Rattle.ss_code_instructions.specs.States.{Taken, take_off, core_of as core_with}
-use Rattle.ss_code_instructions.specs.Machine.{is_due, shown}
+use Rattle.ss_code_instructions.specs.States.{Taken, take_off, core_with}
+use Rattle.ss_code_instructions.specs.Machine.{is_due, values_shown}
 use Rattle.ss_machine_instructions.specs.Holding.{core_of, frames_of, store_of}
 use Rattle.ss_machine_steps.specs.Sent.{TookPart}
 use Rattle.ss_machine_steps.proofs.Fields.{each_suits}
@@ -29,8 +29,8 @@ returns-in-Err-Missing-clause-stepped g c =
     let found : slice_get c.args.code.now.prints c.args.lines ≡ Some p =
     ap (λ l. slice_get l c.args.lines) (sym c.prints.ensures) ∙ at_index c.prints.result.now c.args.lines c.get.result c.get.ensures.lookup.0 c.get.ensures.lookup.1 c.in-Some.wanted c.in-Some.is in
     let off : take_off c.args.values w.operands.here [] ≡ Some taken = search rules in
-    let none : (s : Store) → shown p.items taken.them (with_seen s w.scene) ≡ None = λ s.
-    ap (λ ks. shown ks taken.them (with_seen s w.scene)) (sym c.items.ensures) ∙ c.in-Err-Missing.ensures.missing (ap Err c.in-Err-Missing.field-0-is) s in
+    let none : (s : Store) → values_shown p.items taken.them (with_seen s w.scene) ≡ None = λ s.
+    ap (λ ks. values_shown ks taken.them (with_seen s w.scene)) (sym c.items.ensures) ∙ c.in-Err-Missing.ensures.missing (ap Err c.in-Err-Missing.field-0-is) s in
     stuck_step c.args.code.now w (Print c.args.lines c.args.values) c.requires.here (record w { scene = c.show.new.scene }) _
     (λ input. no_items c.args.code.now c.args.lines c.args.values (core_of w input) p found taken off (none (store_of w input)))
 
@@ -43,7 +43,7 @@ returns-then-not-take_all-clause-stepped g c =
     ap (λ l. slice_get l c.args.lines) (sym c.prints.ensures) ∙ at_index c.prints.result.now c.args.lines c.get.result c.get.ensures.lookup.0 c.get.ensures.lookup.1 c.in-Some.wanted c.in-Some.is in
     let off : take_off c.args.values w.operands.here [] ≡ Some taken = search rules in
     let items = c.show.new.items.items in
-    let made : (s : Store) → shown p.items taken.them (with_seen s w.scene) ≡ Some items = λ s. ap (λ ks. shown ks taken.them (with_seen s w.scene)) (sym c.items.ensures) ∙ c.in-Ok.ensures.shown s in
+    let made : (s : Store) → values_shown p.items taken.them (with_seen s w.scene) ≡ Some items = λ s. ap (λ ks. values_shown ks taken.them (with_seen s w.scene)) (sym c.items.ensures) ∙ c.in-Ok.ensures.values_shown s in
     let fields : take_all (flat_map picture_fields p.pictures) items ≡ false = sym (λ t. take_all (flat_map picture_fields (c.pictures.ensures t)) (c.deref.ensures.value t)) ∙ sym c.take_all.ensures ∙ c.if-not-take_all.true in
     stuck_step c.args.code.now w (Print c.args.lines c.args.values) c.requires.here (record w { scene = c.show.new.scene }) _
     (λ input. wrong_fields c.args.code.now c.args.lines c.args.values (core_of w input) p found taken off items (made (store_of w input)) fields)
@@ -64,7 +64,7 @@ returns-in-Err-Memory-print_lines-clause-stepped g c =
     ap (λ l. slice_get l c.args.lines) (sym c.prints.ensures) ∙ at_index c.prints.result.now c.args.lines c.get.result c.get.ensures.lookup.0 c.get.ensures.lookup.1 c.in-Some.wanted c.in-Some.is in
     let off : take_off c.args.values w.operands.here [] ≡ Some taken = search rules in
     let items = c.show.new.items.items in
-    let made : (s : Store) → shown p.items taken.them (with_seen s w.scene) ≡ Some items = λ s. ap (λ ks. shown ks taken.them (with_seen s w.scene)) (sym c.items.ensures) ∙ c.in-Ok.ensures.shown s in
+    let made : (s : Store) → values_shown p.items taken.them (with_seen s w.scene) ≡ Some items = λ s. ap (λ ks. values_shown ks taken.them (with_seen s w.scene)) (sym c.items.ensures) ∙ c.in-Ok.ensures.values_shown s in
     let fields : take_all (flat_map picture_fields p.pictures) items ≡ true = sym (λ t. take_all (flat_map picture_fields (c.pictures.ensures t)) (c.deref.ensures.value t)) ∙ sym c.take_all.ensures ∙ c.if-not-take_all.false in
     let lines : lines_with c.pictures-2.result.now c.deref-2.result.now ≡ lines_with p.pictures items = λ t. lines_with (c.pictures-2.ensures t) (c.deref-2.ensures.value t) in
     let part : TookPart (g.W.FaultyWrite.contents c.args.sink.now.writer) (g.W.FaultyWrite.contents c.print_lines.new.sink.writer) (lines_with p.pictures items) = subst (TookPart (g.W.FaultyWrite.contents c.args.sink.now.writer) (g.W.FaultyWrite.contents c.print_lines.new.sink.writer)) lines c.in-Err-Memory-print_lines.ensures.err in
@@ -81,7 +81,7 @@ returns-in-Err-Output-clause-stepped g c =
     ap (λ l. slice_get l c.args.lines) (sym c.prints.ensures) ∙ at_index c.prints.result.now c.args.lines c.get.result c.get.ensures.lookup.0 c.get.ensures.lookup.1 c.in-Some.wanted c.in-Some.is in
     let off : take_off c.args.values w.operands.here [] ≡ Some taken = search rules in
     let items = c.show.new.items.items in
-    let made : (s : Store) → shown p.items taken.them (with_seen s w.scene) ≡ Some items = λ s. ap (λ ks. shown ks taken.them (with_seen s w.scene)) (sym c.items.ensures) ∙ c.in-Ok.ensures.shown s in
+    let made : (s : Store) → values_shown p.items taken.them (with_seen s w.scene) ≡ Some items = λ s. ap (λ ks. values_shown ks taken.them (with_seen s w.scene)) (sym c.items.ensures) ∙ c.in-Ok.ensures.values_shown s in
     let fields : take_all (flat_map picture_fields p.pictures) items ≡ true = sym (λ t. take_all (flat_map picture_fields (c.pictures.ensures t)) (c.deref.ensures.value t)) ∙ sym c.take_all.ensures ∙ c.if-not-take_all.false in
     let lines : lines_with c.pictures-2.result.now c.deref-2.result.now ≡ lines_with p.pictures items = λ t. lines_with (c.pictures-2.ensures t) (c.deref-2.ensures.value t) in
     let part : TookPart (g.W.FaultyWrite.contents c.args.sink.now.writer) (g.W.FaultyWrite.contents c.print_lines.new.sink.writer) (lines_with p.pictures items) = subst (TookPart (g.W.FaultyWrite.contents c.args.sink.now.writer) (g.W.FaultyWrite.contents c.print_lines.new.sink.writer)) lines c.in-Err-Output.ensures.err in (
@@ -107,7 +107,7 @@ returns-clause-stepped g c =
     ap (λ l. slice_get l c.args.lines) (sym c.prints.ensures) ∙ at_index c.prints.result.now c.args.lines c.get.result c.get.ensures.lookup.0 c.get.ensures.lookup.1 c.in-Some.wanted c.in-Some.is in
     let off : take_off c.args.values w.operands.here [] ≡ Some taken = search rules in
     let items = c.show.new.items.items in
-    let made : (s : Store) → shown p.items taken.them (with_seen s w.scene) ≡ Some items = λ s. ap (λ ks. shown ks taken.them (with_seen s w.scene)) (sym c.items.ensures) ∙ c.in-Ok.ensures.shown s in
+    let made : (s : Store) → values_shown p.items taken.them (with_seen s w.scene) ≡ Some items = λ s. ap (λ ks. values_shown ks taken.them (with_seen s w.scene)) (sym c.items.ensures) ∙ c.in-Ok.ensures.values_shown s in
     let fields : take_all (flat_map picture_fields p.pictures) items ≡ true = sym (λ t. take_all (flat_map picture_fields (c.pictures.ensures t)) (c.deref.ensures.value t)) ∙ sym c.take_all.ensures ∙ c.if-not-take_all.false in
     let lines : lines_with c.pictures-2.result.now c.deref-2.result.now ≡ lines_with p.pictures items = λ t. lines_with (c.pictures-2.ensures t) (c.deref-2.ensures.value t) in
     let took : Appends (g.W.FaultyWrite.contents c.args.sink.now.writer) (g.W.FaultyWrite.contents c.print_lines.new.sink.writer) (lines_with p.pictures items) = subst (Appends (g.W.FaultyWrite.contents c.args.sink.now.writer) (g.W.FaultyWrite.contents c.print_lines.new.sink.writer)) lines c.in-Ok-print_lines.ensures.ok in

@@ -2,7 +2,7 @@ use Rattle.std.proofs.Common.{rules, ◌≡◌, ◌+◌, ◌∷◌, List, ℕ, E
 use Rattle.ss_base.specs.declared.layout.Mode.TheVariants.{Integer}
 use Rattle.ss_base.specs.declared.value.Value.TheVariants.{Whole}
 use Rattle.ss_code_instructions.specs.declared.instruction.Instruction.TheVariants.{Read}
-use Rattle.ss_code_instructions.specs.States.{core_of as core_with}
+use Rattle.ss_code_instructions.specs.States.{core_with}
 use Rattle.ss_machine_instructions.specs.Holding.{core_of, frames_of, store_of}
 use Rattle.ss_machine_steps.proofs.Worded.{missed_step, read_fault, read_cut, read_step}
 use Rattle.ss_machine_steps.proofs.one_step.read_number.Goals as goal

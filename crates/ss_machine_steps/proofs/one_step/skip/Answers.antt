@@ -1,7 +1,7 @@
 use Rattle.std.proofs.Common.{rules, ◌≡◌, ◌+◌, Ok, replicate, refl, ap, ◌∙◌}
 use Rattle.ss_meaning.specs.Values.{empty_lines, line_end}
 use Rattle.ss_code_instructions.specs.declared.instruction.Instruction.TheVariants.{Skip}
-use Rattle.ss_code_instructions.specs.States.{Sends, did, with_top, core_of as core_with}
+use Rattle.ss_code_instructions.specs.States.{Sends, did, with_top, core_with}
 use Rattle.ss_machine_instructions.specs.Holding.{frames_of, store_of}
 use Rattle.ss_machine_steps.specs.Sent.{TookPart, lines_result}
 use Rattle.ss_machine_steps.proofs.Stepping.{sends_cut}

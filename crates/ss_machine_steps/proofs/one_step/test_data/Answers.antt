@@ -1,6 +1,6 @@
 use Rattle.std.proofs.Common.{Err, refl, ap, ◌∙◌, subst, List, ℕ, ◌+◌}
 use Rattle.ss_code_instructions.specs.declared.instruction.Instruction.TheVariants.{TestData}
-use Rattle.ss_code_instructions.specs.States.{To, past, core_of as core_with}
+use Rattle.ss_code_instructions.specs.States.{To, past, core_with}
 use Rattle.ss_machine_instructions.specs.Holding.{core_of, frames_of, store_of, IsOutcome}
 use Rattle.ss_machine_steps.proofs.Worded.{missed_step, test_fault, test_step}
 use Rattle.ss_machine_steps.proofs.one_step.test_data.Goals as goal

@@ -1,7 +1,7 @@
 use Rattle.std.proofs.Common.{◌≡◌, ℕ, ◌+◌, ◌<◌, length, slice_get, Option, Some, sym, ap, subst, ◌∙◌, rules, arith}
 use Rattle.std.proofs.lemmas.List.Elements.{filter_from_retain}
 use Rattle.std.specs.List.{filter}
-use Rattle.ss_records_blocks.specs.Pages.{Page, Spots, Rises, held}
+use Rattle.ss_records_blocks.specs.Pages.{Page, Spots, Rises, pages_held}
 use Rattle.ss_records_blocks.proofs.Holding.{has_page, held_cut, all_held, rises_cut, all_below}
 use Rattle.ss_records_blocks.proofs.pages.tidy.Goals as goal
 
@@ -13,10 +13,10 @@ pub returns-clause-rises : goal.returns-clause-rises
 returns-clause-rises c = subst Rises (sym (left c)) (rises_cut c.args.spots.now.items c.requires.rises)
 
 pub returns-clause-count : goal.returns-clause-count
-returns-clause-count c = subst (λ (ss : Spots). 0 + length (held ss) ≡ length ss) (sym (left c)) (omega (arith, all_held c.args.spots.now.items))
+returns-clause-count c = subst (λ (ss : Spots). 0 + length (pages_held ss) ≡ length ss) (sym (left c)) (omega (arith, all_held c.args.spots.now.items))
 
-pub returns-clause-held : goal.returns-clause-held
-returns-clause-held c = ap held (left c) ∙ held_cut c.args.spots.now.items
+pub returns-clause-pages_held : goal.returns-clause-pages_held
+returns-clause-pages_held c = ap pages_held (left c) ∙ held_cut c.args.spots.now.items
 
 pub returns-clause-above : goal.returns-clause-above
 returns-clause-above c = subst (λ (ss : Spots). (k q : ℕ) (o : Option Page) → slice_get ss k ≡ Some (q, o) → q < c.args.number) (sym (left c)) (all_below c.args.spots.now.items c.requires.rises c.args.number c.requires.above)

@@ -1,8 +1,8 @@
 use Rattle.std.proofs.Common.{◌≡◌, ℕ, inl, drop, ◌+◌, ◌*◌, ◌/◌, ◌<◌, ◌≤◌, length, slice_get, None, sym, ap, subst, ◌∙◌, arith}
 use Rattle.ss_base.specs.declared.layout.Owner.TheVariants.{Class}
 use Rattle.ss_records_blocks.specs.Cells.{IsNumber, word_of}
-use Rattle.ss_records_blocks.specs.Places.{living}
-use Rattle.ss_records_words.specs.Places.{lying, class_at}
+use Rattle.ss_records_blocks.specs.Places.{living_count}
+use Rattle.ss_records_words.specs.Places.{lying, class_at_place}
 use Rattle.ss_records_words.specs.Reading.{plain, class_in_words}
 use Rattle.ss_records_blocks.specs.Pages.{in_page}
 use Rattle.ss_records_blocks.proofs.Paging.{quot, rem}
@@ -25,7 +25,7 @@ pub block_words-words-requires : goal.block_words-words-requires
 block_words-words-requires c = λ k e.
     let g = is_there _ c.in-Some.place c.in-Some.ensures in
     let same : c.number-class.result ≡ k = class_is e in
-    let is : c.number-class.result ≡ class_at c.args.blocks.now.cells c.in-Some.place = sym (ap plain c.number-class.ensures) ∙ ap class_in_words (c.loop-i.invariant.left.kept c.loop-i.i c.in-Some.place (omega arith) g) in
+    let is : c.number-class.result ≡ class_at_place c.args.blocks.now.cells c.in-Some.place = sym (ap plain c.number-class.ensures) ∙ ap class_in_words (c.loop-i.invariant.left.kept c.loop-i.i c.in-Some.place (omega arith) g) in
     subst (λ n. n < length c.args.layout.now.classes) (sym is ∙ same) (c.requires.kept.classes c.loop-i.i c.in-Some.place (inl g))
 
 pub loop-i-preserved : goal.loop-i-preserved
@@ -55,5 +55,5 @@ loop-stretch-preserved c =
 pub give_rows_back-requires-clause-held : goal.give_rows_back-requires-clause-held
 give_rows_back-requires-clause-held c =
     let d = c.args.directory.now.places in let h = c.loop-stretch.invariant.left in let i = c.loop-stretch.stretch * 256 in
-    let none : living (drop i d) ≡ 0 = living_drop d i (omega (arith, c.loop-stretch-test.false, c.stretches-stretch-end.ensures.all)) in
+    let none : living_count (drop i d) ≡ 0 = living_drop d i (omega (arith, c.loop-stretch-test.false, c.stretches-stretch-end.ensures.all)) in
     rows_held c.args.layout.now c.args.blocks.now.cells c.loop-stretch.blocks.cells c.args.system.at (lying d c.args.permanents.now) c.args.notes.now.lists c.requires.kept h.made (omega (arith, h.count, none))

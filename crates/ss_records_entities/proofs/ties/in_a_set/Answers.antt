@@ -2,7 +2,7 @@ use Rattle.std.proofs.Common.{◌≡◌, ℕ, refl, ◌<◌, ◌+◌, ◌*◌, i
 use Rattle.ss_base.specs.declared.layout.Owner.TheVariants.{Class}
 use Rattle.ss_records_words.specs.Kept.{Kept}
 use Rattle.ss_records_words.specs.Shape.{links_start}
-use Rattle.ss_records_words.specs.Places.{class_at, lying}
+use Rattle.ss_records_words.specs.Places.{class_at_place, lying}
 use Rattle.ss_records_entities.proofs.Linked.{Here, here, at_first, room, found, after, at_last, few_touched}
 use Rattle.ss_records_entities.proofs.ties.in_a_set.Goals as goal
 use Rattle.ss_records_entities.proofs.ties.in_a_set.Goals.{In-links}
@@ -34,7 +34,7 @@ filed_in-requires-clause-kept c =
 pub filed_in-requires-clause-set : goal.filed_in-requires-clause-set
 filed_in-requires-clause-set c =
     let h = links_here (goal.at.filed_in-requires-clause-set c).In-links in
-    (h.at, h.set, h.there, ap (λ bs. class_at bs c.args.place) c.links.invariant.cells ∙ c.requires.class ∙ sym h.joined, h.base)
+    (h.at, h.set, h.there, ap (λ bs. class_at_place bs c.args.place) c.links.invariant.cells ∙ c.requires.class ∙ sym h.joined, h.base)
 
 pub filed_in-requires-clause-entry : goal.filed_in-requires-clause-entry
 filed_in-requires-clause-entry c = c.requires.entry
@@ -47,7 +47,7 @@ filed_in-requires-clause-touches c =
 pub returns-then-filed_in-clause-value : goal.returns-then-filed_in-clause-value
 returns-then-filed_in-clause-value c =
     let l = c.args.layout.now in let x = c.args.number in let ms = c.args.notes.now.lists in let h = links_here (goal.at.returns-then-filed_in-clause-value c).In-links in
-    let class = ap (λ bs. class_at bs c.args.place) c.links.invariant.cells ∙ c.requires.class ∙ sym h.joined in
+    let class = ap (λ bs. class_at_place bs c.args.place) c.links.invariant.cells ∙ c.requires.class ∙ sym h.joined in
     sym (found l c.args.class x ms c.links.k h (sym (c.filed_in.ensures.value h.at h.set h.there class h.base) ∙ c.if-filed_in.true))
 
 pub returns-then-filed_in-clause-cells : goal.returns-then-filed_in-clause-cells
@@ -69,7 +69,7 @@ links-smaller c = omega (arith, c.links-test.true)
 pub links-preserved : goal.links-preserved
 links-preserved c =
     let l = c.args.layout.now in let x = c.args.number in let ms = c.args.notes.now.lists in let h = links_here (goal.at.links-preserved c).In-links in
-    let class = ap (λ bs. class_at bs c.args.place) c.links.invariant.cells ∙ c.requires.class ∙ sym h.joined in
+    let class = ap (λ bs. class_at_place bs c.args.place) c.links.invariant.cells ∙ c.requires.class ∙ sym h.joined in
     let t = c.filed_in.ensures.touches in let j = c.links.invariant.touches in
     record {
       cells = c.filed_in.ensures.cells ∙ c.links.invariant.cells;

@@ -1,7 +1,7 @@
 use Rattle.std.proofs.Common.{◌≡◌, ℕ, ◌+◌, ◌<◌, drop, length, inl, sym, ap, subst, ◌∙◌, arith}
 use Rattle.ss_records_words.specs.Kept.{Kept}
 use Rattle.ss_base.specs.declared.layout.Owner.TheVariants.{Class}
-use Rattle.ss_records_words.specs.Places.{class_at, lying}
+use Rattle.ss_records_words.specs.Places.{class_at_place, lying}
 use Rattle.ss_records_blocks.proofs.Entries.{get_there}
 use Rattle.ss_records_words.proofs.Filed.{owns_here, owns_not, owns_other, class_of_owner}
 use Rattle.ss_records_entities.proofs.Still.{later_room, last_look}
@@ -15,7 +15,7 @@ class_is e = cc
 
 pub owns_in-requires-clause-class : goal.owns_in-requires-clause-class
 owns_in-requires-clause-class c = λ t g.
-    class_of_owner t.owner c.args.class (sym (c.if-is_owner.ensures t g)) ∙ ap Class (sym c.requires.class ∙ ap (λ bs. class_at bs c.args.place) (sym c.loop-s.invariant.cells))
+    class_of_owner t.owner c.args.class (sym (c.if-is_owner.ensures t g)) ∙ ap Class (sym c.requires.class ∙ ap (λ bs. class_at_place bs c.args.place) (sym c.loop-s.invariant.cells))
 
 pub returns-then-owns_in-clause-value : goal.returns-then-owns_in-clause-value
 returns-then-owns_in-clause-value c =

@@ -3,7 +3,7 @@ use Rattle.std.specs.Prelude.{IfOk, OnOk}
 use Rattle.ss_records_laws.specs.declared.commands.Command.TheVariants.{CreateAll}
 use Rattle.ss_world.specs.State.{destroyed, assigned, timed}
 use Rattle.ss_world.specs.Sets.{filed_first, filed_last, filed_before, filed_after, removed}
-use Rattle.ss_records_laws.specs.Commands.{FitsCommand, done_with_state, answer_in, state_in, answer_of, after_command}
+use Rattle.ss_records_laws.specs.Commands.{FitsCommand, done_with_state, answer_or_fault, state_in, command_answer, after_command}
 use Rattle.ss_records_laws.proofs.Outcomes.{outcome_is, is_left}
 use Rattle.ss_records_laws.proofs.commands.make.Goals as goal
 use Rattle.ss_records_laws.proofs.commands.make.Goals.{After-make_all, After-answer_without_value, After-answer_without_value-in-SetValue, After-answer_without_value-in-SetTime, After-answer_without_value-in-FileFirst, After-answer_without_value-in-FileLast, After-answer_without_value-in-FileBefore, After-answer_without_value-in-FileAfter, After-answer_without_value-in-Remove}
@@ -12,7 +12,7 @@ pub make_one-requires : goal.make_one-requires
 make_one-requires c = subst (FitsCommand c.args.heap.now.state.layout) c.in-Create.is c.requires
 
 pub returns-in-Create-clause-answer : goal.returns-in-Create-clause-answer
-returns-in-Create-clause-answer c = subst (λ z. IfOk c.make_one.result (λ answer. answer ≡ answer_of z c.args.heap.now.state)) (sym c.in-Create.is) c.make_one.ensures.answer
+returns-in-Create-clause-answer c = subst (λ z. IfOk c.make_one.result (λ answer. answer ≡ command_answer z c.args.heap.now.state)) (sym c.in-Create.is) c.make_one.ensures.answer
 
 pub returns-in-Create-clause-ok : goal.returns-in-Create-clause-ok
 returns-in-Create-clause-ok c = subst (λ z. OnOk c.make_one.result (c.make_one.new.heap.state ≡ after_command z c.args.heap.now.state)) (sym c.in-Create.is) c.make_one.ensures.ok
@@ -27,7 +27,7 @@ the-n-CreateAll : (c : After-make_all) → to_z w64 (of_z w64 c.in-CreateAll.n) 
 the-n-CreateAll c = search rules
 
 pub returns-in-CreateAll-clause-answer : goal.returns-in-CreateAll-clause-answer
-returns-in-CreateAll-clause-answer c = subst (λ z. IfOk c.make_all.result (λ answer. answer ≡ answer_of z c.args.heap.now.state)) ((λ i. CreateAll c.in-CreateAll.class (the-n-CreateAll c i)) ∙ sym c.in-CreateAll.is) c.make_all.ensures.answer
+returns-in-CreateAll-clause-answer c = subst (λ z. IfOk c.make_all.result (λ answer. answer ≡ command_answer z c.args.heap.now.state)) ((λ i. CreateAll c.in-CreateAll.class (the-n-CreateAll c i)) ∙ sym c.in-CreateAll.is) c.make_all.ensures.answer
 
 pub returns-in-CreateAll-clause-ok : goal.returns-in-CreateAll-clause-ok
 returns-in-CreateAll-clause-ok c = subst (λ z. OnOk c.make_all.result (c.make_all.new.heap.state ≡ after_command z c.args.heap.now.state)) ((λ i. CreateAll c.in-CreateAll.class (the-n-CreateAll c i)) ∙ sym c.in-CreateAll.is) c.make_all.ensures.ok
@@ -47,7 +47,7 @@ the-r-Destroy c = search rules
 pub returns-in-Destroy-clause-answer : goal.returns-in-Destroy-clause-answer
 returns-in-Destroy-clause-answer c =
     let s = c.args.heap.now.state in
-    c.answer_without_value.ensures ∙ outcome_is c.destroy.result (destroyed s c.in-Destroy.class (to_z w64 (of_z w64 c.in-Destroy.r))) s c.destroy.new.self.state c.destroy.ensures.done ∙ (λ i. answer_in (done_with_state (destroyed s c.in-Destroy.class (the-r-Destroy c i)))) ∙ ap (λ z. answer_of z s) (sym c.in-Destroy.is)
+    c.answer_without_value.ensures ∙ outcome_is c.destroy.result (destroyed s c.in-Destroy.class (to_z w64 (of_z w64 c.in-Destroy.r))) s c.destroy.new.self.state c.destroy.ensures.done ∙ (λ i. answer_or_fault (done_with_state (destroyed s c.in-Destroy.class (the-r-Destroy c i)))) ∙ ap (λ z. command_answer z s) (sym c.in-Destroy.is)
 
 pub returns-in-Destroy-clause-ok : goal.returns-in-Destroy-clause-ok
 returns-in-Destroy-clause-ok c =
@@ -69,7 +69,7 @@ the-r-SetValue c = search rules
 pub returns-in-SetValue-clause-answer : goal.returns-in-SetValue-clause-answer
 returns-in-SetValue-clause-answer c =
     let s = c.args.heap.now.state in
-    c.answer_without_value-in-SetValue.ensures ∙ outcome_is c.set_value.result (assigned s c.in-SetValue.class c.in-SetValue.field (to_z w64 (of_z w64 c.in-SetValue.r)) c.in-SetValue.value) s c.set_value.new.self.state c.set_value.ensures.done ∙ (λ i. answer_in (done_with_state (assigned s c.in-SetValue.class c.in-SetValue.field (the-r-SetValue c i) c.in-SetValue.value))) ∙ ap (λ z. answer_of z s) (sym c.in-SetValue.is)
+    c.answer_without_value-in-SetValue.ensures ∙ outcome_is c.set_value.result (assigned s c.in-SetValue.class c.in-SetValue.field (to_z w64 (of_z w64 c.in-SetValue.r)) c.in-SetValue.value) s c.set_value.new.self.state c.set_value.ensures.done ∙ (λ i. answer_or_fault (done_with_state (assigned s c.in-SetValue.class c.in-SetValue.field (the-r-SetValue c i) c.in-SetValue.value))) ∙ ap (λ z. command_answer z s) (sym c.in-SetValue.is)
 
 pub returns-in-SetValue-clause-ok : goal.returns-in-SetValue-clause-ok
 returns-in-SetValue-clause-ok c =
@@ -88,7 +88,7 @@ the-time-SetTime c = search rules
 pub returns-in-SetTime-clause-answer : goal.returns-in-SetTime-clause-answer
 returns-in-SetTime-clause-answer c =
     let s = c.args.heap.now.state in
-    c.answer_without_value-in-SetTime.ensures ∙ outcome_is c.set_time_a.result (timed s (to_z w64 (of_z w64 c.in-SetTime.r)) (to_z w64 (of_z w64 c.in-SetTime.time))) s c.set_time_a.new.self.state c.set_time_a.ensures.done ∙ (λ i. answer_in (done_with_state (timed s (the-r-SetTime c i) (the-time-SetTime c i)))) ∙ ap (λ z. answer_of z s) (sym c.in-SetTime.is)
+    c.answer_without_value-in-SetTime.ensures ∙ outcome_is c.set_time_a.result (timed s (to_z w64 (of_z w64 c.in-SetTime.r)) (to_z w64 (of_z w64 c.in-SetTime.time))) s c.set_time_a.new.self.state c.set_time_a.ensures.done ∙ (λ i. answer_or_fault (done_with_state (timed s (the-r-SetTime c i) (the-time-SetTime c i)))) ∙ ap (λ z. command_answer z s) (sym c.in-SetTime.is)
 
 pub returns-in-SetTime-clause-ok : goal.returns-in-SetTime-clause-ok
 returns-in-SetTime-clause-ok c =
@@ -110,7 +110,7 @@ the-member-FileFirst c = search rules
 pub returns-in-FileFirst-clause-answer : goal.returns-in-FileFirst-clause-answer
 returns-in-FileFirst-clause-answer c =
     let s = c.args.heap.now.state in
-    c.answer_without_value-in-FileFirst.ensures ∙ outcome_is c.file_first.result (filed_first s c.in-FileFirst.set (to_z w64 (of_z w64 c.in-FileFirst.owner)) (to_z w64 (of_z w64 c.in-FileFirst.member))) s c.file_first.new.self.state c.file_first.ensures.done ∙ (λ i. answer_in (done_with_state (filed_first s c.in-FileFirst.set (the-owner-FileFirst c i) (the-member-FileFirst c i)))) ∙ ap (λ z. answer_of z s) (sym c.in-FileFirst.is)
+    c.answer_without_value-in-FileFirst.ensures ∙ outcome_is c.file_first.result (filed_first s c.in-FileFirst.set (to_z w64 (of_z w64 c.in-FileFirst.owner)) (to_z w64 (of_z w64 c.in-FileFirst.member))) s c.file_first.new.self.state c.file_first.ensures.done ∙ (λ i. answer_or_fault (done_with_state (filed_first s c.in-FileFirst.set (the-owner-FileFirst c i) (the-member-FileFirst c i)))) ∙ ap (λ z. command_answer z s) (sym c.in-FileFirst.is)
 
 pub returns-in-FileFirst-clause-ok : goal.returns-in-FileFirst-clause-ok
 returns-in-FileFirst-clause-ok c =
@@ -132,7 +132,7 @@ the-member-FileLast c = search rules
 pub returns-in-FileLast-clause-answer : goal.returns-in-FileLast-clause-answer
 returns-in-FileLast-clause-answer c =
     let s = c.args.heap.now.state in
-    c.answer_without_value-in-FileLast.ensures ∙ outcome_is c.file_last.result (filed_last s c.in-FileLast.set (to_z w64 (of_z w64 c.in-FileLast.owner)) (to_z w64 (of_z w64 c.in-FileLast.member))) s c.file_last.new.self.state c.file_last.ensures.done ∙ (λ i. answer_in (done_with_state (filed_last s c.in-FileLast.set (the-owner-FileLast c i) (the-member-FileLast c i)))) ∙ ap (λ z. answer_of z s) (sym c.in-FileLast.is)
+    c.answer_without_value-in-FileLast.ensures ∙ outcome_is c.file_last.result (filed_last s c.in-FileLast.set (to_z w64 (of_z w64 c.in-FileLast.owner)) (to_z w64 (of_z w64 c.in-FileLast.member))) s c.file_last.new.self.state c.file_last.ensures.done ∙ (λ i. answer_or_fault (done_with_state (filed_last s c.in-FileLast.set (the-owner-FileLast c i) (the-member-FileLast c i)))) ∙ ap (λ z. command_answer z s) (sym c.in-FileLast.is)
 
 pub returns-in-FileLast-clause-ok : goal.returns-in-FileLast-clause-ok
 returns-in-FileLast-clause-ok c =
@@ -157,7 +157,7 @@ the-beside-FileBefore c = search rules
 pub returns-in-FileBefore-clause-answer : goal.returns-in-FileBefore-clause-answer
 returns-in-FileBefore-clause-answer c =
     let s = c.args.heap.now.state in
-    c.answer_without_value-in-FileBefore.ensures ∙ outcome_is c.file_before.result (filed_before s c.in-FileBefore.set (to_z w64 (of_z w64 c.in-FileBefore.owner)) (to_z w64 (of_z w64 c.in-FileBefore.member)) (to_z w64 (of_z w64 c.in-FileBefore.beside))) s c.file_before.new.self.state c.file_before.ensures.done ∙ (λ i. answer_in (done_with_state (filed_before s c.in-FileBefore.set (the-owner-FileBefore c i) (the-member-FileBefore c i) (the-beside-FileBefore c i)))) ∙ ap (λ z. answer_of z s) (sym c.in-FileBefore.is)
+    c.answer_without_value-in-FileBefore.ensures ∙ outcome_is c.file_before.result (filed_before s c.in-FileBefore.set (to_z w64 (of_z w64 c.in-FileBefore.owner)) (to_z w64 (of_z w64 c.in-FileBefore.member)) (to_z w64 (of_z w64 c.in-FileBefore.beside))) s c.file_before.new.self.state c.file_before.ensures.done ∙ (λ i. answer_or_fault (done_with_state (filed_before s c.in-FileBefore.set (the-owner-FileBefore c i) (the-member-FileBefore c i) (the-beside-FileBefore c i)))) ∙ ap (λ z. command_answer z s) (sym c.in-FileBefore.is)
 
 pub returns-in-FileBefore-clause-ok : goal.returns-in-FileBefore-clause-ok
 returns-in-FileBefore-clause-ok c =
@@ -182,7 +182,7 @@ the-beside-FileAfter c = search rules
 pub returns-in-FileAfter-clause-answer : goal.returns-in-FileAfter-clause-answer
 returns-in-FileAfter-clause-answer c =
     let s = c.args.heap.now.state in
-    c.answer_without_value-in-FileAfter.ensures ∙ outcome_is c.file_after.result (filed_after s c.in-FileAfter.set (to_z w64 (of_z w64 c.in-FileAfter.owner)) (to_z w64 (of_z w64 c.in-FileAfter.member)) (to_z w64 (of_z w64 c.in-FileAfter.beside))) s c.file_after.new.self.state c.file_after.ensures.done ∙ (λ i. answer_in (done_with_state (filed_after s c.in-FileAfter.set (the-owner-FileAfter c i) (the-member-FileAfter c i) (the-beside-FileAfter c i)))) ∙ ap (λ z. answer_of z s) (sym c.in-FileAfter.is)
+    c.answer_without_value-in-FileAfter.ensures ∙ outcome_is c.file_after.result (filed_after s c.in-FileAfter.set (to_z w64 (of_z w64 c.in-FileAfter.owner)) (to_z w64 (of_z w64 c.in-FileAfter.member)) (to_z w64 (of_z w64 c.in-FileAfter.beside))) s c.file_after.new.self.state c.file_after.ensures.done ∙ (λ i. answer_or_fault (done_with_state (filed_after s c.in-FileAfter.set (the-owner-FileAfter c i) (the-member-FileAfter c i) (the-beside-FileAfter c i)))) ∙ ap (λ z. command_answer z s) (sym c.in-FileAfter.is)
 
 pub returns-in-FileAfter-clause-ok : goal.returns-in-FileAfter-clause-ok
 returns-in-FileAfter-clause-ok c =
@@ -204,7 +204,7 @@ the-member-Remove c = search rules
 pub returns-in-Remove-clause-answer : goal.returns-in-Remove-clause-answer
 returns-in-Remove-clause-answer c =
     let s = c.args.heap.now.state in
-    c.answer_without_value-in-Remove.ensures ∙ outcome_is c.remove.result (removed s c.in-Remove.set (to_z w64 (of_z w64 c.in-Remove.owner)) (to_z w64 (of_z w64 c.in-Remove.member))) s c.remove.new.self.state c.remove.ensures.done ∙ (λ i. answer_in (done_with_state (removed s c.in-Remove.set (the-owner-Remove c i) (the-member-Remove c i)))) ∙ ap (λ z. answer_of z s) (sym c.in-Remove.is)
+    c.answer_without_value-in-Remove.ensures ∙ outcome_is c.remove.result (removed s c.in-Remove.set (to_z w64 (of_z w64 c.in-Remove.owner)) (to_z w64 (of_z w64 c.in-Remove.member))) s c.remove.new.self.state c.remove.ensures.done ∙ (λ i. answer_or_fault (done_with_state (removed s c.in-Remove.set (the-owner-Remove c i) (the-member-Remove c i)))) ∙ ap (λ z. command_answer z s) (sym c.in-Remove.is)
 
 pub returns-in-Remove-clause-ok : goal.returns-in-Remove-clause-ok
 returns-in-Remove-clause-ok c =

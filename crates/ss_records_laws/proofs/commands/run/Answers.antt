@@ -1,6 +1,6 @@
 use Rattle.std.proofs.Common.{◌∷◌, [], ◌++◌, drop, ◌+◌, ap, ◌∙◌}
 use Rattle.ss_world.specs.State.{State}
-use Rattle.ss_records_laws.specs.Commands.{answers_of, after_commands}
+use Rattle.ss_records_laws.specs.Commands.{command_answers, after_commands}
 use Rattle.ss_records_laws.proofs.SameLayout.{same_layout}
 use Rattle.ss_records_laws.proofs.Running.{given_next, rest_next, made_next, on_err}
 use Rattle.ss_records_laws.proofs.commands.run.Goals as goal
@@ -19,7 +19,7 @@ loop-command-preserved c =
     let same = same_layout x s in
     let u = c.make.new.heap.state in
     record {
-      given = ap (λ zs. zs ++ answers_of (drop (i + 1) xs) u) p ∙ (λ j. (c.loop-command.answers.items ++ a j ∷ []) ++ answers_of (drop (i + 1) xs) (t j)) ∙ given ∙ c.loop-command.invariant.given;
+      given = ap (λ zs. zs ++ command_answers (drop (i + 1) xs) u) p ∙ (λ j. (c.loop-command.answers.items ++ a j ∷ []) ++ command_answers (drop (i + 1) xs) (t j)) ∙ given ∙ c.loop-command.invariant.given;
       rest = ap (after_commands (drop (i + 1) xs)) t ∙ rest ∙ c.loop-command.invariant.rest;
       layout = ap (λ (v : State). v.layout) t ∙ same ∙ c.loop-command.invariant.layout;
       made = t ∙ made_next xs i x c.loop-command-test.true c.command-item.is s c.args.heap.now.state c.loop-command.invariant.made;

@@ -6,7 +6,7 @@ use Rattle.ss_base.specs.declared.layout.Mode.TheVariants.{Integer}
 use Rattle.ss_base.specs.declared.layout.RankKey.{RankKey}
 use Rattle.ss_world.specs.State.{modes_of}
 use Rattle.ss_world.specs.Sets.{member_class, owner}
-use Rattle.ss_world.specs.Disciplines.{value_of, passed, owned}
+use Rattle.ss_world.specs.Disciplines.{value_of, members_passed, owned}
 use Rattle.ss_sets.specs.Walks.{first_after}
 use Rattle.ss_sets.proofs.Past.{none_below}
 use Rattle.ss_sets.proofs.Walking.{first_field}
@@ -45,6 +45,6 @@ returns-in-empty-clause-found c =
 pub returns-in-empty-clause-touches : goal.returns-in-empty-clause-touches
 returns-in-empty-clause-touches c =
     let st = c.args.heap.now.state in let fo = c.ranges.o in let fx = c.ranges.x in let h = simp to_z-of_z at c.first_after_number.ensures.touches in
-    let more = subst (λ (ks : List RankKey). c.first_after_number.new.heap.total ≤ c.args.heap.now.total + 1 + passed st (member_class st.layout c.args.set) (c.args.key ∷ ks) c.args.x (owned st c.args.set c.args.o))
+    let more = subst (λ (ks : List RankKey). c.first_after_number.new.heap.total ≤ c.args.heap.now.total + 1 + members_passed st (member_class st.layout c.args.set) (c.args.key ∷ ks) c.args.x (owned st c.args.set c.args.o))
     (sym (none_below c.args.others.now c.in-empty.len_below)) h.1 in
     (h.0, omega (arith, more))

@@ -9,7 +9,7 @@ use Rattle.ss_base.specs.declared.layout.Layout.{Layout}
 use Rattle.ss_world.specs.State.{State, and_then, modes_of}
 use Rattle.ss_world.specs.Lists.{head0}
 use Rattle.ss_world.specs.Sets.{owner, first_in, member_class}
-use Rattle.ss_world.specs.Disciplines.{value_of, passed, owned, AreFields}
+use Rattle.ss_world.specs.Disciplines.{value_of, members_passed, owned, AreFields}
 use Rattle.ss_sets.specs.Walks.{first_after, as_member}
 use Rattle.ss_sets.proofs.Walking.{onward, leader, onward_all, first_leads, reached_member, next_is, stops, passes, found_first, not_found, Looked, looked, never_lost, other_fields}
 use Rattle.ss_sets.proofs.ranking.first_after_whole.Goals as goal
@@ -25,7 +25,7 @@ loop-member-init c =
     let all : List ℕ = owned st c.args.set o in let class = member_class st.layout c.args.set in let ks : List RankKey = c.args.key ∷ c.args.others.now in
     let leads : c.in-Ok.first ≡ leader all = (found_first st c.args.set c.in-Ok.first o c.in-Ok.ensures.first).1 ∙ first_leads st c.sets_are_apart.ensures c.args.set c.requires.set o in
     let whole : onward c.in-Ok.first all ≡ all = ap (λ m. onward m all) leads ∙ onward_all all in
-    let same = ap (passed st class ks x) whole in
+    let same = ap (members_passed st class ks x) whole in
     record {
       same = c.first_member.ensures.same;
       here = leads ∙ ap leader (sym whole);
@@ -108,5 +108,5 @@ loop-member-preserved c =
       same = c.in-Ok-whole_member.ensures.same ∙ h.same;
       here = next_one c ∙ p.leads ∙ ap leader (sym rest);
       found = ap (first_after st class ks x) rest ∙ sym q.0 ∙ ap (first_after st class ks x) (sym p.rest) ∙ h.found;
-      touches = (omega (arith, c.in-Ok-whole_member.ensures.touches.2, h.touches.0), omega (arith, ap (passed st class ks x) rest, q.1, ap (passed st class ks x) p.rest, c.in-Ok-whole_member.ensures.touches.0, c.in-Ok-whole_member.ensures.touches.2, h.touches.1));
+      touches = (omega (arith, c.in-Ok-whole_member.ensures.touches.2, h.touches.0), omega (arith, ap (members_passed st class ks x) rest, q.1, ap (members_passed st class ks x) p.rest, c.in-Ok-whole_member.ensures.touches.0, c.in-Ok-whole_member.ensures.touches.2, h.touches.1));
     }

@@ -1,6 +1,6 @@
 use Rattle.std.proofs.Common.{◌≡◌, ◌+◌, ◌≤◌, ◌∷◌, length}
 use Rattle.ss_world.specs.Sets.{member_class}
-use Rattle.ss_world.specs.Disciplines.{passed, owned}
+use Rattle.ss_world.specs.Disciplines.{members_passed, owned}
 use Rattle.ss_sets.specs.Walks.{first_after}
 use Rattle.ss_sets.proofs.Walking.{onward, leader}
 use Rattle.ss_sets.proofs.ranking.first_after_whole.Given as goal
@@ -13,7 +13,7 @@ invariant-loop-member l =
       same : l.heap.state ≡ st;
       here : l.member ≡ leader rest;
       found : first_after st class ks l.x rest ≡ first_after st class ks l.x all;
-      touches : (l.fn.heap.total ≤ l.heap.total) × (l.heap.total + passed st class ks l.x rest ≤ l.fn.heap.total + 1 + passed st class ks l.x all);
+      touches : (l.fn.heap.total ≤ l.heap.total) × (l.heap.total + members_passed st class ks l.x rest ≤ l.fn.heap.total + 1 + members_passed st class ks l.x all);
     }
 
 abbrev pub decreases-loop-member : goal.decreases-loop-member

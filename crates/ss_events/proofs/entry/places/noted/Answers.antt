@@ -2,7 +2,7 @@ use Rattle.std.proofs.Common.{rules, w64, to_z, of_z, pos, ◌≡◌, ◌<◌, �
 use Rattle.std.proofs.lemmas.Bool.{cases_eq}
 use Rattle.std.proofs.lemmas.List.{get_or_default}
 use Rattle.ss_events.specs.declared.entry.places.Slot.{Slot}
-use Rattle.ss_events.specs.Slots.{blank_slot, no_slot, slot_at, IsTaken, Leads}
+use Rattle.ss_events.specs.Slots.{blank_slot, no_slot, slot_at, IsTaken, IsGuess}
 use Rattle.ss_events.proofs.Grown.{led_more}
 use Rattle.ss_events.proofs.entry.places.noted.Goals as goal
 use Rattle.ss_events.proofs.entry.places.noted.Goals.{then-it-count+in_ok-note, then-it-count-via-then-it-count, then-it-count-via-else-it-count+then-it-ge-FOLLOWING, else-it-count+else-it-ge-FOLLOWING}
@@ -22,12 +22,12 @@ loop-slot-preserved c =
             | then-it-count-via-then-it-count v ↦ inl (omega (arith, v.if-it-count.true, ap (λ (y : Slot). y.at) is))
             | then-it-count-via-else-it-count+then-it-ge-FOLLOWING v ↦ inr (omega (arith, v.if-it-ge-FOLLOWING.true, ap (λ (y : Slot). y.at) is))
           ] in
-          λ s lt its. subst (λ d. Leads d (slot_at slots s).notice s) (sym w.directory-is)
+          λ s lt its. subst (λ d. IsGuess d (slot_at slots s).notice s) (sym w.directory-is)
           (led_more c.args.count slots c.loop-slot.directory w.note.new.self k c.requires c.loop-slot-test.true small c.loop-slot.invariant taken
-          (subst (λ n. Leads w.note.new.self n k) same w.in_ok-note.ensures.noted)
+          (subst (λ n. IsGuess w.note.new.self n k) same w.in_ok-note.ensures.noted)
           (λ n t other apart led. w.note.ensures.others n t (λ e. other (e ∙ same)) apart led)
           s lt its)
-      | else-it-count+else-it-ge-FOLLOWING w ↦ λ s lt its. subst (λ d. Leads d (slot_at slots s).notice s) (sym w.directory-is)
+      | else-it-count+else-it-ge-FOLLOWING w ↦ λ s lt its. subst (λ d. IsGuess d (slot_at slots s).notice s) (sym w.directory-is)
           (⊎_elim
           (λ e. absurd (⊎_elim
           (λ less. omega (arith, less, w.if-it-count.false, ap (λ (y : Slot). y.at) is, ap (λ n. (slot_at slots n).at) e))

@@ -7,7 +7,7 @@ use Rattle.ss_events.specs.declared.entry.Entry.{Entry}
 use Rattle.ss_events.specs.HeapEntries.{HeapEntries, heap_lines, all_of, notices_of, Leaves}
 use Rattle.ss_events.specs.HeapOrder.{IsHeap}
 use Rattle.ss_world.specs.Order.{comes_before}
-use Rattle.ss_world.specs.PendingList.{is_pending, without}
+use Rattle.ss_world.specs.PendingList.{is_pending, without_notice}
 use Rattle.ss_events.specs.Sifting.{IsLogarithmic}
 use Rattle.ss_events.proofs.Agendas.{found-pending, found-at, agenda-taken, in_order-taken, work_of}
 use Rattle.ss_events.proofs.Outcomes.{cancelled-pending, cancelled-none}
@@ -39,7 +39,7 @@ returns-in-Some-clause-ok c =
     let its = found-at c.reset_counts.new.self.entries _ c.args.notice c.in-Some.at entry (to_z-of_z c.ranges.notice) c.in-Some.ensures.place c.take_out-event.ensures.taken.there in
     let rest = in_order-taken c.self.inside.heap.entries (all_of c.self.inside.heap) c.self.inside.schedulings c.self.invariant entry (all_of c.take_out-event.new.heap) (all c) c.args.notice its in
     cancelled-pending c.args.notice c.args.self.now.list (pending c)
-    ∙ ap (λ v. Ok (record v.list { entries = without c.args.notice v.list.entries })) (sym c.self.view_is)
+    ∙ ap (λ v. Ok (record v.list { entries = without_notice c.args.notice v.list.entries })) (sym c.self.view_is)
     ∙ ap (λ es. Ok (record { entries = es; schedulings = c.self.inside.schedulings; classes = map (λ shapes. shapes.items) c.self.inside.classes.items })) (sym rest)
 
 work : (c : goal.After-take_out-event) → IsLogarithmic (length c.args.self.now.list.entries) c.take_out-event.new.heap
@@ -86,7 +86,7 @@ returns-then-remove_follower-clause-ok c =
     let its : int_eq c.args.notice l.entry.notice ≡ true = ap (int_eq c.args.notice) (l.noticed ∙ to_z-of_z c.ranges.notice) ∙ int_eq_equiv.refl c.args.notice in
     let rest = in_order-taken c.self.inside.heap.entries (all_of c.self.inside.heap) c.self.inside.schedulings c.self.invariant l.entry (all_of c.remove_follower.new.self) (others_permuted c) c.args.notice its in
     cancelled-pending c.args.notice c.args.self.now.list (sym known)
-    ∙ ap (λ v. Ok (record v.list { entries = without c.args.notice v.list.entries })) (sym c.self.view_is)
+    ∙ ap (λ v. Ok (record v.list { entries = without_notice c.args.notice v.list.entries })) (sym c.self.view_is)
     ∙ ap (λ es. Ok (record { entries = es; schedulings = c.self.inside.schedulings; classes = map (λ shapes. shapes.items) c.self.inside.classes.items })) (sym rest)
 
 -- ---- none

@@ -1,7 +1,7 @@
 use Rattle.std.proofs.Common.{◌<◌, ◌∷◌, ◌∙◌, Some, length, map, get_or, ap, subst, sym, arith, IsPermutation}
 use Rattle.std.specs.Cmp.{int_eq_equiv}
 use Rattle.ss_events.specs.HeapEntries.{HeapEntries, all_of, AreAfterHeads}
-use Rattle.ss_world.specs.PendingList.{without}
+use Rattle.ss_world.specs.PendingList.{without_notice}
 use Rattle.ss_events.specs.InOrder.{in_order}
 use Rattle.ss_events.specs.Sifting.{IsLogarithmic}
 use Rattle.ss_events.proofs.Agendas.{next-none, after_next-none, next-first, after_next-first, agenda-taken, in_order-taken, work_of}
@@ -51,7 +51,7 @@ returns-clause-rest c =
     let first = taken.there ∙ ap (λ h. get_or h.entries 0 entry) anew in
     let rest = in_order-taken c.self.inside.heap.entries (all_of c.self.inside.heap) c.self.inside.schedulings c.self.invariant entry (all_of c.take_out.new.heap) (all c) entry.notice (int_eq_equiv.refl entry.notice) in
     ap (λ es. record { entries = es; schedulings = c.self.inside.schedulings; classes = map (λ shapes. shapes.items) c.self.inside.classes.items }) rest
-    ∙ ap (λ v. record v.list { entries = without entry.notice v.list.entries }) c.self.view_is
+    ∙ ap (λ v. record v.list { entries = without_notice entry.notice v.list.entries }) c.self.view_is
     ∙ sym (after_next-first c.self.inside.heap c.args.self.now.list (ap (λ v. v.list.entries) c.self.view_is) (following c) c.self.inside.schedulings c.self.invariant entry some first)
 
 work : (c : goal.After-take_out) → IsLogarithmic (length c.args.self.now.list.entries) c.take_out.new.heap

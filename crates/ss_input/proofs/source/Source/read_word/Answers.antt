@@ -3,7 +3,7 @@ use Rattle.ss_base.specs.declared.fault.FaultKind.TheVariants.{EndOfData, BadDat
 use Rattle.ss_input.specs.declared.source.Missed.TheVariants.{Fault, Input}
 use Rattle.ss_input.specs.declared.source.Source.{Source}
 use Rattle.ss_input.specs.Blocks.{first_input_byte}
-use Rattle.ss_input.specs.Words.{next_word, word_at}
+use Rattle.ss_input.specs.Words.{next_word, leading_word}
 use Rattle.ss_input.specs.Inputs.{Reaches, Reads, Finds, source_block}
 use Rattle.ss_input.proofs.Reached.{too_many_found, none_found, word_found, too_long_found, finds_so}
 use Rattle.ss_input.proofs.Asked.{gap_unasked, word_unasked}
@@ -16,7 +16,7 @@ returns-in_err-reach_word-clause-fault g c kind e =
     let same : c.reach_word.result ≡ Err (Fault kind) = search rules in
     let h = c.reach_word.ensures.fault kind same in
     subst (λ k. Finds g.R.FaultyRead.remaining c.args.self.now c.reach_word.new.self (λ input. next_word input ≡ Err k)) (sym h.0)
-    (finds_so g.R.FaultyRead.remaining c.args.self.now c.reach_word.new.self _ _ (λ input q. ap word_at q) (too_many_found g.R.FaultyRead.remaining c.args.self.now c.reach_word.new.self h.1))
+    (finds_so g.R.FaultyRead.remaining c.args.self.now c.reach_word.new.self _ _ (λ input q. ap leading_word q) (too_many_found g.R.FaultyRead.remaining c.args.self.now c.reach_word.new.self h.1))
 
 pub returns-then-is_none-clause-fault : goal.returns-then-is_none-clause-fault
 returns-then-is_none-clause-fault g c kind e =
@@ -24,7 +24,7 @@ returns-then-is_none-clause-fault g c kind e =
     let reached : Reaches g.R.FaultyRead.remaining c.args.self.now c.reach_word.new.self = search rules in
     let none : first_input_byte (source_block c.reach_word.new.self).left ≡ None = search rules in
     subst (λ k. Finds g.R.FaultyRead.remaining c.args.self.now c.reach_word.new.self (λ input. next_word input ≡ Err k)) same
-    (finds_so g.R.FaultyRead.remaining c.args.self.now c.reach_word.new.self _ _ (λ input q. ap word_at q) (none_found g.R.FaultyRead.remaining c.args.self.now c.reach_word.new.self reached reached.small none))
+    (finds_so g.R.FaultyRead.remaining c.args.self.now c.reach_word.new.self _ _ (λ input q. ap leading_word q) (none_found g.R.FaultyRead.remaining c.args.self.now c.reach_word.new.self reached reached.small none))
 
 pub returns-in-Ok-Some-clause-ok : goal.returns-in-Ok-Some-clause-ok
 returns-in-Ok-Some-clause-ok g c = (c.in-Ok-Some.ensures.passed c.in-Ok-Some.count (ap Ok c.in-Ok-Some.field-0-is)).1

@@ -2,7 +2,7 @@ use Rattle.std.proofs.Common.{rules, ◌≡◌, ℤ, true, Ok, Err, refl, ap, sy
 use Rattle.ss_world.specs.State.{State, created_all, no_value}
 use Rattle.ss_meaning.specs.Entities.{is_permanent}
 use Rattle.ss_machine_entities.specs.Layouts.{class_in}
-use Rattle.ss_machine_world.specs.Seen.{Seen, Grows, created_all_known}
+use Rattle.ss_machine_world.specs.Seen.{Seen, ChangesWithMemory, created_all_known}
 use Rattle.ss_machine_world.proofs.Starting.{fault_due, none_due, all_fault, all_well}
 use Rattle.ss_machine_world.proofs.scene.Scene.create_all.Goals as goal
 
@@ -20,7 +20,7 @@ pub returns-in-Ok-clause-done : goal.returns-in-Ok-clause-done
 returns-in-Ok-clause-done c =
     let count = c.args.count in
     let same : to_z w64 (of_z w64 count) ≡ count = search rules in
-    subst (λ (z : ℤ). Grows (created_all_known c.args.class z) c.args.self.now c.create_counted.new.self c.create_counted.result) same c.create_counted.ensures
+    subst (λ (z : ℤ). ChangesWithMemory (created_all_known c.args.class z) c.args.self.now c.create_counted.new.self c.create_counted.result) same c.create_counted.ensures
 
 pub returns-in-Ok-clause-memory : goal.returns-in-Ok-clause-memory
 returns-in-Ok-clause-memory c = λ memory.

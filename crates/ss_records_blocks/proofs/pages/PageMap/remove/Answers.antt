@@ -2,7 +2,7 @@ use Rattle.std.proofs.Common.{◌≡◌, ◌+◌, length, slice_get, slice_set, 
 use Rattle.std.specs.Ordering.{nat_cmp}
 use Rattle.std.specs.BTreeMap.{is_at}
 use Rattle.std.specs.Map.{remove_entry}
-use Rattle.ss_records_blocks.specs.Pages.{Page, Pages, Spots, Rises, under, page_of, held}
+use Rattle.ss_records_blocks.specs.Pages.{Page, Pages, Spots, Rises, under, page_of, pages_held}
 use Rattle.ss_records_blocks.proofs.Rising.{read_is, rises_written}
 use Rattle.ss_records_blocks.proofs.Holding.{page_in, no_page, page_gone, gone_count, gone_updates, same_again, none_gone}
 use Rattle.ss_records_blocks.proofs.pages.PageMap.remove.Goals as goal
@@ -20,8 +20,8 @@ put c =
     let read = read_is ss c.in-Some.at (c.args.number, c.in-Some.ensures.0) c.index_mut.result.now there c.index_mut.ensures.value in
     λ z. slice_set ss c.in-Some.at ((read z).0, c.take.ensures.after z)
 
-left : (c : goal.After-drop-page-inside) → held (slice_set c.self.inside.spots.items c.in-Some.at (c.index_mut.result.now.0, c.take.new.self)) ≡ remove_entry (is_at (nat_cmp c.args.number)) (held c.self.inside.spots.items)
-left c = ap held (put c) ∙ page_gone c.self.inside.spots.items c.self.invariant.0 c.in-Some.at c.args.number c.in-Some-take._page (had c)
+left : (c : goal.After-drop-page-inside) → pages_held (slice_set c.self.inside.spots.items c.in-Some.at (c.index_mut.result.now.0, c.take.new.self)) ≡ remove_entry (is_at (nat_cmp c.args.number)) (pages_held c.self.inside.spots.items)
+left c = ap pages_held (put c) ∙ page_gone c.self.inside.spots.items c.self.invariant.0 c.in-Some.at c.args.number c.in-Some-take._page (had c)
 
 -- the spot is empty already
 empty : (c : goal.In_default-take) → slice_get c.self.inside.spots.items c.in-Some.at ≡ Some (c.args.number, None)
@@ -30,15 +30,15 @@ empty c =
     let read = read_is ss c.in-Some.at (c.args.number, c.in-Some.ensures.0) c.index_mut.result.now there c.index_mut.ensures.value in
     there ∙ ap (λ (o : Option Page). Some (c.args.number, o)) (sym (ap (λ e. e.1) read) ∙ sym c.take.ensures.value ∙ c.in_default-take.is)
 
-still : (c : goal.In_default-take) → held (slice_set c.self.inside.spots.items c.in-Some.at (c.index_mut.result.now.0, c.take.new.self)) ≡ remove_entry (is_at (nat_cmp c.args.number)) (held c.self.inside.spots.items)
+still : (c : goal.In_default-take) → pages_held (slice_set c.self.inside.spots.items c.in-Some.at (c.index_mut.result.now.0, c.take.new.self)) ≡ remove_entry (is_at (nat_cmp c.args.number)) (pages_held c.self.inside.spots.items)
 still c =
     let ss = c.self.inside.spots.items in let there = ap (λ (x : Spots). slice_get x c.in-Some.at) (sym c.deref.ensures.value) ∙ c.in-Some.ensures.1 in
     let read = read_is ss c.in-Some.at (c.args.number, c.in-Some.ensures.0) c.index_mut.result.now there c.index_mut.ensures.value in
     let again : slice_set ss c.in-Some.at (c.index_mut.result.now.0, c.take.new.self) ≡ slice_set ss c.in-Some.at (c.args.number, None) = λ z. slice_set ss c.in-Some.at ((read z).0, c.take.ensures.after z) in
-    ap held (again ∙ same_again ss c.in-Some.at (c.args.number, None) (empty c)) ∙ none_gone ss c.args.number (page_in ss c.self.invariant.0 c.in-Some.at c.args.number None (empty c))
+    ap pages_held (again ∙ same_again ss c.in-Some.at (c.args.number, None) (empty c)) ∙ none_gone ss c.args.number (page_in ss c.self.invariant.0 c.in-Some.at c.args.number None (empty c))
 
 -- no spot has the number
-none : (c : goal.In_default) → held c.self.inside.spots.items ≡ remove_entry (is_at (nat_cmp c.args.number)) (held c.self.inside.spots.items)
+none : (c : goal.In_default) → pages_held c.self.inside.spots.items ≡ remove_entry (is_at (nat_cmp c.args.number)) (pages_held c.self.inside.spots.items)
 none c =
     let ss = c.self.inside.spots.items in
     none_gone ss c.args.number (no_page ss c.self.invariant.0 c.args.number (ap (λ (x : Spots). under x c.args.number) (sym c.deref.ensures.value) ∙ c.in_default.ensures))
@@ -46,7 +46,7 @@ none c =
 pub invariant_of-self : goal.invariant_of-self
 invariant_of-self c =
     let ss = c.self.inside.spots.items in
-    subst (λ (rs : Spots). Rises rs × (c.self.inside.empty + 1 + length (held rs) ≡ length rs)) (sym (put c))
+    subst (λ (rs : Spots). Rises rs × (c.self.inside.empty + 1 + length (pages_held rs) ≡ length rs)) (sym (put c))
     (rises_written ss c.self.invariant.0 c.in-Some.at c.args.number (Some c.in-Some-take._page) (had c) None, gone_count ss c.self.invariant.0 c.in-Some.at c.args.number c.in-Some-take._page (had c) c.self.inside.empty c.self.invariant.1)
 
 pub returns-in-Some-take-clause-entries : goal.returns-in-Some-take-clause-entries

@@ -28,7 +28,7 @@ use Rattle.std.proofs.alloc.Shapes.{after}
 use Rattle.std.specs.declared.alloc.Global.{Global}
 use Rattle.std.specs.contracts.alloc.Global as G
 use Rattle.std.proofs.impls.GlobalAllocator.deallocate.Met.{met}
-use Rattle.ss_records_blocks.specs.Cells.{Word, words_at, without}
+use Rattle.ss_records_blocks.specs.Cells.{Word, words_at, without_block}
 use Rattle.ss_records_blocks.specs.Ownership.{words_own, block_type, deed_owns, store_owns}
 use Rattle.ss_records_blocks.proofs.Cutting.{block_glue, store_leave, null_words}
 use Rattle.ss_records_blocks.proofs.Calls.{Gives, at_gives, Gives-goes, Gives-gives}
@@ -59,9 +59,9 @@ give_back_spec 𝓤 𝓛 𝓜 𝓡 wired =
     let p : Ptr = a.1.1.0.at in let place_is = place_known p vss.1.1.0 are.1.1.0 in
     let n = a.1.1.1.0 in let fn64 = are.1.1.1.0.1 in
     let ws : List Word = words_at cs p in
-    let new : (S.the_row).Denot = record { cells = without cs p; total = d.total } in
+    let new : (S.the_row).Denot = record { cells = without_block cs p; total = d.total } in
     let Asked : Type 0 = (length ws ≡ n) × (0 < n) in
-    let Given : Type 0 = (new.cells ≡ without cs p) × (new.total ≡ d.total) in
+    let Given : Type 0 = (new.cells ≡ without_block cs p) × (new.total ≡ d.total) in
     qed 𝓛 ((raw (alive 𝓛 ended.signature z.0.0 z.0.1) ⊛ ‵ (owns (types_at ended.signature.params z.0.0) a vss)) ∷ raw (fact 𝓤 Asked) ∷ []) ∵
     move ! (1 ∷ []) $ heard ! Asked (λ asked. split ! $ use1 𝓛 (‵ (flft κ q) ⊛ ‵ (flft κ₁ q₁) ⊛ ‵ ftrue) (id⊢ 𝓤 _) $ split3 ! $ move ! (3 ∷ []) $ fsplit ! $ fsplit3 ! $ feq_l ! (λ e0. move ! (2 ∷ []) $ fsplit ! $ fsplit ! $ feq_l ! (λ e1. move ! (1 ∷ []) $ drop ! $
     -- [seen; obs; bor; token; token₁; true]
@@ -70,7 +70,7 @@ give_back_spec 𝓤 𝓛 𝓜 𝓡 wired =
     alloc_all ! (λ l. pass_all ! refl ((tt, tt), ((tt, tt), (place_typed [] p, ((tt, record { fits = fn64 }), tt)))) $ let En : Env 𝓤 H = env fn.locals l in
     let some : 0 < length ws = subst (λ (k : ℕ). 0 < k) (sym asked.0) asked.1 in
     move ! (1 ∷ 2 ∷ 3 ∷ []) $ opens ! tt S.the_row b o (λ us. move ! (1 ∷ []) $ fsplit ! $ move ! (1 ∷ []) $
-    use1 𝓛 (‵ (words_own p ws) ⊛ ‵ (deed_owns p (length ws)) ⊛ ‵ (store_owns (without cs p))) (store_leave 𝓛 cs p some) $ split3 ! $
+    use1 𝓛 (‵ (words_own p ws) ⊛ ‵ (deed_owns p (length ws)) ⊛ ‵ (store_owns (without_block cs p))) (store_leave 𝓛 cs p some) $ split3 ! $
     -- [words; deed; store; fields; cell; obor; obs; auth; seen; token₁; true]
     move ! (3 ∷ 2 ∷ []) $ fjoin ! $ move ! (3 ∷ 0 ∷ 4 ∷ 5 ∷ 6 ∷ []) $ closes ! tt S.the_row new us b o $ move ! (3 ∷ 4 ∷ []) $
     -- [words; deed; obs; bor; token; seen; token₁; true]

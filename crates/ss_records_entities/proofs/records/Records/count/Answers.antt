@@ -1,7 +1,7 @@
 use Rattle.std.proofs.Common.{arith, ◌≡◌, refl, ap}
 use Rattle.std.proofs.lemmas.Int.{ints, to_z-of_z}
 use Rattle.ss_records_entities.proofs.Looks.{counts, how_many_small, how_many_value}
-use Rattle.ss_records_entities.specs.Parts.{state, held}
+use Rattle.ss_records_entities.specs.Parts.{state, uncounted}
 use Rattle.ss_records_entities.proofs.Still.{kept_still, room_first, one_touch, no_touch}
 use Rattle.ss_records_entities.proofs.records.Records.count.Goals as goal
 
@@ -32,12 +32,12 @@ count-requires-clause-room c = let r = c.args.self.now in room_first r.blocks.to
 
 pub returns-in-Ok-clause-kept : goal.returns-in-Ok-clause-kept
 returns-in-Ok-clause-kept c =
-    let r = c.args.self.now in let b = c.count.new.self in let h : held (record r { blocks = b }) ≡ held r = λ i. record r { blocks = record { cells = c.count.ensures.cells i; touches = 0; total = 0 } } in
+    let r = c.args.self.now in let b = c.count.new.self in let h : uncounted (record r { blocks = b }) ≡ uncounted r = λ i. record r { blocks = record { cells = c.count.ensures.cells i; touches = 0; total = 0 } } in
     kept_still r (record r { blocks = b }) h c.requires.kept
 
 pub returns-in-Ok-clause-same : goal.returns-in-Ok-clause-same
 returns-in-Ok-clause-same c =
-    let r = c.args.self.now in let b = c.count.new.self in let h : held (record r { blocks = b }) ≡ held r = λ i. record r { blocks = record { cells = c.count.ensures.cells i; touches = 0; total = 0 } } in
+    let r = c.args.self.now in let b = c.count.new.self in let h : uncounted (record r { blocks = b }) ≡ uncounted r = λ i. record r { blocks = record { cells = c.count.ensures.cells i; touches = 0; total = 0 } } in
     ap state h
 
 pub returns-in-Ok-clause-touches : goal.returns-in-Ok-clause-touches

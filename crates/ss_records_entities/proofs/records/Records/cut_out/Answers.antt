@@ -2,7 +2,7 @@ use Rattle.std.proofs.Common.{◌≡◌, ◌+◌, ◌++◌, refl, sym, ap, ◌�
 use Rattle.ss_records_blocks.specs.Cells.{link, number, word_at}
 use Rattle.ss_world.specs.State.{State}
 use Rattle.ss_world.specs.Sets.{with_list_of}
-use Rattle.ss_records_entities.specs.Parts.{state, held}
+use Rattle.ss_records_entities.specs.Parts.{state, uncounted}
 use Rattle.ss_records_entities.proofs.Files.{still_around}
 use Rattle.ss_records_entities.proofs.Cuts.{parts, prev_found, next_found, around_it, list_less}
 use Rattle.ss_records_entities.proofs.Still.{kept_still, set_still, owns_still, joins_still, base_room}
@@ -33,22 +33,22 @@ follow-after-requires-clause-room c =
 
 pub link_out-requires-clause-kept : goal.link_out-requires-clause-kept
 link_out-requires-clause-kept c =
-    let r = c.args.self.now in let h : held (record r { blocks = c.follow-after.new.self }) ≡ held r = λ i. record r { blocks = record { cells = (c.follow-after.ensures.cells ∙ c.follow-before.ensures.cells) i; touches = 0; total = 0 } } in
+    let r = c.args.self.now in let h : uncounted (record r { blocks = c.follow-after.new.self }) ≡ uncounted r = λ i. record r { blocks = record { cells = (c.follow-after.ensures.cells ∙ c.follow-before.ensures.cells) i; touches = 0; total = 0 } } in
     kept_still r (record r { blocks = c.follow-after.new.self }) h c.requires.kept
 
 pub link_out-requires-clause-set : goal.link_out-requires-clause-set
 link_out-requires-clause-set c =
-    let r = c.args.self.now in let h : held (record r { blocks = c.follow-after.new.self }) ≡ held r = λ i. record r { blocks = record { cells = (c.follow-after.ensures.cells ∙ c.follow-before.ensures.cells) i; touches = 0; total = 0 } } in
+    let r = c.args.self.now in let h : uncounted (record r { blocks = c.follow-after.new.self }) ≡ uncounted r = λ i. record r { blocks = record { cells = (c.follow-after.ensures.cells ∙ c.follow-before.ensures.cells) i; touches = 0; total = 0 } } in
     set_still r (record r { blocks = c.follow-after.new.self }) h c.args.s c.requires.set
 
 pub link_out-requires-clause-owns : goal.link_out-requires-clause-owns
 link_out-requires-clause-owns c =
-    let r = c.args.self.now in let h : held (record r { blocks = c.follow-after.new.self }) ≡ held r = λ i. record r { blocks = record { cells = (c.follow-after.ensures.cells ∙ c.follow-before.ensures.cells) i; touches = 0; total = 0 } } in
+    let r = c.args.self.now in let h : uncounted (record r { blocks = c.follow-after.new.self }) ≡ uncounted r = λ i. record r { blocks = record { cells = (c.follow-after.ensures.cells ∙ c.follow-before.ensures.cells) i; touches = 0; total = 0 } } in
     owns_still r (record r { blocks = c.follow-after.new.self }) h c.args.s c.args.owner c.requires.owns
 
 pub link_out-requires-clause-joins : goal.link_out-requires-clause-joins
 link_out-requires-clause-joins c =
-    let r = c.args.self.now in let h : held (record r { blocks = c.follow-after.new.self }) ≡ held r = λ i. record r { blocks = record { cells = (c.follow-after.ensures.cells ∙ c.follow-before.ensures.cells) i; touches = 0; total = 0 } } in
+    let r = c.args.self.now in let h : uncounted (record r { blocks = c.follow-after.new.self }) ≡ uncounted r = λ i. record r { blocks = record { cells = (c.follow-after.ensures.cells ∙ c.follow-before.ensures.cells) i; touches = 0; total = 0 } } in
     joins_still r (record r { blocks = c.follow-after.new.self }) h c.args.s c.args.x c.requires.joins
 
 pub link_out-requires-clause-touches : goal.link_out-requires-clause-touches
@@ -64,7 +64,7 @@ link_out-requires-clause-around c =
     let w : word_at r.blocks.cells x.place.at base.result ≡ link z.place.at = (λ i. word_at (sym cells i) x.place.at base.result) ∙ c.follow-after.ensures.word in
     let v : word_at r.blocks.cells z.place.at 1 ≡ number z.number = (λ i. word_at (sym cells i) z.place.at 1) ∙ c.follow-after.ensures.there in
     let around = around_it r c.requires.kept c.args.s c.requires.set x c.requires.joins base.result base.ensures.at o c.requires.there a c.follow-before.ensures.word c.follow-before.ensures.there z w v in
-    let h : held (record r { blocks = c.follow-after.new.self }) ≡ held r = λ i. record r { blocks = record { cells = (c.follow-after.ensures.cells ∙ c.follow-before.ensures.cells) i; touches = 0; total = 0 } } in
+    let h : uncounted (record r { blocks = c.follow-after.new.self }) ≡ uncounted r = λ i. record r { blocks = record { cells = (c.follow-after.ensures.cells ∙ c.follow-before.ensures.cells) i; touches = 0; total = 0 } } in
     (d.0, d.1, still_around r (record r { blocks = c.follow-after.new.self }) c.args.s o x.number a z d.0 d.1 h around)
 
 pub returns-clause-kept : goal.returns-clause-kept
@@ -75,7 +75,7 @@ returns-clause-done c =
     let r = c.args.self.now in let x = c.args.x in let base = c.member_base-base in let o = c.args.owner.number in
     let d = parts r c.requires.kept c.args.s c.requires.set x c.requires.joins base.result base.ensures.at o c.requires.there in
     let a = c.follow-before.result in let z = c.follow-after.result in let cells = c.follow-before.ensures.cells in
-    let h : held (record r { blocks = c.follow-after.new.self }) ≡ held r = λ i. record r { blocks = record { cells = (c.follow-after.ensures.cells ∙ cells) i; touches = 0; total = 0 } } in
+    let h : uncounted (record r { blocks = c.follow-after.new.self }) ≡ uncounted r = λ i. record r { blocks = record { cells = (c.follow-after.ensures.cells ∙ cells) i; touches = 0; total = 0 } } in
     let w : word_at r.blocks.cells x.place.at base.result ≡ link z.place.at = (λ i. word_at (sym cells i) x.place.at base.result) ∙ c.follow-after.ensures.word in
     let v : word_at r.blocks.cells z.place.at 1 ≡ number z.number = (λ i. word_at (sym cells i) z.place.at 1) ∙ c.follow-after.ensures.there in
     let around = around_it r c.requires.kept c.args.s c.requires.set x c.requires.joins base.result base.ensures.at o c.requires.there a c.follow-before.ensures.word c.follow-before.ensures.there z w v in

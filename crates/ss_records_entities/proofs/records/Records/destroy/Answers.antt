@@ -5,12 +5,12 @@ use Rattle.std.specs.Int.{cast_signed, cast_unsigned}
 use mir.Syntax.{w64}
 use Rattle.ss_base.specs.declared.layout.Owner.TheVariants.{Class}
 use Rattle.ss_records_entities.specs.declared.records.Records.{Records}
-use Rattle.ss_records_blocks.specs.Cells.{without, words_at}
-use Rattle.ss_records_words.specs.Places.{lying, class_at}
+use Rattle.ss_records_blocks.specs.Cells.{without_block, words_at}
+use Rattle.ss_records_words.specs.Places.{lying, class_at_place}
 use Rattle.ss_records_words.specs.Shape.{block_words}
 use Rattle.ss_records_words.specs.Kept.{Kept, state_of}
 use Rattle.ss_world.specs.State.{and_then, let_go, number_in, in_a_set, owns_members, destroyed}
-use Rattle.ss_records_entities.specs.Parts.{places, state, held}
+use Rattle.ss_records_entities.specs.Parts.{places, state, uncounted}
 use Rattle.ss_records_entities.proofs.Destroys.{its_size, kept_destroyed, is_destroyed, in_a_set_is, owns_members_is}
 use Rattle.ss_records_entities.proofs.Files.{unmoved}
 use Rattle.ss_records_entities.proofs.Still.{kept_still, as_many, start_ties, more_ties, after_ties}
@@ -58,7 +58,7 @@ returns-else-owns_members-clause-kept c =
     let none : in_a_set r.layout.sets 0 r.notes.lists c.args.class (suc f.index) ≡ false = subst (λ k. in_a_set r.layout.sets 0 r.notes.lists c.args.class k ≡ false) m (sym c.if-in_a_set.ensures.value) in
     let few : owns_members r.layout.sets 0 r.notes.lists c.args.class (suc f.index) ≡ false = subst (λ (z : Records). owns_members z.layout.sets 0 z.notes.lists c.args.class (suc f.index) ≡ false) first (subst (λ k. owns_members a.layout.sets 0 a.notes.lists c.args.class k ≡ false) m (sym c.if-owns_members.ensures.value)) in
     let k = kept_destroyed r.layout r.blocks.cells r.system.at (places r) r.notes.lists c.requires.kept f.index p m0 (free_by r.layout r.blocks.cells r.system.at (places r) r.notes.lists c.requires.kept f.index p m0 c.args.class f.class none few) in
-    rw (c.give_back.ensures.cells, c.clear.ensures, n) (subst (λ (z : Records). Kept z.layout (without q.blocks.cells p.at) z.system.at (lying (slice_set z.directory.places f.index None) z.permanents.items) z.notes.lists) (sym whole) (rw cells k))
+    rw (c.give_back.ensures.cells, c.clear.ensures, n) (subst (λ (z : Records). Kept z.layout (without_block q.blocks.cells p.at) z.system.at (lying (slice_set z.directory.places f.index None) z.permanents.items) z.notes.lists) (sym whole) (rw cells k))
 
 pub returns-else-owns_members-clause-done : goal.returns-else-owns_members-clause-done
 returns-else-owns_members-clause-done c =
@@ -73,7 +73,7 @@ returns-else-owns_members-clause-done c =
     let none : in_a_set r.layout.sets 0 r.notes.lists c.args.class (suc f.index) ≡ false = subst (λ k. in_a_set r.layout.sets 0 r.notes.lists c.args.class k ≡ false) m (sym c.if-in_a_set.ensures.value) in
     let few : owns_members r.layout.sets 0 r.notes.lists c.args.class (suc f.index) ≡ false = subst (λ (z : Records). owns_members z.layout.sets 0 z.notes.lists c.args.class (suc f.index) ≡ false) first (subst (λ k. owns_members a.layout.sets 0 a.notes.lists c.args.class k ≡ false) m (sym c.if-owns_members.ensures.value)) in
     let k = is_destroyed r.layout r.blocks.cells r.system.at (places r) r.notes.lists c.requires.kept f.index p m0 c.args.class c.args.r h.is h.entity none few in
-    rw (c.give_back.ensures.cells, c.clear.ensures, n) (subst (λ (z : Records). destroyed (state r) c.args.class c.args.r ≡ Ok (state_of z.layout (without q.blocks.cells p.at) (lying (slice_set z.directory.places f.index None) z.permanents.items) z.notes.lists)) (sym whole) (rw cells k))
+    rw (c.give_back.ensures.cells, c.clear.ensures, n) (subst (λ (z : Records). destroyed (state r) c.args.class c.args.r ≡ Ok (state_of z.layout (without_block q.blocks.cells p.at) (lying (slice_set z.directory.places f.index None) z.permanents.items) z.notes.lists)) (sym whole) (rw cells k))
 
 pub find_single-requires-clause-kept : goal.find_single-requires-clause-kept
 find_single-requires-clause-kept c = c.requires.kept
@@ -92,24 +92,24 @@ in_a_set-requires-clause-touches c = let r = c.args.self.now in start_ties r.blo
 
 pub owns_members-requires-clause-kept : goal.owns_members-requires-clause-kept
 owns_members-requires-clause-kept c =
-    let r = c.args.self.now in let a = c.in_a_set.new.self in let h1 : held a ≡ held r = unmoved r a c.in_a_set.ensures.same c.in_a_set.ensures.cells in
+    let r = c.args.self.now in let a = c.in_a_set.new.self in let h1 : uncounted a ≡ uncounted r = unmoved r a c.in_a_set.ensures.same c.in_a_set.ensures.cells in
     kept_still r a h1 c.requires.kept
 
 pub owns_members-requires-clause-class : goal.owns_members-requires-clause-class
-owns_members-requires-clause-class c = ap (λ bs. class_at bs c.in-Ok.place) c.in_a_set.ensures.cells ∙ c.in-Ok.ensures.found.class
+owns_members-requires-clause-class c = ap (λ bs. class_at_place bs c.in-Ok.place) c.in_a_set.ensures.cells ∙ c.in-Ok.ensures.found.class
 
 pub owns_members-requires-clause-touches : goal.owns_members-requires-clause-touches
 owns_members-requires-clause-touches c = let r = c.args.self.now in let a = c.in_a_set.new.self in more_ties r.blocks.touches a.blocks.touches c.requires.touches c.in_a_set.ensures.touches.0
 
 pub returns-then-in_a_set-clause-kept : goal.returns-then-in_a_set-clause-kept
 returns-then-in_a_set-clause-kept c =
-    let r = c.args.self.now in let a = c.in_a_set.new.self in let h1 : held a ≡ held r = unmoved r a c.in_a_set.ensures.same c.in_a_set.ensures.cells in
+    let r = c.args.self.now in let a = c.in_a_set.new.self in let h1 : uncounted a ≡ uncounted r = unmoved r a c.in_a_set.ensures.same c.in_a_set.ensures.cells in
     kept_still r a h1 c.requires.kept
 
 pub returns-then-in_a_set-clause-done : goal.returns-then-in_a_set-clause-done
 returns-then-in_a_set-clause-done c =
     let fits = c.ranges.r in let g = simp to_z-of_z at c.in-Ok.ensures.found in
-    let r = c.args.self.now in let f = c.in-Ok.ensures.found in let p = c.in-Ok.place in let m : nat_abs (cast_signed w64 (cast_unsigned w64 c.args.r)) ≡ suc f.index = ap nat_abs f.is in let m0 = by_number r c.requires.kept c.args.class _ p f c.requires.kind in let a = c.in_a_set.new.self in let h1 : held a ≡ held r = unmoved r a c.in_a_set.ensures.same c.in_a_set.ensures.cells in
+    let r = c.args.self.now in let f = c.in-Ok.ensures.found in let p = c.in-Ok.place in let m : nat_abs (cast_signed w64 (cast_unsigned w64 c.args.r)) ≡ suc f.index = ap nat_abs f.is in let m0 = by_number r c.requires.kept c.args.class _ p f c.requires.kind in let a = c.in_a_set.new.self in let h1 : uncounted a ≡ uncounted r = unmoved r a c.in_a_set.ensures.same c.in_a_set.ensures.cells in
     let it : in_a_set r.layout.sets 0 r.notes.lists c.args.class (suc f.index) ≡ true = subst (λ k. in_a_set r.layout.sets 0 r.notes.lists c.args.class k ≡ true) m (sym c.if-in_a_set.ensures.value) in
     (in_a_set_is r.layout r.blocks.cells r.system.at (places r) r.notes.lists c.requires.kept f.index p m0 c.args.class c.args.r g.is g.entity it, ap state h1)
 
@@ -118,13 +118,13 @@ returns-then-in_a_set-clause-touches c = c.in_a_set.ensures.touches.1
 
 pub returns-then-owns_members-clause-kept : goal.returns-then-owns_members-clause-kept
 returns-then-owns_members-clause-kept c =
-    let r = c.args.self.now in let a = c.in_a_set.new.self in let h1 : held a ≡ held r = unmoved r a c.in_a_set.ensures.same c.in_a_set.ensures.cells in let q = c.owns_members.new.self in let h2 : held q ≡ held r = unmoved a q c.owns_members.ensures.same c.owns_members.ensures.cells ∙ h1 in
+    let r = c.args.self.now in let a = c.in_a_set.new.self in let h1 : uncounted a ≡ uncounted r = unmoved r a c.in_a_set.ensures.same c.in_a_set.ensures.cells in let q = c.owns_members.new.self in let h2 : uncounted q ≡ uncounted r = unmoved a q c.owns_members.ensures.same c.owns_members.ensures.cells ∙ h1 in
     kept_still r q h2 c.requires.kept
 
 pub returns-then-owns_members-clause-done : goal.returns-then-owns_members-clause-done
 returns-then-owns_members-clause-done c =
     let fits = c.ranges.r in let g = simp to_z-of_z at c.in-Ok.ensures.found in
-    let r = c.args.self.now in let f = c.in-Ok.ensures.found in let p = c.in-Ok.place in let m : nat_abs (cast_signed w64 (cast_unsigned w64 c.args.r)) ≡ suc f.index = ap nat_abs f.is in let m0 = by_number r c.requires.kept c.args.class _ p f c.requires.kind in let a = c.in_a_set.new.self in let h1 : held a ≡ held r = unmoved r a c.in_a_set.ensures.same c.in_a_set.ensures.cells in let q = c.owns_members.new.self in let h2 : held q ≡ held r = unmoved a q c.owns_members.ensures.same c.owns_members.ensures.cells ∙ h1 in
+    let r = c.args.self.now in let f = c.in-Ok.ensures.found in let p = c.in-Ok.place in let m : nat_abs (cast_signed w64 (cast_unsigned w64 c.args.r)) ≡ suc f.index = ap nat_abs f.is in let m0 = by_number r c.requires.kept c.args.class _ p f c.requires.kind in let a = c.in_a_set.new.self in let h1 : uncounted a ≡ uncounted r = unmoved r a c.in_a_set.ensures.same c.in_a_set.ensures.cells in let q = c.owns_members.new.self in let h2 : uncounted q ≡ uncounted r = unmoved a q c.owns_members.ensures.same c.owns_members.ensures.cells ∙ h1 in
     let first : a ≡ record r { blocks = a.blocks } = c.in_a_set.ensures.same in
     let none : in_a_set r.layout.sets 0 r.notes.lists c.args.class (suc f.index) ≡ false = subst (λ k. in_a_set r.layout.sets 0 r.notes.lists c.args.class k ≡ false) m (sym c.if-in_a_set.ensures.value) in
     let it : owns_members r.layout.sets 0 r.notes.lists c.args.class (suc f.index) ≡ true = subst (λ (z : Records). owns_members z.layout.sets 0 z.notes.lists c.args.class (suc f.index) ≡ true) first (subst (λ k. owns_members a.layout.sets 0 a.notes.lists c.args.class k ≡ true) m (sym c.if-owns_members.ensures.value)) in

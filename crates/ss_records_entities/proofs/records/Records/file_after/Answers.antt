@@ -4,7 +4,7 @@ use Rattle.ss_records_entities.specs.declared.records.Records.{Records}
 use Rattle.ss_records_blocks.specs.Cells.{link, number, word_at}
 use Rattle.ss_world.specs.State.{State, members_of, contains}
 use Rattle.ss_world.specs.Sets.{with_list_of, put_beside, put_after}
-use Rattle.ss_records_entities.specs.Parts.{state, held}
+use Rattle.ss_records_entities.specs.Parts.{state, uncounted}
 use Rattle.ss_records_entities.proofs.Files.{unmoved, looked, still_between}
 use Rattle.ss_records_entities.proofs.Cuts.{parts, next_found, after_it, list_after, beside_twice, not_beside, beside_done}
 use Rattle.ss_records_entities.proofs.Still.{kept_still, set_still, owns_still, joins_still, free_still, at_start, one_refused, one_few, then_refused, then_room, then_few, then_linked, no_touch}
@@ -13,7 +13,7 @@ use Rattle.ss_records_entities.proofs.records.Records.file_after.Goals as goal
 pub follow-beside-requires-clause-leads : goal.follow-beside-requires-clause-leads
 follow-beside-requires-clause-leads c =
     let r = c.args.self.now in let triple = c.in-Ok.triple in let p1 = c.is_filed.new.self in let p = c.is_in.new.self in
-    let h1 : held p1 ≡ held r = unmoved r p1 c.is_filed.ensures.same c.is_filed.ensures.cells in
+    let h1 : uncounted p1 ≡ uncounted r = unmoved r p1 c.is_filed.ensures.same c.is_filed.ensures.cells in
     let cells : p.blocks.cells ≡ r.blocks.cells = c.is_in.ensures.cells ∙ c.is_filed.ensures.cells in
     let value : contains (members_of r.notes.lists c.args.s triple.owner.number) triple.y.number ≡ c.is_in.result = sym (c.is_in.ensures.value ∙ ap (λ (z : Records). contains (members_of z.notes.lists c.args.s triple.owner.number) triple.y.number) h1) in
     let there = value ∙ c.if-not-is_in.false in
@@ -22,13 +22,13 @@ follow-beside-requires-clause-leads c =
 pub link_in-requires-clause-between : goal.link_in-requires-clause-between
 link_in-requires-clause-between c =
     let r = c.args.self.now in let triple = c.in-Ok.triple in let p1 = c.is_filed.new.self in let p = c.is_in.new.self in
-    let h1 : held p1 ≡ held r = unmoved r p1 c.is_filed.ensures.same c.is_filed.ensures.cells in
+    let h1 : uncounted p1 ≡ uncounted r = unmoved r p1 c.is_filed.ensures.same c.is_filed.ensures.cells in
     let cells : p.blocks.cells ≡ r.blocks.cells = c.is_in.ensures.cells ∙ c.is_filed.ensures.cells in
     let value : contains (members_of r.notes.lists c.args.s triple.owner.number) triple.y.number ≡ c.is_in.result = sym (c.is_in.ensures.value ∙ ap (λ (z : Records). contains (members_of z.notes.lists c.args.s triple.owner.number) triple.y.number) h1) in
     let there = value ∙ c.if-not-is_in.false in
     let d = parts r c.requires.kept c.args.s c.requires.set triple.y c.in-Ok.ensures.found.2 c.member_base-base.result c.member_base-base.ensures.at triple.owner.number there in
     let q = c.follow-beside.result in
-    let h : held (record p { blocks = c.follow-beside.new.self }) ≡ held r = looked p1 p c.follow-beside.new.self c.is_in.ensures.same c.is_in.ensures.cells c.follow-beside.ensures.cells ∙ h1 in
+    let h : uncounted (record p { blocks = c.follow-beside.new.self }) ≡ uncounted r = looked p1 p c.follow-beside.new.self c.is_in.ensures.same c.is_in.ensures.cells c.follow-beside.ensures.cells ∙ h1 in
     let w : word_at r.blocks.cells triple.y.place.at (c.member_base-base.result) ≡ link q.place.at = (λ i. word_at (sym cells i) triple.y.place.at (c.member_base-base.result)) ∙ c.follow-beside.ensures.word in
     let v : word_at r.blocks.cells q.place.at 1 ≡ number q.number = (λ i. word_at (sym cells i) q.place.at 1) ∙ c.follow-beside.ensures.there in
     let between = after_it r c.requires.kept c.args.s c.requires.set triple.y c.in-Ok.ensures.found.2 c.member_base-base.result c.member_base-base.ensures.at triple.owner.number there q w v in
@@ -43,7 +43,7 @@ pub returns-then-not-is_in-clause-done : goal.returns-then-not-is_in-clause-done
 returns-then-not-is_in-clause-done c =
     let fo = c.ranges.o in let fx = c.ranges.x in let fy = c.ranges.y in let f = simp to_z-of_z at c.in-Ok.ensures.found in
     let r = c.args.self.now in let triple = c.in-Ok.triple in let p1 = c.is_filed.new.self in let p = c.is_in.new.self in
-    let h1 : held p1 ≡ held r = unmoved r p1 c.is_filed.ensures.same c.is_filed.ensures.cells in
+    let h1 : uncounted p1 ≡ uncounted r = unmoved r p1 c.is_filed.ensures.same c.is_filed.ensures.cells in
     let cells : p.blocks.cells ≡ r.blocks.cells = c.is_in.ensures.cells ∙ c.is_filed.ensures.cells in
     let value : contains (members_of r.notes.lists c.args.s triple.owner.number) triple.y.number ≡ c.is_in.result = sym (c.is_in.ensures.value ∙ ap (λ (z : Records). contains (members_of z.notes.lists c.args.s triple.owner.number) triple.y.number) h1) in
     (not_beside (state r) c.args.s c.args.o c.args.x _ _ f.3 f.5 c.args.y _ f.4 put_after (sym c.is_filed.ensures.value ∙ c.if-is_filed.false) (value ∙ c.if-not-is_in.true), ap state (unmoved p1 p c.is_in.ensures.same c.is_in.ensures.cells ∙ h1))
@@ -52,13 +52,13 @@ pub returns-else-not-is_in-clause-done : goal.returns-else-not-is_in-clause-done
 returns-else-not-is_in-clause-done c =
     let fo = c.ranges.o in let fx = c.ranges.x in let fy = c.ranges.y in let f = simp to_z-of_z at c.in-Ok.ensures.found in
     let r = c.args.self.now in let triple = c.in-Ok.triple in let p1 = c.is_filed.new.self in let p = c.is_in.new.self in
-    let h1 : held p1 ≡ held r = unmoved r p1 c.is_filed.ensures.same c.is_filed.ensures.cells in
+    let h1 : uncounted p1 ≡ uncounted r = unmoved r p1 c.is_filed.ensures.same c.is_filed.ensures.cells in
     let cells : p.blocks.cells ≡ r.blocks.cells = c.is_in.ensures.cells ∙ c.is_filed.ensures.cells in
     let value : contains (members_of r.notes.lists c.args.s triple.owner.number) triple.y.number ≡ c.is_in.result = sym (c.is_in.ensures.value ∙ ap (λ (z : Records). contains (members_of z.notes.lists c.args.s triple.owner.number) triple.y.number) h1) in
     let there = value ∙ c.if-not-is_in.false in
     let d = parts r c.requires.kept c.args.s c.requires.set triple.y c.in-Ok.ensures.found.2 c.member_base-base.result c.member_base-base.ensures.at triple.owner.number there in
     let q = c.follow-beside.result in
-    let h : held (record p { blocks = c.follow-beside.new.self }) ≡ held r = looked p1 p c.follow-beside.new.self c.is_in.ensures.same c.is_in.ensures.cells c.follow-beside.ensures.cells ∙ h1 in
+    let h : uncounted (record p { blocks = c.follow-beside.new.self }) ≡ uncounted r = looked p1 p c.follow-beside.new.self c.is_in.ensures.same c.is_in.ensures.cells c.follow-beside.ensures.cells ∙ h1 in
     let w : word_at r.blocks.cells triple.y.place.at (c.member_base-base.result) ≡ link q.place.at = (λ i. word_at (sym cells i) triple.y.place.at (c.member_base-base.result)) ∙ c.follow-beside.ensures.word in
     let v : word_at r.blocks.cells q.place.at 1 ≡ number q.number = (λ i. word_at (sym cells i) q.place.at 1) ∙ c.follow-beside.ensures.there in
     let between = after_it r c.requires.kept c.args.s c.requires.set triple.y c.in-Ok.ensures.found.2 c.member_base-base.result c.member_base-base.ensures.at triple.owner.number there q w v in
@@ -94,7 +94,7 @@ is_filed-requires-clause-touches c = let r = c.args.self.now in at_start r.block
 
 pub returns-then-is_filed-clause-kept : goal.returns-then-is_filed-clause-kept
 returns-then-is_filed-clause-kept c =
-    let r = c.args.self.now in let p1 = c.is_filed.new.self in let h1 : held p1 ≡ held r = unmoved r p1 c.is_filed.ensures.same c.is_filed.ensures.cells in
+    let r = c.args.self.now in let p1 = c.is_filed.new.self in let h1 : uncounted p1 ≡ uncounted r = unmoved r p1 c.is_filed.ensures.same c.is_filed.ensures.cells in
     kept_still r p1 h1 c.requires.kept
 
 pub returns-then-is_filed-clause-touches : goal.returns-then-is_filed-clause-touches
@@ -104,22 +104,22 @@ returns-then-is_filed-clause-touches c =
 
 pub is_in-requires-clause-kept : goal.is_in-requires-clause-kept
 is_in-requires-clause-kept c =
-    let r = c.args.self.now in let p1 = c.is_filed.new.self in let h1 : held p1 ≡ held r = unmoved r p1 c.is_filed.ensures.same c.is_filed.ensures.cells in
+    let r = c.args.self.now in let p1 = c.is_filed.new.self in let h1 : uncounted p1 ≡ uncounted r = unmoved r p1 c.is_filed.ensures.same c.is_filed.ensures.cells in
     kept_still r p1 h1 c.requires.kept
 
 pub is_in-requires-clause-set : goal.is_in-requires-clause-set
 is_in-requires-clause-set c =
-    let r = c.args.self.now in let p1 = c.is_filed.new.self in let h1 : held p1 ≡ held r = unmoved r p1 c.is_filed.ensures.same c.is_filed.ensures.cells in
+    let r = c.args.self.now in let p1 = c.is_filed.new.self in let h1 : uncounted p1 ≡ uncounted r = unmoved r p1 c.is_filed.ensures.same c.is_filed.ensures.cells in
     set_still r p1 h1 c.args.s c.requires.set
 
 pub is_in-requires-clause-owns : goal.is_in-requires-clause-owns
 is_in-requires-clause-owns c =
-    let r = c.args.self.now in let p1 = c.is_filed.new.self in let h1 : held p1 ≡ held r = unmoved r p1 c.is_filed.ensures.same c.is_filed.ensures.cells in
+    let r = c.args.self.now in let p1 = c.is_filed.new.self in let h1 : uncounted p1 ≡ uncounted r = unmoved r p1 c.is_filed.ensures.same c.is_filed.ensures.cells in
     owns_still r p1 h1 c.args.s c.in-Ok.triple.owner c.in-Ok.ensures.found.0
 
 pub is_in-requires-clause-joins : goal.is_in-requires-clause-joins
 is_in-requires-clause-joins c =
-    let r = c.args.self.now in let p1 = c.is_filed.new.self in let h1 : held p1 ≡ held r = unmoved r p1 c.is_filed.ensures.same c.is_filed.ensures.cells in
+    let r = c.args.self.now in let p1 = c.is_filed.new.self in let h1 : uncounted p1 ≡ uncounted r = unmoved r p1 c.is_filed.ensures.same c.is_filed.ensures.cells in
     joins_still r p1 h1 c.args.s c.in-Ok.triple.y c.in-Ok.ensures.found.2
 
 pub is_in-requires-clause-touches : goal.is_in-requires-clause-touches
@@ -129,8 +129,8 @@ is_in-requires-clause-touches c =
 
 pub returns-then-not-is_in-clause-kept : goal.returns-then-not-is_in-clause-kept
 returns-then-not-is_in-clause-kept c =
-    let r = c.args.self.now in let p1 = c.is_filed.new.self in let h1 : held p1 ≡ held r = unmoved r p1 c.is_filed.ensures.same c.is_filed.ensures.cells in
-    let p = c.is_in.new.self in let h2 : held p ≡ held r = unmoved p1 p c.is_in.ensures.same c.is_in.ensures.cells ∙ h1 in
+    let r = c.args.self.now in let p1 = c.is_filed.new.self in let h1 : uncounted p1 ≡ uncounted r = unmoved r p1 c.is_filed.ensures.same c.is_filed.ensures.cells in
+    let p = c.is_in.new.self in let h2 : uncounted p ≡ uncounted r = unmoved p1 p c.is_in.ensures.same c.is_in.ensures.cells ∙ h1 in
     kept_still r p h2 c.requires.kept
 
 pub returns-then-not-is_in-clause-touches : goal.returns-then-not-is_in-clause-touches
@@ -145,32 +145,32 @@ follow-beside-requires-clause-room c =
 
 pub link_in-requires-clause-kept : goal.link_in-requires-clause-kept
 link_in-requires-clause-kept c =
-    let r = c.args.self.now in let p1 = c.is_filed.new.self in let h1 : held p1 ≡ held r = unmoved r p1 c.is_filed.ensures.same c.is_filed.ensures.cells in
-    let p = c.is_in.new.self in let b = c.follow-beside.new.self in let h : held (record p { blocks = b }) ≡ held r = looked p1 p b c.is_in.ensures.same c.is_in.ensures.cells c.follow-beside.ensures.cells ∙ h1 in
+    let r = c.args.self.now in let p1 = c.is_filed.new.self in let h1 : uncounted p1 ≡ uncounted r = unmoved r p1 c.is_filed.ensures.same c.is_filed.ensures.cells in
+    let p = c.is_in.new.self in let b = c.follow-beside.new.self in let h : uncounted (record p { blocks = b }) ≡ uncounted r = looked p1 p b c.is_in.ensures.same c.is_in.ensures.cells c.follow-beside.ensures.cells ∙ h1 in
     kept_still r (record p { blocks = b }) h c.requires.kept
 
 pub link_in-requires-clause-set : goal.link_in-requires-clause-set
 link_in-requires-clause-set c =
-    let r = c.args.self.now in let p1 = c.is_filed.new.self in let h1 : held p1 ≡ held r = unmoved r p1 c.is_filed.ensures.same c.is_filed.ensures.cells in
-    let p = c.is_in.new.self in let b = c.follow-beside.new.self in let h : held (record p { blocks = b }) ≡ held r = looked p1 p b c.is_in.ensures.same c.is_in.ensures.cells c.follow-beside.ensures.cells ∙ h1 in
+    let r = c.args.self.now in let p1 = c.is_filed.new.self in let h1 : uncounted p1 ≡ uncounted r = unmoved r p1 c.is_filed.ensures.same c.is_filed.ensures.cells in
+    let p = c.is_in.new.self in let b = c.follow-beside.new.self in let h : uncounted (record p { blocks = b }) ≡ uncounted r = looked p1 p b c.is_in.ensures.same c.is_in.ensures.cells c.follow-beside.ensures.cells ∙ h1 in
     set_still r (record p { blocks = b }) h c.args.s c.requires.set
 
 pub link_in-requires-clause-owns : goal.link_in-requires-clause-owns
 link_in-requires-clause-owns c =
-    let r = c.args.self.now in let p1 = c.is_filed.new.self in let h1 : held p1 ≡ held r = unmoved r p1 c.is_filed.ensures.same c.is_filed.ensures.cells in
-    let p = c.is_in.new.self in let b = c.follow-beside.new.self in let h : held (record p { blocks = b }) ≡ held r = looked p1 p b c.is_in.ensures.same c.is_in.ensures.cells c.follow-beside.ensures.cells ∙ h1 in
+    let r = c.args.self.now in let p1 = c.is_filed.new.self in let h1 : uncounted p1 ≡ uncounted r = unmoved r p1 c.is_filed.ensures.same c.is_filed.ensures.cells in
+    let p = c.is_in.new.self in let b = c.follow-beside.new.self in let h : uncounted (record p { blocks = b }) ≡ uncounted r = looked p1 p b c.is_in.ensures.same c.is_in.ensures.cells c.follow-beside.ensures.cells ∙ h1 in
     owns_still r (record p { blocks = b }) h c.args.s c.in-Ok.triple.owner c.in-Ok.ensures.found.0
 
 pub link_in-requires-clause-joins : goal.link_in-requires-clause-joins
 link_in-requires-clause-joins c =
-    let r = c.args.self.now in let p1 = c.is_filed.new.self in let h1 : held p1 ≡ held r = unmoved r p1 c.is_filed.ensures.same c.is_filed.ensures.cells in
-    let p = c.is_in.new.self in let b = c.follow-beside.new.self in let h : held (record p { blocks = b }) ≡ held r = looked p1 p b c.is_in.ensures.same c.is_in.ensures.cells c.follow-beside.ensures.cells ∙ h1 in
+    let r = c.args.self.now in let p1 = c.is_filed.new.self in let h1 : uncounted p1 ≡ uncounted r = unmoved r p1 c.is_filed.ensures.same c.is_filed.ensures.cells in
+    let p = c.is_in.new.self in let b = c.follow-beside.new.self in let h : uncounted (record p { blocks = b }) ≡ uncounted r = looked p1 p b c.is_in.ensures.same c.is_in.ensures.cells c.follow-beside.ensures.cells ∙ h1 in
     joins_still r (record p { blocks = b }) h c.args.s c.in-Ok.triple.x c.in-Ok.ensures.found.1
 
 pub link_in-requires-clause-free : goal.link_in-requires-clause-free
 link_in-requires-clause-free c =
-    let r = c.args.self.now in let p1 = c.is_filed.new.self in let h1 : held p1 ≡ held r = unmoved r p1 c.is_filed.ensures.same c.is_filed.ensures.cells in
-    let p = c.is_in.new.self in let b = c.follow-beside.new.self in let h : held (record p { blocks = b }) ≡ held r = looked p1 p b c.is_in.ensures.same c.is_in.ensures.cells c.follow-beside.ensures.cells ∙ h1 in
+    let r = c.args.self.now in let p1 = c.is_filed.new.self in let h1 : uncounted p1 ≡ uncounted r = unmoved r p1 c.is_filed.ensures.same c.is_filed.ensures.cells in
+    let p = c.is_in.new.self in let b = c.follow-beside.new.self in let h : uncounted (record p { blocks = b }) ≡ uncounted r = looked p1 p b c.is_in.ensures.same c.is_in.ensures.cells c.follow-beside.ensures.cells ∙ h1 in
     free_still r (record p { blocks = b }) h c.args.s c.in-Ok.triple.x.number (sym c.is_filed.ensures.value ∙ c.if-is_filed.false)
 
 pub link_in-requires-clause-touches : goal.link_in-requires-clause-touches

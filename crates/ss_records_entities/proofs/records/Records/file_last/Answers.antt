@@ -3,7 +3,7 @@ use Rattle.std.proofs.lemmas.Int.{to_z-of_z}
 use Rattle.ss_records_blocks.specs.Cells.{link, number, word_at}
 use Rattle.ss_world.specs.State.{State, members_of}
 use Rattle.ss_world.specs.Sets.{with_list_of, put_in}
-use Rattle.ss_records_entities.specs.Parts.{state, held}
+use Rattle.ss_records_entities.specs.Parts.{state, uncounted}
 use Rattle.ss_records_entities.proofs.Looks.{last_leads}
 use Rattle.ss_records_entities.proofs.Files.{unmoved, looked, still_between}
 use Rattle.ss_records_entities.proofs.Cuts.{at_last, put_twice, put_done}
@@ -16,7 +16,7 @@ follow-last-requires-clause-leads c = rw c.is_filed.ensures.cells (last_leads c.
 pub link_in-requires-clause-between : goal.link_in-requires-clause-between
 link_in-requires-clause-between c =
     let r = c.args.self.now in let pair = c.in-Ok.both in let p = c.is_filed.new.self in let q = c.follow-last.result in let cells = c.is_filed.ensures.cells in
-    let h : held (record p { blocks = c.follow-last.new.self }) ≡ held r = looked r p c.follow-last.new.self c.is_filed.ensures.same cells c.follow-last.ensures.cells in
+    let h : uncounted (record p { blocks = c.follow-last.new.self }) ≡ uncounted r = looked r p c.follow-last.new.self c.is_filed.ensures.same cells c.follow-last.ensures.cells in
     let w : word_at r.blocks.cells pair.owner.place.at (c.owner_base-base.result + 1) ≡ link q.place.at = (λ i. word_at (sym cells i) pair.owner.place.at (c.owner_base-base.result + 1)) ∙ c.follow-last.ensures.word in
     let v : word_at r.blocks.cells q.place.at 1 ≡ number q.number = (λ i. word_at (sym cells i) q.place.at 1) ∙ c.follow-last.ensures.there in
     let between = at_last r c.requires.kept c.args.s c.requires.set pair.owner c.in-Ok.ensures.found.0 c.owner_base-base.result c.owner_base-base.ensures.at q w v in
@@ -31,7 +31,7 @@ pub returns-else-is_filed-clause-done : goal.returns-else-is_filed-clause-done
 returns-else-is_filed-clause-done c =
     let fo = c.ranges.o in let fx = c.ranges.x in let f = simp to_z-of_z at c.in-Ok.ensures.found in
     let r = c.args.self.now in let pair = c.in-Ok.both in let p = c.is_filed.new.self in let q = c.follow-last.result in let cells = c.is_filed.ensures.cells in
-    let h : held (record p { blocks = c.follow-last.new.self }) ≡ held r = looked r p c.follow-last.new.self c.is_filed.ensures.same cells c.follow-last.ensures.cells in
+    let h : uncounted (record p { blocks = c.follow-last.new.self }) ≡ uncounted r = looked r p c.follow-last.new.self c.is_filed.ensures.same cells c.follow-last.ensures.cells in
     let w : word_at r.blocks.cells pair.owner.place.at (c.owner_base-base.result + 1) ≡ link q.place.at = (λ i. word_at (sym cells i) pair.owner.place.at (c.owner_base-base.result + 1)) ∙ c.follow-last.ensures.word in
     let v : word_at r.blocks.cells q.place.at 1 ≡ number q.number = (λ i. word_at (sym cells i) q.place.at 1) ∙ c.follow-last.ensures.there in
     let between = at_last r c.requires.kept c.args.s c.requires.set pair.owner c.in-Ok.ensures.found.0 c.owner_base-base.result c.owner_base-base.ensures.at q w v in
@@ -67,7 +67,7 @@ is_filed-requires-clause-touches c = let r = c.args.self.now in at_start r.block
 
 pub returns-then-is_filed-clause-kept : goal.returns-then-is_filed-clause-kept
 returns-then-is_filed-clause-kept c =
-    let r = c.args.self.now in let p = c.is_filed.new.self in let h : held p ≡ held r = unmoved r p c.is_filed.ensures.same c.is_filed.ensures.cells in
+    let r = c.args.self.now in let p = c.is_filed.new.self in let h : uncounted p ≡ uncounted r = unmoved r p c.is_filed.ensures.same c.is_filed.ensures.cells in
     kept_still r p h c.requires.kept
 
 pub returns-then-is_filed-clause-touches : goal.returns-then-is_filed-clause-touches
@@ -85,27 +85,27 @@ follow-last-requires-clause-room c =
 
 pub link_in-requires-clause-kept : goal.link_in-requires-clause-kept
 link_in-requires-clause-kept c =
-    let r = c.args.self.now in let p = c.is_filed.new.self in let b = c.follow-last.new.self in let h : held (record p { blocks = b }) ≡ held r = looked r p b c.is_filed.ensures.same c.is_filed.ensures.cells c.follow-last.ensures.cells in
+    let r = c.args.self.now in let p = c.is_filed.new.self in let b = c.follow-last.new.self in let h : uncounted (record p { blocks = b }) ≡ uncounted r = looked r p b c.is_filed.ensures.same c.is_filed.ensures.cells c.follow-last.ensures.cells in
     kept_still r (record p { blocks = b }) h c.requires.kept
 
 pub link_in-requires-clause-set : goal.link_in-requires-clause-set
 link_in-requires-clause-set c =
-    let r = c.args.self.now in let p = c.is_filed.new.self in let b = c.follow-last.new.self in let h : held (record p { blocks = b }) ≡ held r = looked r p b c.is_filed.ensures.same c.is_filed.ensures.cells c.follow-last.ensures.cells in
+    let r = c.args.self.now in let p = c.is_filed.new.self in let b = c.follow-last.new.self in let h : uncounted (record p { blocks = b }) ≡ uncounted r = looked r p b c.is_filed.ensures.same c.is_filed.ensures.cells c.follow-last.ensures.cells in
     set_still r (record p { blocks = b }) h c.args.s c.requires.set
 
 pub link_in-requires-clause-owns : goal.link_in-requires-clause-owns
 link_in-requires-clause-owns c =
-    let r = c.args.self.now in let p = c.is_filed.new.self in let b = c.follow-last.new.self in let h : held (record p { blocks = b }) ≡ held r = looked r p b c.is_filed.ensures.same c.is_filed.ensures.cells c.follow-last.ensures.cells in
+    let r = c.args.self.now in let p = c.is_filed.new.self in let b = c.follow-last.new.self in let h : uncounted (record p { blocks = b }) ≡ uncounted r = looked r p b c.is_filed.ensures.same c.is_filed.ensures.cells c.follow-last.ensures.cells in
     owns_still r (record p { blocks = b }) h c.args.s c.in-Ok.both.owner c.in-Ok.ensures.found.0
 
 pub link_in-requires-clause-joins : goal.link_in-requires-clause-joins
 link_in-requires-clause-joins c =
-    let r = c.args.self.now in let p = c.is_filed.new.self in let b = c.follow-last.new.self in let h : held (record p { blocks = b }) ≡ held r = looked r p b c.is_filed.ensures.same c.is_filed.ensures.cells c.follow-last.ensures.cells in
+    let r = c.args.self.now in let p = c.is_filed.new.self in let b = c.follow-last.new.self in let h : uncounted (record p { blocks = b }) ≡ uncounted r = looked r p b c.is_filed.ensures.same c.is_filed.ensures.cells c.follow-last.ensures.cells in
     joins_still r (record p { blocks = b }) h c.args.s c.in-Ok.both.x c.in-Ok.ensures.found.1
 
 pub link_in-requires-clause-free : goal.link_in-requires-clause-free
 link_in-requires-clause-free c =
-    let r = c.args.self.now in let p = c.is_filed.new.self in let b = c.follow-last.new.self in let h : held (record p { blocks = b }) ≡ held r = looked r p b c.is_filed.ensures.same c.is_filed.ensures.cells c.follow-last.ensures.cells in
+    let r = c.args.self.now in let p = c.is_filed.new.self in let b = c.follow-last.new.self in let h : uncounted (record p { blocks = b }) ≡ uncounted r = looked r p b c.is_filed.ensures.same c.is_filed.ensures.cells c.follow-last.ensures.cells in
     free_still r (record p { blocks = b }) h c.args.s c.in-Ok.both.x.number (sym c.is_filed.ensures.value ∙ c.if-is_filed.false)
 
 pub link_in-requires-clause-touches : goal.link_in-requires-clause-touches

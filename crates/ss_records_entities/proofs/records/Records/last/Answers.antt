@@ -1,7 +1,7 @@
 use Rattle.std.proofs.Common.{arith, ◌≡◌, refl, ap}
 use Rattle.std.proofs.lemmas.Int.{ints, to_z-of_z}
 use Rattle.ss_records_entities.proofs.Looks.{last_leads, last_small, last_value}
-use Rattle.ss_records_entities.specs.Parts.{state, held}
+use Rattle.ss_records_entities.specs.Parts.{state, uncounted}
 use Rattle.ss_records_entities.proofs.Still.{kept_still, room_first, one_touch, no_touch, owner_room}
 use Rattle.ss_records_entities.proofs.records.Records.last.Goals as goal
 
@@ -35,12 +35,12 @@ follow-last-requires-clause-room c = let r = c.args.self.now in room_first r.blo
 
 pub returns-in-Ok-clause-kept : goal.returns-in-Ok-clause-kept
 returns-in-Ok-clause-kept c =
-    let r = c.args.self.now in let b = c.follow-last.new.self in let h : held (record r { blocks = b }) ≡ held r = λ i. record r { blocks = record { cells = c.follow-last.ensures.cells i; touches = 0; total = 0 } } in
+    let r = c.args.self.now in let b = c.follow-last.new.self in let h : uncounted (record r { blocks = b }) ≡ uncounted r = λ i. record r { blocks = record { cells = c.follow-last.ensures.cells i; touches = 0; total = 0 } } in
     kept_still r (record r { blocks = b }) h c.requires.kept
 
 pub returns-in-Ok-clause-same : goal.returns-in-Ok-clause-same
 returns-in-Ok-clause-same c =
-    let r = c.args.self.now in let b = c.follow-last.new.self in let h : held (record r { blocks = b }) ≡ held r = λ i. record r { blocks = record { cells = c.follow-last.ensures.cells i; touches = 0; total = 0 } } in
+    let r = c.args.self.now in let b = c.follow-last.new.self in let h : uncounted (record r { blocks = b }) ≡ uncounted r = λ i. record r { blocks = record { cells = c.follow-last.ensures.cells i; touches = 0; total = 0 } } in
     ap state h
 
 pub returns-in-Ok-clause-touches : goal.returns-in-Ok-clause-touches

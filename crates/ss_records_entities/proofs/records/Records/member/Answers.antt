@@ -3,7 +3,7 @@ use Rattle.std.proofs.lemmas.Int.{ints, to_z-of_z}
 use Rattle.ss_base.specs.declared.layout.SetLayout.{SetLayout}
 use Rattle.ss_world.specs.State.{and_then, modes_of, value_in}
 use Rattle.ss_world.specs.Sets.{member_in, companions, follower}
-use Rattle.ss_records_entities.specs.Parts.{state, places, held}
+use Rattle.ss_records_entities.specs.Parts.{state, places, uncounted}
 use Rattle.ss_records_entities.proofs.Assigns.{first_number, second_number, is_value}
 use Rattle.ss_records_entities.proofs.Looks.{next_leads, next_fits, next_is}
 use Rattle.ss_records_entities.proofs.Owning.{has_number, joins_found, not_joiner, kind_is}
@@ -86,12 +86,12 @@ follow-next-requires-clause-room c = let r = c.args.self.now in room_first r.blo
 
 pub returns-in-Ok-clause-kept : goal.returns-in-Ok-clause-kept
 returns-in-Ok-clause-kept c =
-    let r = c.args.self.now in let b = c.follow-next.new.self in let h : held (record r { blocks = b }) ≡ held r = λ i. record r { blocks = record { cells = c.follow-next.ensures.cells i; touches = 0; total = 0 } } in
+    let r = c.args.self.now in let b = c.follow-next.new.self in let h : uncounted (record r { blocks = b }) ≡ uncounted r = λ i. record r { blocks = record { cells = c.follow-next.ensures.cells i; touches = 0; total = 0 } } in
     kept_still r (record r { blocks = b }) h c.requires.kept
 
 pub returns-in-Ok-clause-same : goal.returns-in-Ok-clause-same
 returns-in-Ok-clause-same c =
-    let r = c.args.self.now in let b = c.follow-next.new.self in let h : held (record r { blocks = b }) ≡ held r = λ i. record r { blocks = record { cells = c.follow-next.ensures.cells i; touches = 0; total = 0 } } in
+    let r = c.args.self.now in let b = c.follow-next.new.self in let h : uncounted (record r { blocks = b }) ≡ uncounted r = λ i. record r { blocks = record { cells = c.follow-next.ensures.cells i; touches = 0; total = 0 } } in
     ap state h
 
 pub returns-in-Ok-clause-touches : goal.returns-in-Ok-clause-touches

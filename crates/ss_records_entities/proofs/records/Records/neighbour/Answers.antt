@@ -6,7 +6,7 @@ use Rattle.ss_records_entities.proofs.Looks.{owner_leads, owner_small, owner_has
 use Rattle.ss_records_entities.proofs.Onward.{beside_leads, beside_small, beside_filed, beside_value, in_its}
 use Rattle.ss_records_entities.specs.declared.records.Records.{Records}
 use Rattle.ss_records_words.specs.Kept.{state_of}
-use Rattle.ss_records_entities.specs.Parts.{IsKept, state, places, held}
+use Rattle.ss_records_entities.specs.Parts.{IsKept, state, places, uncounted}
 use Rattle.ss_records_entities.proofs.Still.{kept_still, joins_still, base_room2, room_first, one_room, one_counted, two_counted}
 use Rattle.ss_records_entities.proofs.Passing.{as_before}
 use Rattle.ss_records_entities.proofs.Remembered.{beside_joins}
@@ -123,7 +123,7 @@ pass-requires-clause-next c =
     let u : word_at r.blocks.cells e.place.at (b.result + 2) ≡ link p.place.at = (λ i. word_at (sym cells i) e.place.at (b.result + 2)) ∙ c.follow-owner.ensures.word in
     let v : word_at r.blocks.cells p.place.at 1 ≡ number p.number = (λ i. word_at (sym cells i) p.place.at 1) ∙ c.follow-owner.ensures.there in
     let has = owner_has r c.requires.kept c.args.s c.requires.set e c.requires.joins b.result b.ensures.at filed p u v in
-    let h : held (record r { blocks = z }) ≡ held r = λ i. record r { blocks = record { cells = (c.follow-owner.ensures.cells ∙ cells) i; touches = 0; total = 0 } } in
+    let h : uncounted (record r { blocks = z }) ≡ uncounted r = λ i. record r { blocks = record { cells = (c.follow-owner.ensures.cells ∙ cells) i; touches = 0; total = 0 } } in
     λ some. joins_still r (record r { blocks = z }) h c.args.s q (beside_joins r c.requires.kept c.args.s c.requires.set e c.requires.joins b.result b.ensures.at p.number has.1 q c.follow-neighbour.ensures.there some c.args.reverse w)
 
 pub returns-clause-kept : goal.returns-clause-kept

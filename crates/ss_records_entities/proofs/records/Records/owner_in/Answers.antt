@@ -2,7 +2,7 @@ use Rattle.std.proofs.Common.{◌≡◌, ◌+◌, sym, ◌∙◌, arith, refl, a
 use Rattle.std.proofs.lemmas.Int.{ints, to_z-of_z}
 use Rattle.ss_records_blocks.specs.Cells.{link, number, word_at}
 use Rattle.ss_records_entities.proofs.Looks.{owner_leads, owner_small, owner_value}
-use Rattle.ss_records_entities.specs.Parts.{state, held}
+use Rattle.ss_records_entities.specs.Parts.{state, uncounted}
 use Rattle.ss_records_entities.proofs.Files.{unmoved, looked}
 use Rattle.ss_records_entities.proofs.Still.{kept_still, set_still, at_start, one_of_two, base_room2, one_room, two_touches, no_touch}
 use Rattle.ss_records_entities.proofs.records.Records.owner_in.Goals as goal
@@ -49,12 +49,12 @@ is_filed-requires-clause-touches c = let r = c.args.self.now in at_start r.block
 
 pub returns-then-not-is_filed-clause-kept : goal.returns-then-not-is_filed-clause-kept
 returns-then-not-is_filed-clause-kept c =
-    let r = c.args.self.now in let p = c.is_filed.new.self in let h : held p ≡ held r = unmoved r p c.is_filed.ensures.same c.is_filed.ensures.cells in
+    let r = c.args.self.now in let p = c.is_filed.new.self in let h : uncounted p ≡ uncounted r = unmoved r p c.is_filed.ensures.same c.is_filed.ensures.cells in
     kept_still r p h c.requires.kept
 
 pub returns-then-not-is_filed-clause-same : goal.returns-then-not-is_filed-clause-same
 returns-then-not-is_filed-clause-same c =
-    let r = c.args.self.now in let p = c.is_filed.new.self in let h : held p ≡ held r = unmoved r p c.is_filed.ensures.same c.is_filed.ensures.cells in
+    let r = c.args.self.now in let p = c.is_filed.new.self in let h : uncounted p ≡ uncounted r = unmoved r p c.is_filed.ensures.same c.is_filed.ensures.cells in
     ap state h
 
 pub returns-then-not-is_filed-clause-touches : goal.returns-then-not-is_filed-clause-touches
@@ -64,7 +64,7 @@ returns-then-not-is_filed-clause-touches c =
 
 pub member_base-base-requires : goal.member_base-base-requires
 member_base-base-requires c =
-    let r = c.args.self.now in let p = c.is_filed.new.self in let h : held p ≡ held r = unmoved r p c.is_filed.ensures.same c.is_filed.ensures.cells in
+    let r = c.args.self.now in let p = c.is_filed.new.self in let h : uncounted p ≡ uncounted r = unmoved r p c.is_filed.ensures.same c.is_filed.ensures.cells in
     set_still r p h c.args.s c.requires.set
 
 pub overflow_add-base : goal.overflow_add-base
@@ -77,12 +77,12 @@ follow-owner-requires-clause-room c =
 
 pub returns-else-not-is_filed-clause-kept : goal.returns-else-not-is_filed-clause-kept
 returns-else-not-is_filed-clause-kept c =
-    let r = c.args.self.now in let p = c.is_filed.new.self in let b = c.follow-owner.new.self in let h : held (record p { blocks = b }) ≡ held r = looked r p b c.is_filed.ensures.same c.is_filed.ensures.cells c.follow-owner.ensures.cells in
+    let r = c.args.self.now in let p = c.is_filed.new.self in let b = c.follow-owner.new.self in let h : uncounted (record p { blocks = b }) ≡ uncounted r = looked r p b c.is_filed.ensures.same c.is_filed.ensures.cells c.follow-owner.ensures.cells in
     kept_still r (record p { blocks = b }) h c.requires.kept
 
 pub returns-else-not-is_filed-clause-same : goal.returns-else-not-is_filed-clause-same
 returns-else-not-is_filed-clause-same c =
-    let r = c.args.self.now in let p = c.is_filed.new.self in let b = c.follow-owner.new.self in let h : held (record p { blocks = b }) ≡ held r = looked r p b c.is_filed.ensures.same c.is_filed.ensures.cells c.follow-owner.ensures.cells in
+    let r = c.args.self.now in let p = c.is_filed.new.self in let b = c.follow-owner.new.self in let h : uncounted (record p { blocks = b }) ≡ uncounted r = looked r p b c.is_filed.ensures.same c.is_filed.ensures.cells c.follow-owner.ensures.cells in
     ap state h
 
 pub returns-else-not-is_filed-clause-touches : goal.returns-else-not-is_filed-clause-touches

@@ -3,7 +3,7 @@ use Rattle.std.proofs.lemmas.Int.{to_z-of_z}
 use Rattle.ss_records_blocks.specs.Cells.{link, number, word_at}
 use Rattle.ss_world.specs.State.{State}
 use Rattle.ss_world.specs.Sets.{with_list_of, taken_out}
-use Rattle.ss_records_entities.specs.Parts.{state, held}
+use Rattle.ss_records_entities.specs.Parts.{state, uncounted}
 use Rattle.ss_records_entities.proofs.Files.{unmoved, looked, still_around}
 use Rattle.ss_records_entities.proofs.Cuts.{parts, prev_found, next_found, around_it, list_less, not_out, out_done}
 use Rattle.ss_records_entities.proofs.Still.{kept_still, set_still, owns_still, joins_still, at_first, two_refused, two_room, two_then_room, two_then_few, two_then_linked, no_touch, base_room}
@@ -28,7 +28,7 @@ link_out-requires-clause-around c =
     let d = parts r c.requires.kept c.args.s c.requires.set pair.x c.in-Ok.ensures.found.1 c.member_base-base.result c.member_base-base.ensures.at pair.owner.number there in
     let a = c.follow-before.result in let z = c.follow-after.result in
     let cells2 = c.follow-before.ensures.cells ∙ cells in
-    let h : held (record p { blocks = c.follow-after.new.self }) ≡ held r = looked r p c.follow-after.new.self c.is_in.ensures.same cells (c.follow-after.ensures.cells ∙ c.follow-before.ensures.cells) in
+    let h : uncounted (record p { blocks = c.follow-after.new.self }) ≡ uncounted r = looked r p c.follow-after.new.self c.is_in.ensures.same cells (c.follow-after.ensures.cells ∙ c.follow-before.ensures.cells) in
     let w : word_at r.blocks.cells pair.x.place.at (c.member_base-base.result + 1) ≡ link a.place.at = (λ i. word_at (sym cells i) pair.x.place.at (c.member_base-base.result + 1)) ∙ c.follow-before.ensures.word in
     let v : word_at r.blocks.cells a.place.at 1 ≡ number a.number = (λ i. word_at (sym cells i) a.place.at 1) ∙ c.follow-before.ensures.there in
     let w' : word_at r.blocks.cells pair.x.place.at c.member_base-base.result ≡ link z.place.at = (λ i. word_at (sym cells2 i) pair.x.place.at c.member_base-base.result) ∙ c.follow-after.ensures.word in
@@ -49,7 +49,7 @@ returns-else-not-is_in-clause-done c =
     let d = parts r c.requires.kept c.args.s c.requires.set pair.x c.in-Ok.ensures.found.1 c.member_base-base.result c.member_base-base.ensures.at pair.owner.number there in
     let a = c.follow-before.result in let z = c.follow-after.result in
     let cells2 = c.follow-before.ensures.cells ∙ cells in
-    let h : held (record p { blocks = c.follow-after.new.self }) ≡ held r = looked r p c.follow-after.new.self c.is_in.ensures.same cells (c.follow-after.ensures.cells ∙ c.follow-before.ensures.cells) in
+    let h : uncounted (record p { blocks = c.follow-after.new.self }) ≡ uncounted r = looked r p c.follow-after.new.self c.is_in.ensures.same cells (c.follow-after.ensures.cells ∙ c.follow-before.ensures.cells) in
     let w : word_at r.blocks.cells pair.x.place.at (c.member_base-base.result + 1) ≡ link a.place.at = (λ i. word_at (sym cells i) pair.x.place.at (c.member_base-base.result + 1)) ∙ c.follow-before.ensures.word in
     let v : word_at r.blocks.cells a.place.at 1 ≡ number a.number = (λ i. word_at (sym cells i) a.place.at 1) ∙ c.follow-before.ensures.there in
     let w' : word_at r.blocks.cells pair.x.place.at c.member_base-base.result ≡ link z.place.at = (λ i. word_at (sym cells2 i) pair.x.place.at c.member_base-base.result) ∙ c.follow-after.ensures.word in
@@ -90,7 +90,7 @@ is_in-requires-clause-touches c = let r = c.args.self.now in at_first r.blocks.t
 
 pub returns-then-not-is_in-clause-kept : goal.returns-then-not-is_in-clause-kept
 returns-then-not-is_in-clause-kept c =
-    let r = c.args.self.now in let p = c.is_in.new.self in let h : held p ≡ held r = unmoved r p c.is_in.ensures.same c.is_in.ensures.cells in
+    let r = c.args.self.now in let p = c.is_in.new.self in let h : uncounted p ≡ uncounted r = unmoved r p c.is_in.ensures.same c.is_in.ensures.cells in
     kept_still r p h c.requires.kept
 
 pub returns-then-not-is_in-clause-touches : goal.returns-then-not-is_in-clause-touches
@@ -113,22 +113,22 @@ follow-after-requires-clause-room c =
 
 pub link_out-requires-clause-kept : goal.link_out-requires-clause-kept
 link_out-requires-clause-kept c =
-    let r = c.args.self.now in let p = c.is_in.new.self in let b = c.follow-after.new.self in let h : held (record p { blocks = b }) ≡ held r = looked r p b c.is_in.ensures.same c.is_in.ensures.cells (c.follow-after.ensures.cells ∙ c.follow-before.ensures.cells) in
+    let r = c.args.self.now in let p = c.is_in.new.self in let b = c.follow-after.new.self in let h : uncounted (record p { blocks = b }) ≡ uncounted r = looked r p b c.is_in.ensures.same c.is_in.ensures.cells (c.follow-after.ensures.cells ∙ c.follow-before.ensures.cells) in
     kept_still r (record p { blocks = b }) h c.requires.kept
 
 pub link_out-requires-clause-set : goal.link_out-requires-clause-set
 link_out-requires-clause-set c =
-    let r = c.args.self.now in let p = c.is_in.new.self in let b = c.follow-after.new.self in let h : held (record p { blocks = b }) ≡ held r = looked r p b c.is_in.ensures.same c.is_in.ensures.cells (c.follow-after.ensures.cells ∙ c.follow-before.ensures.cells) in
+    let r = c.args.self.now in let p = c.is_in.new.self in let b = c.follow-after.new.self in let h : uncounted (record p { blocks = b }) ≡ uncounted r = looked r p b c.is_in.ensures.same c.is_in.ensures.cells (c.follow-after.ensures.cells ∙ c.follow-before.ensures.cells) in
     set_still r (record p { blocks = b }) h c.args.s c.requires.set
 
 pub link_out-requires-clause-owns : goal.link_out-requires-clause-owns
 link_out-requires-clause-owns c =
-    let r = c.args.self.now in let p = c.is_in.new.self in let b = c.follow-after.new.self in let h : held (record p { blocks = b }) ≡ held r = looked r p b c.is_in.ensures.same c.is_in.ensures.cells (c.follow-after.ensures.cells ∙ c.follow-before.ensures.cells) in
+    let r = c.args.self.now in let p = c.is_in.new.self in let b = c.follow-after.new.self in let h : uncounted (record p { blocks = b }) ≡ uncounted r = looked r p b c.is_in.ensures.same c.is_in.ensures.cells (c.follow-after.ensures.cells ∙ c.follow-before.ensures.cells) in
     owns_still r (record p { blocks = b }) h c.args.s c.in-Ok.pair.owner c.in-Ok.ensures.found.0
 
 pub link_out-requires-clause-joins : goal.link_out-requires-clause-joins
 link_out-requires-clause-joins c =
-    let r = c.args.self.now in let p = c.is_in.new.self in let b = c.follow-after.new.self in let h : held (record p { blocks = b }) ≡ held r = looked r p b c.is_in.ensures.same c.is_in.ensures.cells (c.follow-after.ensures.cells ∙ c.follow-before.ensures.cells) in
+    let r = c.args.self.now in let p = c.is_in.new.self in let b = c.follow-after.new.self in let h : uncounted (record p { blocks = b }) ≡ uncounted r = looked r p b c.is_in.ensures.same c.is_in.ensures.cells (c.follow-after.ensures.cells ∙ c.follow-before.ensures.cells) in
     joins_still r (record p { blocks = b }) h c.args.s c.in-Ok.pair.x c.in-Ok.ensures.found.1
 
 pub link_out-requires-clause-touches : goal.link_out-requires-clause-touches

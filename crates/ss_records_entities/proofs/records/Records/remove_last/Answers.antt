@@ -4,7 +4,7 @@ use Rattle.std.proofs.lemmas.Int.{ints, to_z-of_z}
 use mir.Syntax.{w64}
 use Rattle.ss_world.specs.State.{State, members_of}
 use Rattle.ss_world.specs.Sets.{with_list_of, less, last_in}
-use Rattle.ss_records_entities.specs.Parts.{state, held}
+use Rattle.ss_records_entities.specs.Parts.{state, uncounted}
 use Rattle.ss_records_entities.proofs.Looks.{as_whole, last_leads, last_small, last_value}
 use Rattle.ss_records_entities.proofs.Cuts.{at_last}
 use Rattle.ss_records_entities.proofs.Still.{kept_still, set_still, owns_still, joins_still, room_first, one_few, owner_room}
@@ -34,13 +34,13 @@ follow-last-requires-clause-room c =
 pub returns-then-last-eq0-clause-kept : goal.returns-then-last-eq0-clause-kept
 returns-then-last-eq0-clause-kept c =
     let r = c.args.self.now in let e = c.in-Ok.owner in let q = c.follow-last.result in let b = c.follow-last.new.self in let k = c.requires.kept in let own = c.in-Ok.ensures.found.0 in let at = c.owner_base-base in
-    let h : held (record r { blocks = b }) ≡ held r = λ i. record r { blocks = record { cells = c.follow-last.ensures.cells i; touches = 0; total = 0 } } in
+    let h : uncounted (record r { blocks = b }) ≡ uncounted r = λ i. record r { blocks = record { cells = c.follow-last.ensures.cells i; touches = 0; total = 0 } } in
     kept_still r (record r { blocks = b }) h k
 
 pub returns-then-last-eq0-clause-done : goal.returns-then-last-eq0-clause-done
 returns-then-last-eq0-clause-done c =
     let r = c.args.self.now in let e = c.in-Ok.owner in let q = c.follow-last.result in let b = c.follow-last.new.self in let k = c.requires.kept in let own = c.in-Ok.ensures.found.0 in let at = c.owner_base-base in
-    let h : held (record r { blocks = b }) ≡ held r = λ i. record r { blocks = record { cells = c.follow-last.ensures.cells i; touches = 0; total = 0 } } in
+    let h : uncounted (record r { blocks = b }) ≡ uncounted r = λ i. record r { blocks = record { cells = c.follow-last.ensures.cells i; touches = 0; total = 0 } } in
     let fits = c.ranges.o in let t = simp to_z-of_z at c.in-Ok.ensures.found in
     let found = sym (last_value r k c.args.s c.requires.set e t.0 at.result at.ensures.at q c.follow-last.ensures.word c.follow-last.ensures.there c.args.o t.1) in
     let is = as_whole q.number q.number refl (last_small r k c.args.s c.requires.set e own at.result at.ensures.at q c.follow-last.ensures.word c.follow-last.ensures.there) in
@@ -54,25 +54,25 @@ returns-then-last-eq0-clause-touches c =
 pub take_out-requires-clause-kept : goal.take_out-requires-clause-kept
 take_out-requires-clause-kept c =
     let r = c.args.self.now in let e = c.in-Ok.owner in let q = c.follow-last.result in let b = c.follow-last.new.self in let k = c.requires.kept in let own = c.in-Ok.ensures.found.0 in let at = c.owner_base-base in
-    let h : held (record r { blocks = b }) ≡ held r = λ i. record r { blocks = record { cells = c.follow-last.ensures.cells i; touches = 0; total = 0 } } in
+    let h : uncounted (record r { blocks = b }) ≡ uncounted r = λ i. record r { blocks = record { cells = c.follow-last.ensures.cells i; touches = 0; total = 0 } } in
     kept_still r (record r { blocks = b }) h k
 
 pub take_out-requires-clause-set : goal.take_out-requires-clause-set
 take_out-requires-clause-set c =
     let r = c.args.self.now in let e = c.in-Ok.owner in let q = c.follow-last.result in let b = c.follow-last.new.self in let k = c.requires.kept in let own = c.in-Ok.ensures.found.0 in let at = c.owner_base-base in
-    let h : held (record r { blocks = b }) ≡ held r = λ i. record r { blocks = record { cells = c.follow-last.ensures.cells i; touches = 0; total = 0 } } in
+    let h : uncounted (record r { blocks = b }) ≡ uncounted r = λ i. record r { blocks = record { cells = c.follow-last.ensures.cells i; touches = 0; total = 0 } } in
     set_still r (record r { blocks = b }) h c.args.s c.requires.set
 
 pub take_out-requires-clause-owns : goal.take_out-requires-clause-owns
 take_out-requires-clause-owns c =
     let r = c.args.self.now in let e = c.in-Ok.owner in let q = c.follow-last.result in let b = c.follow-last.new.self in let k = c.requires.kept in let own = c.in-Ok.ensures.found.0 in let at = c.owner_base-base in
-    let h : held (record r { blocks = b }) ≡ held r = λ i. record r { blocks = record { cells = c.follow-last.ensures.cells i; touches = 0; total = 0 } } in
+    let h : uncounted (record r { blocks = b }) ≡ uncounted r = λ i. record r { blocks = record { cells = c.follow-last.ensures.cells i; touches = 0; total = 0 } } in
     owns_still r (record r { blocks = b }) h c.args.s e own
 
 pub take_out-requires-clause-joins : goal.take_out-requires-clause-joins
 take_out-requires-clause-joins c =
     let r = c.args.self.now in let e = c.in-Ok.owner in let q = c.follow-last.result in let b = c.follow-last.new.self in let k = c.requires.kept in let own = c.in-Ok.ensures.found.0 in let at = c.owner_base-base in
-    let h : held (record r { blocks = b }) ≡ held r = λ i. record r { blocks = record { cells = c.follow-last.ensures.cells i; touches = 0; total = 0 } } in
+    let h : uncounted (record r { blocks = b }) ≡ uncounted r = λ i. record r { blocks = record { cells = c.follow-last.ensures.cells i; touches = 0; total = 0 } } in
     let between = at_last r k c.args.s c.requires.set e own at.result at.ensures.at q c.follow-last.ensures.word c.follow-last.ensures.there in
     let inn = last_in_it r c.args.s e.number q (record { place = r.system; number = 0 }) (members_of r.notes.lists c.args.s e.number) between c.if-last-eq0.false in
     joins_still r (record r { blocks = b }) h c.args.s q (joins_it r k c.args.s c.requires.set e.number q between.before inn)
@@ -102,7 +102,7 @@ returns-else-last-eq0-clause-kept c =
 pub returns-else-last-eq0-clause-done : goal.returns-else-last-eq0-clause-done
 returns-else-last-eq0-clause-done c =
     let r = c.args.self.now in let e = c.in-Ok.owner in let q = c.follow-last.result in let b = c.follow-last.new.self in let k = c.requires.kept in let own = c.in-Ok.ensures.found.0 in let at = c.owner_base-base in
-    let h : held (record r { blocks = b }) ≡ held r = λ i. record r { blocks = record { cells = c.follow-last.ensures.cells i; touches = 0; total = 0 } } in
+    let h : uncounted (record r { blocks = b }) ≡ uncounted r = λ i. record r { blocks = record { cells = c.follow-last.ensures.cells i; touches = 0; total = 0 } } in
     let between = at_last r k c.args.s c.requires.set e own at.result at.ensures.at q c.follow-last.ensures.word c.follow-last.ensures.there in
     let inn = last_in_it r c.args.s e.number q (record { place = r.system; number = 0 }) (members_of r.notes.lists c.args.s e.number) between c.if-last-eq0.false in
     let fits = c.ranges.o in let t = simp to_z-of_z at c.in-Ok.ensures.found in

@@ -2,7 +2,7 @@ use Rattle.std.proofs.Common.{rules, ◌≡◌, pos, ◌+ℤ◌, ◌≤ℤ◌, F
 use Rattle.std.specs.Int.{w128}
 use Rattle.std.proofs.lemmas.Int.{ints, to_z-of_z}
 use Rattle.ss_stats.specs.declared.totals.Weighing.TheVariants.{Once, ByTime}
-use Rattle.ss_stats.specs.History.{exact_sum_of, maximum_of, minimum_of, with_value}
+use Rattle.ss_stats.specs.History.{exact_sum_of, maximum_of, minimum_of, with_noted_value}
 use Rattle.ss_stats.specs.Summary.{last_given}
 use Rattle.ss_stats.proofs.Noting.{once_noted, once_sum_noted, once_outcome, by_time_noted, by_time_sum_noted, by_time_outcome, agreeing}
 use Rattle.ss_stats.proofs.totals.Totals.note.Goals as goal
@@ -49,8 +49,8 @@ returns-clause-noted c h is_summary =
     let s : c.exact_sum-until_now.result ≡ exact_sum_of h c.args.now = rw n at (c.exact_sum-until_now.ensures.value h is_summary) in
     let f : FitsSigned w64 c.extremes_with-maximum.result.0 = search rules in
     let g : FitsSigned w64 c.extremes_with-maximum.result.1 = search rules in
-    let a : to_z w64 (of_z w64 c.extremes_with-maximum.result.0) ≡ maximum_of (with_value h c.args.now c.args.value) = to_z-of_z w64 _ f ∙ rw v at (c.extremes_with-maximum.ensures.maximum h c.args.now is_summary) in
-    let b : to_z w64 (of_z w64 c.extremes_with-maximum.result.1) ≡ minimum_of (with_value h c.args.now c.args.value) = to_z-of_z w64 _ g ∙ rw v at (c.extremes_with-maximum.ensures.minimum h c.args.now is_summary) in
+    let a : to_z w64 (of_z w64 c.extremes_with-maximum.result.0) ≡ maximum_of (with_noted_value h c.args.now c.args.value) = to_z-of_z w64 _ f ∙ rw v at (c.extremes_with-maximum.ensures.maximum h c.args.now is_summary) in
+    let b : to_z w64 (of_z w64 c.extremes_with-maximum.result.1) ≡ minimum_of (with_noted_value h c.args.now c.args.value) = to_z-of_z w64 _ g ∙ rw v at (c.extremes_with-maximum.ensures.minimum h c.args.now is_summary) in
     elim c.match-self.branch [
       | in-Once+else-number-eq-TALLY_LIMIT w ↦ (
           let k = kind ∙ w.in-Once.is in

@@ -4,7 +4,7 @@ use Rattle.std.specs.List.Sorted.{IsPermutation}
 use Rattle.std.specs.Vec.{with_items}
 use Rattle.std.proofs.lemmas.List.{get_or_default}
 use Rattle.ss_events.specs.declared.entry.places.HeapNode.{HeapNode}
-use Rattle.ss_events.specs.HeapEntries.{Lines, notices_of}
+use Rattle.ss_events.specs.HeapEntries.{HeadsAndFollowers, notices_of}
 use Rattle.ss_events.specs.Slots.{no_slot, no_node, plain_entry, slot_at, node, heads, followers, IsTaken, AreHeld}
 use Rattle.ss_events.proofs.Lists.{written}
 use Rattle.ss_events.proofs.Seen.{notice-free}
@@ -43,7 +43,7 @@ unseen : (c : After-deref_mut)
 unseen c =
     let s = c.self.inside in
     subst (λ n. (list_any (int_eq n) (notices_of c.args.self.now.heads) ≡ false) × (list_any (int_eq n) (notices_of c.args.self.now.followers) ≡ false)) (to_z-of_z c.ranges.notice)
-    (subst (λ (l : Lines). (list_any (int_eq (to_z w64 (of_z w64 c.args.notice))) (notices_of l.heads) ≡ false) × (list_any (int_eq (to_z w64 (of_z w64 c.args.notice))) (notices_of l.followers) ≡ false)) c.self.view_is
+    (subst (λ (l : HeadsAndFollowers). (list_any (int_eq (to_z w64 (of_z w64 c.args.notice))) (notices_of l.heads) ≡ false) × (list_any (int_eq (to_z w64 (of_z w64 c.args.notice))) (notices_of l.followers) ≡ false)) c.self.view_is
     (notice-free s.count s.free s.slots.items s.entries.items s.nodes.items s.directory c.self.invariant (to_z w64 (of_z w64 c.args.notice)) (fresh c)))
 
 -- the slots then
@@ -87,7 +87,7 @@ returns-clause-heads c =
     ap (λ xs. heads s.count xs s.entries.items s.nodes.items) (slots l)
     ∙ heads-joined s.count s.free s.slots.items s.entries.items s.nodes.items s.directory c.self.invariant (some e) c.index.result.now.slot (slot e) c.args.before (within e) (taken e) (last e)
     (to_z w64 (of_z w64 c.args.notice)) c.args.mark
-    ∙ ap (λ (v : Lines). v.heads) c.self.view_is
+    ∙ ap (λ (v : HeadsAndFollowers). v.heads) c.self.view_is
 
 pub returns-clause-done : goal.returns-clause-done
 returns-clause-done c = λ _.
@@ -98,7 +98,7 @@ returns-clause-done c = λ _.
     followers-lined_up s.count s.free s.slots.items s.entries.items s.nodes.items s.directory c.self.invariant (some e) c.index.result.now.slot (slot e) c.args.before (within e) (taken e) (last e)
     (to_z w64 (of_z w64 c.args.notice)) c.args.mark in
     subst (λ n. IsPermutation (plain_entry c.args.mark n ∷ c.args.self.now.followers) (followers (with_items s.slots c.line_up.new.slots).items)) (to_z-of_z c.ranges.notice)
-    (subst (λ (v : Lines). IsPermutation (plain_entry c.args.mark (to_z w64 (of_z w64 c.args.notice)) ∷ v.followers) (followers (with_items s.slots c.line_up.new.slots).items)) c.self.view_is
+    (subst (λ (v : HeadsAndFollowers). IsPermutation (plain_entry c.args.mark (to_z w64 (of_z w64 c.args.notice)) ∷ v.followers) (followers (with_items s.slots c.line_up.new.slots).items)) c.self.view_is
     (subst (λ xs. IsPermutation (plain_entry c.args.mark (to_z w64 (of_z w64 c.args.notice)) ∷ followers s.slots.items) (followers xs)) (sym (slots l)) more))
 
 pub returns-clause-apart : goal.returns-clause-apart

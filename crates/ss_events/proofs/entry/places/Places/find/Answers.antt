@@ -2,7 +2,7 @@ use Rattle.std.proofs.Common.{to_z, of_z, w64, to_z-of_z, ◌≡◌, ◌≢◌, 
 use Rattle.std.specs.List.{list_any}
 use Rattle.std.proofs.lemmas.List.{get_or_default}
 use Rattle.ss_events.specs.declared.entry.places.Slot.{Slot}
-use Rattle.ss_events.specs.HeapEntries.{Lines, notices_of}
+use Rattle.ss_events.specs.HeapEntries.{HeadsAndFollowers, notices_of}
 use Rattle.ss_events.specs.Slots.{slot_at, blank_slot, following, IsTaken}
 use Rattle.ss_events.proofs.Seen.{position_there, head_has, no_head_has, position_nowhere, notice-free}
 use Rattle.ss_events.proofs.entry.places.Places.find.Goals as goal
@@ -16,7 +16,7 @@ none c =
 
 nowhere : (c : After-from_residual) → list_any (int_eq c.args.notice) (notices_of c.args.self.now.heads) ≡ false
 nowhere c =
-    ap (λ (l : Lines). list_any (int_eq c.args.notice) (notices_of l.heads)) (sym c.self.view_is)
+    ap (λ (l : HeadsAndFollowers). list_any (int_eq c.args.notice) (notices_of l.heads)) (sym c.self.view_is)
     ∙ (notice-free c.self.inside.count c.self.inside.free c.self.inside.slots.items c.self.inside.entries.items c.self.inside.nodes.items c.self.inside.directory c.self.invariant c.args.notice (none c)).0
 
 pub returns-in_err-slot-clause-place : goal.returns-in_err-slot-clause-place
@@ -24,7 +24,7 @@ returns-in_err-slot-clause-place c =
     c.from_residual.ensures
     ∙ sym (position_nowhere c.self.inside.count c.self.inside.free c.self.inside.slots.items c.self.inside.entries.items c.self.inside.nodes.items c.self.inside.directory c.self.invariant c.args.notice
     (notice-free c.self.inside.count c.self.inside.free c.self.inside.slots.items c.self.inside.entries.items c.self.inside.nodes.items c.self.inside.directory c.self.invariant c.args.notice (none c)).0)
-    ∙ ap (λ (l : Lines). position (int_eq c.args.notice) (notices_of l.heads)) c.self.view_is
+    ∙ ap (λ (l : HeadsAndFollowers). position (int_eq c.args.notice) (notices_of l.heads)) c.self.view_is
 
 pub returns-in_err-slot-clause-found : goal.returns-in_err-slot-clause-found
 returns-in_err-slot-clause-found c = ap is_some c.from_residual.ensures ∙ sym (nowhere c)
@@ -45,14 +45,14 @@ returns-then-at-self-clause-place c =
     ap (λ n. Some n) (place e)
     ∙ sym (position_there c.self.inside.count c.self.inside.free c.self.inside.slots.items c.self.inside.entries.items c.self.inside.nodes.items c.self.inside.directory c.self.invariant c.args.notice
     c.in_ok-slot.slot (held e).0 (held e).2 (omega (arith, place e, c.if-at-self.true)))
-    ∙ ap (λ (l : Lines). position (int_eq c.args.notice) (notices_of l.heads)) c.self.view_is
+    ∙ ap (λ (l : HeadsAndFollowers). position (int_eq c.args.notice) (notices_of l.heads)) c.self.view_is
 
 pub returns-then-at-self-clause-found : goal.returns-then-at-self-clause-found
 returns-then-at-self-clause-found c =
     let e = (goal.at.returns-then-at-self-clause-found c).After-index in
     sym (head_has c.self.inside.count c.self.inside.free c.self.inside.slots.items c.self.inside.entries.items c.self.inside.nodes.items c.self.inside.directory c.self.invariant c.args.notice
     c.in_ok-slot.slot (held e).0 (held e).2 (omega (arith, place e, c.if-at-self.true)))
-    ∙ ap (λ (l : Lines). list_any (int_eq c.args.notice) (notices_of l.heads)) c.self.view_is
+    ∙ ap (λ (l : HeadsAndFollowers). list_any (int_eq c.args.notice) (notices_of l.heads)) c.self.view_is
 
 -- no head has the notice, where its slot is in no place
 apart : (c : After-index) → c.self.inside.count ≤ c.index.result.now.at → following ≤ (slot_at c.self.inside.slots.items c.in_ok-slot.slot).at
@@ -64,11 +64,11 @@ returns-else-at-self-clause-place c =
     sym (position_nowhere c.self.inside.count c.self.inside.free c.self.inside.slots.items c.self.inside.entries.items c.self.inside.nodes.items c.self.inside.directory c.self.invariant c.args.notice
     (no_head_has c.self.inside.count c.self.inside.free c.self.inside.slots.items c.self.inside.entries.items c.self.inside.nodes.items c.self.inside.directory c.self.invariant c.args.notice
     c.in_ok-slot.slot (held e).0 (held e).2 (apart e c.if-at-self.false)))
-    ∙ ap (λ (l : Lines). position (int_eq c.args.notice) (notices_of l.heads)) c.self.view_is
+    ∙ ap (λ (l : HeadsAndFollowers). position (int_eq c.args.notice) (notices_of l.heads)) c.self.view_is
 
 pub returns-else-at-self-clause-found : goal.returns-else-at-self-clause-found
 returns-else-at-self-clause-found c =
     let e = (goal.at.returns-else-at-self-clause-found c).After-index in
     sym (no_head_has c.self.inside.count c.self.inside.free c.self.inside.slots.items c.self.inside.entries.items c.self.inside.nodes.items c.self.inside.directory c.self.invariant c.args.notice
     c.in_ok-slot.slot (held e).0 (held e).2 (apart e c.if-at-self.false))
-    ∙ ap (λ (l : Lines). list_any (int_eq c.args.notice) (notices_of l.heads)) c.self.view_is
+    ∙ ap (λ (l : HeadsAndFollowers). list_any (int_eq c.args.notice) (notices_of l.heads)) c.self.view_is

@@ -2,7 +2,7 @@ use Rattle.std.proofs.Common.{to_z, of_z, w64, to_z-of_z, ◌≡◌, ◌≢◌, 
 use Rattle.std.specs.List.{list_any}
 use Rattle.std.specs.Option.{MatchOption}
 use Rattle.ss_events.specs.declared.entry.places.Slot.{Slot}
-use Rattle.ss_events.specs.HeapEntries.{Lines, notices_of}
+use Rattle.ss_events.specs.HeapEntries.{HeadsAndFollowers, notices_of}
 use Rattle.ss_events.specs.Slots.{slot_at, IsTaken}
 use Rattle.ss_events.proofs.Seen.{holds_read}
 use Rattle.ss_events.proofs.entry.places.Places.holds.Goals as goal
@@ -13,4 +13,4 @@ returns c =
     c.is_some.ensures
     ∙ holds_read c.self.inside.count c.self.inside.free c.self.inside.slots.items c.self.inside.entries.items c.self.inside.nodes.items c.self.inside.directory c.self.invariant c.args.notice c.slot_of.result
     (subst (λ n. Finds c.self.inside.slots.items n) (to_z-of_z c.ranges.notice) (subst (λ xs. Finds xs (to_z w64 (of_z w64 c.args.notice))) c.deref.ensures.value c.slot_of.ensures))
-    ∙ ap (λ (l : Lines). list_any (int_eq c.args.notice) (notices_of l.heads) || list_any (int_eq c.args.notice) (notices_of l.followers)) c.self.view_is
+    ∙ ap (λ (l : HeadsAndFollowers). list_any (int_eq c.args.notice) (notices_of l.heads) || list_any (int_eq c.args.notice) (notices_of l.followers)) c.self.view_is

@@ -1,7 +1,7 @@
 use Rattle.std.proofs.Common.{rules, to_z, of_z, w64, ℕ, ◌≡◌, ◌≢◌, ◌<◌, ◌∙◌, ◌++◌, ◌∷◌, [], length, int_eq, set, subst, ap, refl, arith}
 use Rattle.std.specs.List.{list_any}
 use Rattle.ss_events.specs.declared.entry.Entry.{Entry}
-use Rattle.ss_events.specs.HeapEntries.{Lines, notices_of}
+use Rattle.ss_events.specs.HeapEntries.{HeadsAndFollowers, notices_of}
 use Rattle.ss_events.specs.Slots.{slot_at, IsTaken, AreLed}
 use Rattle.ss_events.proofs.Seen.{notice-without}
 use Rattle.ss_events.proofs.Grown.{held-led, same_held, made_room, reached, HasSome, led_still, place_in, its_slot_in, whole_put, Pushes}
@@ -45,8 +45,8 @@ fresh c t lt taken is =
     let room = roomy c in
     let n = c.args.entry.notice in
     notice-without c.self.inside.count c.in_ok-self-inside.field-0 c.some_free.new.slots.items c.reach.new.entries.items c.some_free.new.nodes.items c.make_cells.new.directory room.held n
-    (ap (λ l. list_any (int_eq n) (notices_of l)) (room.heads ∙ ap (λ (l : Lines). l.heads) c.self.view_is) ∙ c.requires.apart)
-    (ap (λ l. list_any (int_eq n) (notices_of l)) (room.followers ∙ ap (λ (l : Lines). l.followers) c.self.view_is) ∙ c.requires.fresh)
+    (ap (λ l. list_any (int_eq n) (notices_of l)) (room.heads ∙ ap (λ (l : HeadsAndFollowers). l.heads) c.self.view_is) ∙ c.requires.apart)
+    (ap (λ l. list_any (int_eq n) (notices_of l)) (room.followers ∙ ap (λ (l : HeadsAndFollowers). l.followers) c.self.view_is) ∙ c.requires.fresh)
     t lt taken (is ∙ its_notice c)
 
 pub invariant_of-self-in_err-note : goal.invariant_of-self-in_err-note

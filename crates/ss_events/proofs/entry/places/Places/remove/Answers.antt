@@ -4,10 +4,10 @@ use Rattle.std.specs.Prelude.{◌==◌}
 use Rattle.std.specs.Vec.{with_items}
 use Rattle.ss_events.specs.declared.entry.places.Slot.{Slot}
 use Rattle.ss_events.specs.declared.entry.places.HeapNode.{HeapNode}
-use Rattle.ss_events.specs.HeapEntries.{Lines, Removes}
-use Rattle.ss_events.specs.Slots.{slot_at, node, no_entry, no_slot, not_plain, at_put, exchanged, Leads}
+use Rattle.ss_events.specs.HeapEntries.{HeadsAndFollowers, Removes}
+use Rattle.ss_events.specs.Slots.{slot_at, node, no_entry, no_slot, not_plain, at_put, exchanged, IsGuess}
 use Rattle.ss_events.proofs.Lists.{written}
-use Rattle.ss_events.proofs.Lines.{long_heads}
+use Rattle.ss_events.proofs.HeadsAndFollowers.{long_heads}
 use Rattle.ss_events.proofs.Swapped.{length-exchanged}
 use Rattle.ss_events.proofs.Seen.{node_whole}
 use Rattle.ss_events.proofs.Removed.{freed, room_spare, raised, raised_long, raised_slots, raised_slots_long, advanced, advanced_nodes, advanced_long, nodes_long}
@@ -25,7 +25,7 @@ release-requires-clause-place c =
     let d = c.self.inside.directory in
     let k = c.args.at in
     let h = c.self.invariant in
-    let k_in : k < n = omega (arith, c.requires, ap (λ (l : Lines). length l.heads) c.self.view_is, long_heads n xs ws ss (omega (arith, h.few))) in
+    let k_in : k < n = omega (arith, c.requires, ap (λ (l : HeadsAndFollowers). length l.heads) c.self.view_is, long_heads n xs ws ss (omega (arith, h.few))) in
     let x_is = read_head n f xs ws ss d h k k_in c.index-node.result.now c.index.result.now c.index-node.ensures c.index.ensures in
     let room = room_spare n f xs ws ss d h k k_in (λ none. c.if-next.true (ap (λ (x : Slot). x.next) x_is ∙ none)) in
     omega (arith, room, ap length c.deref_mut-then-next-2.ensures.value, c.deref_mut-then-next-2.ensures.len, c.self.inside.nodes.ok.0)
@@ -40,7 +40,7 @@ release-requires-clause-slot c =
     let d = c.self.inside.directory in
     let k = c.args.at in
     let h = c.self.invariant in
-    let k_in : k < n = omega (arith, c.requires, ap (λ (l : Lines). length l.heads) c.self.view_is, long_heads n xs ws ss (omega (arith, h.few))) in
+    let k_in : k < n = omega (arith, c.requires, ap (λ (l : HeadsAndFollowers). length l.heads) c.self.view_is, long_heads n xs ws ss (omega (arith, h.few))) in
     let y_is = ap (λ (y : HeapNode). y.slot) (read_node n f xs ws ss d h k k_in c.index-node.result.now c.index-node.ensures) in
     omega (arith, y_is, out_slot n f xs ws ss d h k k_in, c.deref_mut-then-next-3.ensures.len, c.self.inside.slots.ok.0)
 
@@ -54,7 +54,7 @@ clear-requires c = λ not_plain_there.
     let d = c.self.inside.directory in
     let k = c.args.at in
     let h = c.self.invariant in
-    let k_in : k < n = omega (arith, c.requires, ap (λ (l : Lines). length l.heads) c.self.view_is, long_heads n xs ws ss (omega (arith, h.few))) in
+    let k_in : k < n = omega (arith, c.requires, ap (λ (l : HeadsAndFollowers). length l.heads) c.self.view_is, long_heads n xs ws ss (omega (arith, h.few))) in
     let y = c.index-node.result.now in
     omega (arith, node_whole n f xs ws ss d h k k_in y (read_node n f xs ws ss d h k k_in y c.index-node.ensures) not_plain_there, c.self.inside.entries.ok.0)
 
@@ -63,7 +63,7 @@ k_in c =
     omega (
       arith,
       c.requires,
-      ap (λ (l : Lines). length l.heads) c.self.view_is,
+      ap (λ (l : HeadsAndFollowers). length l.heads) c.self.view_is,
       long_heads c.self.inside.count c.self.inside.slots.items c.self.inside.entries.items c.self.inside.nodes.items (omega (arith, c.self.invariant.few)),
     )
 
@@ -126,7 +126,7 @@ gone c =
           (gone-advanced n f xs ws ss d h k (k_in c) real c.forget.new.self
           (λ m t apart other led.
           c.forget.ensures.others m t (λ is. apart (is ∙ noticed c)) (λ is. other (is ∙ ap (λ (y : HeapNode). y.slot) s_is))
-          (subst (λ g. Leads g m t) (λ i. (sym w.self-inside-is i).directory) led)))
+          (subst (λ g. IsGuess g m t) (λ i. (sym w.self-inside-is i).directory) led)))
       | else-next w ↦
           let none : (slot_at xs (node ss k).slot).next ≡ no_slot = sym (ap (λ (x : Slot). x.next) x_is) ∙ w.if-next.false in
           let l = n - 1 in
@@ -150,7 +150,7 @@ gone c =
           (gone-dropped n f xs ws ss d h k (k_in c) l one none o vs vs_is c.forget.new.self
           (λ m t apart other led.
           c.forget.ensures.others m t (λ is. apart (is ∙ noticed c)) (λ is. other (is ∙ ap (λ (y : HeapNode). y.slot) s_is))
-          (subst (λ g. Leads g m t) (λ i. (sym w.self-inside-is i).directory) led)))
+          (subst (λ g. IsGuess g m t) (λ i. (sym w.self-inside-is i).directory) led)))
     ]
 
 pub invariant_of-self : goal.invariant_of-self

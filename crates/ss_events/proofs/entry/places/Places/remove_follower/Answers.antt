@@ -3,10 +3,10 @@ use Rattle.std.specs.List.{list_any}
 use Rattle.std.specs.List.Sorted.{IsPermutation}
 use Rattle.std.specs.Vec.{with_items}
 use Rattle.ss_events.specs.declared.entry.places.Slot.{Slot}
-use Rattle.ss_events.specs.HeapEntries.{Lines, notices_of}
+use Rattle.ss_events.specs.HeapEntries.{HeadsAndFollowers, notices_of}
 use Rattle.ss_events.specs.Slots.{slot_at, following, at_put, heads, followers, IsTaken, AreHeld}
 use Rattle.ss_events.proofs.Lists.{written}
-use Rattle.ss_events.proofs.Lines.{follower}
+use Rattle.ss_events.proofs.HeadsAndFollowers.{follower}
 use Rattle.ss_events.proofs.Removed.{room_of_follower, before_in, close, closed_long, freed, freed-long, left, left_long, held-left, heads-left, followers_left}
 use Rattle.ss_events.proofs.Gone.{read_slot, no_follower_has, follower_has}
 use Rattle.ss_events.proofs.entry.places.Places.remove_follower.Goals as goal
@@ -20,7 +20,7 @@ returns-in_default-clause-found c =
     (λ s s_in s_follows is.
     c.in_default.ensures s (omega (arith, s_in, ap length same)) (inr (omega (arith, s_follows, ap (λ l. (slot_at l s).at) same)))
     (ap (λ l. (slot_at l s).notice) same ∙ is ∙ sym (to_z-of_z c.ranges.notice))))
-    ∙ ap (λ (l : Lines). list_any (int_eq c.args.notice) (notices_of l.followers)) c.self.view_is
+    ∙ ap (λ (l : HeadsAndFollowers). list_any (int_eq c.args.notice) (notices_of l.followers)) c.self.view_is
 
 pub returns-then-at-lt-FOLLOWING-clause-found : goal.returns-then-at-lt-FOLLOWING-clause-found
 returns-then-at-lt-FOLLOWING-clause-found c =
@@ -35,7 +35,7 @@ returns-then-at-lt-FOLLOWING-clause-found c =
     c.self.invariant.distinct s t s_in t_in (inr s_follows) (subst (λ l. IsTaken c.self.inside.count (slot_at l t)) same c.in-Some.ensures.1)
     (is ∙ sym (to_z-of_z c.ranges.notice) ∙ sym c.in-Some.ensures.2 ∙ ap (λ l. (slot_at l t).notice) same) in
     omega (arith, c.if-at-lt-FOLLOWING.true, s_follows, ap (λ u. (slot_at xs u).at) e, ap (λ (x : Slot). x.at) t_is)))
-    ∙ ap (λ (l : Lines). list_any (int_eq c.args.notice) (notices_of l.followers)) c.self.view_is
+    ∙ ap (λ (l : HeadsAndFollowers). list_any (int_eq c.args.notice) (notices_of l.followers)) c.self.view_is
 
 pub close_up-requires-clause-before : goal.close_up-requires-clause-before
 close_up-requires-clause-before c =
@@ -112,7 +112,7 @@ invariant_of-self c =
 pub returns-clause-found : goal.returns-clause-found
 returns-clause-found c =
     sym (follower_has c.self.inside.slots.items c.args.notice c.in-Some.slot (s_in c) (s_follows c) (its_notice c))
-    ∙ ap (λ (l : Lines). list_any (int_eq c.args.notice) (notices_of l.followers)) c.self.view_is
+    ∙ ap (λ (l : HeadsAndFollowers). list_any (int_eq c.args.notice) (notices_of l.followers)) c.self.view_is
 
 pub returns-clause-left : goal.returns-clause-left
 returns-clause-left c = λ _.
@@ -127,9 +127,9 @@ returns-clause-left c = λ _.
       heads =
           (λ i. heads n (slots_then c i) ws (nodes_then c i))
           ∙ heads-left n c.self.inside.free xs ws ss c.self.inside.directory c.self.invariant c.in-Some.slot (s_in c) (s_follows c)
-          ∙ ap (λ (l : Lines). l.heads) c.self.view_is;
+          ∙ ap (λ (l : HeadsAndFollowers). l.heads) c.self.view_is;
       followers =
-          subst (λ l. IsPermutation l (e ∷ followers (with_items (with_items c.self.inside.slots c.close_up.new.slots) c.release.new.slots).items)) (ap (λ (l : Lines). l.followers) c.self.view_is)
+          subst (λ l. IsPermutation l (e ∷ followers (with_items (with_items c.self.inside.slots c.close_up.new.slots) c.release.new.slots).items)) (ap (λ (l : HeadsAndFollowers). l.followers) c.self.view_is)
           (subst (λ l. IsPermutation (followers xs) (e ∷ followers l)) (sym (slots_then c))
           (followers_left n c.self.inside.free xs ws ss c.self.inside.directory c.self.invariant c.in-Some.slot (s_in c) (s_follows c)));
     }

@@ -2,16 +2,16 @@ use Rattle.std.proofs.Common.{◌≡◌, ◌<◌, ◌∙◌, length, swap, subst
 use Rattle.std.proofs.lemmas.List.Edits.{length-swap}
 use Rattle.std.specs.Vec.{with_items}
 use Rattle.ss_events.specs.Slots.{heads, followers, exchanged, AreHeld}
-use Rattle.ss_events.specs.HeapEntries.{Lines}
+use Rattle.ss_events.specs.HeapEntries.{HeadsAndFollowers}
 use Rattle.ss_events.proofs.Lists.{written}
-use Rattle.ss_events.proofs.Lines.{long_heads}
+use Rattle.ss_events.proofs.HeadsAndFollowers.{long_heads}
 use Rattle.ss_events.proofs.Swapped.{length-exchanged, held-swapped, heads-swapped, followers-swapped}
 use Rattle.ss_events.proofs.entry.places.Places.swap.Goals as goal
 use Rattle.ss_events.proofs.entry.places.Places.swap.Goals.{After-exchange}
 
 count : (c : After-exchange) → length c.args.self.now.heads ≡ c.self.inside.count
 count c =
-    sym (ap (λ (l : Lines). length l.heads) c.self.view_is)
+    sym (ap (λ (l : HeadsAndFollowers). length l.heads) c.self.view_is)
     ∙ long_heads c.self.inside.count c.self.inside.slots.items c.self.inside.entries.items c.self.inside.nodes.items (omega (arith, c.self.invariant.few))
 
 a_in : (c : After-exchange) → c.args.a < c.self.inside.count
@@ -51,9 +51,9 @@ returns c =
     let first : heads s.count (with_items s.slots c.exchange.new.slots).items s.entries.items (with_items s.nodes c.exchange.new.nodes).items ≡ swap c.args.self.now.heads a b =
     (λ i. heads s.count (slots e i) s.entries.items (nodes e i))
     ∙ heads-swapped s.count s.free s.slots.items s.entries.items s.nodes.items s.directory c.self.invariant a b (a_in e) (b_in e)
-    ∙ ap (λ (l : Lines). swap l.heads a b) c.self.view_is in
+    ∙ ap (λ (l : HeadsAndFollowers). swap l.heads a b) c.self.view_is in
     let others : followers (with_items s.slots c.exchange.new.slots).items ≡ c.args.self.now.followers =
     ap followers (slots e)
     ∙ followers-swapped s.count s.free s.slots.items s.entries.items s.nodes.items s.directory c.self.invariant a b (a_in e) (b_in e)
-    ∙ ap (λ (l : Lines). l.followers) c.self.view_is in
+    ∙ ap (λ (l : HeadsAndFollowers). l.followers) c.self.view_is in
     λ i. record { heads = first i; followers = others i }

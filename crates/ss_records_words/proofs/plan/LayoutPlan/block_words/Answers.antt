@@ -4,7 +4,7 @@ use Rattle.ss_base.specs.declared.layout.Owner.TheVariants.{System, Class}
 use Rattle.ss_records_words.specs.declared.plan.Extent.{Extent}
 use Rattle.ss_records_words.specs.Shape.{owned_by, block_words}
 use Rattle.ss_records_words.proofs.Planning.{few_sets, owned_reach, class_within, extent_is}
-use Rattle.ss_records_words.proofs.plan.Plan.block_words.Goals as goal
+use Rattle.ss_records_words.proofs.plan.LayoutPlan.block_words.Goals as goal
 
 pub returns-in-Class-clause-size : goal.returns-in-Class-clause-size
 returns-in-Class-clause-size c =

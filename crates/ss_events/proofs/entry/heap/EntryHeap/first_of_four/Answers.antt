@@ -4,7 +4,7 @@ use Rattle.ss_events.specs.HeapOrder.{IsFirstOf, IsFirstAmong}
 use Rattle.ss_world.specs.Order.{comes_before}
 use Rattle.ss_events.proofs.EntryOrder.{entries_rank}
 use Rattle.ss_events.proofs.Heaps.{pair, joined}
-use Rattle.ss_events.proofs.entry.heap.Heap.first_of_four.Goals as goal
+use Rattle.ss_events.proofs.entry.heap.EntryHeap.first_of_four.Goals as goal
 
 pub returns-clause-first : goal.returns-clause-first
 returns-clause-first c =

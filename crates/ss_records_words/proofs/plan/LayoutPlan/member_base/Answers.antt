@@ -4,7 +4,7 @@ use Rattle.ss_records_words.specs.declared.plan.Bases.{Bases}
 use Rattle.ss_records_words.specs.Slotted.{member_base}
 use Rattle.ss_records_blocks.proofs.Entries.{get_there}
 use Rattle.ss_records_words.proofs.Planning.{set_within, bases_are, member_reach}
-use Rattle.ss_records_words.proofs.plan.Plan.member_base.Goals as goal
+use Rattle.ss_records_words.proofs.plan.LayoutPlan.member_base.Goals as goal
 
 pub index-requires : goal.index-requires
 index-requires c =

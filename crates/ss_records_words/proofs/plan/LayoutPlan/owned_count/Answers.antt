@@ -4,7 +4,7 @@ use Rattle.ss_base.specs.declared.layout.Owner.TheVariants.{System, Class}
 use Rattle.ss_records_words.specs.declared.plan.Extent.{Extent}
 use Rattle.ss_records_words.specs.Shape.{owned_by, count_sets}
 use Rattle.ss_records_words.proofs.Planning.{few_sets, extent_is}
-use Rattle.ss_records_words.proofs.plan.Plan.owned_count.Goals as goal
+use Rattle.ss_records_words.proofs.plan.LayoutPlan.owned_count.Goals as goal
 
 pub returns-in-System-clause-bound : goal.returns-in-System-clause-bound
 returns-in-System-clause-bound c = omega (arith, few_sets (owned_by System) c.self.inside.layout.sets, c.self.invariant.system, c.self.invariant.small.sets)

@@ -3,7 +3,7 @@ use Rattle.std.specs.Prelude.{int_lt, nat_lt}
 use Rattle.ss_events.specs.declared.entry.Mark.{Mark}
 use Rattle.ss_events.specs.Slots.{mark_of}
 use Rattle.ss_events.proofs.Times.{times_tell, orders_decide}
-use Rattle.ss_events.proofs.entry.heap.Heap.is_before.Goals as goal
+use Rattle.ss_events.proofs.entry.heap.EntryHeap.is_before.Goals as goal
 
 pub returns-then-early-late-clause-value : goal.returns-then-early-late-clause-value
 returns-then-early-late-clause-value c = λ d.

@@ -3,7 +3,7 @@ use Rattle.ss_base.specs.declared.layout.Layout.{Layout}
 use Rattle.ss_base.specs.declared.layout.Owner.TheVariants.{Class}
 use Rattle.ss_records_words.specs.declared.plan.Extent.{Extent}
 use Rattle.ss_records_words.proofs.Planning.{owned_reach, extent_is}
-use Rattle.ss_records_words.proofs.plan.Plan.owned_start.Goals as goal
+use Rattle.ss_records_words.proofs.plan.LayoutPlan.owned_start.Goals as goal
 
 pub returns-in-Class-clause-bound : goal.returns-in-Class-clause-bound
 returns-in-Class-clause-bound c =

@@ -3,7 +3,7 @@ use Rattle.ss_base.specs.declared.layout.Layout.{Layout}
 use Rattle.ss_records_words.specs.declared.plan.Extent.{Extent}
 use Rattle.ss_records_words.specs.Shape.{joins, count_sets}
 use Rattle.ss_records_words.proofs.Planning.{few_sets, extent_is}
-use Rattle.ss_records_words.proofs.plan.Plan.joined_count.Goals as goal
+use Rattle.ss_records_words.proofs.plan.LayoutPlan.joined_count.Goals as goal
 
 pub returns-clause-value : goal.returns-clause-value
 returns-clause-value c =

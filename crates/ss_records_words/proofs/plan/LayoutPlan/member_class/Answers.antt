@@ -3,7 +3,7 @@ use Rattle.ss_base.specs.declared.layout.Layout.{Layout}
 use Rattle.ss_records_words.specs.declared.plan.Bases.{Bases}
 use Rattle.ss_records_blocks.proofs.Entries.{get_there}
 use Rattle.ss_records_words.proofs.Planning.{set_within, bases_are, class_named}
-use Rattle.ss_records_words.proofs.plan.Plan.member_class.Goals as goal
+use Rattle.ss_records_words.proofs.plan.LayoutPlan.member_class.Goals as goal
 
 pub index-requires : goal.index-requires
 index-requires c =

@@ -1,7 +1,7 @@
 use Rattle.std.proofs.Common.{◌∙◌, ap, int_eq, to_z-of_z}
 use Rattle.std.specs.List.{position, list_any}
 use Rattle.ss_events.specs.HeapEntries.{notices_of}
-use Rattle.ss_events.proofs.entry.heap.Heap.find.Goals as goal
+use Rattle.ss_events.proofs.entry.heap.EntryHeap.find.Goals as goal
 
 pub returns-clause-place : goal.returns-clause-place
 returns-clause-place c =

@@ -4,7 +4,7 @@ use Rattle.ss_records_words.specs.declared.plan.Bases.{Bases}
 use Rattle.ss_records_words.specs.Slotted.{owner_base}
 use Rattle.ss_records_blocks.proofs.Entries.{get_there}
 use Rattle.ss_records_words.proofs.Planning.{set_within, bases_are, owner_reach}
-use Rattle.ss_records_words.proofs.plan.Plan.owner_base.Goals as goal
+use Rattle.ss_records_words.proofs.plan.LayoutPlan.owner_base.Goals as goal
 
 pub index-requires : goal.index-requires
 index-requires c =
