@@ -1,5 +1,6 @@
-ghost use Rattle.std.specs.Prelude.{◌≡◌, ℕ, ◌+◌, ◌*◌, ◌<◌, ◌≤◌, true, false, [], IfOk, IfErr, OnOk, OnErr, Ok, Err, Some, slice_get, length, map, IsTrue, ◌↔◌};
+ghost use Rattle.std.specs.Prelude.{◌≡◌, ℕ, ◌+◌, ◌*◌, ◌<◌, ◌≤◌, true, false, [], IfOk, IfErr, IsOk, OnOk, OnErr, Ok, Err, Some, slice_get, length, map, IsTrue, ◌↔◌};
 ghost use Rattle.ss_world.specs.Shape.{shape_of};
+ghost use Rattle.ss_world.specs.SortKey.{SortKey};
 
 use crate::entry::{EntryHeap, Key, MOST_SCHEDULINGS, PLAIN_NUMBERS, PLAIN_RANKS};
 use crate::key;
@@ -62,6 +63,21 @@ impl Pending {
         ensures { IsTrue result ↔ (slice_get self.now.list.classes rank ≡ Some (map shape_of ties.now)) }
     {
         key::fits_class(&self.classes, rank, ties)
+    }
+
+    /// Whether `schedule` schedules a notice where memory is not refused, whatever its key. Refused where the notice is pending
+    /// (`AlreadyScheduled`), then where there were `MOST_SCHEDULINGS` schedulings (`Overflow`).
+    pub fn may_schedule(&self, notice: i64) -> Result<(), FaultKind>
+        ensures ok { OnOk result ((key : SortKey) → IsOk (scheduled key notice self.now.list)) }
+        ensures refused { IfErr result (λ kind. (key : SortKey) → scheduled key notice self.now.list ≡ Err kind) }
+    {
+        if self.is_scheduled(notice) {
+            return Err(FaultKind::AlreadyScheduled);
+        }
+        if self.schedulings == MOST_SCHEDULINGS {
+            return Err(FaultKind::Overflow);
+        }
+        Ok(())
     }
 
     /// Schedules a notice under a key. Refused where the notice is pending (`AlreadyScheduled`), then where there were

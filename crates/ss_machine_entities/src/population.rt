@@ -16,9 +16,6 @@ use ss_records::Heap;
 use std::alloc::{AllocError, Global};
 use std::marker::Model;
 
-// How many entities a permanent class has at most.
-const MOST_ENTITIES: i64 = 1048576;
-
 /// The entities of a run. A contract sees them as a state of a heap.
 #[derive(Drop)]
 pub struct Population {
@@ -165,6 +162,13 @@ impl Population {
         self.heap.owns_set(class)
     }
 
+    /// Whether `create` makes an entity where memory is not refused. Faults: 14 after the last number.
+    pub fn may_create(&self) -> Result<(), FaultKind>
+        ensures { (class : ℕ) → result ≡ no_value (created self.now class) }
+    {
+        self.heap.may_create()
+    }
+
     /// A new entity of a class whose entities come and go. Faults: 14 after the last number.
     #[inline(always)]
     pub fn create(&mut self, class: usize) -> Result<i64, Refused>
@@ -180,13 +184,7 @@ impl Population {
     pub fn may_create_all(&self, class: usize, count: i64) -> Result<(), FaultKind>
         ensures { result ≡ no_value (created_all self.now class count) }
     {
-        if self.is_made(class) {
-            return Err(FaultKind::CreatedTwice);
-        }
-        if count < 0 || count > MOST_ENTITIES {
-            return Err(FaultKind::BadCount);
-        }
-        Ok(())
+        self.heap.may_create_all(class, count)
     }
 
     /// All entities of a permanent class. Faults: 18 where they are made, then 22 for a bad count.

@@ -1,16 +1,22 @@
 -- Operations in several steps.
-use Rattle.std.proofs.Common.{◌≡◌, ℕ, ℤ, Bool, true, false, List, [], ◌∷◌, ◌++◌, Option, Some, None, Ok, Err, refl, ap, sym, ◌∙◌}
-use Rattle.std.specs.Prelude.{slice_get, Result as OkOr}
+use Rattle.std.proofs.Common.{◌≡◌, ℕ, ℤ, Bool, true, false, List, [], ◌∷◌, ◌++◌, Option, Some, None, Ok, Err, refl, ap, sym, ◌∙◌, subst}
+use Rattle.std.specs.Prelude.{slice_get, int_lt, IsOk, Result as OkOr, if◌then◌else◌}
 use Rattle.std.specs.Option.{option_map}
 use Rattle.std.proofs.lemmas.List.{append_assoc}
 use Rattle.ss_base.specs.declared.value.Value.{Value}
+use Rattle.ss_base.specs.declared.fault.Refused.{Refused}
+use Rattle.ss_base.specs.declared.fault.Refused.TheVariants as refusals
+use Rattle.ss_base.specs.declared.layout.Discipline.{Discipline}
 use Rattle.ss_base.specs.declared.layout.RankKey.{RankKey}
-use Rattle.ss_base.specs.declared.fault.FaultKind.TheVariants.{AlreadyScheduled}
+use Rattle.ss_base.specs.declared.fault.FaultKind.{FaultKind}
+use Rattle.ss_base.specs.declared.fault.FaultKind.TheVariants.{AlreadyScheduled, PastTime}
 use Rattle.ss_world.specs.declared.ties.Tie.{Tie}
 use Rattle.ss_world.specs.SortKey.{SortKey}
-use Rattle.ss_world.specs.PendingList.{is_pending}
-use Rattle.ss_meaning.specs.Values.{Trouble as Meant, if_ok, turned, sure, unless_fault}
-use Rattle.ss_meaning.specs.Store.{Notices, Store}
+use Rattle.ss_world.specs.PendingList.{PendingList, is_pending, scheduled}
+use Rattle.ss_world.specs.State.{State}
+use Rattle.ss_machine_time.specs.Times.{Times, Schedules}
+use Rattle.ss_meaning.specs.Values.{Trouble as Meant, Fails, if_ok, turned, due, sure, unless_fault}
+use Rattle.ss_meaning.specs.Store.{Notices, Store, with_pending}
 use Rattle.ss_meaning.specs.Entities.{entity, attribute, made_one}
 use Rattle.ss_meaning.specs.Events.{Ranked, ranked, ties_of, prepared, made_notice, filed_notice, rescheduled}
 use Rattle.ss_machine_entities.specs.declared.trouble.Trouble.{Trouble}
@@ -19,8 +25,11 @@ use Rattle.ss_machine_entities.specs.declared.trouble.Unmade.{Unmade}
 use Rattle.ss_machine_entities.specs.declared.trouble.Unmade.TheVariants as unmade
 use Rattle.ss_machine_entities.specs.Answered.{to_meaning, meant}
 use Rattle.ss_machine_world.specs.AtOnce.{Does}
-use Rattle.ss_machine_world.specs.Seen.{Seen, with_seen, Changes, Makes, ChangesWithMemory}
-use Rattle.ss_machine_events.specs.Scheduled.{ChangesInSteps, Forms, Goes, Finds, put_there, lacking, key_ranked, key_meant, IsUntied, scheduled_known, scheduled_anew}
+use Rattle.ss_machine_world.specs.Seen.{Seen, with_seen, Changes, Makes, ChangesWithMemory, GoesWell}
+use Rattle.ss_machine_events.specs.Scheduled.{ChangesInSteps, Forms, Goes, Finds, Gets, put_there, lacking, settled, key_ranked, key_meant, IsUntied, IsUnfiled, scheduled_known, scheduled_anew}
+
+well : {A : Type 0} {r q : OkOr A Meant} → r ≡ q → IsOk r → IsOk q
+well {A} e ok = subst (λ (r : OkOr A Meant). IsOk r) e ok
 
 -- ## Steps
 
@@ -30,9 +39,9 @@ leads_on f g old mid new (Ok u) e h = λ s. ap (λ r. if_ok r g) (e s) ∙ h s
 leads_on f g old mid new (Err t) e h = λ s. ap (λ r. if_ok r g) (e s) ∙ h.0 s
 
 -- a trouble in some step
-pub forms_not : {A : Type 0} (f : Store → OkOr (A × Store) Meant) (old new : Seen) (t : Trouble) → ((s : Store) → f (with_seen s old) ≡ to_meaning {A = A × Store} (Err t)) → Forms f old new (Err (lacking t))
-forms_not f old new (Fault kind) e = e
-forms_not f old new Misfit e = e
+pub forms_not : {A : Type 0} (f first : Store → OkOr (A × Store) Meant) (old new : Seen) (t : Trouble) → ((s : Store) → f (with_seen s old) ≡ to_meaning {A = A × Store} (Err t)) → Forms f first old new (Err (lacking t))
+forms_not f first old new (Fault kind) e = e
+forms_not f first old new Misfit e = e
 
 pub goes_not : (f first : Store → OkOr Store Meant) (old new : Seen) (t : Trouble) → ((s : Store) → f (with_seen s old) ≡ to_meaning {A = Store} (Err t)) → Goes f first old new (Err (lacking t))
 goes_not f first old new (Fault kind) e = e
@@ -42,15 +51,19 @@ pub finds_not : {A : Type 0} (f : Store → OkOr A Meant) (e : Seen) (a : A) (t 
 finds_not f e a (Fault kind) h = h
 finds_not f e a Misfit h = h
 
+pub gets_not : {A : Type 0} (f : Store → OkOr A Meant) (e : Seen) (t : Trouble) → ((s : Store) → f (with_seen s e) ≡ to_meaning {A = A} (Err t)) → Gets {A = A} f e (Err (lacking t))
+gets_not f e (Fault kind) h = h
+gets_not f e Misfit h = h
+
 -- one step and then what needs memory
 pub goes_on : (f g : Store → OkOr Store Meant) (old mid new : Seen) (r : OkOr (Unit {0}) Unmade) → ((s : Store) → f (with_seen s old) ≡ Ok (with_seen s mid)) → ChangesWithMemory g mid new r → Goes (λ s. if_ok (f s) g) f old new r
 goes_on f g old mid new (Ok u) e h = λ s. ap (λ r. if_ok r g) (e s) ∙ h s
 goes_on f g old mid new (Err (unmade.Fault kind)) e h = λ s. ap (λ r. if_ok r g) (e s) ∙ h.0 s
 goes_on f g old mid new (Err unmade.Misfit) e h = λ s. ap (λ r. if_ok r g) (e s) ∙ h.0 s
-goes_on f g old mid new (Err unmade.Memory) e h = λ s. e s ∙ ap (λ m. Ok (with_seen s m)) (sym h)
+goes_on f g old mid new (Err unmade.Memory) e h = (λ s. well (sym (ap (λ r. if_ok r g) (e s))) (h.0 s), λ s. e s ∙ ap (λ m. Ok (with_seen s m)) (sym h.1))
 
 -- no notice is made
-pub not_made : (class : ℕ) (given : List Value) (t : ℤ) (old new : Seen) (u : Unmade) → Makes {A = Value} (made_one class) old new (Err u) → Forms {A = Value} (made_notice class given t) old new (Err u)
+pub not_made : (class : ℕ) (given : List Value) (t : ℤ) (old new : Seen) (u : Unmade) → Makes {A = Value} (made_one class) old new (Err u) → Forms {A = Value} (made_notice class given t) (made_one class) old new (Err u)
 not_made class given t old new (unmade.Fault kind) h = λ s. ap (λ r. if_ok {B = Value × Store} r (λ b. turned (λ (r : Store). (b.0, r)) (prepared class b.0 given t b.1))) (h.0 s)
 not_made class given t old new unmade.Misfit h = λ s. ap (λ r. if_ok {B = Value × Store} r (λ b. turned (λ (r : Store). (b.0, r)) (prepared class b.0 given t b.1))) (h.0 s)
 not_made class given t old new unmade.Memory h = h
@@ -60,13 +73,23 @@ pub goes_alike : (f g first : Store → OkOr Store Meant) (old new : Seen) (r : 
 goes_alike f g first old new (Ok u) alike h = λ s. alike s ∙ h s
 goes_alike f g first old new (Err (unmade.Fault kind)) alike h = λ s. alike s ∙ h s
 goes_alike f g first old new (Err unmade.Misfit) alike h = λ s. alike s ∙ h s
-goes_alike f g first old new (Err unmade.Memory) alike h = h
+goes_alike f g first old new (Err unmade.Memory) alike h = (λ s. well (sym (alike s)) (h.0 s), h.1)
 
-pub finds_alike : {A : Type 0} (f g : Store → OkOr A Meant) (e : Seen) (r : OkOr A Unmade) → ((s : Store) → f (with_seen s e) ≡ g (with_seen s e)) → Finds g e r → Finds f e r
-finds_alike f g e (Ok a) alike h = λ s. alike s ∙ h s
-finds_alike f g e (Err (unmade.Fault kind)) alike h = λ s. alike s ∙ h s
-finds_alike f g e (Err unmade.Misfit) alike h = λ s. alike s ∙ h s
-finds_alike f g e (Err unmade.Memory) alike h = h
+pub gets_alike : {A : Type 0} (f g : Store → OkOr A Meant) (e : Seen) (r : OkOr A Unmade) → ((s : Store) → f (with_seen s e) ≡ g (with_seen s e)) → Gets g e r → Gets f e r
+gets_alike f g e (Ok a) alike h = λ s. alike s ∙ h s
+gets_alike f g e (Err (unmade.Fault kind)) alike h = λ s. alike s ∙ h s
+gets_alike f g e (Err unmade.Misfit) alike h = λ s. alike s ∙ h s
+gets_alike f g e (Err unmade.Memory) alike h = λ s. well (sym (alike s)) (h s)
+
+-- what is found is turned into something else
+pub gets_turned : {A B : Type 0} (turn : A → B) (f : Store → OkOr A Meant) (e : Seen) (u : Unmade) → Gets {A = A} f e (Err u) → Gets {A = B} (λ s. turned turn (f s)) e (Err u)
+gets_turned turn f e (unmade.Fault kind) h = λ s. ap (turned turn) (h s)
+gets_turned turn f e unmade.Misfit h = λ s. ap (turned turn) (h s)
+gets_turned {A} {B} turn f e unmade.Memory h = λ s. by (f (with_seen s e)) (h s)
+  where
+    by : (r : OkOr A Meant) → IsOk r → IsOk (turned {B = B} turn r)
+    by (Ok a) ok = refl
+    by (Err t) ok = absurd cc
 
 -- ## Ties
 
@@ -93,6 +116,25 @@ module _ (class : ℕ) (x : Value) (e : Seen) (ts : List Tie) (all keys : List R
   unfrozen (unmade.Fault kind) h = λ s. before s ∙ not_frozen class x (with_seen s e) ts keys (meant (Fault kind)) next (h s)
   unfrozen unmade.Misfit h = λ s. before s ∙ not_frozen class x (with_seen s e) ts keys (meant Misfit) next (h s)
   unfrozen unmade.Memory h = tt
+
+-- values are found for all keys but these
+abbrev pub Frozen : (class : ℕ) → Value → Store → (all keys : List RankKey) → Type 0
+Frozen class x s all keys = (ts : List Tie) × (ties_of class x s all ≡ turned (λ us. ts ++ us) (ties_of class x s keys))
+
+module _ (class : ℕ) (x : Value) (s : Store) (all : List RankKey) where
+  pub none_frozen : Frozen class x s all all
+  none_frozen = ([], by (ties_of class x s all))
+    where
+      by : (r : OkOr (List Tie) Meant) → r ≡ turned {B = List Tie} (λ us. [] ++ us) r
+      by (Ok us) = refl
+      by (Err t) = refl
+
+  pub all_frozen : (keys : List RankKey) → keys ≡ [] → Frozen class x s all keys → IsOk (ties_of class x s all)
+  all_frozen keys none f = well (sym (f.1 ∙ ap (λ ks. turned {B = List Tie} (λ us. f.0 ++ us) (ties_of class x s ks)) none)) refl
+
+  pub frozen_next : (keys : List RankKey) {key : RankKey} {rest : List RankKey} → keys ≡ key ∷ rest → (r : OkOr Value Trouble) → IsOk r → attribute class key.field x s ≡ to_meaning r → Frozen class x s all keys → Frozen class x s all rest
+  frozen_next keys {key} {rest} next (Ok v) ok h f = (f.0 ++ record { value = v; high = key.high } ∷ [], f.1 ∙ frozen_on class x s f.0 keys next v h)
+  frozen_next keys {key} {rest} next (Err t) ok h f = absurd cc
 
 -- ## Filing a notice
 
@@ -122,23 +164,56 @@ module _ (class : ℕ) (x : Value) (t : ℤ) where
     found_filed s = filed_is (with_seen s e) ∙ ap (λ r. if_ok r (λ n. if_ok (key_meant class x t (with_seen s e)) (λ key. scheduled_known key n (with_seen s e)))) (found s)
 
     -- no key is found
-    pub not_filed : (u : Unmade) → Finds (key_meant class x t) e (Err u) → ChangesWithMemory (filed_notice class x t) e e (Err u)
-    not_filed (unmade.Fault kind) h = (λ s. found_filed s ∙ ap (λ r. if_ok r (λ key. scheduled_known key n (with_seen s e))) (h s), refl)
-    not_filed unmade.Misfit h = (λ s. found_filed s ∙ ap (λ r. if_ok r (λ key. scheduled_known key n (with_seen s e))) (h s), refl)
-    not_filed unmade.Memory h = refl
+    abbrev by_key : Store → OkOr SortKey Meant → OkOr Store Meant
+    by_key s r = if_ok r (λ key. scheduled_known key n (with_seen s e))
 
-    key_filed : (key : SortKey) → Finds (key_meant class x t) e (Ok key) → (s : Store) → filed_notice class x t (with_seen s e) ≡ scheduled_known key n (with_seen s e)
+    pub no_key : (trouble : Trouble) → ((s : Store) → key_meant class x t (with_seen s e) ≡ to_meaning {A = SortKey} (Err trouble)) → ChangesWithMemory (filed_notice class x t) e e (Err (lacking trouble))
+    no_key (Fault kind) h = (λ s. found_filed s ∙ ap (by_key s) (h s), refl)
+    no_key Misfit h = (λ s. found_filed s ∙ ap (by_key s) (h s), refl)
+
+    -- the key that there is, which has this time
+    key_there : (s : Store) → IsOk (key_meant class x t s) → (key : SortKey) × ((key_meant class x t s ≡ Ok key) × (key.time ≡ t))
+    key_there s ok = at_rank (ranked class s) ok
+      where
+        with_ties : (rank : ℕ) (r : OkOr (List Tie) Meant) → IsOk (turned {B = SortKey} (λ ties. record { time = t; rank = rank; ties = ties }) r) → (key : SortKey) × ((turned {B = SortKey} (λ ties. record { time = t; rank = rank; ties = ties }) r ≡ Ok key) × (key.time ≡ t))
+        with_ties rank (Ok ties) ok = (record { time = t; rank = rank; ties = ties }, (refl, refl))
+        with_ties rank (Err u) ok = absurd cc
+
+        at_rank : (r : Option Ranked) → IsOk (key_ranked r class x t s) → (key : SortKey) × ((key_ranked r class x t s ≡ Ok key) × (key.time ≡ t))
+        at_rank None ok = absurd cc
+        at_rank (Some r) ok = with_ties r.rank (ties_of class x s r.said.ties) ok
+
+    -- memory for the key is wanting
+    by_there : (s : Store) (key : SortKey) → key_meant class x t (with_seen s e) ≡ Ok key → filed_notice class x t (with_seen s e) ≡ scheduled_known key n (with_seen s e)
+    by_there s key is = found_filed s ∙ ap (by_key s) is
+
+    key_fault : (kind : FaultKind) → GoesWell (key_meant class x t) e → IsUnfiled t n e (unmade.Fault kind) → (s : Store) → filed_notice class x t (with_seen s e) ≡ to_meaning {A = Store} (Err (Fault kind))
+    key_fault kind ok h s =
+        let there = key_there (with_seen s e) (ok s) in
+        by_there s there.0 there.1.0 ∙ h there.0 there.1.1 s
+
+    key_well : GoesWell (key_meant class x t) e → IsUnfiled t n e unmade.Memory → GoesWell (filed_notice class x t) e
+    key_well ok h s =
+        let there = key_there (with_seen s e) (ok s) in
+        well (sym (by_there s there.0 there.1.0)) (h there.0 there.1.1 s)
+
+    pub not_filed : (u : Unmade) → GoesWell (key_meant class x t) e → IsUnfiled t n e u → ChangesWithMemory (filed_notice class x t) e e (Err u)
+    not_filed (unmade.Fault kind) ok h = (key_fault kind ok h, refl)
+    not_filed unmade.Misfit ok h = absurd h
+    not_filed unmade.Memory ok h = (key_well ok h, refl)
+
+    key_filed : (key : SortKey) → Gets (key_meant class x t) e (Ok key) → (s : Store) → filed_notice class x t (with_seen s e) ≡ scheduled_known key n (with_seen s e)
     key_filed key k s = found_filed s ∙ ap (λ r. if_ok r (λ key. scheduled_known key n (with_seen s e))) (k s)
 
     -- a key is found
-    pub filed : (new : Seen) (key : SortKey) (r : OkOr (Unit {0}) Unmade) → Finds (key_meant class x t) e (Ok key) → ChangesWithMemory (scheduled_known key n) e new r → ChangesWithMemory (filed_notice class x t) e new r
+    pub filed : (new : Seen) (key : SortKey) (r : OkOr (Unit {0}) Unmade) → Gets (key_meant class x t) e (Ok key) → ChangesWithMemory (scheduled_known key n) e new r → ChangesWithMemory (filed_notice class x t) e new r
     filed new key (Ok u) k h = λ s. key_filed key k s ∙ h s
     filed new key (Err (unmade.Fault kind)) k h = (λ s. key_filed key k s ∙ h.0 s, h.1)
     filed new key (Err unmade.Misfit) k h = (λ s. key_filed key k s ∙ h.0 s, h.1)
-    filed new key (Err unmade.Memory) k h = h
+    filed new key (Err unmade.Memory) k h = (λ s. well (sym (key_filed key k s)) (h.0 s), h.1)
 
-    -- a notice is filed as one whose key is known, where the answer says whether it was
-    pub filed_at_once : (new : Seen) (key : SortKey) (b : Bool) → Finds (key_meant class x t) e (Ok key) → Does (scheduled_known key n) b e new → Does (filed_notice class x t) b e new
+    -- and where it is known whether it was
+    pub filed_at_once : (new : Seen) (key : SortKey) (b : Bool) → Gets (key_meant class x t) e (Ok key) → Does (scheduled_known key n) b e new → Does (filed_notice class x t) b e new
     filed_at_once new key true k h = λ s. key_filed key k s ∙ h s
     filed_at_once new key false k h = h
 
@@ -147,6 +222,57 @@ module _ (class : ℕ) (x : Value) (t : ℤ) where
     again given new r free h = goes_alike (rescheduled class x given t) (scheduled_anew class x given t) (prepared class x given t) e new r
         (λ s. ap (λ r. if_ok r (λ n. unless_fault (is_pending n e.pending.entries) AlreadyScheduled (scheduled_anew class x given t (with_seen s e)))) (found s)
         ∙ ap (λ b. unless_fault b AlreadyScheduled (scheduled_anew class x given t (with_seen s e))) free) h
+
+-- ## What scheduling does once the key is known
+
+abbrev pub placed_in : SortKey → (notice : ℤ) → Seen → OkOr PendingList FaultKind
+placed_in key n e = if int_lt key.time e.time then Err PastTime else scheduled key n e.pending
+
+module _ (past : Bool) (r : OkOr PendingList FaultKind) (s : Store) where
+  pub known_well : IsOk (if past then Err PastTime else r) → IsOk (unless_fault past PastTime (turned (with_pending s) (due r)))
+  known_well ok = by past r ok
+    where
+      by : (b : Bool) (r : OkOr PendingList FaultKind) → IsOk (if b then Err PastTime else r) → IsOk (unless_fault b PastTime (turned (with_pending s) (due r)))
+      by true r ok = absurd cc
+      by false (Ok p) ok = refl
+      by false (Err k) ok = absurd cc
+
+  pub known_fault : (kind : FaultKind) → (if past then Err PastTime else r) ≡ Err kind → unless_fault past PastTime (turned (with_pending s) (due r)) ≡ Err (Fails kind)
+  known_fault kind e = by past r e
+    where
+      by : (b : Bool) (r : OkOr PendingList FaultKind) → (if b then Err PastTime else r) ≡ Err kind → unless_fault b PastTime (turned (with_pending s) (due r)) ≡ Err (Fails kind)
+      by true r e = cc
+      by false (Ok p) e = absurd cc
+      by false (Err k) e = cc
+
+  known_ok : (p : PendingList) → (if past then Err PastTime else r) ≡ Ok p → unless_fault past PastTime (turned (with_pending s) (due r)) ≡ Ok (with_pending s p)
+  known_ok p e = by past r e
+    where
+      by : (b : Bool) (r : OkOr PendingList FaultKind) → (if b then Err PastTime else r) ≡ Ok p → unless_fault b PastTime (turned (with_pending s) (due r)) ≡ Ok (with_pending s p)
+      by true r e = absurd cc
+      by false (Ok q) e = let same : q ≡ p = cc in ap (λ q. Ok (with_pending s q)) same
+      by false (Err k) e = absurd cc
+
+-- a scene, by what passes in time in it
+abbrev pub timed_as : List Discipline → List Notices → State → Times → Seen
+timed_as ds ns h t = record {
+  disciplines = ds;
+  notices = ns;
+  statistics = t.histories.statistics;
+  heap = h;
+  time = t.time;
+  pending = t.pending;
+  histories = t.histories.rows;
+}
+
+pub settles : (ds : List Discipline) (ns : List Notices) (h : State) (t u : Times) (key : SortKey) (n : ℤ) (r : OkOr (Unit {0}) Refused) → Schedules key n t u r → ChangesWithMemory (scheduled_known key n) (timed_as ds ns h t) (timed_as ds ns h u) (settled r)
+settles ds ns h t u key n (Ok v) e = λ s.
+    known_ok (int_lt key.time t.time) (scheduled key n t.pending) (with_seen s (timed_as ds ns h t)) u.pending e.0
+    ∙ ap (λ (w : Times). Ok (with_seen s (timed_as ds ns h w))) (sym e.1)
+settles ds ns h t u key n (Err (refusals.Fault kind)) e =
+    (λ s. known_fault (int_lt key.time t.time) (scheduled key n t.pending) (with_seen s (timed_as ds ns h t)) kind e.0, ap (timed_as ds ns h) e.1)
+settles ds ns h t u key n (Err refusals.Memory) e =
+    (λ s. known_well (int_lt key.time t.time) (scheduled key n t.pending) (with_seen s (timed_as ds ns h t)) e.0, ap (timed_as ds ns h) e.1)
 
 -- ## Classes without ties
 
@@ -158,5 +284,5 @@ module _ (e : Seen) (class rank : ℕ) (x : Value) (t : ℤ) where
       let empty : said.ties ≡ [] = cc in
       ap (λ (ties : List RankKey). turned key (ties_of class x s ties)) empty
 
-  pub untied_key : IsUntied e.notices class rank → Finds (key_meant class x t) e (Ok (record { time = t; rank = rank; ties = [] }))
+  pub untied_key : IsUntied e.notices class rank → Gets (key_meant class x t) e (Ok (record { time = t; rank = rank; ties = [] }))
   untied_key (at, none) s = ap (λ (r : Option Ranked). key_ranked r class x t (with_seen s e)) at ∙ untied_said (with_seen s e) (slice_get e.notices rank) none

@@ -22,7 +22,7 @@ use Rattle.ss_machine_entities.specs.Answered.{to_meaning}
 use Rattle.ss_machine_events.specs.declared.scheduling.Filed.{Filed}
 use Rattle.ss_machine_events.specs.declared.scheduling.Filed.TheVariants as filings
 use Rattle.ss_machine_events.specs.declared.scheduling.Filed.TheVariants.{Done, Wanting}
-use Rattle.ss_machine_world.specs.Seen.{Seen, with_seen}
+use Rattle.ss_machine_world.specs.Seen.{Seen, GoesWell, with_seen}
 
 -- ## Operations in several steps
 
@@ -31,19 +31,20 @@ abbrev pub ChangesInSteps : (Store → Result Store Meant) → (old new : Seen) 
 ChangesInSteps f old new (Ok u) = (s : Store) → f (with_seen s old) ≡ Ok (with_seen s new)
 ChangesInSteps f old new (Err t) = (s : Store) → f (with_seen s old) ≡ to_meaning {A = Store} (Err t)
 
--- an operation that gives a value as well and needs memory: it fails after some steps, and out of memory it changes nothing
-abbrev pub Forms : {A : Type 0} → (Store → Result (A × Store) Meant) → (old new : Seen) → Result A Unmade → Type 0
-Forms f old new (Ok a) = (s : Store) → f (with_seen s old) ≡ Ok (a, with_seen s new)
-Forms {A} f old new (Err (unmade.Fault kind)) = (s : Store) → f (with_seen s old) ≡ to_meaning {A = A × Store} (Err (Fault kind))
-Forms {A} f old new (Err unmade.Misfit) = (s : Store) → f (with_seen s old) ≡ to_meaning {A = A × Store} (Err Misfit)
-Forms f old new (Err unmade.Memory) = new ≡ old
+-- an operation that gives a value as well and needs memory: it fails after some steps. It is out of memory only where what it does first
+-- goes well, and then it changes nothing.
+abbrev pub Forms : {A : Type 0} → (f first : Store → Result (A × Store) Meant) → (old new : Seen) → Result A Unmade → Type 0
+Forms f first old new (Ok a) = (s : Store) → f (with_seen s old) ≡ Ok (a, with_seen s new)
+Forms {A} f first old new (Err (unmade.Fault kind)) = (s : Store) → f (with_seen s old) ≡ to_meaning {A = A × Store} (Err (Fault kind))
+Forms {A} f first old new (Err unmade.Misfit) = (s : Store) → f (with_seen s old) ≡ to_meaning {A = A × Store} (Err Misfit)
+Forms f first old new (Err unmade.Memory) = GoesWell first old × (new ≡ old)
 
--- an operation that gives no value and needs memory: out of memory it has done what it does first
+-- an operation that gives no value and needs memory: it is out of memory only where it does not fail, and has then done what it does first
 abbrev pub Goes : (f first : Store → Result Store Meant) → (old new : Seen) → Result (Unit {0}) Unmade → Type 0
 Goes f first old new (Ok u) = (s : Store) → f (with_seen s old) ≡ Ok (with_seen s new)
 Goes f first old new (Err (unmade.Fault kind)) = (s : Store) → f (with_seen s old) ≡ to_meaning {A = Store} (Err (Fault kind))
 Goes f first old new (Err unmade.Misfit) = (s : Store) → f (with_seen s old) ≡ to_meaning {A = Store} (Err Misfit)
-Goes f first old new (Err unmade.Memory) = (s : Store) → first (with_seen s old) ≡ Ok (with_seen s new)
+Goes f first old new (Err unmade.Memory) = GoesWell f old × ((s : Store) → first (with_seen s old) ≡ Ok (with_seen s new))
 
 -- an operation looks, and needs memory for what it finds
 abbrev pub Finds : {A : Type 0} → (Store → Result A Meant) → Seen → Result A Unmade → Type 0
@@ -51,6 +52,13 @@ Finds f e (Ok a) = (s : Store) → f (with_seen s e) ≡ Ok a
 Finds {A} f e (Err (unmade.Fault kind)) = (s : Store) → f (with_seen s e) ≡ to_meaning {A = A} (Err (Fault kind))
 Finds {A} f e (Err unmade.Misfit) = (s : Store) → f (with_seen s e) ≡ to_meaning {A = A} (Err Misfit)
 Finds f e (Err unmade.Memory) = Unit {0}
+
+-- an operation that looks and needs memory: it is out of memory only where it finds something
+abbrev pub Gets : {A : Type 0} → (Store → Result A Meant) → Seen → Result A Unmade → Type 0
+Gets f e (Ok a) = (s : Store) → f (with_seen s e) ≡ Ok a
+Gets {A} f e (Err (unmade.Fault kind)) = (s : Store) → f (with_seen s e) ≡ to_meaning {A = A} (Err (Fault kind))
+Gets {A} f e (Err unmade.Misfit) = (s : Store) → f (with_seen s e) ≡ to_meaning {A = A} (Err Misfit)
+Gets f e (Err unmade.Memory) = GoesWell f e
 
 -- the answer of an operation whose value is put somewhere, which needs memory
 abbrev pub put_there : {A : Type 0} → A → Result (Unit {0}) Unmade → Result A Unmade
@@ -120,6 +128,12 @@ IsUntied es class rank = (ranked_from 0 es class ≡ ranked_at es (Some rank)) �
 -- what filing a notice does once its key and its number are known
 abbrev pub scheduled_known : SortKey → (number : ℤ) → Store → Result Store Meant
 scheduled_known key n s = unless_fault (int_lt key.time s.scene.time) PastTime (turned (with_pending s) (due (scheduled key n s.scene.pending)))
+
+-- why a notice is not filed whose key wants memory: for the fault that is due to each key of this time, or none is
+abbrev pub IsUnfiled : (time notice : ℤ) → Seen → Unmade → Type 0
+IsUnfiled t n e (unmade.Fault kind) = (key : SortKey) → key.time ≡ t → (s : Store) → scheduled_known key n (with_seen s e) ≡ to_meaning {A = Store} (Err (Fault kind))
+IsUnfiled t n e unmade.Misfit = ⊥
+IsUnfiled t n e unmade.Memory = (key : SortKey) → key.time ≡ t → GoesWell (scheduled_known key n) e
 
 -- what SCHEDULE THE does to a notice that is not pending
 abbrev pub scheduled_anew : (class : ℕ) → (x : Value) → List Value → (time : ℤ) → Store → Result Store Meant

@@ -10,7 +10,7 @@ ghost use Rattle.ss_meaning.specs.Places.{assigned_attribute};
 ghost use Rattle.ss_meaning.specs.Values.{turned};
 ghost use Rattle.ss_machine_world.specs.AtOnce.{Does};
 ghost use Rattle.ss_machine_world.specs.Seen.{Looks, Notes, Makes, ChangesWithMemory, as_value};
-ghost use Rattle.ss_machine_events.specs.Scheduled.{ChangesInSteps, Forms, Goes, Finds, AddsTie, IsTied, put_there, lacking, moment_of, time_after, result_of_filing, key_ranked, key_meant, number_as_value, settled, HasNoTies, IsUntied, scheduled_known, scheduled_anew};
+ghost use Rattle.ss_machine_events.specs.Scheduled.{ChangesInSteps, Forms, Goes, Finds, Gets, AddsTie, IsTied, put_there, lacking, moment_of, time_after, result_of_filing, key_ranked, key_meant, number_as_value, settled, HasNoTies, IsUntied, IsUnfiled, scheduled_known, scheduled_anew};
 
 use ss_base::{FaultKind, RankKey, Refused, Value, plus};
 use ss_events::Key;
@@ -300,8 +300,8 @@ fn created(scene: &mut Scene, class: usize) -> Result<i64, Unmade>
 }
 
 /// The number of a new notice of a class, with values for its first attributes and its TIME.A. Faults: 14 after the last
-/// number, or where a history of an attribute is full. Out of memory nothing changes; where the values do not fit, the
-/// notice is made.
+/// number, or where a history of an attribute is full. It is out of memory only where a number is left, and changes nothing; where
+/// the values do not fit, the notice is made.
 #[inline(always)]
 pub fn notice_number(
     scene: &mut Scene,
@@ -309,7 +309,7 @@ pub fn notice_number(
     given: &[Value],
     time: i64,
 ) -> Result<i64, Unmade>
-    ensures { Forms (made_notice class given.now time) scene.old scene.new (number_as_value result) }
+    ensures { Forms (made_notice class given.now time) (made_one class) scene.old scene.new (number_as_value result) }
 {
     match created(scene, class) {
         Ok(number) => {
@@ -330,7 +330,7 @@ pub fn make_notice(
     given: &[Value],
     time: i64,
 ) -> Result<Value, Unmade>
-    ensures { Forms (made_notice class given.now time) scene.old scene.new result }
+    ensures { Forms (made_notice class given.now time) (made_one class) scene.old scene.new result }
 {
     match notice_number(scene, class, given, time) {
         Ok(number) => Ok(Value::Whole(number)),
@@ -416,14 +416,30 @@ fn frozen(
     x: &Value,
     keys: &[RankKey],
 ) -> Result<Vec<Tie>, Unmade>
-    ensures ties { IfOk result (λ ties. Finds (λ s. ties_of class x.now s keys.now) scene.now (Ok ties.items)) }
-    ensures not { IfErr result (λ unmade. Finds {A = List TieSeen} (λ s. ties_of class x.now s keys.now) scene.now (Err unmade)) }
+    ensures ties { IfOk result (λ ties. Gets (λ s. ties_of class x.now s keys.now) scene.now (Ok ties.items)) }
+    ensures not { IfErr result (λ unmade. Gets {A = List TieSeen} (λ s. ties_of class x.now s keys.now) scene.now (Err unmade)) }
 {
     let mut ties = Vec::new(alloc);
     match freeze(scene, class, x, keys, &mut ties) {
-        Err(unmade) => Err(unmade),
+        Err(Unmade::Fault(kind)) => Err(Unmade::Fault(kind)),
+        Err(Unmade::Misfit) => Err(Unmade::Misfit),
+        Err(Unmade::Memory) => Err(unfrozen(scene, class, x, keys)),
         Ok(()) => Ok(ties),
     }
+}
+
+// Why ties are not found where memory for them was refused: the first trouble that is due, if any.
+#[inline(never)]
+fn unfrozen(scene: &Scene, class: usize, x: &Value, keys: &[RankKey]) -> Unmade
+    ensures { Gets {A = List TieSeen} (λ s. ties_of class x.now s keys.now) scene.now (Err result) }
+{
+    for key in keys {
+        match scene.value_of(class, key.field, *x) {
+            Err(trouble) => return lacking(trouble),
+            Ok(_) => {}
+        }
+    }
+    Unmade::Memory
 }
 
 // The key of a notice of this rank, whose ties these attributes are.
@@ -437,7 +453,7 @@ fn key_by(
     x: &Value,
     time: i64,
 ) -> Result<Key, Unmade>
-    ensures { Finds (λ s. turned (λ ties. record { time = time; rank = rank; ties = ties }) (ties_of class x.now s keys.now)) scene.now result }
+    ensures { Gets (λ s. turned (λ ties. record { time = time; rank = rank; ties = ties }) (ties_of class x.now s keys.now)) scene.now result }
 {
     let ties = match keys {
         [] => Vec::new(alloc),
@@ -459,7 +475,7 @@ fn key_at(
     x: &Value,
     time: i64,
 ) -> Result<Key, Unmade>
-    ensures { Finds (key_ranked (ranked_at scene.now.notices (Some rank)) class x.now time) scene.now result }
+    ensures { Gets (key_ranked (ranked_at scene.now.notices (Some rank)) class x.now time) scene.now result }
 {
     match scene.notices.get(rank) {
         None => Err(Unmade::Misfit),
@@ -470,7 +486,7 @@ fn key_at(
 // The key of a notice.
 #[inline(always)]
 fn key(scene: &Scene, alloc: Global, class: usize, x: &Value, time: i64) -> Result<Key, Unmade>
-    ensures { Finds (key_meant class x.now time) scene.now result }
+    ensures { Gets (key_meant class x.now time) scene.now result }
 {
     match rank_of(&scene.notices, class) {
         None => Err(Unmade::Misfit),
@@ -515,7 +531,7 @@ fn key_apart(
     notice: EntityId,
     time: i64,
 ) -> Result<Key, Unmade>
-    ensures { Finds (key_meant class (Whole notice.number) time) scene.now result }
+    ensures { Gets (key_meant class (Whole notice.number) time) scene.now result }
 {
     key(scene, alloc, class, &Value::Whole(notice.number), time)
 }
@@ -529,7 +545,7 @@ fn key_known(
     notice: EntityId,
     time: i64,
 ) -> Result<Key, Unmade>
-    ensures { Finds (key_meant class (Whole notice.number) time) scene.now result }
+    ensures { Gets (key_meant class (Whole notice.number) time) scene.now result }
 {
     match rank_untied(scene, class) {
         Some(rank) => Ok(Key::with_ties(time, rank, Vec::new(alloc))),
@@ -543,6 +559,17 @@ fn schedule_known(scene: &mut Scene, key: Key, known: EntityId) -> Result<(), Un
     ensures { ChangesWithMemory (scheduled_known key known.number) scene.old scene.new result }
 {
     settled(scene.timeline.schedule(key, known.number))
+}
+
+// Why a notice is not filed, by its number, where memory for its key was refused: the fault that is due, if any.
+#[inline(never)]
+fn unfiled(scene: &Scene, known: EntityId, time: i64) -> Unmade
+    ensures { IsUnfiled time known.number scene.now result }
+{
+    match scene.timeline.may_schedule(time, known.number) {
+        Err(kind) => Unmade::Fault(kind),
+        Ok(()) => Unmade::Memory,
+    }
 }
 
 // A notice is filed among those that are pending, by its number.
@@ -559,7 +586,9 @@ fn file_pending(
     match scene.find_by_number(class, notice) {
         Err(trouble) => Err(lacking(trouble)),
         Ok(known) => match key_known(scene, alloc, class, notice, time) {
-            Err(unmade) => Err(unmade),
+            Err(Unmade::Fault(kind)) => Err(Unmade::Fault(kind)),
+            Err(Unmade::Misfit) => Err(Unmade::Misfit),
+            Err(Unmade::Memory) => Err(unfiled(scene, known, time)),
             Ok(key) => schedule_known(scene, key, known),
         },
     }
@@ -602,7 +631,7 @@ fn file_at_once(scene: &mut Scene, class: usize, notice: EntityId, time: i64) ->
 
 /// A notice is filed among those that are pending, by its number: for this time, by the rank of its class and the values
 /// that the attributes which break ties have now. Faults: 1 to 4, then 13 where the time is before TIME.V, then 11, then
-/// 14 after the last scheduling. Out of memory nothing changes.
+/// 14 after the last scheduling. It is out of memory only where none of these is due, and changes nothing.
 #[inline(always)]
 pub fn file_known(
     scene: &mut Scene,
@@ -694,7 +723,8 @@ fn schedule_again(
 
 /// A notice that there is gets values for its first attributes and its TIME.A, and is filed, as SCHEDULE THE says.
 /// Faults: 1 to 4, then 11, then 14 where a history of an attribute is full, then 13 where the time is before TIME.V,
-/// then 14 after the last scheduling. Where memory is refused, it has its values and its TIME.A, and is not filed.
+/// then 14 after the last scheduling. It is out of memory only where none of these is due: then it has its values and its TIME.A,
+/// and is not filed.
 pub fn reschedule(
     scene: &mut Scene,
     alloc: Global,

@@ -1,5 +1,5 @@
 -- What passes in time.
-use Rattle.std.specs.Prelude.{◌≡◌, List, ℤ, pos, int_lt, ◌≤ℤ◌, Option, Some, None, Result, Ok, Err, if◌then◌else◌}
+use Rattle.std.specs.Prelude.{◌≡◌, List, ℤ, pos, int_lt, ◌≤ℤ◌, Option, Some, None, Result, Ok, Err, IsOk, if◌then◌else◌}
 use Rattle.std.specs.List.{All}
 use Rattle.ss_base.specs.declared.fault.FaultKind.{FaultKind}
 use Rattle.ss_base.specs.declared.fault.FaultKind.TheVariants.{PastTime}
@@ -46,11 +46,16 @@ event_taken_out (Some n) t = record t { time = n.0; pending = after_next t.pendi
 abbrev pub placed : SortKey → (notice : ℤ) → Times → Result PendingList FaultKind
 placed key n t = if int_lt key.time t.time then Err PastTime else scheduled key n t.pending
 
--- a notice is scheduled, or there is a fault or no memory, and nothing changes
+-- whether a notice may be scheduled for a time, whatever else its key says, or for which fault not
+abbrev pub MaySchedule : (time notice : ℤ) → Times → Result (Unit {0}) FaultKind → Type 0
+MaySchedule t n at (Ok u) = (key : SortKey) → key.time ≡ t → IsOk (placed key n at)
+MaySchedule t n at (Err kind) = (key : SortKey) → key.time ≡ t → placed key n at ≡ Err kind
+
+-- a notice is scheduled; or there is a fault, or no memory where there is none, and nothing changes
 abbrev pub Schedules : SortKey → (notice : ℤ) → (old new : Times) → Result (Unit {0}) Refused → Type 0
 Schedules key n old new (Ok u) = (placed key n old ≡ Ok new.pending) × (new ≡ record old { pending = new.pending })
 Schedules key n old new (Err (Fault kind)) = (placed key n old ≡ Err kind) × (new ≡ old)
-Schedules key n old new (Err Memory) = new ≡ old
+Schedules key n old new (Err Memory) = IsOk (placed key n old) × (new ≡ old)
 
 -- histories note a value, or they don't, and nothing changes
 abbrev pub Noted : Subject → (entity : ℤ) → Value → (old new : Times) → Result (Unit {0}) Unnoted → Type 0

@@ -15,7 +15,7 @@ ghost use Rattle.ss_picture.specs.Suited.{IsMean};
 ghost use Rattle.ss_program.specs.declared.sections.Subject.TheVariants.{OfVariable, OfAttribute, OfCount};
 ghost use Rattle.ss_base.specs.declared.value.Value.TheVariants.{Whole};
 ghost use Rattle.ss_machine_time.specs.Figures.{subject_in};
-ghost use Rattle.ss_machine_time.specs.Times.{IsAt, Schedules, Noted, columns, event_taken_out};
+ghost use Rattle.ss_machine_time.specs.Times.{IsAt, MaySchedule, Schedules, Noted, columns, event_taken_out};
 
 use ss_base::{FaultKind, Layout, Owner, Refused, Value};
 use ss_events::{Key, Pending};
@@ -101,6 +101,17 @@ impl Timeline {
         ensures { result ≡ is_pending notice self.now.pending.entries }
     {
         self.pending.is_scheduled(notice)
+    }
+
+    /// Whether `schedule` files a notice for a time where memory is not refused. Faults: 13 where the time is before TIME.V, then
+    /// 11, then 14 after the last scheduling.
+    pub fn may_schedule(&self, time: i64, notice: i64) -> Result<(), FaultKind>
+        ensures { MaySchedule time notice self.now result }
+    {
+        if time < self.time {
+            return Err(FaultKind::PastTime);
+        }
+        self.pending.may_schedule(notice)
     }
 
     /// A notice is pending under a key. Faults: 13 where its time is before TIME.V, then 11, then 14 after the last

@@ -85,19 +85,20 @@ ChangesWhere P f old new (Err t) = ((s : Store) → P (with_seen s old) → f (w
 abbrev pub GoesWell : {A : Type 0} → (Store → Result A Meant) → Seen → Type 0
 GoesWell f e = (s : Store) → IsOk (f (with_seen s e))
 
--- an operation that needs memory changes what is seen and gives a value, or fails and changes nothing; out of memory it changes nothing
+-- an operation that needs memory changes what is seen and gives a value, or fails and changes nothing. It is out of memory only where it
+-- does not fail, and then it changes nothing.
 abbrev pub Makes : {A : Type 0} → (Store → Result (A × Store) Meant) → (old new : Seen) → Result A Unmade → Type 0
 Makes f old new (Ok a) = (s : Store) → f (with_seen s old) ≡ Ok (a, with_seen s new)
 Makes {A} f old new (Err (unmade.Fault kind)) = ((s : Store) → f (with_seen s old) ≡ to_meaning {A = A × Store} (Err (Fault kind))) × (new ≡ old)
 Makes {A} f old new (Err unmade.Misfit) = ((s : Store) → f (with_seen s old) ≡ to_meaning {A = A × Store} (Err Misfit)) × (new ≡ old)
-Makes f old new (Err unmade.Memory) = new ≡ old
+Makes f old new (Err unmade.Memory) = GoesWell f old × (new ≡ old)
 
 -- and of one that gives no value
 abbrev pub ChangesWithMemory : (Store → Result Store Meant) → (old new : Seen) → Result (Unit {0}) Unmade → Type 0
 ChangesWithMemory f old new (Ok u) = (s : Store) → f (with_seen s old) ≡ Ok (with_seen s new)
 ChangesWithMemory f old new (Err (unmade.Fault kind)) = ((s : Store) → f (with_seen s old) ≡ to_meaning {A = Store} (Err (Fault kind))) × (new ≡ old)
 ChangesWithMemory f old new (Err unmade.Misfit) = ((s : Store) → f (with_seen s old) ≡ to_meaning {A = Store} (Err Misfit)) × (new ≡ old)
-ChangesWithMemory f old new (Err unmade.Memory) = new ≡ old
+ChangesWithMemory f old new (Err unmade.Memory) = GoesWell f old × (new ≡ old)
 
 -- a new entity by its number, or why there is none, as a value
 abbrev pub as_value : Made → Result Value Unmade

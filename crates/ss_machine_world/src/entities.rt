@@ -1,13 +1,12 @@
 //! Entities: references, attributes, how many of a class there are, creating and destroying.
 
-ghost use Rattle.std.specs.Prelude.{◌≡◌, true, pos, Ok, Err};
+ghost use Rattle.std.specs.Prelude.{◌≡◌, true, pos, Ok};
 ghost use Rattle.ss_base.specs.declared.value.Value.TheVariants.{Whole};
 ghost use Rattle.ss_meaning.specs.Entities.{is_single, is_permanent, entity, attribute, time_of, made_count, made_one, gone, without};
 ghost use Rattle.ss_meaning.specs.Events.{with_notice_time};
 ghost use Rattle.ss_meaning.specs.Store.{Store as StoreSeen};
 ghost use Rattle.ss_meaning.specs.Places.{is_of_mode, assigned_attribute};
 ghost use Rattle.ss_machine_entities.specs.Answered.{number_found};
-ghost use Rattle.ss_machine_entities.specs.declared.trouble.Unmade.TheVariants.{Memory};
 ghost use Rattle.ss_machine_entities.specs.Layouts.{class_in, kind_at};
 ghost use Rattle.ss_machine_world.specs.Seen.{Looks, Changes, Notes, Makes, ChangesWithMemory, GoesWell, IsEarlier, as_value, count_open, number_made, created_all_known, mode_of_field, with_seen};
 
@@ -246,6 +245,20 @@ impl Scene {
         is_single(self.population.layout(), class)
     }
 
+    // Why there is no new entity of a class where memory was refused before: the trouble that is due, if any.
+    #[inline(never)]
+    fn unmade(&self, class: usize) -> Made
+        ensures { Makes (made_one class) self.now self.now (as_value result) }
+    {
+        if !self.is_single(class) {
+            return Made::Misfit;
+        }
+        match self.population.may_create() {
+            Err(_) => Made::Last,
+            Ok(()) => Made::Wanting,
+        }
+    }
+
     // The number of a new entity of a class, whose histories start.
     #[inline(always)]
     pub(crate) fn create_number(&mut self, class: usize) -> Made
@@ -254,6 +267,19 @@ impl Scene {
         if !self.is_single(class) {
             return Made::Misfit;
         }
+        match self.population.may_create() {
+            Err(_) => Made::Last,
+            Ok(()) => self.create_numbered(class),
+        }
+    }
+
+    // The number of a new entity, where one is left. Room for its histories is made first.
+    #[inline(always)]
+    fn create_numbered(&mut self, class: usize) -> Made
+        requires single { is_single (class_in self.old.heap.layout class) ≡ true }
+        requires well { GoesWell (made_one class) self.old }
+        ensures { Makes (made_one class) self.old self.new (as_value result) }
+    {
         let owns = self.population.owns_set(class);
         if self
             .timeline
@@ -287,27 +313,32 @@ impl Scene {
         }
     }
 
-    // The number of a new entity of a class, where it was not made at once.
-    #[inline(never)]
-    fn create_slowly(&mut self, class: usize) -> Made
+    // The number of a new entity of a class, where it was not made at once. Where memory was refused to that, none is asked for.
+    #[inline(always)]
+    fn create_unless_wanting(&mut self, class: usize) -> Made
         ensures { Makes (made_one class) self.old self.new (as_value result) }
     {
         if self.is_wanting {
-            return Made::Wanting;
+            return self.unmade(class);
         }
         self.create_number(class)
     }
 
-    /// The number of a new entity of a class, whose histories start. Faults: 14 after the last number. Out of memory is answered also
-    /// where it was refused to an entity that was to be made at once, and then none is asked for.
+    // Does the work of `create_unless_wanting`, out of line.
+    #[inline(never)]
+    fn create_slowly(&mut self, class: usize) -> Made
+        ensures { Makes (made_one class) self.old self.new (as_value result) }
+    {
+        self.create_unless_wanting(class)
+    }
+
+    /// The number of a new entity of a class, whose histories start. Faults: 14 after the last number. It is out of memory only where
+    /// that fault is not due; also where memory was refused to an entity that was to be made at once, and then none is asked for.
     #[inline(always)]
     pub fn create(&mut self, class: usize) -> Result<Value, Unmade>
         ensures { Makes (made_one class) self.old self.new result }
     {
-        if self.is_wanting {
-            return Err(Unmade::Memory);
-        }
-        match self.create_number(class) {
+        match self.create_unless_wanting(class) {
             Made::Number(number) => Ok(Value::Whole(number)),
             Made::Last => Err(Unmade::Fault(FaultKind::Overflow)),
             Made::Misfit => Err(Unmade::Misfit),
@@ -437,8 +468,7 @@ impl Scene {
     /// All entities of a permanent class, so many, whose histories start. Faults: 18 where they are made, then 22 for a bad count.
     /// It is out of memory only where neither is due.
     pub fn create_all(&mut self, class: usize, count: i64) -> Result<(), Unmade>
-        ensures done { ChangesWithMemory (created_all_known class count) self.old self.new result }
-        ensures memory { result ≡ Err Memory → GoesWell (created_all_known class count) self.old }
+        ensures { ChangesWithMemory (created_all_known class count) self.old self.new result }
     {
         if !self.is_permanent(class) {
             return Err(Unmade::Misfit);
@@ -452,6 +482,7 @@ impl Scene {
     // All entities of a permanent class, for a count at which no fault is due: room for the histories is made first.
     fn create_counted(&mut self, class: usize, count: i64) -> Result<(), Unmade>
         requires permanent { is_permanent (class_in self.old.heap.layout class) ≡ true }
+        requires well { GoesWell (created_all_known class count) self.old }
         ensures { ChangesWithMemory (created_all_known class count) self.old self.new result }
     {
         if self

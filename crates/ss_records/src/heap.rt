@@ -1,7 +1,7 @@
 ghost use Rattle.std.specs.Prelude.{◌≡◌, ◌+◌, ◌*◌, ◌^◌, ◌<◌, ◌≤◌, true, false, if◌then◌else◌, length, pos, MatchResult, IfSome, Ok, Err, Some, None, IsOk, slice_get, ⊤, ℕ};
 ghost use Rattle.ss_base.specs.Layout.{mode_of};
 ghost use Rattle.ss_base.specs.declared.layout.Owner.TheVariants.{Class};
-ghost use Rattle.ss_world.specs.State.{State, first_state, known_in, known_notice_in, kind_of, modes_of, value_in, time_in, created, created_all, destroyed, assigned, timed, RefusedFor, living_numbers, living_records};
+ghost use Rattle.ss_world.specs.State.{State, first_state, known_in, known_notice_in, kind_of, modes_of, value_in, time_in, created, created_all, destroyed, assigned, timed, no_value, RefusedFor, living_numbers, living_records};
 ghost use Rattle.ss_world.specs.Disciplines.{first_removed, last_removed, member_test, owned};
 ghost use Rattle.ss_world.specs.Sets.{member_class, owner, owner_kind, first_in, last_in, count_in, next_in, previous_in, owner_of_member, filed_first, filed_last, filed_before, filed_after, removed, Apart};
 ghost use Rattle.ss_records_entities.specs.Added.{Added};
@@ -180,6 +180,21 @@ impl Heap {
         ensures { result ≡ false → (set : ℕ) → owner_kind self.now.state.layout set ≡ Class class → ⊥ }
     {
         self.records.owns_set(class)
+    }
+
+    /// Whether `create` makes an entity where memory is not refused. Faults: 14 after the last creation number.
+    pub fn may_create(&self) -> Result<(), FaultKind>
+        ensures { (class : ℕ) → result ≡ no_value (created self.now.state class) }
+    {
+        self.records.may_create()
+    }
+
+    /// Whether `create_all` makes so many entities of a permanent class where memory is not refused. Faults: 18 where they are
+    /// made, then 22 for a bad count.
+    pub fn may_create_all(&self, class: usize, n: i64) -> Result<(), FaultKind>
+        ensures { result ≡ no_value (created_all self.now.state class n) }
+    {
+        self.records.may_create_all(class, n)
     }
 
     /// A new entity of a temporary class or a class of notices, with first values, in no set: its creation

@@ -1,6 +1,6 @@
 // The records, and what the block of each says.
 ghost use Rattle.std.specs.Prelude.{◌≡◌, ℕ, ◌+◌, ◌-◌, ◌*◌, ◌^◌, ◌<◌, ◌≤◌, length, MatchResult, IfOk, IfSome, Ok, Err, Some, None, slice_get, true, false, ⊤, suc};
-ghost use Rattle.ss_world.specs.State.{kind_of, modes_of, is_notice, first_state, living_numbers, living_records, value_in, time_in, in_a_set, owns_members, destroyed, created, created_all, with_made, assigned, timed, RefusedFor};
+ghost use Rattle.ss_world.specs.State.{kind_of, modes_of, is_notice, first_state, living_numbers, living_records, value_in, time_in, in_a_set, owns_members, destroyed, created, created_all, is_made, with_made, assigned, timed, no_value, RefusedFor};
 ghost use Rattle.ss_world.specs.Sets.{owner_kind};
 ghost use Rattle.ss_records_blocks.specs.Cells.{words_at};
 ghost use Rattle.ss_base.specs.Layout.{mode_of};
@@ -333,6 +333,40 @@ impl Records {
         ensures { result ≡ false → (set : ℕ) → owner_kind self.now.layout set ≡ Owner.Class class → ⊥ }
     {
         self.layout.owned_count(Owner::Class(class)) != 0
+    }
+
+    /// Whether `create` makes an entity where memory is not refused. Faults: 14 after the last creation number.
+    pub fn may_create(&self) -> Result<(), FaultKind>
+        ensures { (class : ℕ) → result ≡ no_value (created (state self.now) class) }
+    {
+        if self.directory.len() as u64 >= LAST_NUMBER {
+            return Err(FaultKind::Overflow);
+        }
+        Ok(())
+    }
+
+    // Whether the entities of a permanent class are made.
+    fn is_made(&self, class: usize) -> bool
+        ensures { result ≡ is_made (state self.now) class }
+    {
+        match self.permanents.get(class) {
+            None => false,
+            Some(row) => row.is_made(),
+        }
+    }
+
+    /// Whether `create_all` makes so many entities of a permanent class where memory is not refused. Faults: 18 where they are
+    /// made, then 22 for a bad count.
+    pub fn may_create_all(&self, class: usize, n: i64) -> Result<(), FaultKind>
+        ensures { result ≡ no_value (created_all (state self.now) class n) }
+    {
+        if self.is_made(class) {
+            return Err(FaultKind::CreatedTwice);
+        }
+        if n < 0 || n > MOST_ENTITIES {
+            return Err(FaultKind::BadCount);
+        }
+        Ok(())
     }
 
     /// A new entity, with the next creation number.

@@ -2,6 +2,7 @@ use Rattle.std.proofs.Common.{rules, ◌≡◌, ℤ, Err, ap, sym, subst, ◌∙
 use Rattle.ss_base.specs.declared.value.Value.{Value}
 use Rattle.ss_base.specs.declared.value.Value.TheVariants.{Whole}
 use Rattle.ss_meaning.specs.Values.{turned, if_ok}
+use Rattle.ss_meaning.specs.Entities.{made_one}
 use Rattle.ss_meaning.specs.Events.{made_notice, prepared}
 use Rattle.ss_meaning.specs.Store.{Store}
 use Rattle.ss_machine_entities.specs.declared.trouble.Unmade.{Unmade}
@@ -20,8 +21,8 @@ returns-in-Err-prepare c =
     let x = Whole n in
     let mid = c.created.new.scene in
     let t = c.in-Err-prepare.trouble in
-    subst (λ (u : Unmade). Forms (made_notice class given time) c.args.scene.now c.prepare.new.scene (Err u)) (sym c.lacking.ensures)
-    (forms_not (made_notice class given time) c.args.scene.now c.prepare.new.scene t
+    subst (λ (u : Unmade). Forms (made_notice class given time) (made_one class) c.args.scene.now c.prepare.new.scene (Err u)) (sym c.lacking.ensures)
+    (forms_not (made_notice class given time) (made_one class) c.args.scene.now c.prepare.new.scene t
     (λ s. ap (λ r. if_ok {B = Value × Store} r (λ b. turned (λ (r : Store). (b.0, r)) (prepared class b.0 given time b.1))) (c.in-Ok.ensures s)
     ∙ ap (turned (λ (r : Store). (x, r))) (subst (λ (m : ℤ). prepared class (Whole m) given time (with_seen s mid) ≡ to_meaning {A = Store} (Err t)) number
     (subst (λ (t' : ℤ). prepared class (Whole (to_z w64 (of_z w64 n))) given t' (with_seen s mid) ≡ to_meaning {A = Store} (Err t)) same (c.in-Err-prepare.ensures s)))))

@@ -23,4 +23,4 @@ returns c = λ code input.
     ap (λ z. created_all_known class z s) same ∙ sym (ap (λ o. if_ok (sure o) (λ v. if_ok (number_of v) (λ n. created_all_known class n s))) there) in
     c.settle.ensures input (core_of old input) _ _ _ (refl, refl) refl
     (subst (λ r. Came made r (store_of (record old { scene = new }) input)) meant
-    (grown (created_all_known class (to_z w64 (of_z w64 k))) old.scene new c.create_all-created.result made c.create_all-created.ensures.done c.in_ok-answer.ensures s)) refl
+    (grown (created_all_known class (to_z w64 (of_z w64 k))) old.scene new c.create_all-created.result made c.create_all-created.ensures c.in_ok-answer.ensures s)) refl

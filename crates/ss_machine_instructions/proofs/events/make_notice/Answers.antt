@@ -1,6 +1,7 @@
 use Rattle.std.proofs.Common.{rules, ◌≡◌, [], ◌∷◌, drop, Some, refl, ap, ◌∙◌, subst, w64, to_z, of_z}
 use Rattle.std.proofs.lemmas.Result.{IfOk-weaker}
 use Rattle.ss_base.specs.declared.value.Value.TheVariants.{Whole}
+use Rattle.ss_meaning.specs.Entities.{made_one}
 use Rattle.ss_meaning.specs.Events.{made_notice}
 use Rattle.ss_code_instructions.specs.States.{Taken, take_off, with_taken, did, onward}
 use Rattle.ss_machine_frames.specs.Frames.{Stacked}
@@ -36,5 +37,5 @@ returns c =
     let s = store_of old input in
     u input (core_of old input) _ _ _ (refl, kept_below old (ap (λ (x : Stacked). x.below) pushed ∙ c.in-Some.ensures.below)) (ap (λ (x : Stacked). x.here) pushed)
     (subst (λ z. CameWith made (made_notice class vs z s) (store_of (record old { scene = new }) input)) same
-    (formed (made_notice class vs (to_z w64 (of_z w64 t))) old.scene new c.make_notice-notice.result made c.make_notice-notice.ensures c.in_ok-answer.ensures s))
+    (formed (made_notice class vs (to_z w64 (of_z w64 t))) (made_one class) old.scene new c.make_notice-notice.result made c.make_notice-notice.ensures c.in_ok-answer.ensures s))
     (c.in-Some.ensures.here _ ∙ ap (λ o. with_taken o (λ vs rest. did c.args.line (made_notice class vs t s) (λ b. onward (b.0 ∷ Whole t ∷ rest) (core_of old input) b.1))) off)) c.gather.ensures

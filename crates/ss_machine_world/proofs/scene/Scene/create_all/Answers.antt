@@ -2,12 +2,12 @@ use Rattle.std.proofs.Common.{rules, ◌≡◌, ℤ, true, Ok, Err, refl, ap, sy
 use Rattle.ss_world.specs.State.{State, created_all, no_value}
 use Rattle.ss_meaning.specs.Entities.{is_permanent}
 use Rattle.ss_machine_entities.specs.Layouts.{class_in}
-use Rattle.ss_machine_world.specs.Seen.{Seen, ChangesWithMemory, created_all_known}
+use Rattle.ss_machine_world.specs.Seen.{Seen, ChangesWithMemory, GoesWell, created_all_known}
 use Rattle.ss_machine_world.proofs.Starting.{fault_due, none_due, all_fault, all_well}
 use Rattle.ss_machine_world.proofs.scene.Scene.create_all.Goals as goal
 
-pub returns-in-Err-clause-done : goal.returns-in-Err-clause-done
-returns-in-Err-clause-done c =
+pub returns-in-Err : goal.returns-in-Err
+returns-in-Err c =
     let class = c.args.class in let count = c.args.count in let e = c.args.self.now in let kind = c.in-Err.kind in
     let same : to_z w64 (of_z w64 count) ≡ count = search rules in
     let permanent : is_permanent (class_in e.heap.layout class) ≡ true = sym c.is_permanent.ensures ∙ c.if-not-is_permanent.false in
@@ -16,18 +16,18 @@ returns-in-Err-clause-done c =
     (subst (λ (z : ℤ). Err kind ≡ no_value (created_all c.self.inside.population class z)) same c.in-Err.ensures) in
     (all_fault e class count permanent kind (fault_due (created_all e.heap class count) kind due), refl)
 
-pub returns-in-Ok-clause-done : goal.returns-in-Ok-clause-done
-returns-in-Ok-clause-done c =
+pub returns-in-Ok : goal.returns-in-Ok
+returns-in-Ok c =
     let count = c.args.count in
     let same : to_z w64 (of_z w64 count) ≡ count = search rules in
     subst (λ (z : ℤ). ChangesWithMemory (created_all_known c.args.class z) c.args.self.now c.create_counted.new.self c.create_counted.result) same c.create_counted.ensures
 
-pub returns-in-Ok-clause-memory : goal.returns-in-Ok-clause-memory
-returns-in-Ok-clause-memory c = λ memory.
+pub create_counted-requires-clause-well : goal.create_counted-requires-clause-well
+create_counted-requires-clause-well c =
     let class = c.args.class in let count = c.args.count in let e = c.args.self.now in
     let same : to_z w64 (of_z w64 count) ≡ count = search rules in
     let permanent : is_permanent (class_in e.heap.layout class) ≡ true = sym c.is_permanent.ensures ∙ c.if-not-is_permanent.false in
     let due : Ok tt ≡ no_value (created_all e.heap class count) =
     subst (λ (h : State). Ok tt ≡ no_value (created_all h class count)) (ap (λ (e : Seen). e.heap) c.self.view_is)
     (subst (λ (z : ℤ). Ok tt ≡ no_value (created_all c.self.inside.population class z)) same c.in-Ok.ensures) in
-    all_well e class count permanent (none_due (created_all e.heap class count) due)
+    subst (λ (z : ℤ). GoesWell (created_all_known class z) e) (sym same) (all_well e class count permanent (none_due (created_all e.heap class count) due))
