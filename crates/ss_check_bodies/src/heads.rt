@@ -211,21 +211,18 @@ pub(crate) fn resolve_head<S: Scope>(
         Head::Members {
             variable,
             set,
-            resolved_start,
+            start,
             reverse,
             ..
         } => {
             let variable = loop_variable(scope, *variable)?;
             let set = resolve_set(alloc, scope, set)?;
-            let ((set, owner), resolved_start) = beside(
-                set,
-                resolve_start(alloc, scope, resolved_start),
-            )?;
+            let ((set, owner), start) = beside(set, resolve_start(alloc, scope, start))?;
             Ok(ResolvedHead::Members {
                 variable,
                 set,
                 owner,
-                resolved_start,
+                start,
                 reverse: *reverse,
             })
         }
