@@ -1,6 +1,0 @@
-pub mod Told
-pub mod Banks
-pub mod Frames
-pub mod Spots
-pub mod Ranged
-pub mod InPlace

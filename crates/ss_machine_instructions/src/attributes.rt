@@ -1,0 +1,139 @@
+//! Attributes of entities, and times.
+
+use crate::flow::{Here, Went};
+use crate::state::State;
+use crate::world;
+use ss_base::Value;
+use ss_code_instructions::address::Address;
+
+impl State {
+    /// Attribute.
+    #[inline(always)]
+    pub fn attribute(
+        &mut self,
+        here: Here,
+        class: u32,
+        field: u32,
+        entity: Address,
+        to: Address,
+    ) -> Went {
+        let entity = self.number(entity);
+        let answer = world::attribute(&self.scene, class as usize, field as usize, entity);
+        self.put(here, to, answer)
+    }
+
+    /// TextAttribute.
+    #[inline(never)]
+    pub fn text_attribute(
+        &mut self,
+        here: Here,
+        class: u32,
+        field: u32,
+        entity: Address,
+        to: Address,
+    ) -> Went {
+        let entity = self.number(entity);
+        match world::text_attribute(&self.scene, class as usize, field as usize, entity) {
+            Ok(text) => {
+                self.set_text(to, text);
+                here.on()
+            }
+            Err(kind) => here.fault(kind),
+        }
+    }
+
+    /// SetAttribute.
+    #[inline(always)]
+    pub fn set_attribute(
+        &mut self,
+        here: Here,
+        class: u32,
+        field: u32,
+        entity: Address,
+        from: Address,
+    ) -> Went {
+        let (entity, number) = (self.number(entity), self.number(from));
+        here.done(world::set_attribute(
+            &mut self.scene,
+            class as usize,
+            field as usize,
+            entity,
+            number,
+        ))
+    }
+
+    /// SetTextAttribute.
+    #[inline(never)]
+    pub fn set_text_attribute(
+        &mut self,
+        here: Here,
+        class: u32,
+        field: u32,
+        entity: Address,
+        from: Address,
+    ) -> Went {
+        let (entity, text) = (self.number(entity), self.text(from));
+        here.done(world::set_value(
+            &mut self.scene,
+            class as usize,
+            field as usize,
+            entity,
+            Value::Text(text),
+        ))
+    }
+
+    /// AddToAttribute.
+    #[inline(always)]
+    pub fn add_to_attribute(
+        &mut self,
+        here: Here,
+        class: u32,
+        field: u32,
+        entity: Address,
+        by: Address,
+    ) -> Went {
+        let (entity, by) = (self.number(entity), self.number(by));
+        here.done(world::add_to_attribute(
+            &mut self.scene,
+            class as usize,
+            field as usize,
+            entity,
+            by,
+        ))
+    }
+
+    /// SubtractFromAttribute.
+    #[inline(never)]
+    pub fn subtract_from_attribute(
+        &mut self,
+        here: Here,
+        class: u32,
+        field: u32,
+        entity: Address,
+        by: Address,
+    ) -> Went {
+        let (entity, by) = (self.number(entity), self.number(by));
+        here.done(world::subtract_from_attribute(
+            &mut self.scene,
+            class as usize,
+            field as usize,
+            entity,
+            by,
+        ))
+    }
+
+    /// Clock.
+    #[inline(always)]
+    pub fn clock(&mut self, here: Here, to: Address) -> Went {
+        let time = self.scene.timeline.time();
+        self.set_number(to, time);
+        here.on()
+    }
+
+    /// TimeOf.
+    #[inline(never)]
+    pub fn time_of(&mut self, here: Here, notice: Address, to: Address) -> Went {
+        let answer = self.scene.population.time_a(self.number(notice));
+        self.put(here, to, answer)
+    }
+}

@@ -1,0 +1,70 @@
+//! Calls.
+
+use crate::flow::{Flow, Here, Went};
+use crate::state::State;
+use ss_code_instructions::entry::Entry;
+use ss_machine_frames::frames::Frame;
+use std::alloc::AllocError;
+
+impl State {
+    /// A section begins, whose frame begins at a cell: what it is given lies there already, its other variables hold their
+    /// first values, and there is room for its cells.
+    #[inline(always)]
+    pub fn enter(&mut self, place: usize, entry: &Entry, cell: u32) -> Result<(), AllocError> {
+        let frame = self.cell(cell);
+        let room = frame + entry.room();
+        if self.rows.len() < room {
+            self.rows.lengthen(room)?;
+        }
+        self.rows.clear(frame + entry.given.len(), &entry.others);
+        self.frames.push(Frame {
+            back: place + 1,
+            caller: self.frame,
+            given: entry.given.len() as u32,
+            yielding: entry.yielding as u32,
+        })?;
+        self.frame = frame as u32;
+        Ok(())
+    }
+
+    /// Call.
+    #[inline(always)]
+    pub fn call(&mut self, here: Here, entry: &Entry, cell: u32) -> Went {
+        match here.with_tick() {
+            None => here.pause(),
+            Some(after) => match self.enter(here.place, entry, cell) {
+                Err(_) => here.stop(Flow::NoMemory),
+                Ok(()) => after.to(entry.place),
+            },
+        }
+    }
+
+    /// Leave.
+    #[inline(always)]
+    pub fn leave(&mut self, here: Here) -> Went {
+        match self.frames.pop() {
+            None => here.stop(Flow::Ends),
+            Some(frame) => {
+                if frame.yielding > 0 {
+                    self.yield_values(&frame);
+                }
+                self.frame = frame.caller;
+                here.to(frame.back)
+            }
+        }
+    }
+
+    /// Halt.
+    #[inline(always)]
+    pub fn halt(&self, here: Here) -> Went {
+        here.stop(Flow::Ends)
+    }
+
+    // What is yielded goes where the frame begins, the first on top.
+    #[inline(never)]
+    fn yield_values(&mut self, frame: &Frame) {
+        let to = self.frame as usize;
+        let from = to + frame.given as usize;
+        self.rows.yield_down(from, to, frame.yielding as usize);
+    }
+}
