@@ -1,11 +1,11 @@
 //! The code of conditions: it goes on where they hold, and jumps where they do not.
 
 use crate::backward::Backward;
-use crate::block::{Block, as_index};
+use crate::piece::{Piece, as_index};
 use crate::error::CodeError;
 use crate::expressions::is_plain_owner;
 use crate::facts::expression_mode;
-use crate::generator::{Generator, Here};
+use crate::generator::{Generator, Site};
 use ss_base::Mode;
 use ss_code_instructions::address::Address;
 use ss_code_instructions::instruction::Instruction;
@@ -29,16 +29,16 @@ impl Generator<'_> {
     // Two values are compared.
     fn comparison(
         &mut self,
-        code: &mut Block,
-        here: Here,
+        code: &mut Piece,
+        site: Site,
         skip: u32,
         relation: Relation,
         first: &Expression,
         second: &Expression,
     ) -> Result<(), CodeError> {
         let mode = expression_mode(self.program, &self.locals, first);
-        let left = self.operand(code, here, first)?;
-        let right = self.operand(code, here.above(left.cells), second)?.address;
+        let left = self.operand(code, site, first)?;
+        let right = self.operand(code, site.above(left.cells), second)?.address;
         let left = left.address;
         let instruction = match mode {
             Mode::Integer => unless(relation, left, right, skip),
@@ -49,23 +49,23 @@ impl Generator<'_> {
                 relation,
             },
         };
-        code.put(here.line, instruction)?;
+        code.put(site.line, instruction)?;
         Ok(())
     }
 
     // Whether a set has no member.
     fn emptiness(
         &mut self,
-        code: &mut Block,
-        here: Here,
+        code: &mut Piece,
+        site: Site,
         skip: u32,
         negated: bool,
         set: usize,
         owner: &SetOwner,
     ) -> Result<(), CodeError> {
-        let owner = self.owner(code, here, owner)?.address;
+        let owner = self.owner(code, site, owner)?.address;
         code.put(
-            here.line,
+            site.line,
             Instruction::UnlessEmpty {
                 set: as_index(set)?,
                 owner,
@@ -79,22 +79,22 @@ impl Generator<'_> {
     // Whether an entity is in a set, with what jumps.
     fn membership(
         &mut self,
-        code: &mut Block,
-        here: Here,
+        code: &mut Piece,
+        site: Site,
         set: usize,
         member: &Expression,
         owner: &SetOwner,
     ) -> Result<(Address, Address), CodeError> {
-        let member = self.member(code, here, set, member, !is_plain_owner(owner))?;
-        let owner = self.owner(code, here.above(member.cells), owner)?;
+        let member = self.member(code, site, set, member, !is_plain_owner(owner))?;
+        let owner = self.owner(code, site.above(member.cells), owner)?;
         Ok((member.address, owner.address))
     }
 
     // A test, which jumps where it does not hold.
     fn test(
         &mut self,
-        code: &mut Block,
-        here: Here,
+        code: &mut Piece,
+        site: Site,
         skip: usize,
         test: &Test,
     ) -> Result<(), CodeError> {
@@ -104,26 +104,26 @@ impl Generator<'_> {
                 relation,
                 left,
                 right,
-            } => self.comparison(code, here, skip, *relation, left, right),
+            } => self.comparison(code, site, skip, *relation, left, right),
             Test::DataEnded { negated } => {
                 let negated = *negated;
-                code.put(here.line, Instruction::UnlessEnded { skip, negated })?;
+                code.put(site.line, Instruction::UnlessEnded { skip, negated })?;
                 Ok(())
             }
             Test::Empty {
                 negated,
                 set,
                 owner,
-            } => self.emptiness(code, here, skip, *negated, *set, owner),
+            } => self.emptiness(code, site, skip, *negated, *set, owner),
             Test::Member {
                 negated,
                 set,
                 member,
                 owner,
             } => {
-                let (member, owner) = self.membership(code, here, *set, member, owner)?;
+                let (member, owner) = self.membership(code, site, *set, member, owner)?;
                 code.put(
-                    here.line,
+                    site.line,
                     Instruction::UnlessMember {
                         set: as_index(*set)?,
                         member,
@@ -138,74 +138,74 @@ impl Generator<'_> {
     }
 
     // Tests that all must hold, the last of them first.
-    fn tests(&mut self, here: Here, skip: usize, tests: &[Test]) -> Result<Block, CodeError> {
+    fn tests(&mut self, site: Site, skip: usize, tests: &[Test]) -> Result<Piece, CodeError> {
         let mut rest = Backward::new(self.alloc);
         for i in (0..tests.len()).rev() {
-            let mut front = Block::new(self.alloc);
+            let mut front = Piece::new(self.alloc);
             let past = rest.len() + skip;
-            self.test(&mut front, here, past, &tests[i])?;
+            self.test(&mut front, site, past, &tests[i])?;
             rest.put_before(front)?;
         }
-        Ok(rest.into_block())
+        Ok(rest.into_piece())
     }
 
     // A jump.
-    fn jump(&self, here: Here, skip: usize) -> Result<Block, CodeError> {
-        let mut code = Block::new(self.alloc);
+    fn jump(&self, site: Site, skip: usize) -> Result<Piece, CodeError> {
+        let mut code = Piece::new(self.alloc);
         let skip = as_index(skip)?;
-        code.put(here.line, Instruction::Jump { skip })?;
+        code.put(site.line, Instruction::Jump { skip })?;
         Ok(code)
     }
 
     // Alternatives of which one must hold, the last of them first.
     fn alternatives(
         &mut self,
-        here: Here,
+        site: Site,
         skip: usize,
         alternatives: &[Conjunction],
-    ) -> Result<Block, CodeError> {
+    ) -> Result<Piece, CodeError> {
         let count = alternatives.len();
         if count == 0 {
-            return self.jump(here, skip);
+            return self.jump(site, skip);
         }
-        let last = self.tests(here, skip, &alternatives[count - 1].tests)?;
+        let last = self.tests(site, skip, &alternatives[count - 1].tests)?;
         let mut rest = Backward::new(self.alloc);
         rest.put_before(last)?;
         for i in (0..count - 1).rev() {
-            let mut front = self.tests(here, 1, &alternatives[i].tests)?;
-            front.append(self.jump(here, rest.len())?)?;
+            let mut front = self.tests(site, 1, &alternatives[i].tests)?;
+            front.append(self.jump(site, rest.len())?)?;
             rest.put_before(front)?;
         }
-        Ok(rest.into_block())
+        Ok(rest.into_piece())
     }
 
     /// A condition, which jumps where it does not hold.
     pub(crate) fn condition(
         &mut self,
-        here: Here,
+        site: Site,
         skip: usize,
         condition: &Condition,
-    ) -> Result<Block, CodeError> {
-        self.alternatives(here, skip, &condition.alternatives)
+    ) -> Result<Piece, CodeError> {
+        self.alternatives(site, skip, &condition.alternatives)
     }
 
     // A condition, which jumps where it holds.
     fn negated(
         &mut self,
-        here: Here,
+        site: Site,
         skip: usize,
         condition: &Condition,
-    ) -> Result<Block, CodeError> {
-        let mut code = self.condition(here, 1, condition)?;
-        code.append(self.jump(here, skip)?)?;
+    ) -> Result<Piece, CodeError> {
+        let mut code = self.condition(site, 1, condition)?;
+        code.append(self.jump(site, skip)?)?;
         Ok(code)
     }
 
     // A guard of a loop.
-    fn guard(&mut self, here: Here, skip: usize, guard: &Guard) -> Result<Block, CodeError> {
+    fn guard(&mut self, site: Site, skip: usize, guard: &Guard) -> Result<Piece, CodeError> {
         match guard.kind {
-            GuardKind::While => self.condition(here, skip, &guard.condition),
-            GuardKind::Until => self.negated(here, skip, &guard.condition),
+            GuardKind::While => self.condition(site, skip, &guard.condition),
+            GuardKind::Until => self.negated(site, skip, &guard.condition),
         }
     }
 
@@ -213,45 +213,45 @@ impl Generator<'_> {
     /// many instructions more.
     pub(crate) fn guards(
         &mut self,
-        here: Here,
+        site: Site,
         more: usize,
         guards: &[Guard],
-        behind: Block,
-    ) -> Result<Block, CodeError> {
+        behind: Piece,
+    ) -> Result<Piece, CodeError> {
         let mut rest = Backward::new(self.alloc);
         rest.put_before(behind)?;
         for i in (0..guards.len()).rev() {
             let past = rest.len() + more;
-            let front = self.guard(here, past, &guards[i])?;
+            let front = self.guard(site, past, &guards[i])?;
             rest.put_before(front)?;
         }
-        Ok(rest.into_block())
+        Ok(rest.into_piece())
     }
 
     // A phrase before the rest of a turn, of so many instructions.
-    fn phrase(&mut self, here: Here, rest: usize, phrase: &Phrase) -> Result<Block, CodeError> {
+    fn phrase(&mut self, site: Site, rest: usize, phrase: &Phrase) -> Result<Piece, CodeError> {
         let condition = &phrase.condition;
         match phrase.kind {
-            PhraseKind::With => self.condition(here, rest, condition),
-            PhraseKind::Unless => self.negated(here, rest, condition),
-            PhraseKind::While => self.condition(here, rest + 1, condition),
-            PhraseKind::Until => self.negated(here, rest + 1, condition),
+            PhraseKind::With => self.condition(site, rest, condition),
+            PhraseKind::Unless => self.negated(site, rest, condition),
+            PhraseKind::While => self.condition(site, rest + 1, condition),
+            PhraseKind::Until => self.negated(site, rest + 1, condition),
         }
     }
 
     /// The phrases before a turn, the last of them first.
     pub(crate) fn phrases(
         &mut self,
-        here: Here,
+        site: Site,
         phrases: &[Phrase],
-        turn: Block,
-    ) -> Result<Block, CodeError> {
+        turn: Piece,
+    ) -> Result<Piece, CodeError> {
         let mut rest = Backward::new(self.alloc);
         rest.put_before(turn)?;
         for i in (0..phrases.len()).rev() {
-            let front = self.phrase(here, rest.len(), &phrases[i])?;
+            let front = self.phrase(site, rest.len(), &phrases[i])?;
             rest.put_before(front)?;
         }
-        Ok(rest.into_block())
+        Ok(rest.into_piece())
     }
 }

@@ -1,9 +1,9 @@
 //! The code of expressions.
 
-use crate::block::{Block, as_index};
+use crate::piece::{Piece, as_index};
 use crate::error::CodeError;
 use crate::facts::{attribute_mode, expression_mode};
-use crate::generator::{Generator, Here};
+use crate::generator::{Generator, Site};
 use ss_base::Mode;
 use ss_code_instructions::address::Address;
 use ss_code_instructions::instruction::Instruction;
@@ -101,15 +101,15 @@ impl Generator<'_> {
     #[cycle(expressions)]
     pub(crate) fn operand(
         &mut self,
-        code: &mut Block,
-        here: Here,
+        code: &mut Piece,
+        site: Site,
         e: &Expression,
     ) -> Result<Operand, CodeError> {
         if let Some(address) = self.leaf(e)? {
             return Ok(Operand::leaf(address));
         }
-        let to = self.cell(here)?;
-        self.compute(code, here, e, to)?;
+        let to = self.cell(site)?;
+        self.compute(code, site, e, to)?;
         Ok(Operand::cell(to))
     }
 
@@ -117,43 +117,43 @@ impl Generator<'_> {
     #[cycle(expressions)]
     pub(crate) fn expression(
         &mut self,
-        code: &mut Block,
-        here: Here,
+        code: &mut Piece,
+        site: Site,
         e: &Expression,
         to: Address,
     ) -> Result<(), CodeError> {
         if let Some(from) = self.leaf(e)? {
             let mode = expression_mode(self.program, &self.locals, e);
-            code.put(here.line, move_of(mode, from, to))?;
+            code.put(site.line, move_of(mode, from, to))?;
             return Ok(());
         }
-        self.compute(code, here, e, to)
+        self.compute(code, site, e, to)
     }
 
     /// An expression goes into the next cell.
     pub(crate) fn push(
         &mut self,
-        code: &mut Block,
-        here: Here,
+        code: &mut Piece,
+        site: Site,
         e: &Expression,
     ) -> Result<(), CodeError> {
-        let to = self.cell(here)?;
-        self.expression(code, here, e, to)
+        let to = self.cell(site)?;
+        self.expression(code, site, e, to)
     }
 
     // An expression that takes code goes to a place.
     #[cycle(expressions)]
     fn compute(
         &mut self,
-        code: &mut Block,
-        here: Here,
+        code: &mut Piece,
+        site: Site,
         e: &Expression,
         to: Address,
     ) -> Result<(), CodeError> {
         let instruction = match e {
             Expression::Constant { .. } | Expression::Fetch { .. } => return Ok(()),
             Expression::Attribute { class, field, of } => {
-                let entity = self.operand(code, here, of)?.address;
+                let entity = self.operand(code, site, of)?.address;
                 let mode = attribute_mode(self.program, *class, *field);
                 attribute_of(mode, as_index(*class)?, as_index(*field)?, entity, to)
             }
@@ -161,16 +161,16 @@ impl Generator<'_> {
                 ask_set(*query, as_index(*set)?, self.zero()?, to)
             }
             Expression::OfSet { query, set, owner } => {
-                let owner = self.operand(code, here, owner)?.address;
+                let owner = self.operand(code, site, owner)?.address;
                 ask_set(*query, as_index(*set)?, owner, to)
             }
             Expression::OfMember { query, set, member } => {
-                let member = self.operand(code, here, member)?.address;
+                let member = self.operand(code, site, member)?.address;
                 ask_member(*query, as_index(*set)?, member, to)
             }
             Expression::Clock => Instruction::Clock { to },
             Expression::TimeOf { notice } => {
-                let notice = self.operand(code, here, notice)?.address;
+                let notice = self.operand(code, site, notice)?.address;
                 Instruction::TimeOf { notice, to }
             }
             Expression::Figure { fold, statistic } => Instruction::Figure {
@@ -184,7 +184,7 @@ impl Generator<'_> {
                 statistic,
                 entity,
             } => {
-                let entity = self.operand(code, here, entity)?.address;
+                let entity = self.operand(code, site, entity)?.address;
                 Instruction::Figure {
                     statistic: as_index(*statistic)?,
                     entity,
@@ -193,7 +193,7 @@ impl Generator<'_> {
                 }
             }
             Expression::Signed { sign, term } => {
-                let right = self.operand(code, here, term)?.address;
+                let right = self.operand(code, site, term)?.address;
                 let left = self.zero()?;
                 match sign {
                     Sign::Plus => Instruction::Add { left, right, to },
@@ -201,14 +201,14 @@ impl Generator<'_> {
                 }
             }
             Expression::Absolute { argument } => {
-                let of = self.operand(code, here, argument)?.address;
+                let of = self.operand(code, site, argument)?.address;
                 Instruction::Absolute { of, to }
             }
             Expression::Calculate { first, further } => {
-                return self.calculation(code, here, first, further, to);
+                return self.calculation(code, site, first, further, to);
             }
         };
-        code.put(here.line, instruction)?;
+        code.put(site.line, instruction)?;
         Ok(())
     }
 
@@ -217,22 +217,22 @@ impl Generator<'_> {
     #[cycle(expressions)]
     fn calculation(
         &mut self,
-        code: &mut Block,
-        here: Here,
+        code: &mut Piece,
+        site: Site,
         first: &Expression,
         further: &[Operation],
         to: Address,
     ) -> Result<(), CodeError> {
         if further.is_empty() {
-            return self.expression(code, here, first, to);
+            return self.expression(code, site, first, to);
         }
-        let mut left = self.operand(code, here, first)?;
+        let mut left = self.operand(code, site, first)?;
         for (i, operation) in further.iter().enumerate() {
-            let right = self.operand(code, here.above(left.cells), &operation.operand)?;
+            let right = self.operand(code, site.above(left.cells), &operation.operand)?;
             let is_last = i + 1 == further.len();
-            let result = if is_last { to } else { self.cell(here)? };
+            let result = if is_last { to } else { self.cell(site)? };
             let made = calculate(operation.operator, left.address, right.address, result);
-            code.put(here.line, made)?;
+            code.put(site.line, made)?;
             left = Operand::cell(result);
         }
         Ok(())
@@ -241,34 +241,34 @@ impl Generator<'_> {
     /// The owner of a set, as an operand: the system is the constant 0.
     pub(crate) fn owner(
         &mut self,
-        code: &mut Block,
-        here: Here,
+        code: &mut Piece,
+        site: Site,
         owner: &SetOwner,
     ) -> Result<Operand, CodeError> {
         match owner {
             SetOwner::TheSystem => Ok(Operand::leaf(self.zero()?)),
-            SetOwner::Entity { entity } => self.operand(code, here, entity),
+            SetOwner::Entity { entity } => self.operand(code, site, entity),
         }
     }
 
     /// The entity of a statistic, as an operand: none is the constant 0.
     pub(crate) fn entity_of(
         &mut self,
-        code: &mut Block,
-        here: Here,
+        code: &mut Piece,
+        site: Site,
         e: &Option<Expression>,
     ) -> Result<Operand, CodeError> {
         match e {
             None => Ok(Operand::leaf(self.zero()?)),
-            Some(entity) => self.operand(code, here, entity),
+            Some(entity) => self.operand(code, site, entity),
         }
     }
 
     /// A number goes into the next cell.
-    pub(crate) fn push_one(&mut self, code: &mut Block, here: Here) -> Result<(), CodeError> {
-        let to = self.cell(here)?;
+    pub(crate) fn push_one(&mut self, code: &mut Piece, site: Site) -> Result<(), CodeError> {
+        let to = self.cell(site)?;
         let from = self.one()?;
-        code.put(here.line, Instruction::Move { from, to })?;
+        code.put(site.line, Instruction::Move { from, to })?;
         Ok(())
     }
 }

@@ -69,7 +69,7 @@ pub(crate) enum Ordering {
 }
 
 /// Where the discipline of a set puts a member.
-pub(crate) fn ordering(program: &Program, set: usize) -> Ordering {
+pub(crate) fn ordering_of(program: &Program, set: usize) -> Ordering {
     match program.disciplines.get(set) {
         None => Ordering::Last,
         Some(Discipline::Fifo) => Ordering::Last,

@@ -1,6 +1,6 @@
 //! From a resolved program to its code.
 
-use crate::block::{Block, as_index};
+use crate::piece::{Piece, as_index};
 use crate::code::{Code, Sections, Text};
 use crate::error::CodeError;
 use crate::facts::is_variable_watched;
@@ -25,7 +25,7 @@ fn joined(alloc: Global, first: &[Mode], second: &[Mode]) -> Result<Vec<Mode>, A
 // A section's code comes after what was made so far.
 fn put_section(
     generator: &mut Generator,
-    code: &mut Block,
+    code: &mut Piece,
     given: Vec<Mode>,
     yielding: usize,
     others: Vec<Mode>,
@@ -46,7 +46,7 @@ fn put_section(
 }
 
 // MAIN.
-fn put_main(generator: &mut Generator, code: &mut Block) -> Result<Entry, CodeError> {
+fn put_main(generator: &mut Generator, code: &mut Piece) -> Result<Entry, CodeError> {
     let program = generator.program;
     let others = Vec::from_slice(generator.alloc, &program.locals)?;
     let given = Vec::new(generator.alloc);
@@ -56,7 +56,7 @@ fn put_main(generator: &mut Generator, code: &mut Block) -> Result<Entry, CodeEr
 // A routine.
 fn put_routine(
     generator: &mut Generator,
-    code: &mut Block,
+    code: &mut Piece,
     routine: &Routine,
 ) -> Result<Entry, CodeError> {
     let given = Vec::from_slice(generator.alloc, &routine.given)?;
@@ -66,7 +66,7 @@ fn put_routine(
 }
 
 // The notice of an event is saved in a variable as its routine begins: a statistic that watches that notes it.
-fn put_noted(generator: &mut Generator, code: &mut Block, event: &Event) -> Result<(), CodeError> {
+fn put_noted(generator: &mut Generator, code: &mut Piece, event: &Event) -> Result<(), CodeError> {
     if let Some(number) = event.saved {
         if is_variable_watched(generator.program, number) {
             let variable = as_index(number)?;
@@ -79,7 +79,7 @@ fn put_noted(generator: &mut Generator, code: &mut Block, event: &Event) -> Resu
 // The routine of an event.
 fn put_event(
     generator: &mut Generator,
-    code: &mut Block,
+    code: &mut Piece,
     event: &Event,
 ) -> Result<Entry, CodeError> {
     let place = code.len();
@@ -91,24 +91,30 @@ fn put_event(
     Ok(entry)
 }
 
+// An entry comes after others.
+fn put_entry(entries: &mut Vec<Entry>, entry: Entry) -> Result<(), AllocError> {
+    entries.push(entry)?;
+    Ok(())
+}
+
 // The routines.
-fn put_routines(generator: &mut Generator, code: &mut Block) -> Result<Vec<Entry>, CodeError> {
+fn put_routines(generator: &mut Generator, code: &mut Piece) -> Result<Vec<Entry>, CodeError> {
     let program = generator.program;
     let mut entries = Vec::new(generator.alloc);
     for routine in &program.routines {
         let entry = put_routine(generator, code, routine)?;
-        entries.push(entry)?;
+        put_entry(&mut entries, entry)?;
     }
     Ok(entries)
 }
 
 // The routines of events.
-fn put_events(generator: &mut Generator, code: &mut Block) -> Result<Vec<Entry>, CodeError> {
+fn put_events(generator: &mut Generator, code: &mut Piece) -> Result<Vec<Entry>, CodeError> {
     let program = generator.program;
     let mut entries = Vec::new(generator.alloc);
     for event in &program.events {
         let entry = put_event(generator, code, event)?;
-        entries.push(entry)?;
+        put_entry(&mut entries, entry)?;
     }
     Ok(entries)
 }
@@ -116,7 +122,7 @@ fn put_events(generator: &mut Generator, code: &mut Block) -> Result<Vec<Entry>,
 // The code of a program that is well typed.
 fn code_of(alloc: Global, program: &Program) -> Result<Code, CodeError> {
     let mut generator = Generator::new(alloc, program)?;
-    let mut code = Block::new(alloc);
+    let mut code = Piece::new(alloc);
     let main = put_main(&mut generator, &mut code)?;
     let routines = put_routines(&mut generator, &mut code)?;
     let events = put_events(&mut generator, &mut code)?;
@@ -125,7 +131,7 @@ fn code_of(alloc: Global, program: &Program) -> Result<Code, CodeError> {
     }
     let said = sayings(alloc, program)?;
     let globals = Vec::from_slice(alloc, &program.globals)?;
-    let Block {
+    let Piece {
         instructions,
         lines,
     } = code;

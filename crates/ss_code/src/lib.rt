@@ -2,7 +2,6 @@
 #![tactic(auto)]
 
 mod backward;
-mod block;
 pub mod code;
 mod conditions;
 pub mod error;
@@ -14,7 +13,9 @@ mod generator;
 pub mod lines;
 mod loops;
 pub mod model;
+mod piece;
 mod printing;
+mod sayings;
 mod sets;
 mod statements;
 mod targets;

@@ -1,9 +1,9 @@
 //! The code of loops.
 
-use crate::block::{Block, as_index};
+use crate::piece::{Piece, as_index};
 use crate::error::CodeError;
 use crate::expressions::Operand;
-use crate::generator::{Generator, Here};
+use crate::generator::{Generator, Site};
 use crate::targets::VariableSpot;
 use ss_code_instructions::address::Address;
 use ss_code_instructions::instruction::Instruction;
@@ -42,100 +42,100 @@ impl Generator<'_> {
     /// the tick.
     pub(crate) fn guarded_loop(
         &mut self,
-        code: &mut Block,
-        here: Here,
+        code: &mut Piece,
+        site: Site,
         guards: &[Guard],
-        body: Block,
+        body: Piece,
     ) -> Result<(), CodeError> {
-        let again = self.guards(here, 1, guards, Block::new(self.alloc))?;
-        let mut turn = Block::new(self.alloc);
-        turn.put(here.line, Instruction::Turn)?;
+        let again = self.guards(site, 1, guards, Piece::new(self.alloc))?;
+        let mut turn = Piece::new(self.alloc);
+        turn.put(site.line, Instruction::Turn)?;
         turn.append(body)?;
         turn.append(again)?;
         let back = as_index(turn.len())?;
-        turn.put(here.line, Instruction::Repeat { back })?;
-        code.append(self.guards(here, 0, guards, turn)?)?;
+        turn.put(site.line, Instruction::Repeat { back })?;
+        code.append(self.guards(site, 0, guards, turn)?)?;
         Ok(())
     }
 
     // The item of a FOR: its tick, and the variable is assigned.
     fn take(
         &mut self,
-        here: Here,
+        site: Site,
         cell: u32,
         variable: VariableSpot,
-        turn: Block,
-    ) -> Result<Block, CodeError> {
-        let mut code = Block::new(self.alloc);
+        turn: Piece,
+    ) -> Result<Piece, CodeError> {
+        let mut code = Piece::new(self.alloc);
         let to = variable.address;
-        code.put(here.line, Instruction::Take { cell, to })?;
-        self.noted(&mut code, here, variable)?;
+        code.put(site.line, Instruction::Take { cell, to })?;
+        self.noted(&mut code, site, variable)?;
         code.append(turn)?;
         let back = as_index(code.len())?;
-        code.put(here.line, Instruction::Next { cell, back })?;
+        code.put(site.line, Instruction::Next { cell, back })?;
         Ok(code)
     }
 
     // A FOR over numbers.
     fn numbers(
         &mut self,
-        code: &mut Block,
-        here: Here,
+        code: &mut Piece,
+        site: Site,
         variable: Variable,
         bounds: (&Expression, &Expression, &Option<Expression>),
-        turn: Block,
+        turn: Piece,
     ) -> Result<(), CodeError> {
         let (first, limit, step) = bounds;
-        let cell = self.cell_number(here)?;
-        self.push(code, here, first)?;
-        self.push(code, here.above(1), limit)?;
+        let cell = self.cell_number(site)?;
+        self.push(code, site, first)?;
+        self.push(code, site.above(1), limit)?;
         match step {
-            None => self.push_one(code, here.above(2))?,
-            Some(e) => self.push(code, here.above(2), e)?,
+            None => self.push_one(code, site.above(2))?,
+            Some(e) => self.push(code, site.above(2), e)?,
         }
         let spot = self.variable_spot(variable)?;
-        let items = self.take(here, cell, spot, turn)?;
+        let items = self.take(site, cell, spot, turn)?;
         let skip = as_index(items.len())?;
-        code.put(here.line, Instruction::Begin { cell, skip })?;
+        code.put(site.line, Instruction::Begin { cell, skip })?;
         code.append(items)?;
-        self.forget(code, here, NUMBER_CELLS)
+        self.forget(code, site, NUMBER_CELLS)
     }
 
     // A FOR over a class.
     fn each(
         &mut self,
-        code: &mut Block,
-        here: Here,
+        code: &mut Piece,
+        site: Site,
         variable: Variable,
         class: usize,
-        turn: Block,
+        turn: Piece,
     ) -> Result<(), CodeError> {
-        let cell = self.cell_number(here)?;
-        let _top = self.cell_number(here.above(2))?;
+        let cell = self.cell_number(site)?;
+        let _top = self.cell_number(site.above(2))?;
         let spot = self.variable_spot(variable)?;
-        let items = self.take(here, cell, spot, turn)?;
+        let items = self.take(site, cell, spot, turn)?;
         let skip = as_index(items.len())?;
         let class = as_index(class)?;
-        code.put(here.line, Instruction::BeginClass { class, cell, skip })?;
+        code.put(site.line, Instruction::BeginClass { class, cell, skip })?;
         code.append(items)?;
-        self.forget(code, here, NUMBER_CELLS)
+        self.forget(code, site, NUMBER_CELLS)
     }
 
     // The members of a walk: the tick of one, the turn, and on to the next one.
-    fn take_members(&mut self, here: Here, walk: Walk, turn: Block) -> Result<Block, CodeError> {
-        let mut code = Block::new(self.alloc);
+    fn take_members(&mut self, site: Site, walk: Walk, turn: Piece) -> Result<Piece, CodeError> {
+        let mut code = Piece::new(self.alloc);
         code.put(
-            here.line,
+            site.line,
             Instruction::Take {
                 cell: walk.cell,
                 to: walk.variable.address,
             },
         )?;
-        self.noted(&mut code, here, walk.variable)?;
+        self.noted(&mut code, site, walk.variable)?;
         code.append(turn)?;
         let back = as_index(code.len())?;
         code.put(
-            here.line,
+            site.line,
             Instruction::NextMember {
                 set: walk.set,
                 owner: walk.owner,
@@ -150,16 +150,16 @@ impl Generator<'_> {
     // The owner of the set of a walk: it stays in a cell, so that nothing changes it, unless it is the system.
     fn kept_owner(
         &mut self,
-        code: &mut Block,
-        here: Here,
+        code: &mut Piece,
+        site: Site,
         owner: &SetOwner,
     ) -> Result<Operand, CodeError> {
         match owner {
-            SetOwner::TheSystem => self.owner(code, here, owner),
+            SetOwner::TheSystem => self.owner(code, site, owner),
             SetOwner::Entity { entity } => {
-                self.push(code, here, entity)?;
+                self.push(code, site, entity)?;
                 Ok(Operand {
-                    address: self.cell(here)?,
+                    address: self.cell(site)?,
                     cells: 1,
                 })
             }
@@ -169,8 +169,8 @@ impl Generator<'_> {
     // The member with which a walk begins, or after which, goes into the cell of the next member.
     fn start(
         &mut self,
-        code: &mut Block,
-        here: Here,
+        code: &mut Piece,
+        site: Site,
         walk: Walk,
         start: &Start,
     ) -> Result<(), CodeError> {
@@ -178,13 +178,13 @@ impl Generator<'_> {
             Start::AtEnd => Ok(()),
             Start::From { member } | Start::After { member } => {
                 code.put(
-                    here.line,
+                    site.line,
                     Instruction::LookOwner {
                         set: walk.set,
                         owner: walk.owner,
                     },
                 )?;
-                self.push(code, here, member)
+                self.push(code, site, member)
             }
         }
     }
@@ -213,16 +213,16 @@ impl Generator<'_> {
     // A FOR over the members of a set.
     fn members(
         &mut self,
-        code: &mut Block,
-        here: Here,
+        code: &mut Piece,
+        site: Site,
         head: (Variable, usize, bool),
         owner: &SetOwner,
         start: &Start,
-        turn: Block,
+        turn: Piece,
     ) -> Result<(), CodeError> {
         let (variable, set, reverse) = head;
-        let kept = self.kept_owner(code, here, owner)?;
-        let next = here.above(kept.cells);
+        let kept = self.kept_owner(code, site, owner)?;
+        let next = site.above(kept.cells);
         let walk = Walk {
             variable: self.variable_spot(variable)?,
             set: as_index(set)?,
@@ -232,20 +232,20 @@ impl Generator<'_> {
         };
         let _after = self.cell_number(next.above(1))?;
         self.start(code, next, walk, start)?;
-        let members = self.take_members(here, walk, turn)?;
+        let members = self.take_members(site, walk, turn)?;
         let skip = as_index(members.len())?;
-        code.put(here.line, self.begin(walk, start, skip))?;
+        code.put(site.line, self.begin(walk, start, skip))?;
         code.append(members)?;
-        self.forget(code, here, kept.cells + MEMBER_CELLS)
+        self.forget(code, site, kept.cells + MEMBER_CELLS)
     }
 
     /// A FOR with this turn, which was made above the cells that it keeps.
     pub(crate) fn for_loop(
         &mut self,
-        code: &mut Block,
-        here: Here,
+        code: &mut Piece,
+        site: Site,
         head: &Head,
-        turn: Block,
+        turn: Piece,
     ) -> Result<(), CodeError> {
         match head {
             Head::Numbers {
@@ -253,15 +253,15 @@ impl Generator<'_> {
                 first,
                 limit,
                 step,
-            } => self.numbers(code, here, *variable, (first, limit, step), turn),
+            } => self.numbers(code, site, *variable, (first, limit, step), turn),
             Head::Members {
                 variable,
                 set,
                 owner,
                 start,
                 reverse,
-            } => self.members(code, here, (*variable, *set, *reverse), owner, start, turn),
-            Head::Each { variable, class } => self.each(code, here, *variable, *class, turn),
+            } => self.members(code, site, (*variable, *set, *reverse), owner, start, turn),
+            Head::Each { variable, class } => self.each(code, site, *variable, *class, turn),
         }
     }
 
@@ -269,23 +269,23 @@ impl Generator<'_> {
     /// comes before its side, the other after a jump past both sides.
     pub(crate) fn find(
         &mut self,
-        code: &mut Block,
-        here: Here,
+        code: &mut Piece,
+        site: Site,
         head: &Head,
         phrases: &[Phrase],
-        found: Block,
-        none: Block,
+        found: Piece,
+        none: Piece,
     ) -> Result<(), CodeError> {
         let cells = cells_of(head);
-        let mut case = Block::new(self.alloc);
+        let mut case = Piece::new(self.alloc);
         let skip = as_index(none.len() + 3)?;
-        case.put(here.line, Instruction::Jump { skip })?;
-        let turn = self.phrases(here.above(cells), phrases, case)?;
-        self.for_loop(code, here, head, turn)?;
+        case.put(site.line, Instruction::Jump { skip })?;
+        let turn = self.phrases(site.above(cells), phrases, case)?;
+        self.for_loop(code, site, head, turn)?;
         code.append(none)?;
         let skip = as_index(found.len() + 1)?;
-        code.put(here.line, Instruction::Jump { skip })?;
-        self.forget(code, here, cells)?;
+        code.put(site.line, Instruction::Jump { skip })?;
+        self.forget(code, site, cells)?;
         code.append(found)?;
         Ok(())
     }

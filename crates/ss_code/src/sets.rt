@@ -1,10 +1,10 @@
 //! The code that works on sets.
 
-use crate::block::{Block, as_index};
+use crate::piece::{Piece, as_index};
 use crate::error::CodeError;
 use crate::expressions::{Operand, is_plain_owner};
-use crate::facts::{Ordering, is_count_watched, ordering};
-use crate::generator::{Generator, Here};
+use crate::facts::{Ordering, is_count_watched, ordering_of};
+use crate::generator::{Generator, Site};
 use ss_code_instructions::address::Address;
 use ss_code_instructions::instruction::Instruction;
 use ss_program::expression::{Expression, SetOwner};
@@ -41,16 +41,16 @@ impl Generator<'_> {
     /// A reference to an entity that may be a member of a set. It is looked at where something that may fault comes between.
     pub(crate) fn member(
         &mut self,
-        code: &mut Block,
-        here: Here,
+        code: &mut Piece,
+        site: Site,
         set: usize,
         e: &Expression,
         is_looked: bool,
     ) -> Result<Operand, CodeError> {
-        let member = self.operand(code, here, e)?;
+        let member = self.operand(code, site, e)?;
         if is_looked {
             code.put(
-                here.line,
+                site.line,
                 Instruction::LookMember {
                     set: as_index(set)?,
                     member: member.address,
@@ -63,8 +63,8 @@ impl Generator<'_> {
     // The one beside which a member is filed.
     fn beside(
         &mut self,
-        code: &mut Block,
-        here: Here,
+        code: &mut Piece,
+        site: Site,
         set: usize,
         position: &Position,
         is_looked: bool,
@@ -72,10 +72,10 @@ impl Generator<'_> {
         match position {
             Position::ByDiscipline | Position::AsFirst | Position::AsLast => Ok(Beside::Nothing),
             Position::BeforeMember { member } => Ok(Beside::Before(
-                self.member(code, here, set, member, is_looked)?,
+                self.member(code, site, set, member, is_looked)?,
             )),
             Position::AfterMember { member } => Ok(Beside::After(
-                self.member(code, here, set, member, is_looked)?,
+                self.member(code, site, set, member, is_looked)?,
             )),
         }
     }
@@ -106,7 +106,7 @@ impl Generator<'_> {
             Beside::Nothing => match position {
                 Position::AsFirst => file_by(Ordering::First, index, member, owner),
                 Position::AsLast => file_by(Ordering::Last, index, member, owner),
-                _ => file_by(ordering(self.program, set), index, member, owner),
+                _ => file_by(ordering_of(self.program, set), index, member, owner),
             },
         })
     }
@@ -114,8 +114,8 @@ impl Generator<'_> {
     // The number of members of a set has changed: a statistic that watches it notes that. So many cells stayed for it.
     fn noted_count(
         &mut self,
-        code: &mut Block,
-        here: Here,
+        code: &mut Piece,
+        site: Site,
         set: usize,
         owner: Address,
         cells: usize,
@@ -124,20 +124,20 @@ impl Generator<'_> {
             return Ok(());
         }
         code.put(
-            here.line,
+            site.line,
             Instruction::NoteCount {
                 set: as_index(set)?,
                 owner,
             },
         )?;
-        self.forget(code, here, cells)
+        self.forget(code, site, cells)
     }
 
     /// FILE.
     pub(crate) fn file(
         &mut self,
-        code: &mut Block,
-        here: Here,
+        code: &mut Piece,
+        site: Site,
         set: usize,
         member: &Expression,
         position: &Position,
@@ -145,29 +145,29 @@ impl Generator<'_> {
     ) -> Result<(), CodeError> {
         let owner_may_fault = !is_plain_owner(owner);
         let is_looked = owner_may_fault || !is_plain_position(position);
-        let member = self.member(code, here, set, member, is_looked)?;
-        let beside_here = here.above(member.cells);
+        let member = self.member(code, site, set, member, is_looked)?;
+        let beside_here = site.above(member.cells);
         let beside = self.beside(code, beside_here, set, position, owner_may_fault)?;
         let below = member.cells + beside.cells();
-        let owner = self.owner(code, here.above(below), owner)?;
+        let owner = self.owner(code, site.above(below), owner)?;
         let filing = self.filing(set, position, member.address, beside, owner.address)?;
-        code.put(here.line, filing)?;
-        self.noted_count(code, here, set, owner.address, below + owner.cells)
+        code.put(site.line, filing)?;
+        self.noted_count(code, site, set, owner.address, below + owner.cells)
     }
 
     /// REMOVE.
     pub(crate) fn remove(
         &mut self,
-        code: &mut Block,
-        here: Here,
+        code: &mut Piece,
+        site: Site,
         set: usize,
         member: &Expression,
         owner: &SetOwner,
     ) -> Result<(), CodeError> {
-        let member = self.member(code, here, set, member, !is_plain_owner(owner))?;
-        let owner = self.owner(code, here.above(member.cells), owner)?;
+        let member = self.member(code, site, set, member, !is_plain_owner(owner))?;
+        let owner = self.owner(code, site.above(member.cells), owner)?;
         code.put(
-            here.line,
+            site.line,
             Instruction::Remove {
                 set: as_index(set)?,
                 member: member.address,
@@ -175,14 +175,14 @@ impl Generator<'_> {
             },
         )?;
         let cells = member.cells + owner.cells;
-        self.noted_count(code, here, set, owner.address, cells)
+        self.noted_count(code, site, set, owner.address, cells)
     }
 
     // The member at an end is removed, and goes to a place.
     fn put_remove_end(
         &mut self,
-        code: &mut Block,
-        here: Here,
+        code: &mut Piece,
+        site: Site,
         end: End,
         set: usize,
         owner: Address,
@@ -193,31 +193,31 @@ impl Generator<'_> {
             End::First => Instruction::RemoveFirst { set, owner, to },
             End::Last => Instruction::RemoveLast { set, owner, to },
         };
-        code.put(here.line, instruction)?;
+        code.put(site.line, instruction)?;
         Ok(())
     }
 
     /// REMOVE FIRST and REMOVE LAST.
     pub(crate) fn remove_end(
         &mut self,
-        code: &mut Block,
-        here: Here,
+        code: &mut Piece,
+        site: Site,
         end: End,
         set: usize,
         place: &Place,
         owner: &SetOwner,
     ) -> Result<(), CodeError> {
-        let spot = self.looked_spot(code, here, place)?;
-        let above = here.above(spot.cells());
+        let spot = self.looked_spot(code, site, place)?;
+        let above = site.above(spot.cells());
         let owner = self.owner(code, above, owner)?;
         // what a watched set is noted by must stay, so that the member goes above it
         let is_kept = is_count_watched(self.program, set);
         let kept = if is_kept { owner.cells } else { 0 };
-        let to = self.landing(here.above(kept), spot)?;
-        self.put_remove_end(code, here, end, set, owner.address, to)?;
-        self.noted_count(code, here, set, owner.address, 0)?;
-        self.assign(code, here, spot, to)?;
-        self.forget(code, here, kept)
+        let to = self.landing(site.above(kept), spot)?;
+        self.put_remove_end(code, site, end, set, owner.address, to)?;
+        self.noted_count(code, site, set, owner.address, 0)?;
+        self.assign(code, site, spot, to)?;
+        self.forget(code, site, kept)
     }
 }
 

@@ -1,8 +1,8 @@
 //! The code of statements.
 
-use crate::block::{Block, as_index};
+use crate::piece::{Piece, as_index};
 use crate::error::CodeError;
-use crate::generator::{Generator, Here};
+use crate::generator::{Generator, Site};
 use crate::loops::cells_of;
 use ss_base::Line;
 use ss_code_instructions::address::Address;
@@ -12,7 +12,7 @@ use ss_program::expression::Expression;
 use ss_program::statement::{Place, Statement};
 
 // A condition, and one side.
-fn put_one_side(code: &mut Block, test: Block, then: Block) -> Result<(), CodeError> {
+fn put_one_side(code: &mut Piece, test: Piece, then: Piece) -> Result<(), CodeError> {
     code.append(test)?;
     code.append(then)?;
     Ok(())
@@ -22,12 +22,12 @@ impl Generator<'_> {
     /// Values go into the next cells, one above the other.
     pub(crate) fn values(
         &mut self,
-        code: &mut Block,
-        here: Here,
+        code: &mut Piece,
+        site: Site,
         values: &[Expression],
     ) -> Result<(), CodeError> {
         for (i, value) in values.iter().enumerate() {
-            self.push(code, here.above(i), value)?;
+            self.push(code, site.above(i), value)?;
         }
         Ok(())
     }
@@ -35,20 +35,20 @@ impl Generator<'_> {
     // IF: a jump past the second side comes before it, if it has code.
     fn branches(
         &mut self,
-        code: &mut Block,
-        here: Here,
+        code: &mut Piece,
+        site: Site,
         condition: &Condition,
-        then: Block,
-        otherwise: Block,
+        then: Piece,
+        otherwise: Piece,
     ) -> Result<(), CodeError> {
         if otherwise.len() == 0 {
-            let test = self.condition(here, then.len(), condition)?;
+            let test = self.condition(site, then.len(), condition)?;
             return put_one_side(code, test, then);
         }
-        let test = self.condition(here, then.len() + 1, condition)?;
+        let test = self.condition(site, then.len() + 1, condition)?;
         put_one_side(code, test, then)?;
         let skip = as_index(otherwise.len())?;
-        code.put(here.line, Instruction::Jump { skip })?;
+        code.put(site.line, Instruction::Jump { skip })?;
         code.append(otherwise)?;
         Ok(())
     }
@@ -56,14 +56,14 @@ impl Generator<'_> {
     // What a routine yields lies in cells, the first on top: each place takes one.
     fn gives(
         &mut self,
-        code: &mut Block,
-        here: Here,
+        code: &mut Piece,
+        site: Site,
         places: &[Place],
     ) -> Result<(), CodeError> {
         let count = places.len();
         for (i, place) in places.iter().enumerate() {
-            let from = self.cell(here.above(count - 1 - i))?;
-            self.give(code, here.above(count - i), place, from)?;
+            let from = self.cell(site.above(count - 1 - i))?;
+            self.give(code, site.above(count - i), place, from)?;
         }
         Ok(())
     }
@@ -71,59 +71,59 @@ impl Generator<'_> {
     // CALL.
     fn call(
         &mut self,
-        code: &mut Block,
-        here: Here,
+        code: &mut Piece,
+        site: Site,
         routine: usize,
         given: &[Expression],
         yielding: &[Place],
     ) -> Result<(), CodeError> {
-        self.values(code, here, given)?;
+        self.values(code, site, given)?;
         let routine = as_index(routine)?;
-        let cell = self.place_of(here)?;
-        code.put(here.line, Instruction::Call { routine, cell })?;
-        self.gives(code, here, yielding)
+        let cell = self.place_of(site)?;
+        code.put(site.line, Instruction::Call { routine, cell })?;
+        self.gives(code, site, yielding)
     }
 
     // An expression as an operand, where only its address is asked.
     fn address(
         &mut self,
-        code: &mut Block,
-        here: Here,
+        code: &mut Piece,
+        site: Site,
         e: &Expression,
     ) -> Result<Address, CodeError> {
-        Ok(self.operand(code, here, e)?.address)
+        Ok(self.operand(code, site, e)?.address)
     }
 
     // A statement, above so many cells.
     #[cycle(statements)]
     fn statement(
         &mut self,
-        code: &mut Block,
+        code: &mut Piece,
         height: usize,
         s: &Statement,
     ) -> Result<(), CodeError> {
-        let here = Here {
+        let site = Site {
             line: line_of(s),
             height,
         };
         match s {
-            Statement::Let { target, value, .. } => self.assignment(code, here, target, value),
+            Statement::Let { target, value, .. } => self.assignment(code, site, target, value),
             Statement::Change {
                 sign,
                 target,
                 value,
                 ..
-            } => self.change(code, here, *sign, target, value),
+            } => self.change(code, site, *sign, target, value),
             Statement::Call {
                 routine,
                 given,
                 yielding,
                 ..
-            } => self.call(code, here, *routine, given, yielding),
-            Statement::Return => Ok(code.put(here.line, Instruction::Leave)?),
-            Statement::Stop => Ok(code.put(here.line, Instruction::Halt)?),
-            Statement::Read { targets, .. } => self.reads(code, here, targets),
-            Statement::Simulate => self.simulate(code, here),
+            } => self.call(code, site, *routine, given, yielding),
+            Statement::Return => Ok(code.put(site.line, Instruction::Leave)?),
+            Statement::Stop => Ok(code.put(site.line, Instruction::Halt)?),
+            Statement::Read { targets, .. } => self.reads(code, site, targets),
+            Statement::Simulate => self.simulate(code, site),
             Statement::If {
                 condition,
                 then,
@@ -132,11 +132,11 @@ impl Generator<'_> {
             } => {
                 let first = self.body(height, then)?;
                 let second = self.body(height, otherwise)?;
-                self.branches(code, here, condition, first, second)
+                self.branches(code, site, condition, first, second)
             }
             Statement::Loop { guards, body, .. } => {
                 let turn = self.body(height, body)?;
-                self.guarded_loop(code, here, guards, turn)
+                self.guarded_loop(code, site, guards, turn)
             }
             Statement::For {
                 head,
@@ -144,10 +144,10 @@ impl Generator<'_> {
                 body,
                 ..
             } => {
-                let above = here.above(cells_of(head));
+                let above = site.above(cells_of(head));
                 let inner = self.body(above.height, body)?;
                 let turn = self.phrases(above, phrases, inner)?;
-                self.for_loop(code, here, head, turn)
+                self.for_loop(code, site, head, turn)
             }
             Statement::Find {
                 head,
@@ -158,14 +158,14 @@ impl Generator<'_> {
             } => {
                 let first = self.body(height, found)?;
                 let second = self.body(height, none)?;
-                self.find(code, here, head, phrases, first, second)
+                self.find(code, site, head, phrases, first, second)
             }
-            Statement::Create { class, into, .. } => self.create(code, here, *class, into),
-            Statement::CreateEvery { classes, .. } => self.creates(code, here, classes),
+            Statement::Create { class, into, .. } => self.create(code, site, *class, into),
+            Statement::CreateEvery { classes, .. } => self.creates(code, site, classes),
             Statement::Destroy { class, entity, .. } => {
-                let entity = self.address(code, here, entity)?;
+                let entity = self.address(code, site, entity)?;
                 let class = as_index(*class)?;
-                Ok(code.put(here.line, Instruction::Destroy { class, entity })?)
+                Ok(code.put(site.line, Instruction::Destroy { class, entity })?)
             }
             Statement::File {
                 set,
@@ -173,47 +173,47 @@ impl Generator<'_> {
                 position,
                 owner,
                 ..
-            } => self.file(code, here, *set, member, position, owner),
+            } => self.file(code, site, *set, member, position, owner),
             Statement::RemoveEnd {
                 end,
                 set,
                 into,
                 owner,
                 ..
-            } => self.remove_end(code, here, *end, *set, into, owner),
+            } => self.remove_end(code, site, *end, *set, into, owner),
             Statement::Remove {
                 set, member, owner, ..
-            } => self.remove(code, here, *set, member, owner),
+            } => self.remove(code, site, *set, member, owner),
             Statement::ScheduleNew {
                 class,
                 into,
                 given,
                 when,
                 ..
-            } => self.schedule_new(code, here, *class, into, given, when),
+            } => self.schedule_new(code, site, *class, into, given, when),
             Statement::Schedule {
                 class,
                 notice,
                 given,
                 when,
                 ..
-            } => self.schedule(code, here, *class, notice, given, when),
-            Statement::Cancel { class, notice, .. } => self.cancel(code, here, *class, notice),
-            Statement::Reset { restarts, .. } => self.resets(code, here, restarts),
+            } => self.schedule(code, site, *class, notice, given, when),
+            Statement::Cancel { class, notice, .. } => self.cancel(code, site, *class, notice),
+            Statement::Reset { restarts, .. } => self.resets(code, site, restarts),
             Statement::Print {
                 items, pictures, ..
-            } => self.print(code, here, items, pictures),
+            } => self.print(code, site, items, pictures),
             Statement::Skip { count, .. } => {
-                let count = self.address(code, here, count)?;
-                Ok(code.put(here.line, Instruction::Skip { count })?)
+                let count = self.address(code, site, count)?;
+                Ok(code.put(site.line, Instruction::Skip { count })?)
             }
         }
     }
 
     // One statement after another, above so many cells.
     #[cycle(statements)]
-    fn body(&mut self, height: usize, body: &[Statement]) -> Result<Block, CodeError> {
-        let mut code = Block::new(self.alloc);
+    fn body(&mut self, height: usize, body: &[Statement]) -> Result<Piece, CodeError> {
+        let mut code = Piece::new(self.alloc);
         for s in body {
             self.statement(&mut code, height, s)?;
         }
@@ -221,7 +221,7 @@ impl Generator<'_> {
     }
 
     /// MAIN, a routine or an event routine, which ends with a return.
-    pub(crate) fn section(&mut self, body: &[Statement]) -> Result<Block, CodeError> {
+    pub(crate) fn section(&mut self, body: &[Statement]) -> Result<Piece, CodeError> {
         let mut code = self.body(0, body)?;
         code.put(Line(0), Instruction::Leave)?;
         Ok(code)

@@ -1,12 +1,12 @@
 //! The code that assigns.
 
-use crate::block::{Block, as_index};
+use crate::piece::{Piece, as_index};
 use crate::error::CodeError;
 use crate::expressions::{is_plain, move_of};
 use crate::facts::{
     attribute_mode, is_attribute_watched, is_variable_watched, variable_mode,
 };
-use crate::generator::{Generator, Here};
+use crate::generator::{Generator, Site};
 use ss_base::Mode;
 use ss_code_instructions::address::Address;
 use ss_code_instructions::instruction::Instruction;
@@ -126,13 +126,13 @@ impl Generator<'_> {
     // An attribute as what is assigned: the reference to its entity is evaluated.
     fn attribute_spot(
         &mut self,
-        code: &mut Block,
-        here: Here,
+        code: &mut Piece,
+        site: Site,
         class: usize,
         field: usize,
         of: &Expression,
     ) -> Result<Spot, CodeError> {
-        let entity = self.operand(code, here, of)?;
+        let entity = self.operand(code, site, of)?;
         Ok(Spot::Attribute(AttributeSpot {
             class: as_index(class)?,
             field: as_index(field)?,
@@ -144,11 +144,11 @@ impl Generator<'_> {
     }
 
     // A place as what is assigned: the reference to the entity of an attribute is evaluated.
-    fn spot(&mut self, code: &mut Block, here: Here, place: &Place) -> Result<Spot, CodeError> {
+    fn spot(&mut self, code: &mut Piece, site: Site, place: &Place) -> Result<Spot, CodeError> {
         match place {
             Place::ToVariable { variable } => Ok(Spot::Variable(self.variable_spot(*variable)?)),
             Place::ToAttribute { class, field, of } => {
-                self.attribute_spot(code, here, *class, *field, of)
+                self.attribute_spot(code, site, *class, *field, of)
             }
             Place::ToCount { count } => self.count_spot(*count),
         }
@@ -157,14 +157,14 @@ impl Generator<'_> {
     /// The same, and the reference is looked at: something that may fault comes before the value is assigned.
     pub(crate) fn looked_spot(
         &mut self,
-        code: &mut Block,
-        here: Here,
+        code: &mut Piece,
+        site: Site,
         place: &Place,
     ) -> Result<Spot, CodeError> {
-        let spot = self.spot(code, here, place)?;
+        let spot = self.spot(code, site, place)?;
         if let Spot::Attribute(attribute) = spot {
             code.put(
-                here.line,
+                site.line,
                 Instruction::LookEntity {
                     class: attribute.class,
                     entity: attribute.entity,
@@ -176,22 +176,22 @@ impl Generator<'_> {
 
     /// Where the value that a place will be assigned goes at first: into the variable itself, or into the next cell above what
     /// the place takes.
-    pub(crate) fn landing(&mut self, here: Here, spot: Spot) -> Result<Address, CodeError> {
+    pub(crate) fn landing(&mut self, site: Site, spot: Spot) -> Result<Address, CodeError> {
         match spot {
             Spot::Variable(variable) => Ok(variable.address),
-            Spot::Attribute(_) | Spot::Count(_, _) => self.cell(here.above(spot.cells())),
+            Spot::Attribute(_) | Spot::Count(_, _) => self.cell(site.above(spot.cells())),
         }
     }
 
     // A variable was assigned: a statistic that watches it notes that.
     pub(crate) fn noted(
         &mut self,
-        code: &mut Block,
-        here: Here,
+        code: &mut Piece,
+        site: Site,
         variable: VariableSpot,
     ) -> Result<(), CodeError> {
         if let Some(number) = variable.watched {
-            code.put(here.line, Instruction::NoteVariable { variable: number })?;
+            code.put(site.line, Instruction::NoteVariable { variable: number })?;
         }
         Ok(())
     }
@@ -199,48 +199,48 @@ impl Generator<'_> {
     // A variable is assigned a value, unless it lies there already.
     fn assign_variable(
         &mut self,
-        code: &mut Block,
-        here: Here,
+        code: &mut Piece,
+        site: Site,
         variable: VariableSpot,
         from: Address,
     ) -> Result<(), CodeError> {
         if from != variable.address {
-            code.put(here.line, move_of(variable.mode, from, variable.address))?;
+            code.put(site.line, move_of(variable.mode, from, variable.address))?;
         }
-        self.noted(code, here, variable)
+        self.noted(code, site, variable)
     }
 
     // An attribute was assigned: a statistic that watches it notes that.
     fn noted_attribute(
         &mut self,
-        code: &mut Block,
-        here: Here,
+        code: &mut Piece,
+        site: Site,
         spot: AttributeSpot,
     ) -> Result<(), CodeError> {
         if !spot.is_watched {
             return Ok(());
         }
         code.put(
-            here.line,
+            site.line,
             Instruction::NoteAttribute {
                 class: spot.class,
                 field: spot.field,
                 entity: spot.entity,
             },
         )?;
-        self.forget(code, here, spot.cells)
+        self.forget(code, site, spot.cells)
     }
 
     /// So many cells that stayed are forgotten.
     pub(crate) fn forget(
         &mut self,
-        code: &mut Block,
-        here: Here,
+        code: &mut Piece,
+        site: Site,
         cells: usize,
     ) -> Result<(), CodeError> {
         if cells > 0 {
             let count = as_index(cells)?;
-            code.put(here.line, Instruction::Forget { count })?;
+            code.put(site.line, Instruction::Forget { count })?;
         }
         Ok(())
     }
@@ -248,20 +248,20 @@ impl Generator<'_> {
     /// A value goes to what is assigned.
     pub(crate) fn assign(
         &mut self,
-        code: &mut Block,
-        here: Here,
+        code: &mut Piece,
+        site: Site,
         spot: Spot,
         from: Address,
     ) -> Result<(), CodeError> {
         match spot {
-            Spot::Variable(variable) => self.assign_variable(code, here, variable, from),
+            Spot::Variable(variable) => self.assign_variable(code, site, variable, from),
             Spot::Attribute(attribute) => {
-                code.put(here.line, set_of(attribute, from))?;
-                self.noted_attribute(code, here, attribute)
+                code.put(site.line, set_of(attribute, from))?;
+                self.noted_attribute(code, site, attribute)
             }
             Spot::Count(class, variable) => {
-                code.put(here.line, Instruction::LookCount { class })?;
-                self.assign_variable(code, here, variable, from)
+                code.put(site.line, Instruction::LookCount { class })?;
+                self.assign_variable(code, site, variable, from)
             }
         }
     }
@@ -269,36 +269,36 @@ impl Generator<'_> {
     /// A value that lies in a cell goes to a place.
     pub(crate) fn give(
         &mut self,
-        code: &mut Block,
-        here: Here,
+        code: &mut Piece,
+        site: Site,
         place: &Place,
         from: Address,
     ) -> Result<(), CodeError> {
-        let spot = self.spot(code, here, place)?;
-        self.assign(code, here, spot, from)
+        let spot = self.spot(code, site, place)?;
+        self.assign(code, site, spot, from)
     }
 
     /// LET.
     pub(crate) fn assignment(
         &mut self,
-        code: &mut Block,
-        here: Here,
+        code: &mut Piece,
+        site: Site,
         place: &Place,
         value: &Expression,
     ) -> Result<(), CodeError> {
         let spot = if is_plain(value) {
-            self.spot(code, here, place)?
+            self.spot(code, site, place)?
         } else {
-            self.looked_spot(code, here, place)?
+            self.looked_spot(code, site, place)?
         };
         match spot {
             Spot::Variable(variable) => {
-                self.expression(code, here, value, variable.address)?;
-                self.noted(code, here, variable)
+                self.expression(code, site, value, variable.address)?;
+                self.noted(code, site, variable)
             }
             Spot::Attribute(_) | Spot::Count(_, _) => {
-                let from = self.operand(code, here.above(spot.cells()), value)?;
-                self.assign(code, here, spot, from.address)
+                let from = self.operand(code, site.above(spot.cells()), value)?;
+                self.assign(code, site, spot, from.address)
             }
         }
     }
@@ -306,81 +306,81 @@ impl Generator<'_> {
     // ADD and SUBTRACT, to a variable.
     fn change_variable(
         &mut self,
-        code: &mut Block,
-        here: Here,
+        code: &mut Piece,
+        site: Site,
         sign: Sign,
         variable: VariableSpot,
         by: Address,
     ) -> Result<(), CodeError> {
         let to = variable.address;
-        code.put(here.line, change_of(sign, to, by, to))?;
-        self.noted(code, here, variable)
+        code.put(site.line, change_of(sign, to, by, to))?;
+        self.noted(code, site, variable)
     }
 
     // ADD and SUBTRACT, to N. of a class.
     fn change_count(
         &mut self,
-        code: &mut Block,
-        here: Here,
+        code: &mut Piece,
+        site: Site,
         sign: Sign,
         spot: Spot,
         variable: VariableSpot,
         by: Address,
     ) -> Result<(), CodeError> {
-        let to = self.cell(here)?;
-        code.put(here.line, change_of(sign, variable.address, by, to))?;
-        self.assign(code, here, spot, to)
+        let to = self.cell(site)?;
+        code.put(site.line, change_of(sign, variable.address, by, to))?;
+        self.assign(code, site, spot, to)
     }
 
     /// ADD and SUBTRACT.
     pub(crate) fn change(
         &mut self,
-        code: &mut Block,
-        here: Here,
+        code: &mut Piece,
+        site: Site,
         sign: Sign,
         place: &Place,
         value: &Expression,
     ) -> Result<(), CodeError> {
-        let by = self.operand(code, here, value)?;
-        let spot = self.spot(code, here.above(by.cells), place)?;
+        let by = self.operand(code, site, value)?;
+        let spot = self.spot(code, site.above(by.cells), place)?;
         match spot {
             Spot::Variable(variable) => {
-                self.change_variable(code, here, sign, variable, by.address)
+                self.change_variable(code, site, sign, variable, by.address)
             }
             Spot::Attribute(attribute) => {
                 code.put(
-                    here.line,
+                    site.line,
                     attribute_change_of(sign, attribute, by.address),
                 )?;
-                self.noted_attribute(code, here, attribute)
+                self.noted_attribute(code, site, attribute)
             }
             Spot::Count(_, variable) => {
-                self.change_count(code, here, sign, spot, variable, by.address)
+                self.change_count(code, site, sign, spot, variable, by.address)
             }
         }
     }
 
     // A target takes a word of input.
-    fn read(&mut self, code: &mut Block, here: Here, target: &Target) -> Result<(), CodeError> {
-        let spot = self.looked_spot(code, here, &target.place)?;
-        let to = self.landing(here, spot)?;
+    fn read(&mut self, code: &mut Piece, site: Site, target: &Target) -> Result<(), CodeError> {
+        let spot = self.looked_spot(code, site, &target.place)?;
+        let to = self.landing(site, spot)?;
         let instruction = match target.mode {
             Mode::Integer => Instruction::Read { to },
             Mode::Alpha => Instruction::ReadText { to },
         };
-        code.put(here.line, instruction)?;
-        self.assign(code, here, spot, to)
+        code.put(site.line, instruction)?;
+        self.assign(code, site, spot, to)
     }
 
     /// READ: each target takes a word of input.
     pub(crate) fn reads(
         &mut self,
-        code: &mut Block,
-        here: Here,
+        code: &mut Piece,
+        site: Site,
         targets: &[Target],
     ) -> Result<(), CodeError> {
         for target in targets {
-            self.read(code, here, target)?;
+            self.read(code, site, target)?;
         }
         Ok(())
     }
@@ -388,29 +388,29 @@ impl Generator<'_> {
     /// CREATE A.
     pub(crate) fn create(
         &mut self,
-        code: &mut Block,
-        here: Here,
+        code: &mut Piece,
+        site: Site,
         class: usize,
         place: &Place,
     ) -> Result<(), CodeError> {
-        let spot = self.looked_spot(code, here, place)?;
-        let to = self.landing(here, spot)?;
+        let spot = self.looked_spot(code, site, place)?;
+        let to = self.landing(site, spot)?;
         let class = as_index(class)?;
-        code.put(here.line, Instruction::Create { class, to })?;
-        self.assign(code, here, spot, to)
+        code.put(site.line, Instruction::Create { class, to })?;
+        self.assign(code, site, spot, to)
     }
 
     /// CREATE EVERY.
     pub(crate) fn creates(
         &mut self,
-        code: &mut Block,
-        here: Here,
+        code: &mut Piece,
+        site: Site,
         classes: &[Counted],
     ) -> Result<(), CodeError> {
         for counted in classes {
             let class = as_index(counted.class)?;
             let variable = as_index(counted.variable)?;
-            code.put(here.line, Instruction::CreateAll { class, variable })?;
+            code.put(site.line, Instruction::CreateAll { class, variable })?;
         }
         Ok(())
     }

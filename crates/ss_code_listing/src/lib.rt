@@ -3,4 +3,3 @@
 
 mod detail;
 pub mod listing;
-mod words;

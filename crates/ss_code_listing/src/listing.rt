@@ -39,7 +39,8 @@ fn add_constant(text: &mut Vec<u8>, value: &Value) -> Result<(), AllocError> {
         Value::Text(alpha) => {
             text.push(b'"')?;
             text.extend_from_slice(alpha.bytes())?;
-            text.push(b'"')
+            text.push(b'"')?;
+            Ok(())
         }
     }
 }

@@ -28,7 +28,8 @@ impl Frames {
 
     /// One more.
     pub fn push(&mut self, frame: Frame) -> Result<(), AllocError> {
-        self.frames.push(frame)
+        self.frames.push(frame)?;
+        Ok(())
     }
 
     /// The last one, which is open no longer.

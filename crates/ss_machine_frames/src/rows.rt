@@ -38,13 +38,14 @@ impl Rows {
         match value {
             Value::Whole(number) => {
                 self.numbers.push(number)?;
-                self.texts.push(Alpha::empty())
+                self.texts.push(Alpha::empty())?;
             }
             Value::Text(text) => {
                 self.numbers.push(0)?;
-                self.texts.push(text)
+                self.texts.push(text)?;
             }
         }
+        Ok(())
     }
 
     /// At least so many places. The error comes where memory was refused, and where a place would have no number.

@@ -7,15 +7,15 @@ use std::alloc::{AllocError, Global};
 
 /// Instructions one after another, and beside them the line of each.
 #[derive(Drop)]
-pub(crate) struct Block {
+pub(crate) struct Piece {
     pub(crate) instructions: Vec<Instruction>,
     pub(crate) lines: Vec<Line>,
 }
 
-impl Block {
+impl Piece {
     /// No instruction.
-    pub(crate) fn new(alloc: Global) -> Block {
-        Block {
+    pub(crate) fn new(alloc: Global) -> Piece {
+        Piece {
             instructions: Vec::new(alloc),
             lines: Vec::new(alloc),
         }
@@ -29,11 +29,12 @@ impl Block {
     /// One instruction more.
     pub(crate) fn put(&mut self, line: Line, instruction: Instruction) -> Result<(), AllocError> {
         self.instructions.push(instruction)?;
-        self.lines.push(line)
+        self.lines.push(line)?;
+        Ok(())
     }
 
     /// Those of another piece after these.
-    pub(crate) fn append(&mut self, mut behind: Block) -> Result<(), AllocError> {
+    pub(crate) fn append(&mut self, mut behind: Piece) -> Result<(), AllocError> {
         self.instructions.append(&mut behind.instructions)?;
         self.lines.append(&mut behind.lines)
     }
