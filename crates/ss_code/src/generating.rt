@@ -36,12 +36,13 @@ fn put_section(
     generator.deepest = 0;
     let own = generator.section(body)?;
     code.append(own)?;
+    let room = generator.locals.len() + generator.deepest;
     Ok(Entry {
         place,
         given,
         yielding,
         others,
-        cells: generator.deepest,
+        room,
     })
 }
 

@@ -14,13 +14,6 @@ pub struct Entry {
     pub yielding: usize,
     /// The modes of the other variables.
     pub others: Vec<Mode>,
-    /// How many cells its stack may have.
-    pub cells: usize,
-}
-
-impl Entry {
     /// How many variables and cells its frame has.
-    pub fn room(&self) -> usize {
-        self.given.len() + self.others.len() + self.cells
-    }
+    pub room: usize,
 }

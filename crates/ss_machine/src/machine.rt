@@ -5,7 +5,7 @@ use ss_code::code::Code;
 use ss_input::Source;
 use ss_machine_instructions::flow::Here;
 use ss_machine_instructions::state::State;
-use ss_machine_steps::first::{first_state, release_state};
+use ss_machine_steps::first::{first_place, first_state, release_state};
 use ss_machine_steps::running::run;
 use ss_machine_steps::showing::Buffers;
 use ss_machine_steps::stop::Stop;
@@ -21,6 +21,7 @@ pub struct Machine {
     code: Code,
     state: State,
     place: usize,
+    frame: u32,
     buffers: Buffers,
     used: u64,
     steps: u128,
@@ -60,11 +61,12 @@ impl Machine {
     pub fn new(alloc: Global, code: Code) -> Result<Machine, AllocError> {
         let first = first_state(alloc, &code);
         let (code, state) = beside(code, first)?;
-        let place = code.main().place;
+        let (place, frame) = first_place(&code);
         Ok(Machine {
             code,
             state,
             place,
+            frame,
             buffers: Buffers::new(alloc),
             used: 0,
             steps: 0,
@@ -95,6 +97,7 @@ impl Machine {
         let last = self.used.saturating_add(ticks);
         let from = Here {
             place: self.place,
+            frame: self.frame,
             ticks: last - self.used,
         };
         let rest = run(
@@ -106,8 +109,9 @@ impl Machine {
             source,
             sink,
         );
-        self.place = rest.place;
-        self.used = last - rest.ticks;
+        self.place = rest.here.place;
+        self.frame = rest.here.frame;
+        self.used = last - rest.here.ticks;
         self.steps = rest.steps;
         self.stopped = kept(rest.stop);
         rest.stop

@@ -17,7 +17,7 @@ impl State {
         entity: Address,
         to: Address,
     ) -> Went {
-        let entity = self.number(entity);
+        let entity = self.number(here, entity);
         let answer = world::attribute(&self.scene, class as usize, field as usize, entity);
         self.put(here, to, answer)
     }
@@ -32,10 +32,10 @@ impl State {
         entity: Address,
         to: Address,
     ) -> Went {
-        let entity = self.number(entity);
+        let entity = self.number(here, entity);
         match world::text_attribute(&self.scene, class as usize, field as usize, entity) {
             Ok(text) => {
-                self.set_text(to, text);
+                self.set_text(here, to, text);
                 here.on()
             }
             Err(kind) => here.fault(kind),
@@ -52,7 +52,7 @@ impl State {
         entity: Address,
         from: Address,
     ) -> Went {
-        let (entity, number) = (self.number(entity), self.number(from));
+        let (entity, number) = (self.number(here, entity), self.number(here, from));
         here.done(world::set_attribute(
             &mut self.scene,
             class as usize,
@@ -72,7 +72,7 @@ impl State {
         entity: Address,
         from: Address,
     ) -> Went {
-        let (entity, text) = (self.number(entity), self.text(from));
+        let (entity, text) = (self.number(here, entity), self.text(here, from));
         here.done(world::set_value(
             &mut self.scene,
             class as usize,
@@ -92,7 +92,7 @@ impl State {
         entity: Address,
         by: Address,
     ) -> Went {
-        let (entity, by) = (self.number(entity), self.number(by));
+        let (entity, by) = (self.number(here, entity), self.number(here, by));
         here.done(world::add_to_attribute(
             &mut self.scene,
             class as usize,
@@ -112,7 +112,7 @@ impl State {
         entity: Address,
         by: Address,
     ) -> Went {
-        let (entity, by) = (self.number(entity), self.number(by));
+        let (entity, by) = (self.number(here, entity), self.number(here, by));
         here.done(world::subtract_from_attribute(
             &mut self.scene,
             class as usize,
@@ -126,14 +126,14 @@ impl State {
     #[inline(always)]
     pub fn clock(&mut self, here: Here, to: Address) -> Went {
         let time = self.scene.timeline.time();
-        self.set_number(to, time);
+        self.set_number(here, to, time);
         here.on()
     }
 
     /// TimeOf.
     #[inline(never)]
     pub fn time_of(&mut self, here: Here, notice: Address, to: Address) -> Went {
-        let answer = self.scene.population.time_a(self.number(notice));
+        let answer = self.scene.population.time_a(self.number(here, notice));
         self.put(here, to, answer)
     }
 }

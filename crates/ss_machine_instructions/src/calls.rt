@@ -8,23 +8,22 @@ use std::alloc::AllocError;
 
 impl State {
     /// A section begins, whose frame begins at a cell: what it is given lies there already, its other variables hold their
-    /// first values, and there is room for its cells.
+    /// first values, and there is room for its cells. It answers where the frame begins.
     #[inline(always)]
-    pub fn enter(&mut self, place: usize, entry: &Entry, cell: u32) -> Result<(), AllocError> {
-        let frame = self.cell(cell);
-        let room = frame + entry.room();
+    pub fn enter(&mut self, here: Here, entry: &Entry, cell: u32) -> Result<u32, AllocError> {
+        let frame = self.cell(here, cell);
+        let room = frame + entry.room;
         if self.rows.len() < room {
             self.rows.lengthen(room)?;
         }
         self.rows.clear(frame + entry.given.len(), &entry.others);
         self.frames.push(Frame {
-            back: place + 1,
-            caller: self.frame,
+            back: here.place + 1,
+            caller: here.frame,
             given: entry.given.len() as u32,
             yielding: entry.yielding as u32,
         })?;
-        self.frame = frame as u32;
-        Ok(())
+        Ok(frame as u32)
     }
 
     /// Call.
@@ -32,9 +31,9 @@ impl State {
     pub fn call(&mut self, here: Here, entry: &Entry, cell: u32) -> Went {
         match here.with_tick() {
             None => here.pause(),
-            Some(after) => match self.enter(here.place, entry, cell) {
+            Some(after) => match self.enter(after, entry, cell) {
                 Err(_) => here.stop(Flow::NoMemory),
-                Ok(()) => after.to(entry.place),
+                Ok(frame) => after.to(entry.place, frame),
             },
         }
     }
@@ -46,10 +45,9 @@ impl State {
             None => here.stop(Flow::Ends),
             Some(frame) => {
                 if frame.yielding > 0 {
-                    self.yield_values(&frame);
+                    self.yield_values(here, &frame);
                 }
-                self.frame = frame.caller;
-                here.to(frame.back)
+                here.to(frame.back, frame.caller)
             }
         }
     }
@@ -62,8 +60,8 @@ impl State {
 
     // What is yielded goes where the frame begins, the first on top.
     #[inline(never)]
-    fn yield_values(&mut self, frame: &Frame) {
-        let to = self.frame as usize;
+    fn yield_values(&mut self, here: Here, frame: &Frame) {
+        let to = here.frame as usize;
         let from = to + frame.given as usize;
         self.rows.yield_down(from, to, frame.yielding as usize);
     }

@@ -12,7 +12,7 @@ impl State {
     pub fn create(&mut self, here: Here, class: u32, to: Address) -> Went {
         match world::create(&mut self.scene, class as usize) {
             Ok(number) => {
-                self.set_number(to, number);
+                self.set_number(here, to, number);
                 here.on()
             }
             Err(refused) => here.refused(refused),
@@ -33,7 +33,7 @@ impl State {
     /// Destroy.
     #[inline(always)]
     pub fn destroy(&mut self, here: Here, class: u32, entity: Address) -> Went {
-        let entity = self.number(entity);
+        let entity = self.number(here, entity);
         here.done(world::destroy(&mut self.scene, class as usize, entity))
     }
 }

@@ -12,7 +12,7 @@ impl State {
     /// At.
     #[inline(always)]
     pub fn time_at(&mut self, here: Here, time: Address, to: Address) -> Went {
-        let time = self.number(time);
+        let time = self.number(here, time);
         let answer = world::time_at(&self.scene, time);
         self.put(here, to, answer)
     }
@@ -20,7 +20,7 @@ impl State {
     /// In.
     #[inline(always)]
     pub fn time_in(&mut self, here: Here, units: Address, to: Address) -> Went {
-        let units = self.number(units);
+        let units = self.number(here, units);
         let answer = world::time_in(&self.scene, units);
         self.put(here, to, answer)
     }
@@ -80,12 +80,12 @@ impl State {
         given: u32,
         to: Address,
     ) -> Went {
-        let from = self.cell(cell);
+        let from = self.cell(here, cell);
         let time = self.rows.number_at(from + given as usize);
         match self.new_notice(class as usize, from, given, time) {
             Ok(notice) => {
                 self.rows.set_number_at(from, time);
-                self.set_number(to, notice);
+                self.set_number(here, to, notice);
                 here.on()
             }
             Err(refused) => here.refused(refused),
@@ -101,7 +101,7 @@ impl State {
         notice: Address,
         time: Address,
     ) -> Went {
-        let (notice, time) = (self.number(notice), self.number(time));
+        let (notice, time) = (self.number(here, notice), self.number(here, time));
         match world::file_notice(&mut self.scene, self.alloc, class as usize, notice, time) {
             Ok(()) => here.on(),
             Err(refused) => here.refused(refused),
@@ -140,8 +140,8 @@ impl State {
         cell: u32,
         given: u32,
     ) -> Went {
-        let notice = self.number(notice);
-        let from = self.cell(cell);
+        let notice = self.number(here, notice);
+        let from = self.cell(here, cell);
         let time = self.rows.number_at(from + given as usize);
         match self.schedule_again(class as usize, notice, from, given, time) {
             Ok(()) => here.on(),
@@ -152,7 +152,7 @@ impl State {
     /// Cancel.
     #[inline(never)]
     pub fn cancel(&mut self, here: Here, class: u32, notice: Address) -> Went {
-        let notice = self.number(notice);
+        let notice = self.number(here, notice);
         here.done(world::cancel(&mut self.scene, class as usize, notice))
     }
 
@@ -194,16 +194,15 @@ impl State {
     // The event that comes next begins.
     #[inline(always)]
     fn begin_event(&mut self, here: Here, event: Event, entry: &Entry, cell: u32) -> Went {
-        if self.enter(here.place, entry, cell).is_err() {
+        let Ok(frame) = self.enter(here, entry, cell) else {
             return here.stop(Flow::NoMemory);
-        }
-        let frame = self.frame as usize;
-        let begun = match self.read_given(&event, &entry.given, frame) {
+        };
+        let begun = match self.read_given(&event, &entry.given, frame as usize) {
             Ok(()) => self.let_go(&event),
             Err(kind) => Err(kind),
         };
         match begun {
-            Ok(()) => here.to(entry.place),
+            Ok(()) => here.to(entry.place, frame),
             Err(kind) => fault_of_event(here, kind, event.line),
         }
     }

@@ -23,18 +23,20 @@ pub enum Flow {
     NoInput,
 }
 
-/// Where an instruction has led: the place, the ticks that are left, and how it goes on.
+/// Where an instruction has led: the place, where the frame of the section begins, the ticks that are left, and how it goes on.
 #[derive(Clone, Copy, Debug, PartialEq, Eq)]
 pub struct Went {
     pub place: usize,
+    pub frame: u32,
     pub ticks: u64,
     pub flow: Flow,
 }
 
-/// The instruction at a place, and the ticks that are left before it.
+/// Where a run is: the place of the instruction, where the frame of the section begins, and the ticks that are left.
 #[derive(Clone, Copy, Debug, PartialEq, Eq)]
 pub struct Here {
     pub place: usize,
+    pub frame: u32,
     pub ticks: u64,
 }
 
@@ -44,6 +46,7 @@ impl Here {
     fn with(self, place: usize, flow: Flow) -> Went {
         Went {
             place,
+            frame: self.frame,
             ticks: self.ticks,
             flow,
         }
@@ -73,10 +76,15 @@ impl Here {
         self.with(self.place - back as usize, Flow::Goes)
     }
 
-    /// To a place.
+    /// To a place in another frame.
     #[inline(always)]
-    pub fn to(self, place: usize) -> Went {
-        self.with(place, Flow::Goes)
+    pub fn to(self, place: usize, frame: u32) -> Went {
+        Went {
+            place,
+            frame,
+            ticks: self.ticks,
+            flow: Flow::Goes,
+        }
     }
 
     /// It does not go on.
@@ -117,6 +125,7 @@ impl Here {
         }
         Some(Here {
             place: self.place,
+            frame: self.frame,
             ticks: self.ticks - 1,
         })
     }

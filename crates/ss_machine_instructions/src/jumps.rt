@@ -33,25 +33,25 @@ impl State {
     /// UnlessEqual.
     #[inline(always)]
     pub fn unless_equal(&self, here: Here, left: Address, right: Address, skip: u32) -> Went {
-        here.on_if(self.number(left) == self.number(right), skip)
+        here.on_if(self.number(here, left) == self.number(here, right), skip)
     }
 
     /// UnlessNotEqual.
     #[inline(always)]
     pub fn unless_not_equal(&self, here: Here, left: Address, right: Address, skip: u32) -> Went {
-        here.on_if(self.number(left) != self.number(right), skip)
+        here.on_if(self.number(here, left) != self.number(here, right), skip)
     }
 
     /// UnlessLess.
     #[inline(always)]
     pub fn unless_less(&self, here: Here, left: Address, right: Address, skip: u32) -> Went {
-        here.on_if(self.number(left) < self.number(right), skip)
+        here.on_if(self.number(here, left) < self.number(here, right), skip)
     }
 
     /// UnlessGreater.
     #[inline(always)]
     pub fn unless_greater(&self, here: Here, left: Address, right: Address, skip: u32) -> Went {
-        here.on_if(self.number(left) > self.number(right), skip)
+        here.on_if(self.number(here, left) > self.number(here, right), skip)
     }
 
     /// UnlessLessOrEqual.
@@ -63,7 +63,7 @@ impl State {
         right: Address,
         skip: u32,
     ) -> Went {
-        here.on_if(self.number(left) <= self.number(right), skip)
+        here.on_if(self.number(here, left) <= self.number(here, right), skip)
     }
 
     /// UnlessGreaterOrEqual.
@@ -75,13 +75,19 @@ impl State {
         right: Address,
         skip: u32,
     ) -> Went {
-        here.on_if(self.number(left) >= self.number(right), skip)
+        here.on_if(self.number(here, left) >= self.number(here, right), skip)
     }
 
     /// UnlessTexts.
     #[inline(never)]
-    pub fn related_texts(&self, relation: Relation, left: Address, right: Address) -> bool {
-        allows(relation, self.text(left).cmp(&self.text(right)))
+    pub fn related_texts(
+        &self,
+        here: Here,
+        relation: Relation,
+        left: Address,
+        right: Address,
+    ) -> bool {
+        allows(relation, self.text(here, left).cmp(&self.text(here, right)))
     }
 
     /// UnlessEmpty.
@@ -94,7 +100,7 @@ impl State {
         skip: u32,
         negated: bool,
     ) -> Went {
-        let owner = self.number(owner);
+        let owner = self.number(here, owner);
         let answer = world::is_empty(&mut self.scene, set as usize, owner);
         branch(here, answer, negated, skip)
     }
@@ -109,7 +115,7 @@ impl State {
         skip: u32,
         negated: bool,
     ) -> Went {
-        let (member, owner) = (self.number(both.0), self.number(both.1));
+        let (member, owner) = (self.number(here, both.0), self.number(here, both.1));
         let answer = world::is_in(&mut self.scene, set as usize, owner, member);
         branch(here, answer, negated, skip)
     }

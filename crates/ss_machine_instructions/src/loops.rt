@@ -29,7 +29,7 @@ impl State {
     /// Begin.
     #[inline(never)]
     pub fn begin(&mut self, here: Here, cell: u32, skip: u32) -> Went {
-        let at = self.cell(cell);
+        let at = self.cell(here, cell);
         if self.rows.number_at(at + STEP) < 1 {
             return here.fault(FaultKind::LoopStep);
         }
@@ -41,7 +41,7 @@ impl State {
     #[inline(never)]
     pub fn begin_class(&mut self, here: Here, class: u32, cell: u32, skip: u32) -> Went {
         let count = world::class_count(&self.scene, class as usize);
-        let at = self.cell(cell);
+        let at = self.cell(here, cell);
         self.rows.set_number_at(at, 1);
         self.rows.set_number_at(at + LIMIT, count);
         self.rows.set_number_at(at + STEP, 1);
@@ -63,8 +63,8 @@ impl State {
         match here.with_tick() {
             None => here.pause(),
             Some(after) => {
-                let item = self.rows.number_at(self.cell(cell));
-                self.set_number(to, item);
+                let item = self.rows.number_at(self.cell(here, cell));
+                self.set_number(here, to, item);
                 after.on()
             }
         }
@@ -73,7 +73,7 @@ impl State {
     /// Next.
     #[inline(always)]
     pub fn next(&mut self, here: Here, cell: u32, back: u32) -> Went {
-        let at = self.cell(cell);
+        let at = self.cell(here, cell);
         let item = self.rows.number_at(at);
         let step = self.rows.number_at(at + STEP);
         let limit = self.rows.number_at(at + LIMIT);

@@ -20,7 +20,7 @@ impl State {
     pub fn put(&mut self, here: Here, to: Address, answer: Result<i64, FaultKind>) -> Went {
         match answer {
             Ok(number) => {
-                self.set_number(to, number);
+                self.set_number(here, to, number);
                 here.on()
             }
             Err(kind) => here.fault(kind),
@@ -30,74 +30,74 @@ impl State {
     /// Move.
     #[inline(always)]
     pub fn move_number(&mut self, here: Here, from: Address, to: Address) -> Went {
-        let number = self.number(from);
-        self.set_number(to, number);
+        let number = self.number(here, from);
+        self.set_number(here, to, number);
         here.on()
     }
 
     /// MoveText.
     #[inline(always)]
     pub fn move_text(&mut self, here: Here, from: Address, to: Address) -> Went {
-        let text = self.text(from);
-        self.set_text(to, text);
+        let text = self.text(here, from);
+        self.set_text(here, to, text);
         here.on()
     }
 
     /// Add.
     #[inline(always)]
     pub fn add(&mut self, here: Here, left: Address, right: Address, to: Address) -> Went {
-        let answer = plus(self.number(left), self.number(right));
+        let answer = plus(self.number(here, left), self.number(here, right));
         self.put(here, to, answer)
     }
 
     /// Subtract.
     #[inline(always)]
     pub fn subtract(&mut self, here: Here, left: Address, right: Address, to: Address) -> Went {
-        let answer = minus(self.number(left), self.number(right));
+        let answer = minus(self.number(here, left), self.number(here, right));
         self.put(here, to, answer)
     }
 
     /// Multiply.
     #[inline(always)]
     pub fn multiply(&mut self, here: Here, left: Address, right: Address, to: Address) -> Went {
-        let answer = times(self.number(left), self.number(right));
+        let answer = times(self.number(here, left), self.number(here, right));
         self.put(here, to, answer)
     }
 
     /// Quotient.
     #[inline(always)]
     pub fn quotient(&mut self, here: Here, left: Address, right: Address, to: Address) -> Went {
-        let answer = div_f(self.number(left), self.number(right));
+        let answer = div_f(self.number(here, left), self.number(here, right));
         self.put(here, to, answer)
     }
 
     /// Remainder.
     #[inline(always)]
     pub fn remainder(&mut self, here: Here, left: Address, right: Address, to: Address) -> Went {
-        let answer = mod_f(self.number(left), self.number(right));
+        let answer = mod_f(self.number(here, left), self.number(here, right));
         self.put(here, to, answer)
     }
 
     /// Least.
     #[inline(always)]
     pub fn least(&mut self, here: Here, left: Address, right: Address, to: Address) -> Went {
-        let number = self.number(left).min(self.number(right));
-        self.set_number(to, number);
+        let number = self.number(here, left).min(self.number(here, right));
+        self.set_number(here, to, number);
         here.on()
     }
 
     /// Greatest.
     #[inline(always)]
     pub fn greatest(&mut self, here: Here, left: Address, right: Address, to: Address) -> Went {
-        let number = self.number(left).max(self.number(right));
-        self.set_number(to, number);
+        let number = self.number(here, left).max(self.number(here, right));
+        self.set_number(here, to, number);
         here.on()
     }
 
     /// Absolute.
     #[inline(always)]
     pub fn absolute(&mut self, here: Here, of: Address, to: Address) -> Went {
-        let answer = distance(self.number(of));
+        let answer = distance(self.number(here, of));
         self.put(here, to, answer)
     }
 }

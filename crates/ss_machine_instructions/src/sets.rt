@@ -9,7 +9,7 @@ impl State {
     /// FirstMember.
     #[inline(always)]
     pub fn first_member(&mut self, here: Here, set: u32, owner: Address, to: Address) -> Went {
-        let owner = self.number(owner);
+        let owner = self.number(here, owner);
         let answer = self.scene.population.first(set as usize, owner);
         self.put(here, to, answer)
     }
@@ -17,7 +17,7 @@ impl State {
     /// LastMember.
     #[inline(always)]
     pub fn last_member(&mut self, here: Here, set: u32, owner: Address, to: Address) -> Went {
-        let owner = self.number(owner);
+        let owner = self.number(here, owner);
         let answer = self.scene.population.last(set as usize, owner);
         self.put(here, to, answer)
     }
@@ -25,7 +25,7 @@ impl State {
     /// MemberCount.
     #[inline(always)]
     pub fn member_count(&mut self, here: Here, set: u32, owner: Address, to: Address) -> Went {
-        let owner = self.number(owner);
+        let owner = self.number(here, owner);
         let answer = world::member_count(&mut self.scene, set as usize, owner);
         self.put(here, to, answer)
     }
@@ -33,7 +33,7 @@ impl State {
     /// Predecessor.
     #[inline(always)]
     pub fn predecessor(&mut self, here: Here, set: u32, member: Address, to: Address) -> Went {
-        let member = self.number(member);
+        let member = self.number(here, member);
         let answer = self.scene.population.previous(set as usize, member);
         self.put(here, to, answer)
     }
@@ -41,7 +41,7 @@ impl State {
     /// Successor.
     #[inline(always)]
     pub fn successor(&mut self, here: Here, set: u32, member: Address, to: Address) -> Went {
-        let member = self.number(member);
+        let member = self.number(here, member);
         let answer = self.scene.population.next(set as usize, member);
         self.put(here, to, answer)
     }
@@ -49,7 +49,7 @@ impl State {
     /// Membership.
     #[inline(always)]
     pub fn membership(&mut self, here: Here, set: u32, member: Address, to: Address) -> Went {
-        let member = self.number(member);
+        let member = self.number(here, member);
         let answer = world::membership(&mut self.scene, set as usize, member);
         self.put(here, to, answer)
     }
@@ -57,7 +57,7 @@ impl State {
     /// FileFirst.
     #[inline(always)]
     pub fn file_first(&mut self, here: Here, set: u32, member: Address, owner: Address) -> Went {
-        let (member, owner) = (self.number(member), self.number(owner));
+        let (member, owner) = (self.number(here, member), self.number(here, owner));
         here.done(
             self.scene
                 .population
@@ -68,7 +68,7 @@ impl State {
     /// FileLast.
     #[inline(always)]
     pub fn file_last(&mut self, here: Here, set: u32, member: Address, owner: Address) -> Went {
-        let (member, owner) = (self.number(member), self.number(owner));
+        let (member, owner) = (self.number(here, member), self.number(here, owner));
         here.done(world::file_last(
             &mut self.scene,
             set as usize,
@@ -80,7 +80,7 @@ impl State {
     /// FileRanked.
     #[inline(always)]
     pub fn file_ranked(&mut self, here: Here, set: u32, member: Address, owner: Address) -> Went {
-        let (member, owner) = (self.number(member), self.number(owner));
+        let (member, owner) = (self.number(here, member), self.number(here, owner));
         here.done(world::file_ranked(
             &mut self.scene,
             set as usize,
@@ -99,8 +99,8 @@ impl State {
         beside: Address,
         owner: Address,
     ) -> Went {
-        let (member, beside) = (self.number(member), self.number(beside));
-        let owner = self.number(owner);
+        let (member, beside) = (self.number(here, member), self.number(here, beside));
+        let owner = self.number(here, owner);
         here.done(
             self.scene
                 .population
@@ -118,8 +118,8 @@ impl State {
         beside: Address,
         owner: Address,
     ) -> Went {
-        let (member, beside) = (self.number(member), self.number(beside));
-        let owner = self.number(owner);
+        let (member, beside) = (self.number(here, member), self.number(here, beside));
+        let owner = self.number(here, owner);
         here.done(
             self.scene
                 .population
@@ -130,14 +130,14 @@ impl State {
     /// Remove.
     #[inline(always)]
     pub fn remove(&mut self, here: Here, set: u32, member: Address, owner: Address) -> Went {
-        let (member, owner) = (self.number(member), self.number(owner));
+        let (member, owner) = (self.number(here, member), self.number(here, owner));
         here.done(self.scene.population.remove(set as usize, owner, member))
     }
 
     /// RemoveFirst.
     #[inline(always)]
     pub fn remove_first(&mut self, here: Here, set: u32, owner: Address, to: Address) -> Went {
-        let owner = self.number(owner);
+        let owner = self.number(here, owner);
         let answer = world::remove_first(&mut self.scene, set as usize, owner);
         self.put(here, to, answer)
     }
@@ -145,7 +145,7 @@ impl State {
     /// RemoveLast.
     #[inline(always)]
     pub fn remove_last(&mut self, here: Here, set: u32, owner: Address, to: Address) -> Went {
-        let owner = self.number(owner);
+        let owner = self.number(here, owner);
         let answer = world::remove_last(&mut self.scene, set as usize, owner);
         self.put(here, to, answer)
     }

@@ -18,7 +18,7 @@ impl State {
         entity: Address,
         to: Address,
     ) -> Went {
-        let entity = self.number(entity);
+        let entity = self.number(here, entity);
         let answer = world::figure(&mut self.scene, fold, statistic as usize, entity);
         self.put(here, to, answer)
     }
@@ -40,7 +40,7 @@ impl State {
         field: u32,
         entity: Address,
     ) -> Went {
-        let entity = self.number(entity);
+        let entity = self.number(here, entity);
         here.done(world::note_attribute(
             &mut self.scene,
             class as usize,
@@ -52,7 +52,7 @@ impl State {
     /// NoteCount.
     #[inline(always)]
     pub fn note_count(&mut self, here: Here, set: u32, owner: Address) -> Went {
-        let owner = self.number(owner);
+        let owner = self.number(here, owner);
         here.done(world::note_count(&mut self.scene, set as usize, owner))
     }
 
@@ -68,7 +68,7 @@ impl State {
     #[inline(never)]
     pub fn reset(&mut self, here: Here, statistic: u32, entity: Address) -> Went {
         let statistic = statistic as usize;
-        let entity = self.number(entity);
+        let entity = self.number(here, entity);
         let held = self.held(statistic);
         here.done(world::reset(&mut self.scene, statistic, entity, held))
     }

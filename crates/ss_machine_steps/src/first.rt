@@ -31,7 +31,7 @@ fn first_rows(alloc: Global, code: &Code) -> Result<Rows, AllocError> {
     put_firsts(&mut rows, code.globals())?;
     put_constants(&mut rows, code.constants())?;
     let frame = rows.len();
-    rows.lengthen(frame + code.main().room())?;
+    rows.lengthen(frame + code.main().room)?;
     Ok(rows)
 }
 
@@ -53,15 +53,20 @@ fn first_scene(alloc: Global, code: &Code) -> Result<Scene, AllocError> {
 /// What the machine works on before the first instruction of this code. The error comes where memory was refused.
 pub fn first_state(alloc: Global, code: &Code) -> Result<State, AllocError> {
     let rows = first_rows(alloc, code)?;
-    let frame = (code.globals().len() + code.constants().len()) as u32;
     let scene = first_scene(alloc, code)?;
     Ok(State {
         rows,
-        frame,
         frames: Frames::new(alloc),
         scene,
         alloc,
     })
+}
+
+/// Where the machine is before the first instruction of this code, but for its ticks: the place, and where the frame of MAIN
+/// begins.
+pub fn first_place(code: &Code) -> (usize, u32) {
+    let frame = code.globals().len() + code.constants().len();
+    (code.main().place, frame as u32)
 }
 
 /// Gives the memory of what a machine works on back.

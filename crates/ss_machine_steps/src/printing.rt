@@ -57,7 +57,7 @@ pub(crate) fn print<W: FaultyWrite>(
     cell: u32,
     sink: &mut Sink<W>,
 ) -> Went {
-    let from = state.cell(cell);
+    let from = state.cell(here, cell);
     if show(&mut buffers.items, state, lines.items(), from).is_err() {
         return here.stop(Flow::NoMemory);
     }

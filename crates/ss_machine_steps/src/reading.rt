@@ -26,7 +26,7 @@ pub(crate) fn read_number<R: FaultyRead>(
     match source.integer() {
         Err(missed) => unread(here, missed),
         Ok(number) => {
-            state.set_number(to, number);
+            state.set_number(here, to, number);
             here.on()
         }
     }
@@ -43,7 +43,7 @@ pub(crate) fn read_text<R: FaultyRead>(
     match source.alpha() {
         Err(missed) => unread(here, missed),
         Ok(text) => {
-            state.set_text(to, text);
+            state.set_text(here, to, text);
             here.on()
         }
     }
