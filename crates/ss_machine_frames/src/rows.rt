@@ -14,7 +14,7 @@ pub struct Rows {
 
 /// The place of an address, where the frame begins here.
 #[inline(always)]
-pub fn place_of(frame: u32, address: Address) -> usize {
+pub fn place_of(frame: u32, address: &Address) -> usize {
     (frame & address.mask) as usize + address.number as usize
 }
 
@@ -89,25 +89,25 @@ impl Rows {
 
     /// The number at an address.
     #[inline(always)]
-    pub fn number(&self, frame: u32, address: Address) -> i64 {
+    pub fn number(&self, frame: u32, address: &Address) -> i64 {
         self.numbers[place_of(frame, address)]
     }
 
     /// A number goes to an address.
     #[inline(always)]
-    pub fn set_number(&mut self, frame: u32, address: Address, number: i64) {
+    pub fn set_number(&mut self, frame: u32, address: &Address, number: i64) {
         self.numbers[place_of(frame, address)] = number;
     }
 
     /// The text at an address.
     #[inline(always)]
-    pub fn text(&self, frame: u32, address: Address) -> Alpha {
+    pub fn text(&self, frame: u32, address: &Address) -> Alpha {
         self.texts[place_of(frame, address)]
     }
 
     /// A text goes to an address.
     #[inline(always)]
-    pub fn set_text(&mut self, frame: u32, address: Address, text: Alpha) {
+    pub fn set_text(&mut self, frame: u32, address: &Address, text: Alpha) {
         self.texts[place_of(frame, address)] = text;
     }
 

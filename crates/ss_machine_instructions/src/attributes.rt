@@ -14,8 +14,8 @@ impl State {
         here: Here,
         class: u32,
         field: u32,
-        entity: Address,
-        to: Address,
+        entity: &Address,
+        to: &Address,
     ) -> Went {
         let entity = self.number(here, entity);
         let answer = world::attribute(&self.scene, class as usize, field as usize, entity);
@@ -23,14 +23,14 @@ impl State {
     }
 
     /// TextAttribute.
-    #[inline(never)]
+    #[inline(always)]
     pub fn text_attribute(
         &mut self,
         here: Here,
         class: u32,
         field: u32,
-        entity: Address,
-        to: Address,
+        entity: &Address,
+        to: &Address,
     ) -> Went {
         let entity = self.number(here, entity);
         match world::text_attribute(&self.scene, class as usize, field as usize, entity) {
@@ -49,8 +49,8 @@ impl State {
         here: Here,
         class: u32,
         field: u32,
-        entity: Address,
-        from: Address,
+        entity: &Address,
+        from: &Address,
     ) -> Went {
         let (entity, number) = (self.number(here, entity), self.number(here, from));
         here.done(world::set_attribute(
@@ -63,14 +63,14 @@ impl State {
     }
 
     /// SetTextAttribute.
-    #[inline(never)]
+    #[inline(always)]
     pub fn set_text_attribute(
         &mut self,
         here: Here,
         class: u32,
         field: u32,
-        entity: Address,
-        from: Address,
+        entity: &Address,
+        from: &Address,
     ) -> Went {
         let (entity, text) = (self.number(here, entity), self.text(here, from));
         here.done(world::set_value(
@@ -89,8 +89,8 @@ impl State {
         here: Here,
         class: u32,
         field: u32,
-        entity: Address,
-        by: Address,
+        entity: &Address,
+        by: &Address,
     ) -> Went {
         let (entity, by) = (self.number(here, entity), self.number(here, by));
         here.done(world::add_to_attribute(
@@ -103,14 +103,14 @@ impl State {
     }
 
     /// SubtractFromAttribute.
-    #[inline(never)]
+    #[inline(always)]
     pub fn subtract_from_attribute(
         &mut self,
         here: Here,
         class: u32,
         field: u32,
-        entity: Address,
-        by: Address,
+        entity: &Address,
+        by: &Address,
     ) -> Went {
         let (entity, by) = (self.number(here, entity), self.number(here, by));
         here.done(world::subtract_from_attribute(
@@ -124,15 +124,15 @@ impl State {
 
     /// Clock.
     #[inline(always)]
-    pub fn clock(&mut self, here: Here, to: Address) -> Went {
+    pub fn clock(&mut self, here: Here, to: &Address) -> Went {
         let time = self.scene.timeline.time();
         self.set_number(here, to, time);
         here.on()
     }
 
     /// TimeOf.
-    #[inline(never)]
-    pub fn time_of(&mut self, here: Here, notice: Address, to: Address) -> Went {
+    #[inline(always)]
+    pub fn time_of(&mut self, here: Here, notice: &Address, to: &Address) -> Went {
         let answer = self.scene.population.time_a(self.number(here, notice));
         self.put(here, to, answer)
     }

@@ -45,7 +45,7 @@ impl State {
             None => here.stop(Flow::Ends),
             Some(frame) => {
                 if frame.yielding > 0 {
-                    self.yield_values(here, &frame);
+                    self.yield_values(here.frame as usize, frame);
                 }
                 here.to(frame.back, frame.caller)
             }
@@ -60,8 +60,7 @@ impl State {
 
     // What is yielded goes where the frame begins, the first on top.
     #[inline(never)]
-    fn yield_values(&mut self, here: Here, frame: &Frame) {
-        let to = here.frame as usize;
+    fn yield_values(&mut self, to: usize, frame: Frame) {
         let from = to + frame.given as usize;
         self.rows.yield_down(from, to, frame.yielding as usize);
     }

@@ -9,7 +9,7 @@ use ss_code_instructions::address::Address;
 impl State {
     /// Create.
     #[inline(always)]
-    pub fn create(&mut self, here: Here, class: u32, to: Address) -> Went {
+    pub fn create(&mut self, here: Here, class: u32, to: &Address) -> Went {
         match world::create(&mut self.scene, class as usize) {
             Ok(number) => {
                 self.set_number(here, to, number);
@@ -20,7 +20,7 @@ impl State {
     }
 
     /// CreateAll.
-    #[inline(never)]
+    #[inline(always)]
     pub fn create_all(&mut self, here: Here, class: u32, variable: u32) -> Went {
         let count = self.rows.number_at(variable as usize);
         match world::create_all(&mut self.scene, class as usize, count) {
@@ -32,7 +32,7 @@ impl State {
 
     /// Destroy.
     #[inline(always)]
-    pub fn destroy(&mut self, here: Here, class: u32, entity: Address) -> Went {
+    pub fn destroy(&mut self, here: Here, class: u32, entity: &Address) -> Went {
         let entity = self.number(here, entity);
         here.done(world::destroy(&mut self.scene, class as usize, entity))
     }

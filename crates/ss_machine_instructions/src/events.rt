@@ -11,7 +11,7 @@ use ss_machine_events::coming::{Event, next_event};
 impl State {
     /// At.
     #[inline(always)]
-    pub fn time_at(&mut self, here: Here, time: Address, to: Address) -> Went {
+    pub fn time_at(&mut self, here: Here, time: &Address, to: &Address) -> Went {
         let time = self.number(here, time);
         let answer = world::time_at(&self.scene, time);
         self.put(here, to, answer)
@@ -19,7 +19,7 @@ impl State {
 
     /// In.
     #[inline(always)]
-    pub fn time_in(&mut self, here: Here, units: Address, to: Address) -> Went {
+    pub fn time_in(&mut self, here: Here, units: &Address, to: &Address) -> Went {
         let units = self.number(here, units);
         let answer = world::time_in(&self.scene, units);
         self.put(here, to, answer)
@@ -78,7 +78,7 @@ impl State {
         class: u32,
         cell: u32,
         given: u32,
-        to: Address,
+        to: &Address,
     ) -> Went {
         let from = self.cell(here, cell);
         let time = self.rows.number_at(from + given as usize);
@@ -98,8 +98,8 @@ impl State {
         &mut self,
         here: Here,
         class: u32,
-        notice: Address,
-        time: Address,
+        notice: &Address,
+        time: &Address,
     ) -> Went {
         let (notice, time) = (self.number(here, notice), self.number(here, time));
         match world::file_notice(&mut self.scene, self.alloc, class as usize, notice, time) {
@@ -109,6 +109,7 @@ impl State {
     }
 
     // A notice that there is gets its attributes and its time, and is filed.
+    #[inline(never)]
     fn schedule_again(
         &mut self,
         class: usize,
@@ -131,12 +132,12 @@ impl State {
     }
 
     /// Reschedule.
-    #[inline(never)]
+    #[inline(always)]
     pub fn reschedule(
         &mut self,
         here: Here,
         class: u32,
-        notice: Address,
+        notice: &Address,
         cell: u32,
         given: u32,
     ) -> Went {
@@ -150,8 +151,8 @@ impl State {
     }
 
     /// Cancel.
-    #[inline(never)]
-    pub fn cancel(&mut self, here: Here, class: u32, notice: Address) -> Went {
+    #[inline(always)]
+    pub fn cancel(&mut self, here: Here, class: u32, notice: &Address) -> Went {
         let notice = self.number(here, notice);
         here.done(world::cancel(&mut self.scene, class as usize, notice))
     }

@@ -93,6 +93,15 @@ impl Here {
         self.with(self.place, flow)
     }
 
+    /// On to the next instruction where it goes on, and else a stop.
+    #[inline(always)]
+    pub fn on_or_stop(self, flow: Flow) -> Went {
+        match flow {
+            Flow::Goes => self.on(),
+            other => self.stop(other),
+        }
+    }
+
     /// A fault.
     #[inline(always)]
     pub fn fault(self, kind: FaultKind) -> Went {

@@ -32,25 +32,25 @@ pub fn branch(here: Here, answer: Result<bool, FaultKind>, negated: bool, skip: 
 impl State {
     /// UnlessEqual.
     #[inline(always)]
-    pub fn unless_equal(&self, here: Here, left: Address, right: Address, skip: u32) -> Went {
+    pub fn unless_equal(&self, here: Here, left: &Address, right: &Address, skip: u32) -> Went {
         here.on_if(self.number(here, left) == self.number(here, right), skip)
     }
 
     /// UnlessNotEqual.
     #[inline(always)]
-    pub fn unless_not_equal(&self, here: Here, left: Address, right: Address, skip: u32) -> Went {
+    pub fn unless_not_equal(&self, here: Here, left: &Address, right: &Address, skip: u32) -> Went {
         here.on_if(self.number(here, left) != self.number(here, right), skip)
     }
 
     /// UnlessLess.
     #[inline(always)]
-    pub fn unless_less(&self, here: Here, left: Address, right: Address, skip: u32) -> Went {
+    pub fn unless_less(&self, here: Here, left: &Address, right: &Address, skip: u32) -> Went {
         here.on_if(self.number(here, left) < self.number(here, right), skip)
     }
 
     /// UnlessGreater.
     #[inline(always)]
-    pub fn unless_greater(&self, here: Here, left: Address, right: Address, skip: u32) -> Went {
+    pub fn unless_greater(&self, here: Here, left: &Address, right: &Address, skip: u32) -> Went {
         here.on_if(self.number(here, left) > self.number(here, right), skip)
     }
 
@@ -59,8 +59,8 @@ impl State {
     pub fn unless_less_or_equal(
         &self,
         here: Here,
-        left: Address,
-        right: Address,
+        left: &Address,
+        right: &Address,
         skip: u32,
     ) -> Went {
         here.on_if(self.number(here, left) <= self.number(here, right), skip)
@@ -71,8 +71,8 @@ impl State {
     pub fn unless_greater_or_equal(
         &self,
         here: Here,
-        left: Address,
-        right: Address,
+        left: &Address,
+        right: &Address,
         skip: u32,
     ) -> Went {
         here.on_if(self.number(here, left) >= self.number(here, right), skip)
@@ -84,8 +84,8 @@ impl State {
         &self,
         here: Here,
         relation: Relation,
-        left: Address,
-        right: Address,
+        left: &Address,
+        right: &Address,
     ) -> bool {
         allows(relation, self.text(here, left).cmp(&self.text(here, right)))
     }
@@ -96,7 +96,7 @@ impl State {
         &mut self,
         here: Here,
         set: u32,
-        owner: Address,
+        owner: &Address,
         skip: u32,
         negated: bool,
     ) -> Went {
@@ -111,7 +111,7 @@ impl State {
         &mut self,
         here: Here,
         set: u32,
-        both: (Address, Address),
+        both: (&Address, &Address),
         skip: u32,
         negated: bool,
     ) -> Went {

@@ -27,7 +27,7 @@ fn next_item(item: i64, step: i64, limit: i64) -> Option<i64> {
 
 impl State {
     /// Begin.
-    #[inline(never)]
+    #[inline(always)]
     pub fn begin(&mut self, here: Here, cell: u32, skip: u32) -> Went {
         let at = self.cell(here, cell);
         if self.rows.number_at(at + STEP) < 1 {
@@ -38,7 +38,7 @@ impl State {
     }
 
     /// BeginClass.
-    #[inline(never)]
+    #[inline(always)]
     pub fn begin_class(&mut self, here: Here, class: u32, cell: u32, skip: u32) -> Went {
         let count = world::class_count(&self.scene, class as usize);
         let at = self.cell(here, cell);
@@ -59,7 +59,7 @@ impl State {
 
     /// Take.
     #[inline(always)]
-    pub fn take(&mut self, here: Here, cell: u32, to: Address) -> Went {
+    pub fn take(&mut self, here: Here, cell: u32, to: &Address) -> Went {
         match here.with_tick() {
             None => here.pause(),
             Some(after) => {

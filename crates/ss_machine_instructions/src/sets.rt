@@ -8,7 +8,7 @@ use ss_code_instructions::address::Address;
 impl State {
     /// FirstMember.
     #[inline(always)]
-    pub fn first_member(&mut self, here: Here, set: u32, owner: Address, to: Address) -> Went {
+    pub fn first_member(&mut self, here: Here, set: u32, owner: &Address, to: &Address) -> Went {
         let owner = self.number(here, owner);
         let answer = self.scene.population.first(set as usize, owner);
         self.put(here, to, answer)
@@ -16,7 +16,7 @@ impl State {
 
     /// LastMember.
     #[inline(always)]
-    pub fn last_member(&mut self, here: Here, set: u32, owner: Address, to: Address) -> Went {
+    pub fn last_member(&mut self, here: Here, set: u32, owner: &Address, to: &Address) -> Went {
         let owner = self.number(here, owner);
         let answer = self.scene.population.last(set as usize, owner);
         self.put(here, to, answer)
@@ -24,7 +24,7 @@ impl State {
 
     /// MemberCount.
     #[inline(always)]
-    pub fn member_count(&mut self, here: Here, set: u32, owner: Address, to: Address) -> Went {
+    pub fn member_count(&mut self, here: Here, set: u32, owner: &Address, to: &Address) -> Went {
         let owner = self.number(here, owner);
         let answer = world::member_count(&mut self.scene, set as usize, owner);
         self.put(here, to, answer)
@@ -32,7 +32,7 @@ impl State {
 
     /// Predecessor.
     #[inline(always)]
-    pub fn predecessor(&mut self, here: Here, set: u32, member: Address, to: Address) -> Went {
+    pub fn predecessor(&mut self, here: Here, set: u32, member: &Address, to: &Address) -> Went {
         let member = self.number(here, member);
         let answer = self.scene.population.previous(set as usize, member);
         self.put(here, to, answer)
@@ -40,7 +40,7 @@ impl State {
 
     /// Successor.
     #[inline(always)]
-    pub fn successor(&mut self, here: Here, set: u32, member: Address, to: Address) -> Went {
+    pub fn successor(&mut self, here: Here, set: u32, member: &Address, to: &Address) -> Went {
         let member = self.number(here, member);
         let answer = self.scene.population.next(set as usize, member);
         self.put(here, to, answer)
@@ -48,7 +48,7 @@ impl State {
 
     /// Membership.
     #[inline(always)]
-    pub fn membership(&mut self, here: Here, set: u32, member: Address, to: Address) -> Went {
+    pub fn membership(&mut self, here: Here, set: u32, member: &Address, to: &Address) -> Went {
         let member = self.number(here, member);
         let answer = world::membership(&mut self.scene, set as usize, member);
         self.put(here, to, answer)
@@ -56,7 +56,7 @@ impl State {
 
     /// FileFirst.
     #[inline(always)]
-    pub fn file_first(&mut self, here: Here, set: u32, member: Address, owner: Address) -> Went {
+    pub fn file_first(&mut self, here: Here, set: u32, member: &Address, owner: &Address) -> Went {
         let (member, owner) = (self.number(here, member), self.number(here, owner));
         here.done(
             self.scene
@@ -67,7 +67,7 @@ impl State {
 
     /// FileLast.
     #[inline(always)]
-    pub fn file_last(&mut self, here: Here, set: u32, member: Address, owner: Address) -> Went {
+    pub fn file_last(&mut self, here: Here, set: u32, member: &Address, owner: &Address) -> Went {
         let (member, owner) = (self.number(here, member), self.number(here, owner));
         here.done(world::file_last(
             &mut self.scene,
@@ -79,7 +79,7 @@ impl State {
 
     /// FileRanked.
     #[inline(always)]
-    pub fn file_ranked(&mut self, here: Here, set: u32, member: Address, owner: Address) -> Went {
+    pub fn file_ranked(&mut self, here: Here, set: u32, member: &Address, owner: &Address) -> Went {
         let (member, owner) = (self.number(here, member), self.number(here, owner));
         here.done(world::file_ranked(
             &mut self.scene,
@@ -90,53 +90,57 @@ impl State {
     }
 
     /// FileBefore.
-    #[inline(never)]
+    #[inline(always)]
     pub fn file_before(
         &mut self,
         here: Here,
         set: u32,
-        member: Address,
-        beside: Address,
-        owner: Address,
+        member: &Address,
+        beside: &Address,
+        owner: &Address,
     ) -> Went {
         let (member, beside) = (self.number(here, member), self.number(here, beside));
         let owner = self.number(here, owner);
-        here.done(
-            self.scene
-                .population
-                .file_before(set as usize, owner, member, beside),
-        )
+        here.done(world::file_before(
+            &mut self.scene,
+            set as usize,
+            owner,
+            member,
+            beside,
+        ))
     }
 
     /// FileAfter.
-    #[inline(never)]
+    #[inline(always)]
     pub fn file_after(
         &mut self,
         here: Here,
         set: u32,
-        member: Address,
-        beside: Address,
-        owner: Address,
+        member: &Address,
+        beside: &Address,
+        owner: &Address,
     ) -> Went {
         let (member, beside) = (self.number(here, member), self.number(here, beside));
         let owner = self.number(here, owner);
-        here.done(
-            self.scene
-                .population
-                .file_after(set as usize, owner, member, beside),
-        )
+        here.done(world::file_after(
+            &mut self.scene,
+            set as usize,
+            owner,
+            member,
+            beside,
+        ))
     }
 
     /// Remove.
     #[inline(always)]
-    pub fn remove(&mut self, here: Here, set: u32, member: Address, owner: Address) -> Went {
+    pub fn remove(&mut self, here: Here, set: u32, member: &Address, owner: &Address) -> Went {
         let (member, owner) = (self.number(here, member), self.number(here, owner));
         here.done(self.scene.population.remove(set as usize, owner, member))
     }
 
     /// RemoveFirst.
     #[inline(always)]
-    pub fn remove_first(&mut self, here: Here, set: u32, owner: Address, to: Address) -> Went {
+    pub fn remove_first(&mut self, here: Here, set: u32, owner: &Address, to: &Address) -> Went {
         let owner = self.number(here, owner);
         let answer = world::remove_first(&mut self.scene, set as usize, owner);
         self.put(here, to, answer)
@@ -144,7 +148,7 @@ impl State {
 
     /// RemoveLast.
     #[inline(always)]
-    pub fn remove_last(&mut self, here: Here, set: u32, owner: Address, to: Address) -> Went {
+    pub fn remove_last(&mut self, here: Here, set: u32, owner: &Address, to: &Address) -> Went {
         let owner = self.number(here, owner);
         let answer = world::remove_last(&mut self.scene, set as usize, owner);
         self.put(here, to, answer)

@@ -21,25 +21,25 @@ pub struct State {
 impl State {
     /// The number at an address.
     #[inline(always)]
-    pub fn number(&self, here: Here, address: Address) -> i64 {
+    pub fn number(&self, here: Here, address: &Address) -> i64 {
         self.rows.number(here.frame, address)
     }
 
     /// A number goes to an address.
     #[inline(always)]
-    pub fn set_number(&mut self, here: Here, address: Address, number: i64) {
+    pub fn set_number(&mut self, here: Here, address: &Address, number: i64) {
         self.rows.set_number(here.frame, address, number);
     }
 
     /// The text at an address.
     #[inline(always)]
-    pub fn text(&self, here: Here, address: Address) -> Alpha {
+    pub fn text(&self, here: Here, address: &Address) -> Alpha {
         self.rows.text(here.frame, address)
     }
 
     /// A text goes to an address.
     #[inline(always)]
-    pub fn set_text(&mut self, here: Here, address: Address, text: Alpha) {
+    pub fn set_text(&mut self, here: Here, address: &Address, text: Alpha) {
         self.rows.set_text(here.frame, address, text);
     }
 

@@ -9,14 +9,14 @@ use ss_program::expression::Fold;
 
 impl State {
     /// Figure.
-    #[inline(never)]
+    #[inline(always)]
     pub fn figure(
         &mut self,
         here: Here,
         fold: Fold,
         statistic: u32,
-        entity: Address,
-        to: Address,
+        entity: &Address,
+        to: &Address,
     ) -> Went {
         let entity = self.number(here, entity);
         let answer = world::figure(&mut self.scene, fold, statistic as usize, entity);
@@ -24,7 +24,7 @@ impl State {
     }
 
     /// NoteVariable.
-    #[inline(never)]
+    #[inline(always)]
     pub fn note_variable(&mut self, here: Here, variable: u32) -> Went {
         let number = variable as usize;
         let value = self.rows.number_at(number);
@@ -32,13 +32,13 @@ impl State {
     }
 
     /// NoteAttribute.
-    #[inline(never)]
+    #[inline(always)]
     pub fn note_attribute(
         &mut self,
         here: Here,
         class: u32,
         field: u32,
-        entity: Address,
+        entity: &Address,
     ) -> Went {
         let entity = self.number(here, entity);
         here.done(world::note_attribute(
@@ -51,7 +51,7 @@ impl State {
 
     /// NoteCount.
     #[inline(always)]
-    pub fn note_count(&mut self, here: Here, set: u32, owner: Address) -> Went {
+    pub fn note_count(&mut self, here: Here, set: u32, owner: &Address) -> Went {
         let owner = self.number(here, owner);
         here.done(world::note_count(&mut self.scene, set as usize, owner))
     }
@@ -65,8 +65,8 @@ impl State {
     }
 
     /// Reset.
-    #[inline(never)]
-    pub fn reset(&mut self, here: Here, statistic: u32, entity: Address) -> Went {
+    #[inline(always)]
+    pub fn reset(&mut self, here: Here, statistic: u32, entity: &Address) -> Went {
         let statistic = statistic as usize;
         let entity = self.number(here, entity);
         let held = self.held(statistic);

@@ -118,6 +118,7 @@ fn attribute_apart(
 }
 
 /// An attribute, a text. Faults: 1 to 5.
+#[inline(never)]
 pub fn text_attribute(
     scene: &Scene,
     class: usize,
@@ -187,6 +188,7 @@ fn add_apart(
 }
 
 /// Subtracts a number from an attribute. Faults: 1 to 5, then 14.
+#[inline(never)]
 pub fn subtract_from_attribute(
     scene: &mut Scene,
     class: usize,
@@ -217,6 +219,7 @@ fn create_apart(scene: &mut Scene, class: usize) -> Result<i64, Refused> {
 }
 
 /// All entities of a permanent class are made. Faults: 18, then 22.
+#[inline(never)]
 pub fn create_all(scene: &mut Scene, class: usize, count: i64) -> Result<(), Refused> {
     match scene.create_all(class, count) {
         Ok(()) => Ok(()),
@@ -328,6 +331,7 @@ pub fn onward(
 }
 
 /// The member with which a walk begins: the first of the set of an owner, or in reverse the last, 0 for none. Faults: 1 to 5.
+#[inline(never)]
 pub fn begun(
     scene: &mut Scene,
     set: usize,
@@ -343,6 +347,7 @@ pub fn begun(
 
 /// The member with which a walk begins that goes from a member on, or from the one after it, 0 for none. Faults: those of the
 /// member (1 to 5), those of the owner, then 7 where it is not in this set.
+#[inline(never)]
 pub fn begun_at(
     scene: &mut Scene,
     set: usize,
@@ -378,6 +383,31 @@ fn file_last_apart(
     member: i64,
 ) -> Result<(), FaultKind> {
     scene.population.file_last(set, owner, member)
+}
+
+/// Files a member directly before another one in the set of an owner. Faults: those of the member (1 to 5), of the other one, of
+/// the owner, then 6, then 7.
+#[inline(never)]
+pub fn file_before(
+    scene: &mut Scene,
+    set: usize,
+    owner: i64,
+    member: i64,
+    beside: i64,
+) -> Result<(), FaultKind> {
+    scene.population.file_before(set, owner, member, beside)
+}
+
+/// Files a member directly after another one. Faults: the same.
+#[inline(never)]
+pub fn file_after(
+    scene: &mut Scene,
+    set: usize,
+    owner: i64,
+    member: i64,
+    beside: i64,
+) -> Result<(), FaultKind> {
+    scene.population.file_after(set, owner, member, beside)
 }
 
 /// Files a member in the set of an owner by its rank. Faults: the same.
@@ -452,6 +482,7 @@ pub fn file_notice(
 }
 
 /// A notice is pending no longer. Faults: 1 to 4, then 12.
+#[inline(never)]
 pub fn cancel(scene: &mut Scene, class: usize, notice: i64) -> Result<(), FaultKind> {
     or_fault(scene.cancel(class, Value::Whole(notice)))
 }
@@ -467,12 +498,14 @@ fn or_full(answer: Result<(), Unnoted>) -> Result<(), FaultKind> {
 }
 
 /// Notes the value of a global variable. Faults: 14.
+#[inline(never)]
 pub fn note_variable(scene: &mut Scene, number: usize, value: i64) -> Result<(), FaultKind> {
     let subject = Subject::OfVariable { number };
     or_full(scene.timeline.note(subject, 0, Value::Whole(value)))
 }
 
 /// Notes the value of an attribute of an entity. Faults: 14.
+#[inline(never)]
 pub fn note_attribute(
     scene: &mut Scene,
     class: usize,
@@ -510,6 +543,7 @@ fn note_count_apart(
 }
 
 /// What a statistic says of an entity. Faults: 1 to 5, then 14.
+#[inline(never)]
 pub fn figure(
     scene: &mut Scene,
     fold: Fold,
@@ -524,6 +558,7 @@ pub fn figure(
 }
 
 /// Whether a statistic has a mean of an entity. Faults: 1 to 5.
+#[inline(never)]
 pub fn look_mean(scene: &mut Scene, statistic: usize, entity: i64) -> Result<(), FaultKind> {
     match mean(scene, statistic, entity) {
         Ok(_) => Ok(()),
@@ -532,6 +567,7 @@ pub fn look_mean(scene: &mut Scene, statistic: usize, entity: i64) -> Result<(),
 }
 
 /// The exact sum and the number of which a statistic is the mean, of an entity. Faults: 1 to 5.
+#[inline(never)]
 pub fn mean(
     scene: &mut Scene,
     statistic: usize,
@@ -542,6 +578,7 @@ pub fn mean(
 }
 
 /// The history of a statistic of an entity starts afresh; a global variable holds this value. Faults: 1 to 5.
+#[inline(never)]
 pub fn reset(
     scene: &mut Scene,
     statistic: usize,

@@ -47,8 +47,23 @@ fn print_lines<W: FaultyWrite>(
     Flow::Goes
 }
 
-/// Print.
+// Lines are filled with the values from a place on, and sent: how the run goes on.
 #[inline(never)]
+fn print_from<W: FaultyWrite>(
+    state: &mut State,
+    buffers: &mut Buffers,
+    lines: &Lines,
+    from: usize,
+    sink: &mut Sink<W>,
+) -> Flow {
+    if show(&mut buffers.items, state, lines.items(), from).is_err() {
+        return Flow::NoMemory;
+    }
+    print_lines(&mut buffers.line, lines.pictures(), &buffers.items, sink)
+}
+
+/// Print.
+#[inline(always)]
 pub(crate) fn print<W: FaultyWrite>(
     state: &mut State,
     buffers: &mut Buffers,
@@ -58,13 +73,7 @@ pub(crate) fn print<W: FaultyWrite>(
     sink: &mut Sink<W>,
 ) -> Went {
     let from = state.cell(here, cell);
-    if show(&mut buffers.items, state, lines.items(), from).is_err() {
-        return here.stop(Flow::NoMemory);
-    }
-    match print_lines(&mut buffers.line, lines.pictures(), &buffers.items, sink) {
-        Flow::Goes => here.on(),
-        other => here.stop(other),
-    }
+    here.on_or_stop(print_from(state, buffers, lines, from, sink))
 }
 
 // Sends so many empty lines one by one: how the run goes on.
@@ -77,14 +86,17 @@ fn send_empty<W: FaultyWrite>(lines: usize, sink: &mut Sink<W>) -> Flow {
     Flow::Goes
 }
 
-/// Skip.
+// So many empty lines are sent, unless there are too many: how the run goes on.
 #[inline(never)]
-pub(crate) fn skip<W: FaultyWrite>(here: Here, count: i64, sink: &mut Sink<W>) -> Went {
+fn skip_lines<W: FaultyWrite>(count: i64, sink: &mut Sink<W>) -> Flow {
     if count < 0 || count > MOST_LINES {
-        return here.fault(FaultKind::BadCount);
+        return Flow::Faults(FaultKind::BadCount);
     }
-    match send_empty(count as usize, sink) {
-        Flow::Goes => here.on(),
-        other => here.stop(other),
-    }
+    send_empty(count as usize, sink)
+}
+
+/// Skip.
+#[inline(always)]
+pub(crate) fn skip<W: FaultyWrite>(here: Here, count: i64, sink: &mut Sink<W>) -> Went {
+    here.on_or_stop(skip_lines(count, sink))
 }

@@ -8,6 +8,7 @@ use ss_machine_instructions::jumps::branch;
 use ss_machine_instructions::state::State;
 
 // Where no word was read.
+#[inline(always)]
 fn unread(here: Here, missed: Missed) -> Went {
     match missed {
         Missed::Fault(kind) => here.fault(kind),
@@ -20,7 +21,7 @@ fn unread(here: Here, missed: Missed) -> Went {
 pub(crate) fn read_number<R: FaultyRead>(
     state: &mut State,
     here: Here,
-    to: Address,
+    to: &Address,
     source: &mut Source<R>,
 ) -> Went {
     match source.integer() {
@@ -33,11 +34,11 @@ pub(crate) fn read_number<R: FaultyRead>(
 }
 
 /// ReadText.
-#[inline(never)]
+#[inline(always)]
 pub(crate) fn read_text<R: FaultyRead>(
     state: &mut State,
     here: Here,
-    to: Address,
+    to: &Address,
     source: &mut Source<R>,
 ) -> Went {
     match source.alpha() {
