@@ -3,7 +3,7 @@
 use crate::flow::{Here, Went};
 use crate::state::State;
 use crate::world;
-use ss_base::FaultKind;
+use ss_base::{Alpha, FaultKind};
 use ss_code_instructions::address::Address;
 use ss_program::condition::Relation;
 use std::cmp::Ordering;
@@ -18,6 +18,12 @@ fn allows(relation: Relation, order: Ordering) -> bool {
         Relation::LessOrEqual => order.is_le(),
         Relation::GreaterOrEqual => order.is_ge(),
     }
+}
+
+// Whether two texts stand in a relation.
+#[inline(never)]
+fn are_related(relation: Relation, left: Alpha, right: Alpha) -> bool {
+    allows(relation, left.cmp(&right))
 }
 
 /// On where a test holds, or does not if negated, and else past so many instructions.
@@ -79,15 +85,17 @@ impl State {
     }
 
     /// UnlessTexts.
-    #[inline(never)]
-    pub fn related_texts(
+    #[inline(always)]
+    pub fn unless_texts(
         &self,
         here: Here,
         relation: Relation,
         left: &Address,
         right: &Address,
-    ) -> bool {
-        allows(relation, self.text(here, left).cmp(&self.text(here, right)))
+        skip: u32,
+    ) -> Went {
+        let holds = are_related(relation, self.text(here, left), self.text(here, right));
+        here.on_if(holds, skip)
     }
 
     /// UnlessEmpty.
