@@ -194,9 +194,16 @@ impl State {
 
     // The event that comes next begins.
     #[inline(always)]
-    fn begin_event(&mut self, here: Here, event: Event, entry: &Entry, cell: u32) -> Went {
+    fn begin_event(
+        &mut self,
+        before: Here,
+        here: Here,
+        event: Event,
+        entry: &Entry,
+        cell: u32,
+    ) -> Went {
         let Ok(frame) = self.enter(here, entry, cell) else {
-            return here.stop(Flow::NoMemory);
+            return before.stop(Flow::NoMemory);
         };
         let begun = match self.read_given(&event, &entry.given, frame as usize) {
             Ok(()) => self.let_go(&event),
@@ -216,7 +223,7 @@ impl State {
         };
         match next_event(&mut self.scene) {
             None => after.on(),
-            Some(event) => self.begin_event(after, event, &events[event.rank], cell),
+            Some(event) => self.begin_event(here, after, event, &events[event.rank], cell),
         }
     }
 }
