@@ -20,25 +20,25 @@ pub returns-in-Err-Fault : goal.returns-in-Err-Fault
 returns-in-Err-Fault c =
     let class = c.args.class in let x = Whole c.args.notice.number in let time = c.args.time in let e = c.args.scene.now in
     let same : to_z w64 (of_z w64 time) ≡ time = search rules in
-    let told = subst (λ (r : OkOr SortKey Unmade). Gets (key_meant class x (to_z w64 (of_z w64 time))) e r) (c.in-Err-Fault.is ∙ ap (λ u. Err u) c.in-Err-Fault.field-0-is) c.key_known.ensures in
+    let got = subst (λ (r : OkOr SortKey Unmade). Gets (key_meant class x (to_z w64 (of_z w64 time))) e r) (c.in-Err-Fault.is ∙ ap (λ u. Err u) c.in-Err-Fault.field-0-is) c.key_known.ensures in
     no_key class x time e c.in-Ok.known.number (λ s. c.in-Ok.ensures s) (Fault c.in-Err-Fault.kind)
-    (subst (λ (t : ℤ). Gets (key_meant class x t) e (Err (unmade.Fault c.in-Err-Fault.kind))) same told)
+    (subst (λ (t : ℤ). Gets (key_meant class x t) e (Err (unmade.Fault c.in-Err-Fault.kind))) same got)
 
 pub returns-in-Err-Misfit : goal.returns-in-Err-Misfit
 returns-in-Err-Misfit c =
     let class = c.args.class in let x = Whole c.args.notice.number in let time = c.args.time in let e = c.args.scene.now in
     let same : to_z w64 (of_z w64 time) ≡ time = search rules in
-    let told = subst (λ (r : OkOr SortKey Unmade). Gets (key_meant class x (to_z w64 (of_z w64 time))) e r) (c.in-Err-Misfit.is ∙ ap (λ u. Err u) c.in-Err-Misfit.field-0-is) c.key_known.ensures in
+    let got = subst (λ (r : OkOr SortKey Unmade). Gets (key_meant class x (to_z w64 (of_z w64 time))) e r) (c.in-Err-Misfit.is ∙ ap (λ u. Err u) c.in-Err-Misfit.field-0-is) c.key_known.ensures in
     no_key class x time e c.in-Ok.known.number (λ s. c.in-Ok.ensures s) Misfit
-    (subst (λ (t : ℤ). Gets (key_meant class x t) e (Err unmade.Misfit)) same told)
+    (subst (λ (t : ℤ). Gets (key_meant class x t) e (Err unmade.Misfit)) same got)
 
 pub returns-in-Err-Memory : goal.returns-in-Err-Memory
 returns-in-Err-Memory c =
     let class = c.args.class in let x = Whole c.args.notice.number in let time = c.args.time in let e = c.args.scene.now in
     let same : to_z w64 (of_z w64 time) ≡ time = search rules in
-    let told = subst (λ (r : OkOr SortKey Unmade). Gets (key_meant class x (to_z w64 (of_z w64 time))) e r) (c.in-Err-Memory.is ∙ ap (λ u. Err u) c.in-Err-Memory.field-0-is) c.key_known.ensures in
+    let got = subst (λ (r : OkOr SortKey Unmade). Gets (key_meant class x (to_z w64 (of_z w64 time))) e r) (c.in-Err-Memory.is ∙ ap (λ u. Err u) c.in-Err-Memory.field-0-is) c.key_known.ensures in
     not_filed class x time e c.in-Ok.known.number (λ s. c.in-Ok.ensures s) c.unfiled.result
-    (subst (λ (t : ℤ). Gets (key_meant class x t) e (Err unmade.Memory)) same told)
+    (subst (λ (t : ℤ). Gets (key_meant class x t) e (Err unmade.Memory)) same got)
     (subst (λ (t : ℤ). IsUnfiled t c.in-Ok.known.number e c.unfiled.result) same c.unfiled.ensures)
 
 pub returns-in-Ok-key_known : goal.returns-in-Ok-key_known
