@@ -48,7 +48,7 @@ impl Wrong {
             Wrong::Ending => "an ending is wanted",
             Wrong::Judge => "judge tree or judge rules is wanted",
             Wrong::Escape =>
-                "a backslash, t, r or x with two hexadecimal digits is wanted behind a backslash",
+                "a backslash, t, r or x with two hexadecimal digits is wanted after a backslash",
             Wrong::Content => "content that belongs to nothing",
             Wrong::NoCase => "there is no case yet",
             Wrong::NoCaseBefore => "there is no case before",
