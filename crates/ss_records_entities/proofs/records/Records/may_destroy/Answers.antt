@@ -24,9 +24,9 @@ returns-in-Ok-clause-kept c =
 pub returns-in-Ok-clause-value : goal.returns-in-Ok-clause-value
 returns-in-Ok-clause-value c =
     let fits = c.ranges.r in let h = simp to_z-of_z at c.in-Ok.ensures.found in
-    let r = c.args.self.now in let f = c.in-Ok.ensures.found.0 in let p = c.in-Ok.place in
-    let m0 = by_number r c.requires.kept c.args.class _ p f c.requires.kind in
-    sym (ap (λ (z : OkOr State FaultKind). no_value z) (is_destroyed r.layout r.blocks.cells r.system.at (places r) r.notes.lists c.requires.kept f.index p m0 c.args.class c.args.r h.0.is h.0.entity c.in-Ok.ensures.found.1 c.in-Ok.ensures.found.2))
+    let r = c.args.self.now in let f = c.in-Ok.ensures.found.0 in
+    let m0 = by_number r c.requires.kept c.args.class _ _ f c.requires.kind in
+    sym (ap (λ (z : OkOr State FaultKind). no_value z) (is_destroyed r.layout r.blocks.cells r.system.at (places r) r.notes.lists c.requires.kept f.index _ m0 c.args.class c.args.r h.0.is h.0.entity c.in-Ok.ensures.found.1 c.in-Ok.ensures.found.2))
 
 pub returns-in-Ok-clause-same : goal.returns-in-Ok-clause-same
 returns-in-Ok-clause-same c =
