@@ -1,6 +1,6 @@
 // The records, and what the block of each says.
-ghost use Rattle.std.specs.Prelude.{◌≡◌, ℕ, ◌+◌, ◌-◌, ◌*◌, ◌^◌, ◌<◌, ◌≤◌, length, MatchResult, IfOk, IfSome, Ok, Err, Some, None, slice_get, true, false, ⊤, suc};
-ghost use Rattle.ss_world.specs.State.{kind_of, modes_of, is_notice, first_state, living_numbers, living_records, value_in, time_in, in_a_set, owns_members, destroyed, created, created_all, is_made, with_made, assigned, timed, no_value, RefusedFor};
+ghost use Rattle.std.specs.Prelude.{◌≡◌, ℕ, ◌+◌, ◌-◌, ◌*◌, ◌^◌, ◌<◌, ◌≤◌, length, MatchResult, IfOk, IfSome, Ok, Err, Some, None, slice_get, true, false, ⊤};
+ghost use Rattle.ss_world.specs.State.{kind_of, modes_of, is_notice, first_state, living_numbers, living_records, value_in, time_in, destroyed, created, created_all, is_made, with_made, assigned, timed, no_value, RefusedFor};
 ghost use Rattle.ss_world.specs.Sets.{owner_kind};
 ghost use Rattle.ss_records_blocks.specs.Cells.{words_at};
 ghost use Rattle.ss_base.specs.Layout.{mode_of};
@@ -10,7 +10,6 @@ ghost use Rattle.ss_records_words.specs.Places.{class_at_place, lying};
 ghost use Rattle.ss_records_entities.specs.Parts.{IsKept, state};
 ghost use Rattle.ss_records_entities.specs.Added.{Added};
 
-use crate::ties;
 use ss_base::{FaultKind, Layout, Mode, Owner, Refused, Value, plus};
 use ss_records_blocks::placing::{give_places_back, place_all};
 use ss_records_blocks::row::{self, Row};
@@ -451,54 +450,21 @@ impl Records {
         Ok(())
     }
 
-    // Whether an entity is in a set.
-    #[inline(always)]
-    fn in_a_set(&mut self, class: usize, place: Address, number: u64) -> bool
+    /// Whether `destroy` destroys an entity. Faults: those of `destroy`.
+    pub fn may_destroy(&mut self, class: usize, r: i64) -> Result<(), FaultKind>
         requires kept { IsKept self.old }
-        requires entry { (i : ℕ) × (slice_get self.old.directory.places i ≡ Some (Some place)) × (number ≡ suc i) }
-        requires class { class_at_place self.old.blocks.cells place ≡ class }
-        requires touches { self.old.blocks.touches ≤ 2 ^ 32 }
-        ensures value { result ≡ in_a_set self.old.layout.sets 0 self.old.notes.lists class number }
-        ensures same { self.new ≡ record self.old { blocks = self.new.blocks } }
-        ensures cells { self.new.blocks.cells ≡ self.old.blocks.cells }
-        ensures touches { (self.new.blocks.touches ≤ self.old.blocks.touches + 1048576) × (self.new.blocks.total + self.old.blocks.touches ≡ self.old.blocks.total + self.new.blocks.touches) }
+        requires class { class < length self.old.layout.classes }
+        requires kind { IsPermanent (kind_of self.old.layout class) → ⊥ }
+        requires touches { self.old.blocks.touches ≡ 0 }
+        ensures kept { IsKept self.new }
+        ensures value { result ≡ no_value (destroyed (state self.old) class r) }
+        ensures same { state self.new ≡ state self.old }
+        ensures touches { self.new.blocks.total + self.old.blocks.touches ≡ self.old.blocks.total + self.new.blocks.touches }
     {
-        ties::in_a_set(
-            &mut self.blocks,
-            &self.layout,
-            &self.directory,
-            &self.permanents,
-            &self.notes,
-            self.system,
-            class,
-            place,
-            number,
-        )
-    }
-
-    // Whether an entity has members in a set.
-    #[inline(always)]
-    fn owns_members(&mut self, class: usize, place: Address, number: u64) -> bool
-        requires kept { IsKept self.old }
-        requires entry { (i : ℕ) × (slice_get self.old.directory.places i ≡ Some (Some place)) × (number ≡ suc i) }
-        requires class { class_at_place self.old.blocks.cells place ≡ class }
-        requires touches { self.old.blocks.touches ≤ 2 ^ 33 }
-        ensures value { result ≡ owns_members self.old.layout.sets 0 self.old.notes.lists class number }
-        ensures same { self.new ≡ record self.old { blocks = self.new.blocks } }
-        ensures cells { self.new.blocks.cells ≡ self.old.blocks.cells }
-        ensures touches { (self.new.blocks.touches ≤ self.old.blocks.touches + 1048576) × (self.new.blocks.total + self.old.blocks.touches ≡ self.old.blocks.total + self.new.blocks.touches) }
-    {
-        ties::owns_members(
-            &mut self.blocks,
-            &self.layout,
-            &self.directory,
-            &self.permanents,
-            &self.notes,
-            self.system,
-            class,
-            place,
-            number,
-        )
+        match self.find_free(class, r) {
+            Ok(_) => Ok(()),
+            Err(fault) => Err(fault),
+        }
     }
 
     /// Gives the block of an entity back.
@@ -512,17 +478,10 @@ impl Records {
         ensures done { MatchResult result (λ _. destroyed (state self.old) class r ≡ Ok (state self.new)) (λ e. (destroyed (state self.old) class r ≡ Err e) × (state self.new ≡ state self.old)) }
         ensures touches { self.new.blocks.total + self.old.blocks.touches ≡ self.old.blocks.total + self.new.blocks.touches }
     {
-        match self.find_single(class, r) {
+        match self.find_free(class, r) {
             Ok(place) => {
-                let number = r as u64;
-                if self.in_a_set(class, place, number) {
-                    return Err(FaultKind::InASet);
-                }
-                if self.owns_members(class, place, number) {
-                    return Err(FaultKind::OwnsMembers);
-                }
                 let words = self.layout.block_words(Owner::Class(class));
-                self.directory.clear(number as usize - 1);
+                self.directory.clear(r as usize - 1);
                 self.blocks.give_back(alloc, place, words);
                 Ok(())
             }
