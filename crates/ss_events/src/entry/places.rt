@@ -543,13 +543,7 @@ fn give_hint(hints: &mut [Hint], mark: Mark, slot: usize) {
 // Whether the entry in a slot is the last of a line, comes at the time of a mark, and before it. Counts a comparison where there is
 // such a last one.
 #[inline(always)]
-fn is_last_before(
-    slots: &[Slot],
-    count: usize,
-    slot: usize,
-    mark: Mark,
-    tally: &mut Tally,
-) -> bool
+fn is_last_before(slots: &[Slot], count: usize, slot: usize, mark: Mark, tally: &mut Tally) -> bool
     requires { tally.old.comparisons + 1 < 2 ^ 64 }
     ensures within { result ≡ true → slot < length slots.now }
     ensures taken { result ≡ true → IsTaken count (slot_at slots.now slot) }
@@ -625,13 +619,7 @@ fn close_up(slots: &mut [Slot], before: usize, next: usize, tally: &mut Tally)
 
 // Puts the next of a line into the place of its first. Counts a move.
 #[inline(always)]
-fn advance(
-    nodes: &mut [HeapNode],
-    slots: &mut [Slot],
-    at: usize,
-    next: usize,
-    tally: &mut Tally,
-)
+fn advance(nodes: &mut [HeapNode], slots: &mut [Slot], at: usize, next: usize, tally: &mut Tally)
     requires at { at < length nodes.old }
     requires next { next < length slots.old }
     requires countable { tally.old.moves + 1 < 2 ^ 64 }
