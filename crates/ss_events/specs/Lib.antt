@@ -1,5 +1,5 @@
 pub mod Digits
-pub mod Counts
+pub mod CallWork
 pub mod CountedList
 pub mod HeapEntries
 pub mod HeapOrder

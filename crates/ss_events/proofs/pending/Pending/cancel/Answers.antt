@@ -8,7 +8,7 @@ use Rattle.ss_events.specs.HeapEntries.{HeapEntries, heap_lines, all_of, notices
 use Rattle.ss_events.specs.HeapOrder.{IsHeap}
 use Rattle.ss_world.specs.Order.{comes_before}
 use Rattle.ss_world.specs.PendingList.{is_pending, without_notice}
-use Rattle.ss_events.specs.Counts.{totals_after}
+use Rattle.ss_events.specs.CountedList.{with_work}
 use Rattle.ss_events.specs.Sifting.{IsLogarithmic}
 use Rattle.ss_events.proofs.Agendas.{found-pending, found-at, agenda-taken, in_order-taken, work_of}
 use Rattle.ss_events.proofs.Outcomes.{cancelled-pending, cancelled-none}
@@ -109,20 +109,20 @@ pub returns-then-remove_follower-clause-moves : goal.returns-then-remove_followe
 returns-then-remove_follower-clause-moves c = omega (arith, c.remove_follower.ensures.moved.moves, ap (λ h. h.moves) c.reset_counts.ensures)
 
 -- those before the call
-begun : (c : After-reset_counts) → c.reset_counts.new.self.before ≡ c.args.self.now.totals
-begun c = ap (λ h. h.before) c.reset_counts.ensures ∙ ap (λ v. v.totals) c.self.view_is
+begun : (c : After-reset_counts) → c.reset_counts.new.self.before ≡ c.args.self.now.total
+begun c = ap (λ h. h.before) c.reset_counts.ensures ∙ ap (λ v. v.total) c.self.view_is
 
-pub returns-in-Some-clause-totals : goal.returns-in-Some-clause-totals
-returns-in-Some-clause-totals c =
+pub returns-in-Some-clause-total : goal.returns-in-Some-clause-total
+returns-in-Some-clause-total c =
     let h = c.take_out-event.new.heap in
-    ap (λ t. totals_after t h.comparisons h.moves) (c.take_out-event.ensures.before ∙ begun (goal.at.returns-in-Some-clause-totals c).After-reset_counts)
+    ap (λ t. with_work t h.comparisons h.moves) (c.take_out-event.ensures.before ∙ begun (goal.at.returns-in-Some-clause-total c).After-reset_counts)
 
-pub returns-then-remove_follower-clause-totals : goal.returns-then-remove_follower-clause-totals
-returns-then-remove_follower-clause-totals c =
+pub returns-then-remove_follower-clause-total : goal.returns-then-remove_follower-clause-total
+returns-then-remove_follower-clause-total c =
     let h = c.remove_follower.new.self in
-    ap (λ t. totals_after t h.comparisons h.moves) (c.remove_follower.ensures.moved.before ∙ begun (goal.at.returns-then-remove_follower-clause-totals c).After-reset_counts)
+    ap (λ t. with_work t h.comparisons h.moves) (c.remove_follower.ensures.moved.before ∙ begun (goal.at.returns-then-remove_follower-clause-total c).After-reset_counts)
 
-pub returns-clause-totals : goal.returns-clause-totals
-returns-clause-totals c =
+pub returns-clause-total : goal.returns-clause-total
+returns-clause-total c =
     let h = c.remove_follower.new.self in
-    ap (λ t. totals_after t h.comparisons h.moves) (c.remove_follower.ensures.moved.before ∙ begun (goal.at.returns-clause-totals c).After-reset_counts)
+    ap (λ t. with_work t h.comparisons h.moves) (c.remove_follower.ensures.moved.before ∙ begun (goal.at.returns-clause-total c).After-reset_counts)

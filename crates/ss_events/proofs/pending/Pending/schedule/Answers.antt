@@ -4,7 +4,7 @@ use Rattle.ss_world.specs.PendingList.{scheduling_limit, with_entry}
 use Rattle.std.specs.List.{list_any}
 use Rattle.std.proofs.lemmas.Bool.{or_parts}
 use Rattle.ss_events.specs.HeapEntries.{HeapEntries, all_of, notices_of, AreAfterHeads}
-use Rattle.ss_events.specs.Counts.{totals_after}
+use Rattle.ss_events.specs.CountedList.{with_work}
 use Rattle.ss_events.specs.Sifting.{IsLogarithmic}
 use Rattle.ss_events.proofs.Agendas.{found-pending, any-append, some_head, work_of, in_order-inserted, agenda-inserted}
 use Rattle.ss_events.proofs.Outcomes.{scheduled-pending, scheduled-full, scheduled-room}
@@ -96,25 +96,25 @@ insert-requires-clause-fresh c = (none (goal.at.insert-requires-clause-fresh c).
 -- ---- the totals
 
 -- those before the call
-begun : (c : After-reset_counts) → c.reset_counts.new.self.before ≡ c.args.self.now.totals
-begun c = ap (λ h. h.before) c.reset_counts.ensures ∙ ap (λ v. v.totals) c.self.view_is
+begun : (c : After-reset_counts) → c.reset_counts.new.self.before ≡ c.args.self.now.total
+begun c = ap (λ h. h.before) c.reset_counts.ensures ∙ ap (λ v. v.total) c.self.view_is
 
-pub returns-then-holds-clause-totals : goal.returns-then-holds-clause-totals
-returns-then-holds-clause-totals c =
+pub returns-then-holds-clause-total : goal.returns-then-holds-clause-total
+returns-then-holds-clause-total c =
     let h = c.reset_counts.new.self in
-    ap (λ t. totals_after t h.comparisons h.moves) (begun (goal.at.returns-then-holds-clause-totals c).After-reset_counts)
+    ap (λ t. with_work t h.comparisons h.moves) (begun (goal.at.returns-then-holds-clause-total c).After-reset_counts)
 
-pub returns-then-self-eq-MOST_SCHEDULINGS-clause-totals : goal.returns-then-self-eq-MOST_SCHEDULINGS-clause-totals
-returns-then-self-eq-MOST_SCHEDULINGS-clause-totals c =
+pub returns-then-self-eq-MOST_SCHEDULINGS-clause-total : goal.returns-then-self-eq-MOST_SCHEDULINGS-clause-total
+returns-then-self-eq-MOST_SCHEDULINGS-clause-total c =
     let h = c.reset_counts.new.self in
-    ap (λ t. totals_after t h.comparisons h.moves) (begun (goal.at.returns-then-self-eq-MOST_SCHEDULINGS-clause-totals c).After-reset_counts)
+    ap (λ t. with_work t h.comparisons h.moves) (begun (goal.at.returns-then-self-eq-MOST_SCHEDULINGS-clause-total c).After-reset_counts)
 
-pub returns-in_err-insert-clause-totals : goal.returns-in_err-insert-clause-totals
-returns-in_err-insert-clause-totals c =
+pub returns-in_err-insert-clause-total : goal.returns-in_err-insert-clause-total
+returns-in_err-insert-clause-total c =
     let h = c.insert.new.heap in
-    ap (λ t. totals_after t h.comparisons h.moves) (c.in_err-insert.ensures.before ∙ begun (goal.at.returns-in_err-insert-clause-totals c).After-reset_counts)
+    ap (λ t. with_work t h.comparisons h.moves) (c.in_err-insert.ensures.before ∙ begun (goal.at.returns-in_err-insert-clause-total c).After-reset_counts)
 
-pub returns-clause-totals : goal.returns-clause-totals
-returns-clause-totals c =
+pub returns-clause-total : goal.returns-clause-total
+returns-clause-total c =
     let h = c.insert.new.heap in
-    ap (λ t. totals_after t h.comparisons h.moves) (c.in_ok-insert.ensures.before ∙ begun (goal.at.returns-clause-totals c).After-reset_counts)
+    ap (λ t. with_work t h.comparisons h.moves) (c.in_ok-insert.ensures.before ∙ begun (goal.at.returns-clause-total c).After-reset_counts)

@@ -1,34 +1,36 @@
 // How often keys were compared and entries moved.
 ghost use Rattle.std.specs.Prelude.{◌≡◌, ◌+◌, ◌<◌, ◌^◌};
-ghost use Rattle.ss_events.specs.Counts.{no_totals, totals_after};
+ghost use Rattle.ss_events.specs.CountedList.{no_work, with_work};
 
 use std::marker::Model;
 
-/// The totals of all comparisons and moves, and what they were as the last call began.
+/// How many comparisons and moves all calls made, and how many of them before the last call began.
 ///
-/// No function sets a total: it only rises, and begins at 0 again after 2^64 - 1. A contract sees how far each has risen in the call, and
-/// the totals before it.
+/// No function sets these totals: they only rise, and each is 0 again after 2^64 - 1. A contract sees how far they have risen in the
+/// call, and what they were before it.
 #[derive(Drop)]
-pub struct Tally {
+pub struct WorkCounter {
     comparisons: u64,
     moves: u64,
     comparisons_before: u64,
     moves_before: u64,
 }
 
-impl Model for Tally {
-    ghost use Rattle.ss_events.specs.Counts.{Counts, rise};
+impl Model for WorkCounter {
+    ghost use Rattle.ss_events.specs.CallWork.{CallWork, FitCounters, rise};
 
-    ghost Value = { Counts };
+    ghost Value = { CallWork };
 
     ghost view = { λ t. record { comparisons = rise t.comparisons_before t.comparisons; moves = rise t.moves_before t.moves; before = record { comparisons = t.comparisons_before; moves = t.moves_before } } };
+
+    ghost invariant = { λ t. FitCounters t.comparisons t.moves t.comparisons_before t.moves_before };
 }
 
-impl Tally {
-    pub(crate) fn new() -> Tally
-        ensures { result ≡ record { comparisons = 0; moves = 0; before = no_totals } }
+impl WorkCounter {
+    pub(crate) fn new() -> WorkCounter
+        ensures { result ≡ record { comparisons = 0; moves = 0; before = no_work } }
     {
-        Tally {
+        WorkCounter {
             comparisons: 0,
             moves: 0,
             comparisons_before: 0,
@@ -39,7 +41,7 @@ impl Tally {
     /// Begins a call, in which nothing is counted yet. The totals stay as they are.
     #[inline(always)]
     pub(crate) fn begin_call(&mut self)
-        ensures { self.new ≡ record { comparisons = 0; moves = 0; before = totals_after self.old.before self.old.comparisons self.old.moves } }
+        ensures { self.new ≡ record { comparisons = 0; moves = 0; before = with_work self.old.before self.old.comparisons self.old.moves } }
     {
         self.comparisons_before = self.comparisons;
         self.moves_before = self.moves;
@@ -59,7 +61,7 @@ impl Tally {
         self.moves.wrapping_sub(self.moves_before)
     }
 
-    /// Counts so many comparisons.
+    /// CallWork so many comparisons.
     #[inline(always)]
     pub(crate) fn count_comparisons(&mut self, many: u64)
         requires { self.old.comparisons + many < 2 ^ 64 }
@@ -68,7 +70,7 @@ impl Tally {
         self.comparisons = self.comparisons.wrapping_add(many);
     }
 
-    /// Counts so many moves.
+    /// CallWork so many moves.
     #[inline(always)]
     pub(crate) fn count_moves(&mut self, many: u64)
         requires { self.old.moves + many < 2 ^ 64 }
