@@ -18,11 +18,11 @@ returns c =
     let s = c.self.inside in
     let fits = c.self.invariant in
     (λ i. record {
-      comparisons = rise_none s.comparisons fits.comparisons i;
-      moves = rise_none s.moves fits.moves i;
+      comparisons = rise_none s.total.comparisons fits.comparisons i;
+      moves = rise_none s.total.moves fits.moves i;
       before = record {
-        comparisons = total_back s.comparisons_before s.comparisons fits.comparisons_before fits.comparisons i;
-        moves = total_back s.moves_before s.moves fits.moves_before fits.moves i;
+        comparisons = total_back s.before.comparisons s.total.comparisons fits.before.comparisons fits.comparisons i;
+        moves = total_back s.before.moves s.total.moves fits.before.moves fits.moves i;
       };
     })
     ∙ ap (λ (v : CallWork). record { comparisons = 0; moves = 0; before = with_work v.before v.comparisons v.moves }) c.self.view_is

@@ -8,13 +8,13 @@ invariant_of-self c =
     let fits = c.self.invariant in record {
       comparisons = omega arith;
       moves = fits.moves;
-      comparisons_before = fits.comparisons_before;
-      moves_before = fits.moves_before;
+      comparisons_before = fits.before.comparisons;
+      moves_before = fits.before.moves;
     }
 
 pub returns : goal.returns
 returns c =
     let s = c.self.inside in
-    let small : rise s.comparisons_before s.comparisons + c.args.many < 2 ^ 64 = omega (arith, c.requires, ap (λ (v : CallWork). v.comparisons) c.self.view_is) in
-    (λ i. record { comparisons = rise_more s.comparisons_before s.comparisons c.args.many small i; moves = rise s.moves_before s.moves; before = record { comparisons = s.comparisons_before; moves = s.moves_before } })
+    let small : rise s.before.comparisons s.total.comparisons + c.args.many < 2 ^ 64 = omega (arith, c.requires, ap (λ (v : CallWork). v.comparisons) c.self.view_is) in
+    (λ i. record { comparisons = rise_more s.before.comparisons s.total.comparisons c.args.many small i; moves = rise s.before.moves s.total.moves; before = record { comparisons = s.before.comparisons; moves = s.before.moves } })
     ∙ ap (λ (v : CallWork). record v { comparisons = v.comparisons + c.args.many }) c.self.view_is
