@@ -21,8 +21,8 @@ returns c =
       comparisons = rise_none s.total.comparisons fits.comparisons i;
       moves = rise_none s.total.moves fits.moves i;
       before = record {
-        comparisons = total_back s.before.comparisons s.total.comparisons fits.before.comparisons fits.comparisons i;
-        moves = total_back s.before.moves s.total.moves fits.before.moves fits.moves i;
+        comparisons = total_back s.before.comparisons s.total.comparisons fits.comparisons_before fits.comparisons i;
+        moves = total_back s.before.moves s.total.moves fits.moves_before fits.moves i;
       };
     })
     ∙ ap (λ (v : CallWork). record { comparisons = 0; moves = 0; before = with_work v.before v.comparisons v.moves }) c.self.view_is

@@ -8,8 +8,8 @@ invariant_of-self c =
     let fits = c.self.invariant in record {
       comparisons = fits.comparisons;
       moves = omega arith;
-      comparisons_before = fits.before.comparisons;
-      moves_before = fits.before.moves;
+      comparisons_before = fits.comparisons_before;
+      moves_before = fits.moves_before;
     }
 
 pub returns : goal.returns
