@@ -25,9 +25,9 @@ pub record Moves (least most : ℕ) (old new : CallWork) : Type 0 where
   pub moves : new.moves ≤ old.moves + most
   pub before : new.before ≡ old.before
 
--- four numbers of 64 bits: what was counted in all, and how much of that before the call
-pub record FitCounters (comparisons moves comparisons_before moves_before : ℕ) : Type 0 where
-  pub comparisons : comparisons < 2 ^ 64
-  pub moves : moves < 2 ^ 64
-  pub comparisons_before : comparisons_before < 2 ^ 64
-  pub moves_before : moves_before < 2 ^ 64
+-- four numbers of 64 bits: the comparisons and the moves of all calls, and those before the last call began
+pub record FitCounters (c m d n : ℕ) : Type 0 where
+  pub comparisons : c < 2 ^ 64
+  pub moves : m < 2 ^ 64
+  pub comparisons_before : d < 2 ^ 64
+  pub moves_before : n < 2 ^ 64
