@@ -1,4 +1,4 @@
--- Where the runs of a session were cut as memory, its reader or its writer failed.
+-- Where a run was cut as memory, its reader or its writer failed.
 use Rattle.std.specs.Prelude.{ℕ, ◌+◌, List}
 use Rattle.std.specs.declared.option.Option.{Option}
 use Rattle.std.specs.Io.KnownBytes.{Appends}
@@ -7,6 +7,9 @@ use Rattle.ss_code_instructions.specs.Running.{start}
 use Rattle.ss_machine.specs.Stop.{Stop}
 use Rattle.ss_machine.specs.Stop.TheVariants.{Ended, Fault, Paused, Memory, Output, Input, Failed}
 use Rattle.ss_machine.specs.Runs.{IsCut, IsCutAt, does_read, does_write}
+use Rattle.ss_engine.specs.declared.outcome.Outcome.{Outcome}
+use Rattle.ss_engine.specs.declared.outcome.Outcome.TheVariants.{Refused, Stopped}
+use Rattle.ss_engine.specs.Accepting.{Compiles}
 use Rattle.ss_engine.specs.Headline.{Gave}
 
 -- the code, run from its first state with so many ticks and any more, passes after so many steps a state with those more left:
@@ -27,3 +30,15 @@ pub record WasCut {R W : Type 0} (remaining : R → Option (List ℕ)) (contents
   pub made : ℕ
   pub took : Appends (contents writer) (contents new_writer) bytes
   pub place : Gave remaining reader new_reader (CutBy stop code used made bytes)
+
+-- the text has this code, of which a run that used so many ticks was cut so
+pub record HasCutRun {R W : Type 0} (remaining : R → Option (List ℕ)) (contents : W → Option (List ℕ)) (text : List ℕ) (stop : Stop) (used : ℕ) (reader new_reader : R) (writer new_writer : W) : Type 0 where
+  pub code : Code
+  pub compiled : Compiles text code
+  pub where_cut : WasCut remaining contents code stop used reader new_reader writer new_writer
+
+-- where memory, the reader or the writer failed, the text's code reaches, with these ticks used, a place where its report is cut so
+abbrev pub ReportIsCut : {R W : Type 0} → (R → Option (List ℕ)) → (W → Option (List ℕ)) → List ℕ → Outcome → R → R → W → W → Type 0
+ReportIsCut remaining contents text (Refused refusal) reader new_reader writer new_writer = Unit {0}
+ReportIsCut remaining contents text (Stopped stop used) reader new_reader writer new_writer =
+    HasCutRun remaining contents text stop used reader new_reader writer new_writer

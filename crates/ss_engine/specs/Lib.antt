@@ -5,4 +5,3 @@ pub mod Sessions
 pub mod Headline
 pub mod Cuts
 pub mod Outcomes
-pub mod Simulation

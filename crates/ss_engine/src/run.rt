@@ -1,12 +1,10 @@
 //! Runs of a model in pieces.
 
-ghost use Rattle.std.specs.Prelude.{◌≡◌, ◌≤◌, []};
+ghost use Rattle.std.specs.Prelude.{◌≡◌, ◌≤◌, ℕ, List, []};
 ghost use Rattle.std.specs.List.{sum};
 ghost use Rattle.ss_base.specs.Failures.{HasRisen};
-ghost use Rattle.ss_program.specs.Program.{Program};
-ghost use Rattle.ss_program.specs.WellTyped.{WellTyped};
 ghost use Rattle.ss_code_instructions.specs.Machine.{Code};
-ghost use Rattle.ss_code_instructions.specs.Running.{Behaves};
+ghost use Rattle.ss_engine.specs.Accepting.{Compiles};
 ghost use Rattle.ss_engine.specs.Headline.{Simulated, handed_out};
 ghost use Rattle.ss_engine.specs.Sessions.{GoesOn, HasRun, WasRun, session_machine, last_stop};
 ghost use Rattle.ss_engine.specs.Cuts.{WasCut};
@@ -54,7 +52,7 @@ pub fn run_model<R: FaultyRead, W: FaultyWrite>(
     writer: W,
     pieces: &[u64],
 ) -> (Stop, u64, R, W)
-    ensures simulated { (p : Program) → WellTyped p → Behaves p model → Simulated R.remaining W.contents p result.0 result.1 reader result.2 writer result.3 }
+    ensures simulated { (text : List ℕ) → Compiles text model → Simulated R.remaining W.contents text result.0 result.1 reader result.2 writer result.3 }
     ensures where_cut { WasCut R.remaining W.contents model result.0 result.1 reader result.2 writer result.3 }
     ensures used { result.1 ≤ handed_out pieces.now }
     ensures never_failed { result.0 ≡ Stop.Failed → ⊥ }

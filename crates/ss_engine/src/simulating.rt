@@ -3,12 +3,11 @@
 ghost use Rattle.std.specs.Prelude.{◌≡◌, ◌≤◌, ℕ};
 ghost use Rattle.ss_base.specs.Failures.{HasRisen};
 ghost use Rattle.ss_engine.specs.declared.refusal.Refusal.{Refusal as RefusalSeen};
-ghost use Rattle.ss_engine.specs.Headline.{handed_out};
-ghost use Rattle.ss_engine.specs.Simulation.{ComesTo, ReportIsCut};
+ghost use Rattle.ss_engine.specs.Headline.{IsOutcome, handed_out};
+ghost use Rattle.ss_engine.specs.Cuts.{ReportIsCut};
 ghost use Rattle.ss_machine.specs.Stop.{Stop as StopSeen};
 
 use crate::compiling::compile;
-use crate::laws::laws;
 use crate::outcome::Outcome;
 use crate::run::run_model;
 use ss_base::{FaultyRead, FaultyWrite};
@@ -33,7 +32,7 @@ pub fn simulate<R: FaultyRead, W: FaultyWrite>(
     writer: W,
     pieces: &[u64],
 ) -> (Outcome, R, W)
-    ensures headline { ComesTo R.remaining W.contents text.now result.0 reader result.1 writer result.2 }
+    ensures headline { IsOutcome R.remaining W.contents text.now result.0 reader result.1 writer result.2 }
     ensures where_cut { ReportIsCut R.remaining W.contents text.now result.0 reader result.1 writer result.2 }
     ensures ticks { (stop : StopSeen) (used : ℕ) → result.0 ≡ Outcome.Stopped stop used → used ≤ handed_out pieces.now }
     ensures paused { (used : ℕ) → result.0 ≡ Outcome.Stopped Stop.Paused used → used ≡ handed_out pieces.now }
@@ -41,7 +40,6 @@ pub fn simulate<R: FaultyRead, W: FaultyWrite>(
     ensures output { (used : ℕ) → result.0 ≡ Outcome.Stopped Stop.Output used → HasRisen (W.faults writer) (W.faults result.2) }
     ensures input { (used : ℕ) → result.0 ≡ Outcome.Stopped Stop.Input used → HasRisen (R.faults reader) (R.faults result.1) }
 {
-    laws();
     let model = match compile(alloc, text) {
         Ok(model) => model,
         Err(refusal) => return (Outcome::Refused(refusal), reader, writer),

@@ -11,16 +11,16 @@ use Rattle.ss_engine.proofs.Running.{stopped_by}
 use Rattle.ss_engine.proofs.run.run_model.Goals as goal
 
 pub returns-in-Err-clause-simulated : goal.returns-in-Err-clause-simulated
-returns-in-Err-clause-simulated g c p typed b =
+returns-in-Err-clause-simulated g c text compiled =
     let given = c.start.ensures.err (c.in-Err.reader, c.in-Err.writer) c.in-Err.is in
     let same_reader : c.args.reader ≡ c.in-Err.reader = sym (ap (λ (x : g.row.R.Denot × g.row.W.Denot). x.0) given) in
     let same_writer : c.args.writer ≡ c.in-Err.writer = sym (ap (λ (x : g.row.R.Denot × g.row.W.Denot). x.1) given) in
-    subst (λ r. Simulated g.R.FaultyRead.remaining g.W.FaultyWrite.contents p Memory 0 c.args.reader r c.args.writer c.in-Err.writer) same_reader
-    (subst (λ w. Simulated g.R.FaultyRead.remaining g.W.FaultyWrite.contents p Memory 0 c.args.reader c.args.reader c.args.writer w) same_writer
-    (nothing_simulated g.R.FaultyRead.remaining g.W.FaultyWrite.contents p c.args.reader c.args.writer))
+    subst (λ r. Simulated g.R.FaultyRead.remaining g.W.FaultyWrite.contents text Memory 0 c.args.reader r c.args.writer c.in-Err.writer) same_reader
+    (subst (λ w. Simulated g.R.FaultyRead.remaining g.W.FaultyWrite.contents text Memory 0 c.args.reader c.args.reader c.args.writer w) same_writer
+    (nothing_simulated g.R.FaultyRead.remaining g.W.FaultyWrite.contents text compiled.program compiled.meant c.args.reader c.args.writer))
 
 pub returns-clause-simulated : goal.returns-clause-simulated
-returns-clause-simulated g c p typed b =
+returns-clause-simulated g c text compiled =
     let remaining = g.R.FaultyRead.remaining in
     let contents = g.W.FaultyWrite.contents in
     let now = c.run_pieces-stop.new.session in
@@ -29,11 +29,11 @@ returns-clause-simulated g c p typed b =
     let last_reader : session_reader now ≡ out.0 = sym (ap (λ (x : g.row.R.Denot × g.row.W.Denot). x.0) closed) in
     let last_writer : session_writer now ≡ out.1 = sym (ap (λ (x : g.row.R.Denot × g.row.W.Denot). x.1) closed) in
     let was = c.run_pieces-stop.ensures.was_run c.args.model c.args.reader c.args.writer c.in-Ok.ensures.has_run in
-    let meant = c.sessions_are_meant.ensures now p c.args.model c.args.reader c.args.writer was.pieces typed b was.some was.run in
-    let stopped = subst (λ s. Simulated remaining contents p s (session_machine now).used c.args.reader (session_reader now) c.args.writer (session_writer now)) (sym c.run_pieces-stop.ensures.stopped) meant in
-    let read = subst (λ r. Simulated remaining contents p c.run_pieces-stop.result (session_machine now).used c.args.reader r c.args.writer (session_writer now)) last_reader stopped in
-    let written = subst (λ w. Simulated remaining contents p c.run_pieces-stop.result (session_machine now).used c.args.reader out.0 c.args.writer w) last_writer read in
-    subst (λ u. Simulated remaining contents p c.run_pieces-stop.result u c.args.reader out.0 c.args.writer out.1) (sym c.used-used.ensures) written
+    let meant = c.sessions_are_meant.ensures now text c.args.model c.args.reader c.args.writer was.pieces compiled was.some was.run in
+    let stopped = subst (λ s. Simulated remaining contents text s (session_machine now).used c.args.reader (session_reader now) c.args.writer (session_writer now)) (sym c.run_pieces-stop.ensures.stopped) meant in
+    let read = subst (λ r. Simulated remaining contents text c.run_pieces-stop.result (session_machine now).used c.args.reader r c.args.writer (session_writer now)) last_reader stopped in
+    let written = subst (λ w. Simulated remaining contents text c.run_pieces-stop.result (session_machine now).used c.args.reader out.0 c.args.writer w) last_writer read in
+    subst (λ u. Simulated remaining contents text c.run_pieces-stop.result u c.args.reader out.0 c.args.writer out.1) (sym c.used-used.ensures) written
 
 pub returns-in-Err-clause-where_cut : goal.returns-in-Err-clause-where_cut
 returns-in-Err-clause-where_cut g c =
