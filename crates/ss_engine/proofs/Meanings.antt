@@ -9,7 +9,7 @@ use Rattle.ss_program.specs.WellTyped.{WellTyped}
 use Rattle.ss_check.specs.Checking.{program_of}
 use Rattle.ss_check.specs.ProgramLaws.{KeptProgramsResolve}
 use Rattle.ss_meaning.specs.Laws.{NeverWrong}
-use Rattle.ss_engine.specs.Accepting.{nesting_limit}
+use Rattle.ss_parse.specs.Openers.{nesting_limit}
 use Rattle.ss_engine.specs.Laws.{OneMeaning, EachHasOne, ProgramsAreTyped, NeverGoesWrong}
 
 same_program : (p q : Program) → Some p ≡ Some q → p ≡ q
