@@ -7,7 +7,7 @@ ghost use Rattle.ss_parse_expressions.specs.WordTables.{outcome_of};
 ghost use Rattle.ss_lex.specs.declared.word.Word.TheVariants.{If};
 ghost use Rattle.ss_parse_expressions.specs.Reading.{GivesReading, word, skip, skip_comma, after_dropped, seq, taken, in_table};
 ghost use Rattle.ss_parse_expressions.specs.ReadWords.{begins_noisy, expect_noisy};
-ghost use Rattle.ss_parse_statements.specs.ReadStatements.{nested_word, begins_form, begins_statement, begins_find_if, statements_with, else_with, branches_with, do_with, governed_with, body_with, find_words, if_with, loop_with, find_if_with, found_with, find_with, for_with, while_with, until_with, nested_in, statement_in, statements_in};
+ghost use Rattle.ss_parse_statements.specs.ReadStatements.{nested_word, begins_form, begins_statement, begins_find_if, statements_with, else_with, branches_with, do_with, governed_with, body_with, find_words, if_with, loop_with, find_if_with, found_with, find_with, for_with, guarded_with, nested_in, statement_in, statements_in};
 
 use crate::outcomes::{begins_outcome, outcome};
 use crate::simple::simple_form;
@@ -327,33 +327,19 @@ fn for_form(
     }
 }
 
-/// The rest of a loop, after WHILE.
+/// The rest of a loop, after WHILE or UNTIL.
 #[cycle(statements)]
-#[tactic(auto, unfolding(crate::specs::ReadStatements::while_with))]
-fn while_form(
+#[tactic(auto, unfolding(crate::specs::ReadStatements::guarded_with))]
+fn guarded_form(
     alloc: Global,
     line: Line,
+    kind: GuardKind,
     tokens: &[Token],
     room: u8,
 ) -> Result<(Statement, &[Token]), Failure>
-    ensures { GivesReading (λ x. (view_statement x.0, x.1.now)) result (while_with line room (statement_in room) tokens.now) }
+    ensures { GivesReading (λ x. (view_statement x.0, x.1.now)) result (guarded_with line room (statement_in room) kind tokens.now) }
 {
-    let (head, rest) = guarded_head(alloc, GuardKind::While, tokens, room)?;
-    loop_form(alloc, line, head, rest, room)
-}
-
-/// The rest of a loop, after UNTIL.
-#[cycle(statements)]
-#[tactic(auto, unfolding(crate::specs::ReadStatements::until_with))]
-fn until_form(
-    alloc: Global,
-    line: Line,
-    tokens: &[Token],
-    room: u8,
-) -> Result<(Statement, &[Token]), Failure>
-    ensures { GivesReading (λ x. (view_statement x.0, x.1.now)) result (until_with line room (statement_in room) tokens.now) }
-{
-    let (head, rest) = guarded_head(alloc, GuardKind::Until, tokens, room)?;
+    let (head, rest) = guarded_head(alloc, kind, tokens, room)?;
     loop_form(alloc, line, head, rest, room)
 }
 
@@ -376,8 +362,8 @@ fn nested_form(
     match word {
         Word::If => if_form(alloc, line, tokens, room),
         Word::For => for_form(alloc, line, tokens, room),
-        Word::While => while_form(alloc, line, tokens, room),
-        Word::Until => until_form(alloc, line, tokens, room),
+        Word::While => guarded_form(alloc, line, GuardKind::While, tokens, room),
+        Word::Until => guarded_form(alloc, line, GuardKind::Until, tokens, room),
         _ => Err(syntax(tokens)),
     }
 }
