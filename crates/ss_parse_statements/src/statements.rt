@@ -9,7 +9,6 @@ ghost use Rattle.ss_parse_expressions.specs.Reading.{GivesReading, word, skip, s
 ghost use Rattle.ss_parse_expressions.specs.ReadWords.{begins_noisy, expect_noisy};
 ghost use Rattle.ss_parse_statements.specs.ReadStatements.{nested_word, begins_form, begins_statement, begins_find_if, statements_with, else_with, branches_with, do_with, governed_with, body_with, find_words, if_with, loop_with, find_if_with, found_with, find_with, for_with, guarded_with, nested_in, statement_in, statements_in};
 
-use crate::outcomes::{begins_outcome, outcome};
 use crate::simple::simple_form;
 use ss_base::Line;
 use ss_lex::{Symbol, Token, TokenKind, Word};
@@ -17,9 +16,11 @@ use ss_parse_expressions::conditions::condition;
 use ss_parse_expressions::failure::Failure;
 use ss_parse_expressions::heads::{begins_guard, for_head, guarded_head};
 use ss_parse_expressions::steps::{alone, beside};
+use ss_parse_expressions::tables::{begins_word_of, take_word_of};
 use ss_parse_expressions::tokens::{
     begins_word, expect_word, skip_symbol, skip_word, syntax, too_deep,
 };
+use ss_parse_expressions::words::OutcomeWords;
 use ss_tree::head::{GuardKind, Head, LoopHead};
 use ss_tree::statement::{FindOutcome, Statement};
 use std::alloc::Global;
@@ -100,7 +101,7 @@ fn begins_find_if(tokens: &[Token]) -> bool
     ensures { result ≡ begins_find_if tokens.now }
 {
     let tokens = skip_symbol(tokens, Symbol::Comma);
-    begins_word(tokens, Word::If) && begins_outcome(skip_word(tokens, Word::If))
+    begins_word(tokens, Word::If) && begins_word_of::<OutcomeWords>(skip_word(tokens, Word::If))
 }
 
 /// FIND THE FIRST CASE.
@@ -257,7 +258,7 @@ fn outcome_and_branches(
     ensures { GivesReading (λ x. ((x.0, (statement_row (map view_statement x.1.0.items), statement_row (map view_statement x.1.1.items))), x.2.now)) result (after_dropped (expect_noisy (word If)) (seq (taken (in_table outcome_of)) (branches_with (statement_in room))) tokens.now) }
 {
     let rest = expect_noisy(tokens, Word::If)?;
-    let (outcome, rest) = outcome(rest)?;
+    let (outcome, rest) = take_word_of::<OutcomeWords>(rest)?;
     let (then, otherwise, rest) = branches(alloc, rest, room)?;
     Ok((outcome, (then, otherwise), rest))
 }
