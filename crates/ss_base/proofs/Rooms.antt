@@ -1,7 +1,7 @@
 -- Spellings and the zeros that fill their room.
 use Rattle.std.proofs.Common.{◌≡◌, ℕ, suc, ◌+◌, ◌-◌, List, ◌∷◌, ◌++◌, length, take, drop, replicate, refl, sym, ap, ◌∙◌, arith}
 use Rattle.std.proofs.lemmas.List.{take_at, drop-replicate}
-use Rattle.ss_names_declarations.specs.Spellings.{padded_spelling, IsSpellingRoom}
+use Rattle.ss_base.specs.Spellings.{padded_spelling, IsSpellingRoom}
 
 -- the room that these bytes and zeros fill
 pub taken : (bytes room : List ℕ) → room ≡ padded_spelling bytes → take (length bytes) room ≡ bytes

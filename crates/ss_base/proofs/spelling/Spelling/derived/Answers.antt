@@ -1,6 +1,6 @@
 use Rattle.std.proofs.Common.{◌≡◌, ◌+◌, ◌-◌, length, ap, ◌∷◌, ◌∙◌, arith}
-use Rattle.ss_names_declarations.proofs.Rooms.{derived_is_room, derived_taken, derived_fills_room}
-use Rattle.ss_names_declarations.proofs.spelling.Spelling.derived.Goals as goal
+use Rattle.ss_base.proofs.Rooms.{derived_is_room, derived_taken, derived_fills_room}
+use Rattle.ss_base.proofs.spelling.Spelling.derived.Goals as goal
 
 pub invariant_of-result : goal.invariant_of-result
 invariant_of-result c =

@@ -1,4 +1,4 @@
-//! Spellings of global names. A derived one may be longer than a name of a text.
+//! Spellings of names. A derived one may be longer than a name of a text.
 
 ghost use Rattle.std.specs.Prelude.{nat_eq};
 ghost use Rattle.std.proofs.Common.{rules};
@@ -7,7 +7,7 @@ ghost use Rattle.std.specs.Cmp.{partial_equiv_from_equiv};
 ghost use Rattle.std.specs.Cmp.Rules.{hashing};
 ghost use Rattle.std.specs.Cmp.Lexicographic.{pointwise, nat_list_eq_equiv};
 
-use ss_base::Name;
+use crate::name::Name;
 use std::hash::{Hash, Hasher};
 use std::marker::Model;
 
@@ -25,7 +25,7 @@ pub struct Spelling {
 
 impl Model for Spelling {
     ghost use Rattle.std.specs.Prelude.{List, ℕ, length, take};
-    ghost use Rattle.ss_names_declarations.specs.Spellings.{padded_spelling, IsSpellingRoom};
+    ghost use Rattle.ss_base.specs.Spellings.{padded_spelling, IsSpellingRoom};
 
     ghost Value = { List ℕ };
 
@@ -40,7 +40,8 @@ impl Model for Spelling {
 
 impl Spelling {
     ghost use Rattle.std.specs.Prelude.{◌≡◌, ◌≤◌, ◌∷◌, length};
-    ghost use Rattle.ss_names_declarations.specs.Spellings.{spelling_limit, spelling_of};
+    ghost use Rattle.ss_base.specs.Names.{in_capitals};
+    ghost use Rattle.ss_base.specs.Spellings.{spelling_limit, spelling_of};
 
     /// The spelling of these bytes. None where they are more than `SPELLING_LIMIT`.
     pub fn of(bytes: &[u8]) -> Option<Spelling>
@@ -55,15 +56,26 @@ impl Spelling {
         Some(Spelling { room, len })
     }
 
+    /// The spelling of these bytes in capitals.
+    pub(crate) fn in_capitals(bytes: &[u8]) -> Spelling
+        requires { length bytes.now ≤ spelling_limit }
+        ensures { result ≡ in_capitals bytes.now }
+    {
+        let mut room = [0; SPELLING_LIMIT];
+        'capitals: for (i, b) in bytes.iter().enumerate() {
+            room[i] = b.to_ascii_uppercase();
+        }
+        Spelling {
+            room,
+            len: bytes.len(),
+        }
+    }
+
     /// The spelling of a name.
     pub fn of_name(name: &Name) -> Spelling
         ensures { result ≡ name.now }
     {
-        let bytes = name.bytes();
-        let len = bytes.len();
-        let mut room = [0; SPELLING_LIMIT];
-        room[..len].copy_from_slice(bytes);
-        Spelling { room, len }
+        name.spelling()
     }
 
     /// The spelling of a derived name: a letter, a period and a name.
