@@ -1,1 +1,3 @@
+pub mod CommandLine
 pub mod Statuses
+pub mod Retrying

@@ -228,27 +228,7 @@ fn resolve_inner<S: Scope>(
             let first = resolve_body(alloc, scope, body)?;
             Ok(only(alloc, first))
         }
-        Statement::Let { .. }
-        | Statement::Add { .. }
-        | Statement::Subtract { .. }
-        | Statement::Call { .. }
-        | Statement::Return { .. }
-        | Statement::Stop { .. }
-        | Statement::Read { .. }
-        | Statement::StartSimulation { .. }
-        | Statement::Find { .. }
-        | Statement::Create { .. }
-        | Statement::CreateEvery { .. }
-        | Statement::Destroy { .. }
-        | Statement::File { .. }
-        | Statement::RemoveEnd { .. }
-        | Statement::Remove { .. }
-        | Statement::ScheduleNew { .. }
-        | Statement::Schedule { .. }
-        | Statement::Cancel { .. }
-        | Statement::Reset { .. }
-        | Statement::Print { .. }
-        | Statement::Skip { .. } => Ok(no_bodies(alloc)),
+        _ => Ok(no_bodies(alloc)),
     }
 }
 

@@ -11,7 +11,8 @@ use Rattle.ss_check.specs.ProgramLaws.{KeptProgramsResolve}
 use Rattle.ss_meaning.specs.Laws.{NeverWrong}
 use Rattle.ss_meaning.specs.Meaning.{Paused, Run, WentWrong, meaning}
 use Rattle.ss_code_instructions.specs.Laws.{EndingsStay, Grows, Prefixes}
-use Rattle.ss_engine.specs.Accepting.{IsProgramOf, nesting_limit}
+use Rattle.ss_parse.specs.Openers.{nesting_limit}
+use Rattle.ss_engine.specs.Accepting.{IsProgramOf}
 use Rattle.ss_engine.specs.Headline.{IsMeaning}
 use Rattle.ss_engine.specs.Laws.{OneProgram, OneMeaning, EachHasOne, ProgramsAreTyped, NeverGoesWrong, ReportsGrow, TextEndingsStay}
 

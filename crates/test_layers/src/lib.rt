@@ -12,8 +12,6 @@ mod input;
 #[cfg(test)]
 mod lexer;
 #[cfg(test)]
-mod orders;
-#[cfg(test)]
 mod pictures;
 #[cfg(test)]
 mod records;

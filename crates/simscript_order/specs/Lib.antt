@@ -1,4 +1,0 @@
-pub mod CommandLine
-pub mod Statuses
-pub mod Retrying
-pub mod TroubleStatuses
