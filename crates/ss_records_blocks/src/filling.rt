@@ -15,30 +15,69 @@ pub fn fill_numbers(blocks: &mut Blocks, place: Address, from: usize, to: usize)
     ensures filled { Filled blocks.old.cells blocks.new.cells place.at from to zeros }
     ensures touches { (blocks.new.touches ≡ blocks.old.touches) × (blocks.new.total ≡ blocks.old.total) }
 {
-    let second = fill_one(blocks, place, from, to);
-    let third = fill_one(blocks, place, second, to);
-    let fourth = fill_one(blocks, place, third, to);
-    let fifth = fill_one(blocks, place, fourth, to);
-    if fifth < to {
-        fill_rest(blocks, place, fifth, to);
+    if from < to {
+        blocks.set_number(place, from, 0);
+        fill_second(blocks, place, from + 1, to);
     }
 }
 
-// A zero in one word if it is before another, and the word that comes next to be written.
+// Writes the words from the second on.
 #[inline(always)]
-fn fill_one(blocks: &mut Blocks, place: Address, from: usize, to: usize) -> usize
+fn fill_second(blocks: &mut Blocks, place: Address, from: usize, to: usize)
     requires order { from ≤ to }
     requires room { to ≤ length (words_at blocks.old.cells place.at) }
     requires blank { (k : ℕ) → from ≤ k → k < to → word_at blocks.old.cells place.at k ≡ blank }
-    ensures order { (from ≤ result) × (result ≤ to) }
-    ensures filled { Filled blocks.old.cells blocks.new.cells place.at from result zeros }
+    ensures filled { Filled blocks.old.cells blocks.new.cells place.at from to zeros }
     ensures touches { (blocks.new.touches ≡ blocks.old.touches) × (blocks.new.total ≡ blocks.old.total) }
 {
     if from < to {
         blocks.set_number(place, from, 0);
-        return from + 1;
+        fill_third(blocks, place, from + 1, to);
     }
-    from
+}
+
+// Writes the words from the third on.
+#[inline(always)]
+fn fill_third(blocks: &mut Blocks, place: Address, from: usize, to: usize)
+    requires order { from ≤ to }
+    requires room { to ≤ length (words_at blocks.old.cells place.at) }
+    requires blank { (k : ℕ) → from ≤ k → k < to → word_at blocks.old.cells place.at k ≡ blank }
+    ensures filled { Filled blocks.old.cells blocks.new.cells place.at from to zeros }
+    ensures touches { (blocks.new.touches ≡ blocks.old.touches) × (blocks.new.total ≡ blocks.old.total) }
+{
+    if from < to {
+        blocks.set_number(place, from, 0);
+        fill_fourth(blocks, place, from + 1, to);
+    }
+}
+
+// Writes the words from the fourth on.
+#[inline(always)]
+fn fill_fourth(blocks: &mut Blocks, place: Address, from: usize, to: usize)
+    requires order { from ≤ to }
+    requires room { to ≤ length (words_at blocks.old.cells place.at) }
+    requires blank { (k : ℕ) → from ≤ k → k < to → word_at blocks.old.cells place.at k ≡ blank }
+    ensures filled { Filled blocks.old.cells blocks.new.cells place.at from to zeros }
+    ensures touches { (blocks.new.touches ≡ blocks.old.touches) × (blocks.new.total ≡ blocks.old.total) }
+{
+    if from < to {
+        blocks.set_number(place, from, 0);
+        fill_on(blocks, place, from + 1, to);
+    }
+}
+
+// Writes the words from the fifth on.
+#[inline(always)]
+fn fill_on(blocks: &mut Blocks, place: Address, from: usize, to: usize)
+    requires order { from ≤ to }
+    requires room { to ≤ length (words_at blocks.old.cells place.at) }
+    requires blank { (k : ℕ) → from ≤ k → k < to → word_at blocks.old.cells place.at k ≡ blank }
+    ensures filled { Filled blocks.old.cells blocks.new.cells place.at from to zeros }
+    ensures touches { (blocks.new.touches ≡ blocks.old.touches) × (blocks.new.total ≡ blocks.old.total) }
+{
+    if from < to {
+        fill_rest(blocks, place, from, to);
+    }
 }
 
 // Writes many words.
