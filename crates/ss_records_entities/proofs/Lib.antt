@@ -34,4 +34,5 @@ pub mod Setless
 pub mod Skims
 pub mod Spared
 pub mod Still
+pub mod Ties
 pub mod UnlinkWrites

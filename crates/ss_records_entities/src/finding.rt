@@ -10,8 +10,7 @@ ghost use Rattle.ss_records_entities.specs.Parts.{IsKept, state, Found, FoundNot
 ghost use Rattle.ss_records_entities.specs.Classed.{HasClass};
 
 use crate::records::Records;
-use crate::ties;
-use ss_base::{ClassKind, FaultKind};
+use ss_base::{ClassKind, FaultKind, Owner};
 use ss_records_blocks::{Address, CLASS};
 
 impl Records {
@@ -85,17 +84,16 @@ impl Records {
         ensures cells { self.new.blocks.cells ≡ self.old.blocks.cells }
         ensures touches { (self.new.blocks.touches ≤ self.old.blocks.touches + 1048576) × (self.new.blocks.total + self.old.blocks.touches ≡ self.old.blocks.total + self.new.blocks.touches) }
     {
-        ties::in_a_set(
-            &mut self.blocks,
-            &self.layout,
-            &self.directory,
-            &self.permanents,
-            &self.notes,
-            self.system,
-            class,
-            place,
-            number,
-        )
+        let end = self.layout.owned_start(Owner::Class(class));
+        let mut k = self.layout.links_start(class);
+        'links: while k < end {
+            let next = self.blocks.follow(place, k);
+            if next.number != number {
+                return true;
+            }
+            k += 3;
+        }
+        false
     }
 
     // Whether an entity has members in a set.
@@ -110,17 +108,22 @@ impl Records {
         ensures cells { self.new.blocks.cells ≡ self.old.blocks.cells }
         ensures touches { (self.new.blocks.touches ≤ self.old.blocks.touches + 1048576) × (self.new.blocks.total + self.old.blocks.touches ≡ self.old.blocks.total + self.new.blocks.touches) }
     {
-        ties::owns_members(
-            &mut self.blocks,
-            &self.layout,
-            &self.directory,
-            &self.permanents,
-            &self.notes,
-            self.system,
-            class,
-            place,
-            number,
-        )
+        let mut left = self.layout.owned_count(Owner::Class(class));
+        if left == 0 {
+            return false;
+        }
+        for s in 0..self.layout.names() {
+            if self.layout.is_owner(s, class) {
+                if self.owns_in(s, place, number) {
+                    return true;
+                }
+                left -= 1;
+                if left == 0 {
+                    return false;
+                }
+            }
+        }
+        false
     }
 
     // The block of an entity that is in no set and has no members, of a class whose entities come and go one by one.

@@ -1,8 +1,9 @@
 // The records, and what the block of each says.
-ghost use Rattle.std.specs.Prelude.{◌≡◌, ℕ, ◌+◌, ◌-◌, ◌*◌, ◌^◌, ◌<◌, ◌≤◌, length, MatchResult, IfOk, IfSome, Ok, Err, Some, None, slice_get, true, false, ⊤};
-ghost use Rattle.ss_world.specs.State.{kind_of, modes_of, is_notice, first_state, living_numbers, living_records, value_in, time_in, destroyed, created, created_all, is_made, with_made, assigned, timed, no_value, RefusedFor};
+ghost use Rattle.std.specs.Prelude.{◌≡◌, ℕ, List, ◌+◌, ◌-◌, ◌*◌, ◌/◌, ◌^◌, ◌<◌, ◌≤◌, length, MatchResult, IfOk, IfSome, Ok, Err, Some, None, slice_get, true, false, ⊤};
+ghost use Rattle.ss_world.specs.State.{Members, kind_of, modes_of, is_notice, first_state, living_numbers, living_records, value_in, time_in, destroyed, created, created_all, is_made, with_made, assigned, timed, no_value, RefusedFor};
 ghost use Rattle.ss_world.specs.Sets.{owner_kind};
 ghost use Rattle.ss_records_blocks.specs.Cells.{words_at};
+ghost use Rattle.ss_records_blocks.specs.Pages.{in_page};
 ghost use Rattle.ss_base.specs.Layout.{mode_of};
 ghost use Rattle.ss_records_words.specs.Shape.{values_end};
 ghost use Rattle.ss_records_words.specs.Kept.{Kept, Small, IsPermanent, RowsHeld};
@@ -96,20 +97,12 @@ impl Records {
         let Records {
             layout,
             mut blocks,
-            notes,
+            notes: _,
             system,
             directory,
             permanents,
         } = self;
-        give_all_back(
-            &mut blocks,
-            alloc,
-            &layout,
-            &directory,
-            &permanents,
-            &notes,
-            system,
-        );
+        give_all_back(&mut blocks, alloc, &layout, &directory, &permanents, system);
         let words = layout.block_words(Owner::System);
         blocks.give_back(alloc, system, words);
         blocks.close();
@@ -497,29 +490,37 @@ fn give_all_back(
     layout: &LayoutPlan,
     directory: &Directory,
     permanents: &[Row],
-    notes: &Notes,
     system: Address,
 )
-    requires kept { Kept layout.now blocks.old.cells system.at (lying directory.now.places permanents.now) notes.now.lists }
+    requires kept { (ms : List Members) × Kept layout.now blocks.old.cells system.at (lying directory.now.places permanents.now) ms }
     ensures system { words_at blocks.new.cells system.at ≡ words_at blocks.old.cells system.at }
     ensures count { length blocks.new.cells ≡ 1 }
 {
     for stretch in 0..directory.stretches() {
-        if directory.holds(stretch) {
-            let first = stretch * PAGE;
-            for i in first..first + PAGE {
-                match directory.place_of(i) {
-                    Some(place) => {
-                        let class = blocks.number(place, CLASS) as usize;
-                        let words = layout.block_words(Owner::Class(class));
-                        blocks.give_back(alloc, place, words);
-                    }
-                    None => {}
+        let first = stretch * PAGE;
+        for i in first..first + numbers_in(directory, stretch) {
+            match directory.place_of(i) {
+                Some(place) => {
+                    let class = blocks.number(place, CLASS) as usize;
+                    let words = layout.block_words(Owner::Class(class));
+                    blocks.give_back(alloc, place, words);
                 }
+                None => {}
             }
         }
     }
     give_rows_back(blocks, alloc, layout, permanents, system);
+}
+
+// How many numbers of a stretch are to be looked at: none where its page is not held.
+fn numbers_in(directory: &Directory, stretch: usize) -> usize
+    ensures few { result ≤ 256 }
+    ensures others { (i : ℕ) → i / 256 ≡ stretch → stretch * 256 + result ≤ i → in_page (slice_get directory.now.places i) ≡ None }
+{
+    if directory.holds(stretch) {
+        return PAGE;
+    }
+    0
 }
 
 // Gives back the blocks of the permanent entities.
