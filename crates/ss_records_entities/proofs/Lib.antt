@@ -24,6 +24,7 @@ pub mod NamesCreated
 pub mod NamesGone
 pub mod NamesKept
 pub mod Onward
+pub mod OwnLinks
 pub mod Owning
 pub mod Passing
 pub mod ReadKind
@@ -34,5 +35,4 @@ pub mod Setless
 pub mod Skims
 pub mod Spared
 pub mod Still
-pub mod Ties
 pub mod UnlinkWrites

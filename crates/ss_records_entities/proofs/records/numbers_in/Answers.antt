@@ -1,4 +1,4 @@
-use Rattle.std.proofs.Common.{◌+◌, ◌*◌, ◌/◌, arith}
+use Rattle.std.proofs.Common.{arith}
 use Rattle.ss_records_blocks.proofs.Paging.{quot, rem}
 use Rattle.ss_records_entities.proofs.records.numbers_in.Goals as goal
 

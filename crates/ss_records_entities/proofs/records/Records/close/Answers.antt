@@ -3,8 +3,8 @@ use Rattle.ss_records_blocks.specs.Cells.{words_at}
 use Rattle.ss_records_entities.proofs.Living.{nothing_left}
 use Rattle.ss_records_entities.proofs.records.Records.close.Goals as goal
 
-pub give_all_back-requires-clause-kept : goal.give_all_back-requires-clause-kept
-give_all_back-requires-clause-kept c = (c.args.self.notes.lists, c.requires.kept)
+pub give_all_back-requires : goal.give_all_back-requires
+give_all_back-requires c = record { kept = (c.args.self.notes.lists, rw c.deref.ensures.value c.requires.kept) }
 
 pub close-requires : goal.close-requires
 close-requires c =

@@ -5,7 +5,7 @@ use Rattle.ss_records_blocks.specs.Cells.{link, number, word_at}
 use Rattle.ss_records_blocks.specs.Links.{Leads}
 use Rattle.ss_records_words.specs.Shape.{links_start}
 use Rattle.ss_records_entities.proofs.Linked.{Here, here, at_first, room, found, after, at_last, few_touched}
-use Rattle.ss_records_entities.proofs.Ties.{leads_on, filed_there, filed_nowhere}
+use Rattle.ss_records_entities.proofs.OwnLinks.{leads_on, filed_there, filed_nowhere}
 use Rattle.ss_records_entities.proofs.records.Records.in_a_set.Goals as goal
 use Rattle.ss_records_entities.proofs.records.Records.in_a_set.Goals.{In-links}
 

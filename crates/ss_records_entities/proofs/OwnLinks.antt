@@ -1,5 +1,5 @@
 -- Whether an entity is in a set, by the words of its own block.
-use Rattle.std.proofs.Common.{◌≡◌, ℕ, suc, inl, Bool, true, false, slice_get, Some, ap, sym, subst, ◌∙◌}
+use Rattle.std.proofs.Common.{◌≡◌, ℕ, suc, inl, true, false, slice_get, Some, ap, sym, subst, ◌∙◌}
 use Rattle.std.specs.Prelude.{not, nat_eq}
 use Rattle.ss_base.specs.declared.layout.SetLayout.{SetLayout}
 use Rattle.ss_records_blocks.specs.declared.store.Address.{Address}
