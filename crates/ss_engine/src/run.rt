@@ -54,7 +54,7 @@ pub fn run_model<R: FaultyRead, W: FaultyWrite>(
     pieces: &[u64],
 ) -> (Stop, u64, R, W)
     ensures simulated { (text : List ℕ) → Compiles text model → Simulated R.remaining W.contents text result.0 result.1 reader result.2 writer result.3 }
-    ensures where_cut { WasCut R.remaining W.contents model result.0 result.1 reader result.2 writer result.3 }
+    ensures where_cut { (text : List ℕ) → Compiles text model → WasCut R.remaining W.contents text result.0 result.1 reader result.2 writer result.3 }
     ensures used { result.1 ≤ handed_out pieces.now }
     ensures never_failed { result.0 ≡ Stop.Failed → ⊥ }
     ensures paused { result.0 ≡ Stop.Paused → result.1 ≡ handed_out pieces.now }

@@ -25,9 +25,9 @@ pub fn sessions_are_meant<R: FaultyRead, W: FaultyWrite>()
     laws_of_texts();
 }
 
-/// Where memory, the reader or the writer failed, the machine of the code goes from its first state, with the ticks used, to
+/// Where memory, the reader or the writer failed, the machine of a text's code goes from its first state, with the ticks used, to
 /// a place where its report is cut to the bytes that the writer took; where the writer failed the next instruction writes,
 /// where the reader failed it reads. It says that there is such a place, and not which of several.
 pub fn sessions_are_cut<R: FaultyRead, W: FaultyWrite>()
-    ensures { (session : SessionSeen R W) (code : Code) (reader : R) (writer : W) (pieces : List ℕ) → HasRun R.remaining R.faults W.contents W.faults code reader writer pieces session → WasCut R.remaining W.contents code (last_stop (session_machine session).stopped) (session_machine session).used reader (session_reader session) writer (session_writer session) }
+    ensures { (session : SessionSeen R W) (text : List ℕ) (code : Code) (reader : R) (writer : W) (pieces : List ℕ) → Compiles text code → HasRun R.remaining R.faults W.contents W.faults code reader writer pieces session → WasCut R.remaining W.contents text (last_stop (session_machine session).stopped) (session_machine session).used reader (session_reader session) writer (session_writer session) }
 {}

@@ -37,16 +37,16 @@ returns-clause-simulated g c text compiled =
     subst (λ u. Simulated remaining contents text c.run_pieces-stop.result u c.args.reader out.0 c.args.writer out.1) (sym c.used-used.ensures) written
 
 pub returns-in-Err-clause-where_cut : goal.returns-in-Err-clause-where_cut
-returns-in-Err-clause-where_cut g c =
+returns-in-Err-clause-where_cut g c text compiled =
     let given = c.start.ensures.err (c.in-Err.reader, c.in-Err.writer) c.in-Err.is in
     let same_reader : c.args.reader ≡ c.in-Err.reader = sym (ap (λ (x : g.row.R.Denot × g.row.W.Denot). x.0) given) in
     let same_writer : c.args.writer ≡ c.in-Err.writer = sym (ap (λ (x : g.row.R.Denot × g.row.W.Denot). x.1) given) in
-    subst (λ r. WasCut g.R.FaultyRead.remaining g.W.FaultyWrite.contents c.args.model Memory 0 c.args.reader r c.args.writer c.in-Err.writer) same_reader
-    (subst (λ w. WasCut g.R.FaultyRead.remaining g.W.FaultyWrite.contents c.args.model Memory 0 c.args.reader c.args.reader c.args.writer w) same_writer
-    (nothing_cut g.R.FaultyRead.remaining g.W.FaultyWrite.contents c.args.model c.args.reader c.args.writer))
+    subst (λ r. WasCut g.R.FaultyRead.remaining g.W.FaultyWrite.contents text Memory 0 c.args.reader r c.args.writer c.in-Err.writer) same_reader
+    (subst (λ w. WasCut g.R.FaultyRead.remaining g.W.FaultyWrite.contents text Memory 0 c.args.reader c.args.reader c.args.writer w) same_writer
+    (nothing_cut g.R.FaultyRead.remaining g.W.FaultyWrite.contents text c.args.model compiled c.args.reader c.args.writer))
 
 pub returns-clause-where_cut : goal.returns-clause-where_cut
-returns-clause-where_cut g c =
+returns-clause-where_cut g c text compiled =
     let remaining = g.R.FaultyRead.remaining in
     let contents = g.W.FaultyWrite.contents in
     let code = c.args.model in
@@ -56,11 +56,11 @@ returns-clause-where_cut g c =
     let last_reader : session_reader now ≡ out.0 = sym (ap (λ (x : g.row.R.Denot × g.row.W.Denot). x.0) closed) in
     let last_writer : session_writer now ≡ out.1 = sym (ap (λ (x : g.row.R.Denot × g.row.W.Denot). x.1) closed) in
     let was = c.run_pieces-stop.ensures.was_run code c.args.reader c.args.writer c.in-Ok.ensures.ok c.in-Ok.ensures.has_run in
-    let where_cut = c.sessions_are_cut.ensures now code c.args.reader c.args.writer was.0 was.3.run in
-    let stopped = subst (λ s. WasCut remaining contents code s (session_machine now).used c.args.reader (session_reader now) c.args.writer (session_writer now)) (sym c.run_pieces-stop.ensures.stopped) where_cut in
-    let read = subst (λ r. WasCut remaining contents code c.run_pieces-stop.result (session_machine now).used c.args.reader r c.args.writer (session_writer now)) last_reader stopped in
-    let written = subst (λ w. WasCut remaining contents code c.run_pieces-stop.result (session_machine now).used c.args.reader out.0 c.args.writer w) last_writer read in
-    subst (λ u. WasCut remaining contents code c.run_pieces-stop.result u c.args.reader out.0 c.args.writer out.1) (sym c.used-used.ensures) written
+    let where_cut = c.sessions_are_cut.ensures now text code c.args.reader c.args.writer was.0 compiled was.3.run in
+    let stopped = subst (λ s. WasCut remaining contents text s (session_machine now).used c.args.reader (session_reader now) c.args.writer (session_writer now)) (sym c.run_pieces-stop.ensures.stopped) where_cut in
+    let read = subst (λ r. WasCut remaining contents text c.run_pieces-stop.result (session_machine now).used c.args.reader r c.args.writer (session_writer now)) last_reader stopped in
+    let written = subst (λ w. WasCut remaining contents text c.run_pieces-stop.result (session_machine now).used c.args.reader out.0 c.args.writer w) last_writer read in
+    subst (λ u. WasCut remaining contents text c.run_pieces-stop.result u c.args.reader out.0 c.args.writer out.1) (sym c.used-used.ensures) written
 
 pub returns-clause-output : goal.returns-clause-output
 returns-clause-output g c q text compiled =

@@ -9,7 +9,7 @@ pub returns-clause-headline : goal.returns-clause-headline
 returns-clause-headline g c = c.run_model-stop.ensures.simulated c.args.text.now c.in-Ok.ensures.accepted
 
 pub returns-clause-where_cut : goal.returns-clause-where_cut
-returns-clause-where_cut g c = record { code = c.in-Ok.model; compiled = c.in-Ok.ensures.accepted; where_cut = c.run_model-stop.ensures.where_cut }
+returns-clause-where_cut g c = c.run_model-stop.ensures.where_cut c.args.text.now c.in-Ok.ensures.accepted
 
 pub returns-clause-output : goal.returns-clause-output
 returns-clause-output g c used e =
