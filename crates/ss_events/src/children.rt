@@ -5,7 +5,7 @@ ghost use Rattle.ss_world.specs.Order.{comes_before};
 
 use crate::entry::EntryHeap;
 
-/// The first child of the entry at a place. CallWork at most three comparisons.
+/// The first child of the entry at a place. Counts at most three comparisons.
 #[inline(always)]
 pub fn first_child(heap: &mut EntryHeap, at: usize) -> Option<usize>
     requires within { at < length heap.old.entries }
@@ -52,7 +52,7 @@ fn first_of_few(heap: &mut EntryHeap, from: usize, many: usize) -> usize
     first_of(heap, left, from + 2)
 }
 
-// The first of the entries in two places, one left of the other. CallWork a comparison. It is reckoned without a branch, which
+// The first of the entries in two places, one left of the other. Counts a comparison. It is reckoned without a branch, which
 // would go one way as often as the other.
 #[inline(always)]
 fn first_of(heap: &mut EntryHeap, left: usize, right: usize) -> usize

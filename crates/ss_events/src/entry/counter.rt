@@ -67,7 +67,7 @@ impl WorkCounter {
         self.total.moves.wrapping_sub(self.before.moves)
     }
 
-    /// CallWork so many comparisons.
+    /// Counts so many comparisons.
     #[inline(always)]
     pub(crate) fn count_comparisons(&mut self, many: u64)
         requires { self.old.comparisons + many < 2 ^ 64 }
@@ -76,7 +76,7 @@ impl WorkCounter {
         self.total.comparisons = self.total.comparisons.wrapping_add(many);
     }
 
-    /// CallWork so many moves.
+    /// Counts so many moves.
     #[inline(always)]
     pub(crate) fn count_moves(&mut self, many: u64)
         requires { self.old.moves + many < 2 ^ 64 }

@@ -66,7 +66,7 @@ impl EntryHeap {
         self.counter.moves()
     }
 
-    /// Resets the comparisons and the moves of a call to 0, as the next call begins. The totals of all calls stay as they are.
+    /// Resets the comparisons and the moves of a call to 0, as the next call begins. The total of all calls stays as it is.
     #[inline(always)]
     pub(crate) fn reset_counts(&mut self)
         ensures { self.new ≡ record self.old { comparisons = 0; moves = 0; before = with_work self.old.before self.old.comparisons self.old.moves } }
@@ -116,7 +116,7 @@ impl EntryHeap {
         self.entries.look_ahead();
     }
 
-    /// Whether the entry at place `a` comes out before that at `b`. CallWork a comparison.
+    /// Whether the entry at place `a` comes out before that at `b`. Counts a comparison.
     #[inline(always)]
     pub(crate) fn is_before(&mut self, a: usize, b: usize) -> bool
         requires a_within { a < length self.old.entries }
@@ -136,7 +136,7 @@ impl EntryHeap {
         early.order < late.order
     }
 
-    /// The first of the entries in four places from this one on. CallWork three comparisons.
+    /// The first of the entries in four places from this one on. Counts three comparisons.
     #[inline(always)]
     pub(crate) fn first_of_four(&mut self, from: usize) -> usize
         requires within { from + 4 ≤ length self.old.entries }
@@ -152,7 +152,7 @@ impl EntryHeap {
         from + first_of(&self.entries, four, from, left, right)
     }
 
-    /// Lets the entries of two places change places. CallWork two moves.
+    /// Lets the entries of two places change places. Counts two moves.
     #[inline(always)]
     pub(crate) fn swap(&mut self, a: usize, b: usize)
         requires a_within { a < length self.old.entries }
@@ -170,7 +170,7 @@ impl EntryHeap {
         self.entries.make_room()
     }
 
-    /// Puts an entry of a notice into the next place. CallWork a move.
+    /// Puts an entry of a notice into the next place. Counts a move.
     pub(crate) fn push(&mut self, key: Key, number: u64, notice: i64) -> Result<(), AllocError>
         requires apart { list_any (int_eq notice) (notices_of self.old.entries) ≡ false }
         requires fresh { list_any (int_eq notice) (notices_of self.old.followers) ≡ false }
@@ -187,7 +187,7 @@ impl EntryHeap {
     }
 
     /// Puts a plain entry into the next place, if there is room and its notice is found to be new at once, and says whether it did.
-    /// CallWork a move where it did. If not, nothing has changed.
+    /// Counts a move where it did. If not, nothing has changed.
     #[inline(always)]
     pub(crate) fn push_plain(&mut self, time: i64, rank: usize, number: u64, notice: i64) -> bool
         requires rank { rank < plain_ranks }
@@ -203,7 +203,7 @@ impl EntryHeap {
     }
 
     /// Puts a plain entry after the last of a line of its time, where one is found that comes before it; and says whether it did.
-    /// CallWork a comparison where there is an entry to compare it with, and a move where it did. If not, the entries are what they were.
+    /// Counts a comparison where there is an entry to compare it with, and a move where it did. If not, the entries are what they were.
     #[inline(never)]
     pub(crate) fn append_plain(&mut self, time: i64, rank: usize, number: u64, notice: i64) -> bool
         requires rank { rank < plain_ranks }
@@ -225,7 +225,7 @@ impl EntryHeap {
     }
 
     /// Takes the entry out of a place, into which the next of its line moves, or else the last head, and answers its time and its
-    /// notice. CallWork the move of the next of the line, or the two by which the entry and the last head change places.
+    /// notice. Counts the move of the next of the line, or the two by which the entry and the last head change places.
     pub(crate) fn remove(&mut self, at: usize) -> (i64, i64)
         requires within { at < length self.old.entries }
         requires countable { self.old.moves + 2 < 2 ^ 64 }
@@ -235,7 +235,7 @@ impl EntryHeap {
         self.entries.remove(at, &mut self.counter)
     }
 
-    /// Takes out the entry of a notice where it follows another one, and says whether it did. CallWork a move where another one comes into
+    /// Takes out the entry of a notice where it follows another one, and says whether it did. Counts a move where another one comes into
     /// its place in the line. If it did not, nothing has changed.
     pub(crate) fn remove_follower(&mut self, notice: i64) -> bool
         requires countable { self.old.moves + 1 < 2 ^ 64 }

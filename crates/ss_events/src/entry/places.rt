@@ -217,7 +217,7 @@ impl Places {
         Ok(())
     }
 
-    /// Puts an entry of a new notice into the next place, as a line of its own. CallWork a move.
+    /// Puts an entry of a new notice into the next place, as a line of its own. Counts a move.
     pub(crate) fn push(&mut self, entry: Entry, counter: &mut WorkCounter) -> Result<(), AllocError>
         requires apart { list_any (int_eq entry.notice) (notices_of self.old.heads) ≡ false }
         requires fresh { list_any (int_eq entry.notice) (notices_of self.old.followers) ≡ false }
@@ -251,7 +251,7 @@ impl Places {
     }
 
     /// Puts a plain entry into the next place, if there is room and its notice is found to be new at once, and says whether it did.
-    /// CallWork a move where it did. If not, nothing has changed.
+    /// Counts a move where it did. If not, nothing has changed.
     #[inline(always)]
     pub(crate) fn push_plain(&mut self, mark: Mark, notice: i64, counter: &mut WorkCounter) -> bool
         requires plain { mark.order < plain_ranks * plain_numbers }
@@ -281,7 +281,7 @@ impl Places {
     }
 
     /// Puts a plain entry after the last of a line of its time, if a line is found that ends before it, there is room for it, and its
-    /// notice is found to be new at once; and says whether it did. If not, no entry has changed. CallWork a comparison where the last of a
+    /// notice is found to be new at once; and says whether it did. If not, no entry has changed. Counts a comparison where the last of a
     /// line is found, and a move where it did.
     #[inline(always)]
     pub(crate) fn append_plain(
@@ -345,7 +345,7 @@ impl Places {
         true
     }
 
-    /// Lets the lines of two places change places. CallWork two moves.
+    /// Lets the lines of two places change places. Counts two moves.
     #[inline(always)]
     pub(crate) fn swap(&mut self, a: usize, b: usize, counter: &mut WorkCounter)
         requires a_within { a < length self.old.heads }
@@ -358,7 +358,7 @@ impl Places {
     }
 
     /// Takes the entry out of a place, into which the next of its line comes, or else the last head, and answers its time and its
-    /// notice. CallWork the move of the next of the line, or the two by which the entry and the last head change places.
+    /// notice. Counts the move of the next of the line, or the two by which the entry and the last head change places.
     pub(crate) fn remove(&mut self, at: usize, counter: &mut WorkCounter) -> (i64, i64)
         requires within { at < length self.old.heads }
         requires countable { counter.old.moves + 2 < 2 ^ 64 }
@@ -386,7 +386,7 @@ impl Places {
         (node.mark.time, notice)
     }
 
-    /// Takes out the entry of a notice where it follows another one, and says whether it did. CallWork a move where another one comes into
+    /// Takes out the entry of a notice where it follows another one, and says whether it did. Counts a move where another one comes into
     /// its place in the line. If it did not, nothing has changed.
     pub(crate) fn remove_follower(&mut self, notice: i64, counter: &mut WorkCounter) -> bool
         requires countable { counter.old.moves + 1 < 2 ^ 64 }
@@ -551,7 +551,7 @@ fn give_hint(hints: &mut [Hint], mark: Mark, slot: usize) {
     }
 }
 
-// Whether the entry in a slot is the last of a line, comes at the time of a mark, and before it. CallWork a comparison where there is
+// Whether the entry in a slot is the last of a line, comes at the time of a mark, and before it. Counts a comparison where there is
 // such a last one.
 #[inline(always)]
 fn is_last_before(
@@ -583,7 +583,7 @@ fn is_last_before(
     is_before_at_its_time(it.mark, mark, counter)
 }
 
-// Whether one entry comes before another one and at the same time, by their marks. CallWork a comparison.
+// Whether one entry comes before another one and at the same time, by their marks. Counts a comparison.
 #[inline(always)]
 fn is_before_at_its_time(early: Mark, late: Mark, counter: &mut WorkCounter) -> bool
     requires { counter.old.comparisons + 1 < 2 ^ 64 }
@@ -595,7 +595,7 @@ fn is_before_at_its_time(early: Mark, late: Mark, counter: &mut WorkCounter) -> 
     early.time == late.time && early.order < late.order
 }
 
-// Puts a new entry into a slot, after that of another. CallWork a move.
+// Puts a new entry into a slot, after that of another. Counts a move.
 #[inline(always)]
 fn line_up(
     slots: &mut [Slot],
@@ -617,7 +617,7 @@ fn line_up(
     slots[slot] = alone(notice, mark, FOLLOWING + before);
 }
 
-// Puts the next of a line, or none, after the entry of a slot, where the one between goes. CallWork a move where there is a next one.
+// Puts the next of a line, or none, after the entry of a slot, where the one between goes. Counts a move where there is a next one.
 #[inline(always)]
 fn close_up(slots: &mut [Slot], before: usize, next: usize, counter: &mut WorkCounter)
     requires small { length slots.old < following }
@@ -634,7 +634,7 @@ fn close_up(slots: &mut [Slot], before: usize, next: usize, counter: &mut WorkCo
     }
 }
 
-// Puts the next of a line into the place of its first. CallWork a move.
+// Puts the next of a line into the place of its first. Counts a move.
 #[inline(always)]
 fn advance(
     nodes: &mut [HeapNode],
@@ -799,7 +799,7 @@ fn noted(
     Ok(directory)
 }
 
-// Exchanges the nodes of two places, and writes into each of the two slots its new place. CallWork two moves.
+// Exchanges the nodes of two places, and writes into each of the two slots its new place. Counts two moves.
 #[inline(always)]
 fn exchange(
     nodes: &mut [HeapNode],

@@ -100,7 +100,7 @@ returns-clause-refused c =
     (sym (or_from (list_any (int_eq z) (notices_of c.reset_counts.new.self.entries)) (list_any (int_eq z) (notices_of c.reset_counts.new.self.followers)) (sym c.in_default.ensures.found) (sym c.remove_follower.ensures.found ∙ c.if-remove_follower.false))) in
     cancelled-none c.args.notice c.args.self.now.list (sym known)
 
--- ---- the counts and the totals
+-- ---- the counts and the total
 
 pub returns-then-remove_follower-clause-comparisons : goal.returns-then-remove_follower-clause-comparisons
 returns-then-remove_follower-clause-comparisons c = omega (arith, c.remove_follower.ensures.moved.comparisons, ap (λ h. h.comparisons) c.reset_counts.ensures)
@@ -108,7 +108,7 @@ returns-then-remove_follower-clause-comparisons c = omega (arith, c.remove_follo
 pub returns-then-remove_follower-clause-moves : goal.returns-then-remove_follower-clause-moves
 returns-then-remove_follower-clause-moves c = omega (arith, c.remove_follower.ensures.moved.moves, ap (λ h. h.moves) c.reset_counts.ensures)
 
--- those before the call
+-- that before the call
 begun : (c : After-reset_counts) → c.reset_counts.new.self.before ≡ c.args.self.now.total
 begun c = ap (λ h. h.before) c.reset_counts.ensures ∙ ap (λ v. v.total) c.self.view_is
 

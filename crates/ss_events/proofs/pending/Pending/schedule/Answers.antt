@@ -93,9 +93,9 @@ insert-requires-clause-apart c = (none (goal.at.insert-requires-clause-apart c).
 pub insert-requires-clause-fresh : goal.insert-requires-clause-fresh
 insert-requires-clause-fresh c = (none (goal.at.insert-requires-clause-fresh c).After-are_after_heads).1
 
--- ---- the totals
+-- ---- the total
 
--- those before the call
+-- that before the call
 begun : (c : After-reset_counts) → c.reset_counts.new.self.before ≡ c.args.self.now.total
 begun c = ap (λ h. h.before) c.reset_counts.ensures ∙ ap (λ v. v.total) c.self.view_is
 

@@ -74,7 +74,7 @@ returns-clause-compared c = λ _ some.
     let head = some_head c.self.inside.heap c.args.self.now.list.entries (ap (λ v. v.list.entries) c.self.view_is) following some in
     c.insert_plain.ensures.compared c.if-not-insert_plain.false (omega (arith, head, ap (λ h. length h.entries) c.reset_counts.ensures))
 
--- ---- the totals
+-- ---- the total
 
 begun : (c : After-insert_plain) → c.insert_plain.new.heap.before ≡ c.args.self.now.total
 begun c = c.insert_plain.ensures.before ∙ ap (λ h. h.before) c.reset_counts.ensures ∙ ap (λ v. v.total) c.self.view_is
