@@ -52,7 +52,7 @@ module _ (class count : ℕ) (x : Value) (s : Store) where
 
 -- a notice that is saved stays
 pub saved_stays : (event : TakenEvent) (e : Seen) {k : ℕ} → event.saved ≡ Some k → IsUnremoved event e unmade.Memory
-saved_stays event e saved none = absurd cc
+saved_stays event e {k} saved none = absurd cc
 
 module _ (event : TakenEvent) (e : Seen) where
   went : (r : OkOr Store Meant) → turned {B = Unit {0}} (λ _. tt) r ≡ Ok tt → IsOk r
