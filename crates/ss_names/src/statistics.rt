@@ -1,8 +1,8 @@
 //! Statistics and their subjects.
 
 ghost use Rattle.std.specs.Prelude.{◌≡◌, OnOk, IfOk};
-ghost use Rattle.std.specs.List.{fold};
-ghost use Rattle.ss_names_declarations.specs.Firsts.{with_first};
+ghost use Rattle.std.specs.List.{flat_map, fold};
+ghost use Rattle.ss_names_declarations.specs.Firsts.{firsts, with_first};
 ghost use Rattle.ss_names.specs.Statistics.{statistic_by, statistic_entry, statistics, weighing_by, weighings};
 
 use crate::entry::StatisticEntry;
@@ -13,7 +13,7 @@ use ss_names_declarations::{Said, Saying, Seed, Table, insert_first};
 use ss_tree::preamble::{StatisticKind, Weighting};
 use std::alloc::{AllocError, Global};
 
-// The subjects of TALLY and ACCUMULATE, each with how the first of them weighs its values.
+// The subjects of TALLY and ACCUMULATE.
 struct Weighings;
 
 impl Telling for Weighings {
@@ -39,6 +39,17 @@ impl Telling for Weighings {
     }
 }
 
+/// The subjects of TALLY and ACCUMULATE, each with how the first of them weighs its values.
+pub fn weighings_of(
+    alloc: Global,
+    seed: Seed,
+    sayings: &[Saying],
+) -> Result<Table<Name, Weighting>, AllocError>
+    ensures { IfOk result (λ entries. entries ≡ firsts (flat_map (weighing_by) sayings.now)) }
+{
+    collect_firsts::<Weighings>(alloc, seed, &(), sayings)
+}
+
 // Adds a statistic, if its subject has a history.
 fn insert_statistic(
     entries: &mut Table<Name, StatisticEntry>,
@@ -54,7 +65,7 @@ fn insert_statistic(
     }
 }
 
-// The statistics, in the order of the text.
+// The statistics.
 struct Statistics;
 
 impl Telling for Statistics {
@@ -80,6 +91,17 @@ impl Telling for Statistics {
     }
 }
 
+/// The statistics, in the order of the text.
+pub fn statistics_of(
+    alloc: Global,
+    weighings: &Table<Name, Weighting>,
+    sayings: &[Saying],
+) -> Result<Table<Name, StatisticEntry>, AllocError>
+    ensures { IfOk result (λ entries. entries ≡ firsts (flat_map (statistic_by weighings.now) sayings.now)) }
+{
+    collect_firsts::<Statistics>(alloc, weighings.seed(), weighings, sayings)
+}
+
 /// What TALLY and ACCUMULATE declare: their subjects and the statistics.
 #[derive(Drop)]
 pub struct Tellings {
@@ -95,8 +117,8 @@ pub fn tellings_of(alloc: Global, seed: Seed, sayings: &[Saying]) -> Result<Tell
     ensures weighings { IfOk result (λ t. t.weighings ≡ weighings sayings.now) }
     ensures statistics { IfOk result (λ t. t.statistics ≡ statistics sayings.now) }
 {
-    let weighings = collect_firsts::<Weighings>(alloc, seed, &(), sayings)?;
-    let statistics = collect_firsts::<Statistics>(alloc, seed, &weighings, sayings);
+    let weighings = weighings_of(alloc, seed, sayings)?;
+    let statistics = statistics_of(alloc, &weighings, sayings);
     let (weighings, statistics) = beside(weighings, statistics)?;
     Ok(Tellings {
         weighings,
