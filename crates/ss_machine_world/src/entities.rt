@@ -354,6 +354,15 @@ impl Scene {
         if !self.is_single(class) {
             return Err(Trouble::Misfit);
         }
+        self.may_remove_single(class, known)
+    }
+
+    // Whether an entity may go by its number, of a class whose entities come and go one by one.
+    fn may_remove_single(&mut self, class: usize, known: EntityId) -> Result<(), Trouble>
+        requires single { is_single (class_in self.old.heap.layout class) ≡ true }
+        ensures value { Looks (without_store (gone class (Whole known.number))) self.old result }
+        ensures same { self.new ≡ self.old }
+    {
         match self.population.may_destroy(class, known.number) {
             Ok(()) => Ok(()),
             Err(kind) => Err(Trouble::Fault(kind)),
