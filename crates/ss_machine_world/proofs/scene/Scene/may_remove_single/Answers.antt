@@ -16,10 +16,10 @@ returns-clause-value c =
     elim c.match-may_destroy.branch [
       | in-Ok w ↦
           λ s. may_go e class n c.requires.single (Ok tt)
-              (subst (λ (h : State). Ok tt ≡ no_value (destroyed h class n)) heap (subst (λ (z : ℤ). Ok tt ≡ no_value (destroyed c.self.inside.population class z)) same w.in-Ok.ensures.value)) s
+          (subst (λ (h : State). Ok tt ≡ no_value (destroyed h class n)) heap (subst (λ (z : ℤ). Ok tt ≡ no_value (destroyed c.self.inside.population class z)) same w.in-Ok.ensures.value)) s
           ∙ sym (ap (λ (r : OkOr (Unit {0}) Trouble). to_meaning r) w.result-is)
       | in-Err w ↦
           λ s. may_go e class n c.requires.single (Err w.in-Err.kind)
-              (subst (λ (h : State). Err w.in-Err.kind ≡ no_value (destroyed h class n)) heap (subst (λ (z : ℤ). Err w.in-Err.kind ≡ no_value (destroyed c.self.inside.population class z)) same w.in-Err.ensures.value)) s
+          (subst (λ (h : State). Err w.in-Err.kind ≡ no_value (destroyed h class n)) heap (subst (λ (z : ℤ). Err w.in-Err.kind ≡ no_value (destroyed c.self.inside.population class z)) same w.in-Err.ensures.value)) s
           ∙ sym (ap (λ (r : OkOr (Unit {0}) Trouble). to_meaning r) w.result-is)
     ]
