@@ -35,3 +35,6 @@ returns-in-Ok c = λ ties.
     let found = subst (λ (r : OkOr (Unit {0}) Unmade). Finds (attributes_given event.class 0 event.given (Whole (to_z w64 (of_z w64 event.notice)))) e (put_there vs r)) c.in-Ok.is c.read.ensures in
     begun event ties vs e c.let_go.new.scene c.let_go.result
     (subst (λ (n : ℤ). (s : Store) → attributes_given event.class 0 event.given (Whole n) (with_seen s e) ≡ Ok vs) same found) c.let_go.ensures
+
+pub returns-in-Err-Memory : goal.returns-in-Err-Memory
+returns-in-Err-Memory c = λ ties. c.unbegun.ensures ties c.read.new.values.items
