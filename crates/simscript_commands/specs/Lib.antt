@@ -1,3 +1,1 @@
-pub mod CommandLine
 pub mod Statuses
-pub mod Retrying

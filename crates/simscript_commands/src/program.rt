@@ -3,11 +3,10 @@ ghost use Rattle.std.specs.Prelude.{◌≡◌, ◌⊎◌};
 ghost use Rattle.ss_engine.specs.Outcomes.{status_of};
 ghost use Rattle.simscript_commands.specs.Statuses.{ended_status};
 
-use crate::files::{FileStore, open, read_file, read_source};
-use crate::order::Order;
-use crate::retrying::Retrying;
-use crate::streams::{Streams, explain, report_trouble, write_whole};
-use crate::trouble::ProgramFailure;
+use simscript_order::{
+    FileStore, Order, ProgramFailure, Retrying, Streams, explain, open, read_file, read_source,
+    report_trouble, write_whole,
+};
 use ss_base::Counted;
 use ss_engine::{Outcome, Stop, compile, outcome_line, outcome_status, simulate};
 use std::alloc::{AllocError, Global};

@@ -1,9 +1,5 @@
-//! Worked examples of the lines that the engine gives, and of what the commands are made of.
+//! Worked examples of the lines that the engine gives.
 #![tactic(auto)]
 
 #[cfg(test)]
 mod engine;
-#[cfg(test)]
-mod orders;
-#[cfg(test)]
-mod retrying;

@@ -1,4 +1,5 @@
 use crate::base::{gives, takes};
+use simscript_order::Retrying;
 use ss_base::{Counted, Faulty, FaultyRead, FaultyWrite};
 use std::io::{self, ErrorKind};
 
@@ -139,4 +140,37 @@ fn counts_two(mut writer: Counted<Recording>) -> bool {
 fn counted_writers_count_what_failed(rt: HostRuntime) {
     let narrow = Recording::new([Ok(2), Ok(2), Ok(0), Err(ErrorKind::Other)]);
     assert!(rt; counts_two(Counted::new(narrow)));
+}
+
+// A stream that a signal interrupts twice, and that then passes two bytes.
+fn interrupted_twice() -> Counted<Retrying<Recording>> {
+    let interrupted = Err(ErrorKind::Interrupted);
+    let stream = Recording::new([interrupted, interrupted, Ok(2), Err(ErrorKind::Other)]);
+    Counted::new(Retrying::new(stream))
+}
+
+// Whether a read that a signal interrupts is made again, and counts as no failure; another error is handed on.
+fn reads_again(mut reader: Counted<Retrying<Recording>>) -> bool {
+    is_answer(&reader.read_some(&mut [0; 5]), Ok(2))
+        && reader.faults() == 0
+        && is_answer(&reader.read_some(&mut [0; 5]), Err(ErrorKind::Other))
+        && reader.faults() == 1
+}
+
+// Whether a write that a signal interrupts is made again, and counts as no failure; another error is handed on.
+fn writes_again(mut writer: Counted<Retrying<Recording>>) -> bool {
+    takes(&mut writer, b"HELLO", &[Some(2)])
+        && writer.faults() == 0
+        && takes(&mut writer, b"HELLO", &[None])
+        && writer.faults() == 1
+}
+
+#[test]
+fn an_interrupted_read_is_made_again(rt: HostRuntime) {
+    assert!(rt; reads_again(interrupted_twice()));
+}
+
+#[test]
+fn an_interrupted_write_is_made_again(rt: HostRuntime) {
+    assert!(rt; writes_again(interrupted_twice()));
 }

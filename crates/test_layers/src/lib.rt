@@ -12,6 +12,8 @@ mod input;
 #[cfg(test)]
 mod lexer;
 #[cfg(test)]
+mod orders;
+#[cfg(test)]
 mod pictures;
 #[cfg(test)]
 mod records;

@@ -1,0 +1,4 @@
+pub mod CommandLine
+pub mod Statuses
+pub mod Retrying
+pub mod TroubleStatuses

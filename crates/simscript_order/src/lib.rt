@@ -1,0 +1,19 @@
+//! What the command line asks for, and the files and streams that it names.
+#![tactic(auto)]
+
+mod command;
+mod command_line;
+mod files;
+mod misuse;
+mod order;
+mod retrying;
+mod streams;
+mod trouble;
+
+pub use command_line::{without_words, words};
+pub use files::{Disk, FileStore, open, read_file, read_source};
+pub use misuse::Misuse;
+pub use order::Order;
+pub use retrying::Retrying;
+pub use streams::{Streams, explain, report_trouble, write_whole};
+pub use trouble::ProgramFailure;
