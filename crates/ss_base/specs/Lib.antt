@@ -1,5 +1,6 @@
 pub mod Lines
 pub mod Names
+pub mod Spellings
 pub mod Room
 pub mod Values
 pub mod Arithmetic

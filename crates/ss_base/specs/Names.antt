@@ -1,5 +1,5 @@
--- What a name is, and how it lies in its bytes.
-use Rattle.std.specs.Prelude.{◌≡◌, ℕ, ◌-◌, ◌<◌, ◌≤◌, List, [], ◌∷◌, ◌++◌, length, take, map, replicate, nat_le, Option, Some, None, if◌then◌else◌}
+-- What a name is.
+use Rattle.std.specs.Prelude.{◌≡◌, ℕ, ◌<◌, ◌≤◌, List, [], ◌∷◌, length, map, nat_le, Option, Some, None, if◌then◌else◌}
 use Rattle.std.specs.Char.{to_ascii_uppercase}
 
 -- the most characters of a name
@@ -15,16 +15,6 @@ pub record IsName (bytes : List ℕ) : Type 0 where
   pub some : 0 < length bytes
   pub short : length bytes ≤ name_limit
   pub capitals : in_capitals bytes ≡ bytes
-
--- a name with zeros after it, as many as fill its room
-abbrev pub padded_name : List ℕ → List ℕ
-padded_name bytes = bytes ++ replicate (name_limit - length bytes) 0
-
--- what is true of the bytes and the length of every name
-pub record IsNameRoom (room : List ℕ) (len : ℕ) : Type 0 where
-  pub name : IsName (take len room)
-  pub counted : length (take len room) ≡ len
-  pub zeros : padded_name (take len room) ≡ room
 
 -- the name that bytes are, if they are some and few enough
 abbrev pub name_of : List ℕ → Option (List ℕ)

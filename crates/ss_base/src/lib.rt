@@ -13,6 +13,7 @@ mod memory;
 mod name;
 mod picture_line;
 mod plan;
+mod spelling;
 mod value;
 
 pub use alpha::{Alpha, TEXT_LIMIT};
@@ -29,4 +30,5 @@ pub use memory::{MemoryRead, MemoryWrite, WriteFailure};
 pub use name::{NAME_LIMIT, Name};
 pub use picture_line::PictureLine;
 pub use plan::Plan;
+pub use spelling::{SPELLING_LIMIT, Spelling};
 pub use value::Value;

@@ -1,9 +1,11 @@
 -- Ticks that are given piece by piece.
-use Rattle.std.proofs.Common.{◌≡◌, ℕ, suc, ◌+◌, ◌-◌, ◌^◌, ◌≤◌, ◌<◌, List, [], ◌∷◌, ◌++◌, length, take, min, get_or, refl, sym, ap, subst, ◌∙◌, arith}
+use Rattle.std.proofs.Common.{◌≡◌, ℕ, suc, ◌+◌, ◌-◌, ◌^◌, ◌≤◌, ◌<◌, List, [], ◌∷◌, ◌++◌, length, take, drop, min, get_or, refl, sym, ap, subst, ◌∙◌, arith}
 use Rattle.std.specs.List.{sum}
-use Rattle.std.proofs.lemmas.List.{take_all}
+use Rattle.std.proofs.lemmas.List.{take_all, take-append-drop}
+use Rattle.std.proofs.Math.Seq.{take-suc}
 use Rattle.std.proofs.lemmas.List.Sums.{sum_by_more, sum_by-append, sum_by-take-le}
 use Rattle.ss_engine.specs.Headline.{handed_out}
+use Rattle.ss_engine.specs.LastRun.{runs_of}
 
 pub next_sum : (pieces : List ℕ) (i : ℕ) → i < length pieces → sum (take (i + 1) pieces) ≡ sum (take i pieces) + get_or pieces i 0
 next_sum pieces i lt = sum_by_more (λ x. x) pieces i 0 lt
@@ -62,3 +64,26 @@ used_all pieces ticks old new h g = omega (arith, h, g, piece_more pieces ticks)
 -- the first and all after it are all
 pub all_handed : (pieces rest : List ℕ) (first i : ℕ) → pieces ≡ first ∷ rest → length rest ≤ i → handed_out (take (i + 1) pieces) ≡ handed_out pieces
 all_handed pieces rest first i e past = ap handed_out (take_all (i + 1) pieces (subst (λ ps. length ps ≤ i + 1) (sym e) (omega (arith, past))))
+
+-- ## Runs
+
+-- the pieces of one run more, of those after the first
+pub next_run : (pieces rest : List ℕ) (first i : ℕ) → pieces ≡ first ∷ rest → i < length rest → take (i + 1 + 1) pieces ≡ take (i + 1) pieces ++ get_or rest i 0 ∷ []
+next_run pieces rest first i e lt =
+    let longer : i + 1 < length (first ∷ rest) = omega (arith, lt) in
+    let more : i + 1 + 1 ≡ suc (i + 1) = omega arith in
+    subst (λ l. take (i + 1 + 1) l ≡ take (i + 1) l ++ get_or rest i 0 ∷ []) (sym e)
+    (ap (λ n. take n (first ∷ rest)) more ∙ take-suc (first ∷ rest) (i + 1) 0 longer ∙ ap (λ n. take (i + 1) (first ∷ rest) ++ n ∷ []) (after_first first rest i))
+
+-- where there is no piece there is one run
+pub no_runs : (pieces : List ℕ) → length pieces ≡ 0 → runs_of pieces ≡ 0 ∷ []
+no_runs [] e = refl
+no_runs (p ∷ ps) e = absurd cc
+
+-- the pieces that were run, and those that were not
+pub runs_so_far : (pieces rest : List ℕ) (first i : ℕ) → pieces ≡ first ∷ rest → runs_of pieces ≡ take i pieces ++ drop i pieces
+runs_so_far pieces rest first i e =
+    subst (λ l. runs_of l ≡ l) (sym e) refl ∙ sym (take-append-drop i pieces)
+
+pub at_least : (a b c : ℕ) → a ≡ b → a ≤ c → b ≤ c
+at_least a b c e h = omega (arith, e, h)

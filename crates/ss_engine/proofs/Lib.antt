@@ -7,4 +7,5 @@ mod Headline
 mod Sessions
 mod Ticks
 mod Running
+mod LastRun
 mod Cuts

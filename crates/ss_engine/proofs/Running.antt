@@ -18,7 +18,7 @@ use Rattle.ss_machine.specs.Held.{kept_after}
 use Rattle.ss_machine.specs.Start.{IsAtStart}
 use Rattle.ss_machine.specs.Runs.{Comes, Ran}
 use Rattle.ss_engine.specs.declared.session.Session.{Session}
-use Rattle.ss_engine.specs.Sessions.{Begins, CameTo, GoesOn, HasRun, session_machine, session_reader, session_source, session_writer, last_stop}
+use Rattle.ss_engine.specs.Sessions.{Begins, CameTo, GoesOn, HasRun, WasRun, session_machine, session_reader, session_source, session_writer, last_stop}
 use Rattle.ss_engine.proofs.Pieces.{ran_then}
 use Rattle.ss_engine.proofs.Handing.{used_more, still_used, used_all, used_since}
 use Rattle.ss_engine.proofs.Inputs.{fresh_knows}
@@ -204,3 +204,26 @@ module _ {R W : Type 0} (remaining : R → Option (List ℕ)) (read_faults : R �
       never_falls = omega (arith, h.never_falls, falls);
       read_never_falls = omega (arith, h.read_never_falls, read_falls);
     }
+
+-- ## The last call
+
+module _ {R W : Type 0} (remaining : R → Option (List ℕ)) (read_faults : R → ℕ) (contents : W → Option (List ℕ)) (write_faults : W → ℕ) (code : Code) (reader : R) (writer : W) where
+  pub runs_last : (pieces before : List ℕ) (last : ℕ) (old new : Session R W) (stop : Stop) → pieces ≡ before ++ last ∷ [] → (before ≡ [] → (session_reader old ≡ reader) × (session_writer old ≡ writer)) → GoesOn old
+      → HasRun remaining read_faults contents write_faults code reader writer before old → HasRun remaining read_faults contents write_faults code reader writer (before ++ last ∷ []) new
+      → (session_machine new).stopped ≡ kept_after stop → (session_machine old).used ≤ (session_machine new).used
+      → (stop ≡ Output → HasRisen (write_faults (session_writer old)) (write_faults (session_writer new))) → (stop ≡ Input → HasRisen (read_faults (session_reader old)) (read_faults (session_reader new)))
+      → WasRun remaining read_faults contents write_faults code reader writer pieces new
+  runs_last pieces before last old new stop are first on run_before run stopped more output input = record {
+    before = before;
+    last = last;
+    are = are;
+    some = λ none. last_some before last (sym are ∙ none);
+    run = subst (λ ps. HasRun remaining read_faults contents write_faults code reader writer ps new) (sym are) run;
+    earlier = old;
+    first = first;
+    paused = on.unstopped;
+    run_before = run_before;
+    more = more;
+    output = λ e. output (kept_some stop Output (sym stopped ∙ e));
+    input = λ e. input (kept_some stop Input (sym stopped ∙ e));
+  }

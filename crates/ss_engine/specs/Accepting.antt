@@ -9,6 +9,7 @@ use Rattle.ss_tree.specs.Tree.{ProgramTree}
 use Rattle.ss_tree.specs.Nodes.{nodes}
 use Rattle.ss_parse.specs.declared.error.ParseError.{ParseError}
 use Rattle.ss_parse.specs.declared.error.ParseError.TheVariants as parsing
+use Rattle.ss_parse.specs.Openers.{nesting_limit}
 use Rattle.ss_parse.specs.Promise.{Is_refused, Has_line}
 use Rattle.ss_parse.specs.SpelledPrograms.{Spell}
 use Rattle.ss_tables_rules.specs.declared.rule.DeclarationRule.{DeclarationRule}
@@ -24,10 +25,6 @@ use Rattle.ss_code_instructions.specs.Translation.{code_of}
 use Rattle.ss_code.specs.Limits.{instruction_limit, small_program}
 use Rattle.ss_engine.specs.declared.refusal.Refusal.{Refusal}
 use Rattle.ss_engine.specs.declared.refusal.Refusal.TheVariants.{TooLong, NotAscii, BadNumber, OpenText, AlphaTooLong, PictureCut, NameTooLong, Syntax, TooDeep, Twice, RealMode, UnknownClass, UnknownSet, NoOwner, NoMember, RankKey, TallyTwice, TooMany, TieKey, NoMain, NoEventRoutine, Mode, Arguments, Subscript, NotAssignable, Fields, StartPlace, Unknown, CodeTooLong, Memory}
-
--- how deep parentheses, IFs and loops may lie in one another
-abbrev pub nesting_limit : ℕ
-nesting_limit = 64
 
 -- the text has these tokens, and they spell this tree
 pub record IsTreeOf (text : List ℕ) (tree : ProgramTree) : Type 0 where
@@ -60,7 +57,7 @@ pub record Compiles (text : List ℕ) (code : Code) : Type 0 where
   pub behaves : Behaves program code
 
 -- the text has tokens, and they spell no program: for syntax none of any depth; where it is too deep, none within the
--- limit on nesting, while more than 64 tokens open a level; the line is that of a token
+-- limit on nesting, while more tokens than that open a level; the line is that of a token
 pub record IsNoProgram (text : List ℕ) (e : ParseError) : Type 0 where
   pub tokens : List Token
   pub are : AreTokens text tokens

@@ -3,6 +3,6 @@ pub mod Accepting
 pub mod Laws
 pub mod Sessions
 pub mod Headline
+pub mod LastRun
 pub mod Cuts
 pub mod Outcomes
-pub mod Simulation

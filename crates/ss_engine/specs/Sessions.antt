@@ -1,5 +1,5 @@
 -- What a clause sees of a session.
-use Rattle.std.specs.Prelude.{◌≡◌, ◌≢◌, ℕ, ◌≤◌, List, [], Option, Some, None}
+use Rattle.std.specs.Prelude.{◌≡◌, ◌≢◌, ℕ, ◌≤◌, List, [], ◌∷◌, ◌++◌, Option, Some, None}
 use Rattle.ss_base.specs.Failures.{HasRisen, HasRisenBy}
 use Rattle.ss_input.specs.Blocks.{KnowsEnd}
 use Rattle.ss_meaning.specs.Meaning.{Paused as PausedThere}
@@ -80,8 +80,18 @@ pub record HasRun {R W : Type 0} (remaining : R → Option (List ℕ)) (read_fau
   pub never_falls : HasRisenBy 0 (write_faults writer) (write_faults (session_writer s))
   pub read_never_falls : HasRisenBy 0 (read_faults reader) (read_faults (session_reader s))
 
--- a session is so after at least one call of `run`
-pub record WasRun {R W : Type 0} (remaining : R → Option (List ℕ)) (read_faults : R → ℕ) (contents : W → Option (List ℕ)) (write_faults : W → ℕ) (code : Code) (reader : R) (writer : W) (s : Session R W) : Type 0 where
-  pub pieces : List ℕ
+-- A session is so after calls of `run` with these ticks, the last of which went on from an earlier session that had paused or had
+-- not run. In that call the reader or the writer failed only where the count of failures rose.
+pub record WasRun {R W : Type 0} (remaining : R → Option (List ℕ)) (read_faults : R → ℕ) (contents : W → Option (List ℕ)) (write_faults : W → ℕ) (code : Code) (reader : R) (writer : W) (pieces : List ℕ) (s : Session R W) : Type 0 where
+  pub before : List ℕ
+  pub last : ℕ
+  pub are : pieces ≡ before ++ last ∷ []
   pub some : pieces ≢ []
   pub run : HasRun remaining read_faults contents write_faults code reader writer pieces s
+  pub earlier : Session R W
+  pub first : before ≡ [] → (session_reader earlier ≡ reader) × (session_writer earlier ≡ writer)
+  pub paused : (session_machine earlier).stopped ≡ None
+  pub run_before : HasRun remaining read_faults contents write_faults code reader writer before earlier
+  pub more : (session_machine earlier).used ≤ (session_machine s).used
+  pub output : (session_machine s).stopped ≡ Some Output → HasRisen (write_faults (session_writer earlier)) (write_faults (session_writer s))
+  pub input : (session_machine s).stopped ≡ Some Input → HasRisen (read_faults (session_reader earlier)) (read_faults (session_reader s))

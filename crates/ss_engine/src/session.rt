@@ -7,8 +7,11 @@ ghost use Rattle.ss_input.specs.Inputs.{source_block};
 ghost use Rattle.ss_code_instructions.specs.Machine.{Code};
 ghost use Rattle.ss_machine.specs.Held.{answer_again, kept_after};
 ghost use Rattle.ss_machine.specs.Runs.{Ran};
-ghost use Rattle.ss_engine.specs.Sessions.{Begins, GoesOn, HasRun, session_machine, session_reader, session_source, session_writer};
+ghost use Rattle.ss_engine.specs.Accepting.{Compiles};
+ghost use Rattle.ss_engine.specs.Headline.{Simulated};
+ghost use Rattle.ss_engine.specs.Sessions.{Begins, GoesOn, HasRun, last_stop, session_machine, session_reader, session_source, session_writer};
 
+use crate::session_laws::sessions_are_meant;
 use ss_base::{FaultyRead, FaultyWrite};
 use ss_code::model::Model;
 use ss_code_instructions::laws::laws;
@@ -51,12 +54,12 @@ impl<R: FaultyRead, W: FaultyWrite> Session<R, W> {
     /// `Input` and `Output` come only where the reader's or the writer's count of failures rose in
     /// this run.
     ///
-    /// What all runs of a session did, one after another, is what its program means for all their
-    /// ticks: `laws::sessions_are_meant`.
+    /// What all runs of a session did, one after another, is what its text means for all their ticks (`meant`).
     pub fn run(&mut self, ticks: u64) -> Stop
         ensures again { (before : Stop) → (session_machine self.old).stopped ≡ Some before → (result ≡ answer_again before) × (self.new ≡ self.old) }
         ensures ran { GoesOn self.old → Ran R.remaining result (session_machine self.old).code (session_machine self.old).working (session_machine self.new).working (session_source self.old) (session_source self.new) (W.contents (session_writer self.old)) (W.contents (session_writer self.new)) ((session_machine self.new).used - (session_machine self.old).used) ((session_machine self.new).steps - (session_machine self.old).steps) }
         ensures has_run { (code : Code) (reader : R) (writer : W) (pieces : List ℕ) → HasRun R.remaining R.faults W.contents W.faults code reader writer pieces self.old → HasRun R.remaining R.faults W.contents W.faults code reader writer (pieces ++ ticks ∷ []) self.new }
+        ensures meant { (text : List ℕ) (code : Code) (reader : R) (writer : W) (pieces : List ℕ) → Compiles text code → HasRun R.remaining R.faults W.contents W.faults code reader writer pieces self.old → Simulated R.remaining W.contents text (last_stop (session_machine self.new).stopped) (session_machine self.new).used reader (session_reader self.new) writer (session_writer self.new) }
         ensures goes_on { GoesOn self.old → result ≡ Stop.Paused → GoesOn self.new }
         ensures never_failed { GoesOn self.old → result ≡ Stop.Failed → ⊥ }
         ensures stopped { GoesOn self.old → (session_machine self.new).stopped ≡ kept_after result }
@@ -71,6 +74,7 @@ impl<R: FaultyRead, W: FaultyWrite> Session<R, W> {
         ensures never_falls { HasRisenBy 0 (W.faults (session_writer self.old)) (W.faults (session_writer self.new)) }
         ensures read_never_falls { HasRisenBy 0 (R.faults (session_reader self.old)) (R.faults (session_reader self.new)) }
     {
+        sessions_are_meant::<R, W>();
         // only a machine that has stopped has a source that missed something
         if self.machine.stopped().is_none() && self.source.missed().is_some() {
             return Stop::Failed;

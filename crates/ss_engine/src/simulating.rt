@@ -3,12 +3,12 @@
 ghost use Rattle.std.specs.Prelude.{◌≡◌, ◌≤◌, ℕ};
 ghost use Rattle.ss_base.specs.Failures.{HasRisen};
 ghost use Rattle.ss_engine.specs.declared.refusal.Refusal.{Refusal as RefusalSeen};
-ghost use Rattle.ss_engine.specs.Headline.{handed_out};
-ghost use Rattle.ss_engine.specs.Simulation.{ComesTo, ReportIsCut};
+ghost use Rattle.ss_engine.specs.Headline.{IsOutcome, handed_out};
+ghost use Rattle.ss_engine.specs.LastRun.{LastRun};
+ghost use Rattle.ss_engine.specs.Cuts.{ReportIsCut};
 ghost use Rattle.ss_machine.specs.Stop.{Stop as StopSeen};
 
 use crate::compiling::compile;
-use crate::laws::laws;
 use crate::outcome::Outcome;
 use crate::run::run_model;
 use ss_base::{FaultyRead, FaultyWrite};
@@ -25,7 +25,8 @@ use std::alloc::Global;
 /// ended, a fault at its line, or paused with all ticks used. Where memory, the reader or the writer
 /// failed, the writer took the first bytes of that report, at least those that it means for a tick
 /// fewer than were used, and with these ticks used the text's code reaches a place where its report is
-/// cut so. A text that is refused leaves both untouched.
+/// cut so. `Output` comes only where the writer's count of failures rose in the last run, `Input` only
+/// where the reader's did. A text that is refused leaves both untouched.
 pub fn simulate<R: FaultyRead, W: FaultyWrite>(
     alloc: Global,
     text: &[u8],
@@ -33,15 +34,14 @@ pub fn simulate<R: FaultyRead, W: FaultyWrite>(
     writer: W,
     pieces: &[u64],
 ) -> (Outcome, R, W)
-    ensures headline { ComesTo R.remaining W.contents text.now result.0 reader result.1 writer result.2 }
+    ensures headline { IsOutcome R.remaining W.contents text.now result.0 reader result.1 writer result.2 }
     ensures where_cut { ReportIsCut R.remaining W.contents text.now result.0 reader result.1 writer result.2 }
     ensures ticks { (stop : StopSeen) (used : ℕ) → result.0 ≡ Outcome.Stopped stop used → used ≤ handed_out pieces.now }
     ensures paused { (used : ℕ) → result.0 ≡ Outcome.Stopped Stop.Paused used → used ≡ handed_out pieces.now }
     ensures untouched { (refusal : RefusalSeen) → result.0 ≡ Outcome.Refused refusal → (result.1 ≡ reader) × (result.2 ≡ writer) }
-    ensures output { (used : ℕ) → result.0 ≡ Outcome.Stopped Stop.Output used → HasRisen (W.faults writer) (W.faults result.2) }
-    ensures input { (used : ℕ) → result.0 ≡ Outcome.Stopped Stop.Input used → HasRisen (R.faults reader) (R.faults result.1) }
+    ensures output { (used : ℕ) → result.0 ≡ Outcome.Stopped Stop.Output used → LastRun R.remaining W.contents text.now pieces.now used reader writer (λ reader_then writer_then. HasRisen (W.faults writer_then) (W.faults result.2)) }
+    ensures input { (used : ℕ) → result.0 ≡ Outcome.Stopped Stop.Input used → LastRun R.remaining W.contents text.now pieces.now used reader writer (λ reader_then writer_then. HasRisen (R.faults reader_then) (R.faults result.1)) }
 {
-    laws();
     let model = match compile(alloc, text) {
         Ok(model) => model,
         Err(refusal) => return (Outcome::Refused(refusal), reader, writer),

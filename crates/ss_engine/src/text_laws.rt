@@ -1,6 +1,6 @@
 //! Laws of what a text means.
 
-ghost use Rattle.ss_engine.specs.Laws.{EachHasOne, TextEndingsStay, NeverGoesWrong, OneMeaning, ProgramsAreTyped, ReportsGrow};
+ghost use Rattle.ss_engine.specs.Laws.{EachHasOne, TextEndingsStay, NeverGoesWrong, OneMeaning, OneProgram, ProgramsAreTyped, ReportsGrow};
 
 use ss_check::kept_programs_resolve;
 use ss_code_instructions::laws::laws as laws_of_runs;
@@ -8,8 +8,10 @@ use ss_lex::one_list;
 use ss_meaning::laws::laws as laws_of_types;
 use ss_parse::one_tree;
 
-/// A well-formed text has one program, which is well typed and never goes wrong: so it has one meaning.
+/// A well-formed text has one program, which is well typed and never goes wrong. So it means one run for each input and
+/// each number of ticks.
 pub fn laws()
+    ensures one_program { OneProgram }
     ensures one_meaning { OneMeaning }
     ensures each_has_one { EachHasOne }
     ensures typed { ProgramsAreTyped }

@@ -18,3 +18,4 @@ pub mod Gone
 pub mod Joined
 pub mod Grown
 pub mod Taken
+pub mod Rises

@@ -60,6 +60,7 @@ pub record Rising (old new : HeapEntries) (from at : ℕ) : Type 0 where
   pub moves : new.moves ≡ old.moves + 2 * levels
   pub some : at < from → 0 < levels
   pub followers : new.followers ≡ old.followers
+  pub before : new.before ≡ old.before
 
 pub rising_few : (old new : HeapEntries) (from at : ℕ) → Rising old new from at → from < 2 ^ 64 → (new.comparisons ≤ old.comparisons + 64) × (new.moves ≤ old.moves + 128)
 rising_few old new from at r small =
@@ -79,10 +80,11 @@ rising_begins old from within = record {
   moves = omega arith;
   some = λ lt. absurd (omega arith);
   followers = refl;
+  before = refl;
 }
 
 module _ (old was new : HeapEntries) (from at : ℕ) (some : 0 < at) (r : Rising old was from at) (t : (d : Entry) → comes_before (get_or was.entries at d) (get_or was.entries ((at - 1) / 4) d) ≡ true)
-    (entries : new.entries ≡ swap was.entries at ((at - 1) / 4)) (comparisons : new.comparisons ≡ was.comparisons + 1) (moves : new.moves ≡ was.moves + 2) (followers : new.followers ≡ was.followers) where
+    (entries : new.entries ≡ swap was.entries at ((at - 1) / 4)) (comparisons : new.comparisons ≡ was.comparisons + 1) (moves : new.moves ≡ was.moves + 2) (followers : new.followers ≡ was.followers) (before : new.before ≡ was.before) where
   child : IsChild ((at - 1) / 4) at
   child = record { from = omega arith; to = omega arith }
 
@@ -99,6 +101,7 @@ module _ (old was new : HeapEntries) (from at : ℕ) (some : 0 < at) (r : Rising
     moves = omega (arith, r.moves);
     some = λ lt. omega arith;
     followers = followers ∙ r.followers;
+    before = before ∙ r.before;
   }
 
 -- it is at the top
@@ -120,12 +123,13 @@ rising_tops old new from at top r = (
     some = λ some. r.some (omega arith);
     grows = omega (arith, r.moves);
     followers = r.followers;
+    before = r.before;
   },
 )
 
 -- its parent doesn't come after it
-pub rising_rests : (old was new : HeapEntries) (from at : ℕ) → 0 < at → Rising old was from at → ((d : Entry) → comes_before (get_or was.entries at d) (get_or was.entries ((at - 1) / 4) d) ≡ false) → new.entries ≡ was.entries → new.comparisons ≡ was.comparisons + 1 → new.moves ≡ was.moves → new.followers ≡ was.followers → Raises old.entries new.entries from at × CostsToRaise old new from at
-rising_rests old was new from at some r f entries comparisons moves followers = (
+pub rising_rests : (old was new : HeapEntries) (from at : ℕ) → 0 < at → Rising old was from at → ((d : Entry) → comes_before (get_or was.entries at d) (get_or was.entries ((at - 1) / 4) d) ≡ false) → new.entries ≡ was.entries → new.comparisons ≡ was.comparisons + 1 → new.moves ≡ was.moves → new.followers ≡ was.followers → new.before ≡ was.before → Raises old.entries new.entries from at × CostsToRaise old new from at
+rising_rests old was new from at some r f entries comparisons moves followers before = (
   subst (λ es. Raises old.entries es from at) (sym entries)
       record {
         permutation = r.permutation;
@@ -143,6 +147,7 @@ rising_rests old was new from at some r f entries comparisons moves followers = 
     some = λ h. omega arith;
     grows = omega (arith, r.moves);
     followers = followers ∙ r.followers;
+    before = before ∙ r.before;
   },
 )
 
@@ -162,7 +167,8 @@ passes_parent old was new from at parent p is =
     (ap (λ h. h.entries) is ∙ ap (swap was.entries at) p.parent_is)
     (omega (arith, ap (λ h. h.comparisons) is, p.compared))
     (ap (λ h. h.moves) is)
-    (ap (λ h. h.followers) is))
+    (ap (λ h. h.followers) is)
+    (ap (λ h. h.before) is))
 
 pub outranks : (old was new : HeapEntries) (from at : ℕ) → 0 < at → Rising (but_one old) was from at → ((d : Entry) → comes_before (get_or was.entries at d) (get_or was.entries ((at - 1) / 4) d) ≡ true) → new ≡ record was { comparisons = was.comparisons + 1 } → Outranking old new from at ((at - 1) / 4)
 outranks old was new from at some r t is = record {
@@ -185,6 +191,7 @@ pub record Sinking (old new : HeapEntries) (from at : ℕ) : Type 0 where
   pub comparisons : new.comparisons ≤ old.comparisons + 4 * levels
   pub moves : new.moves ≤ old.moves + 2 * levels
   pub followers : new.followers ≡ old.followers
+  pub before : new.before ≡ old.before
 
 pub sinking_few : (old new : HeapEntries) (from at : ℕ) → Sinking old new from at → length old.entries < 2 ^ 64 → (new.comparisons ≤ old.comparisons + 256) × (new.moves ≤ old.moves + 128)
 sinking_few old new from at r small =
@@ -201,6 +208,7 @@ sinking_begins old from within = record {
   comparisons = omega arith;
   moves = omega arith;
   followers = refl;
+  before = refl;
 }
 
 -- four times as far at four times the power
@@ -210,7 +218,7 @@ quadruples from at c k child h =
     rw (pow_more 4 k) (omega arith)
 
 module _ (old was new : HeapEntries) (from at c : ℕ) (r : Sinking old was from at) (best : IsFirstChild comes_before was.entries at c) (t : (d : Entry) → comes_before (get_or was.entries c d) (get_or was.entries at d) ≡ true)
-    (entries : new.entries ≡ swap was.entries at c) (comparisons : new.comparisons ≤ was.comparisons + 4) (moves : new.moves ≡ was.moves + 2) (followers : new.followers ≡ was.followers) where
+    (entries : new.entries ≡ swap was.entries at c) (comparisons : new.comparisons ≤ was.comparisons + 4) (moves : new.moves ≡ was.moves + 2) (followers : new.followers ≡ was.followers) (before : new.before ≡ was.before) where
   pub sinking_steps : Sinking old new from c
   sinking_steps = record {
     permutation = IsPermutation-trans old.entries was.entries new.entries r.permutation (IsPermutation-swap was.entries new.entries at c r.within best.within entries);
@@ -221,10 +229,11 @@ module _ (old was new : HeapEntries) (from at c : ℕ) (r : Sinking old was from
     comparisons = omega (arith, r.comparisons);
     moves = omega (arith, r.moves);
     followers = followers ∙ r.followers;
+    before = before ∙ r.before;
   }
 
-pub sinking_leaf : (old was new : HeapEntries) (from at : ℕ) → Sinking old was from at → length was.entries ≤ 4 * at + 1 → new.entries ≡ was.entries → new.comparisons ≤ was.comparisons → new.moves ≡ was.moves → new.followers ≡ was.followers → Lowers old.entries new.entries from × CostsToLower old new from
-sinking_leaf old was new from at r le entries comparisons moves followers = (
+pub sinking_leaf : (old was new : HeapEntries) (from at : ℕ) → Sinking old was from at → length was.entries ≤ 4 * at + 1 → new.entries ≡ was.entries → new.comparisons ≤ was.comparisons → new.moves ≡ was.moves → new.followers ≡ was.followers → new.before ≡ was.before → Lowers old.entries new.entries from × CostsToLower old new from
+sinking_leaf old was new from at r le entries comparisons moves followers before = (
   subst (λ es. Lowers old.entries es from) (sym entries)
       record {
         permutation = r.permutation;
@@ -236,11 +245,12 @@ sinking_leaf old was new from at r le entries comparisons moves followers = (
     comparisons = omega (arith, r.comparisons);
     moves = omega (arith, r.moves);
     followers = followers ∙ r.followers;
+    before = before ∙ r.before;
   },
 )
 
-pub sinking_rests : (old was new : HeapEntries) (from at c : ℕ) → Sinking old was from at → IsFirstChild comes_before was.entries at c → ((d : Entry) → comes_before (get_or was.entries c d) (get_or was.entries at d) ≡ false) → new.entries ≡ was.entries → new.comparisons ≤ was.comparisons + 4 → new.moves ≡ was.moves → new.followers ≡ was.followers → Lowers old.entries new.entries from × CostsToLower old new from
-sinking_rests old was new from at c r best f entries comparisons moves followers = (
+pub sinking_rests : (old was new : HeapEntries) (from at c : ℕ) → Sinking old was from at → IsFirstChild comes_before was.entries at c → ((d : Entry) → comes_before (get_or was.entries c d) (get_or was.entries at d) ≡ false) → new.entries ≡ was.entries → new.comparisons ≤ was.comparisons + 4 → new.moves ≡ was.moves → new.followers ≡ was.followers → new.before ≡ was.before → Lowers old.entries new.entries from × CostsToLower old new from
+sinking_rests old was new from at c r best f entries comparisons moves followers before = (
   subst (λ es. Lowers old.entries es from) (sym entries)
       record {
         permutation = r.permutation;
@@ -252,6 +262,7 @@ sinking_rests old was new from at c r best f entries comparisons moves followers
     comparisons = omega (arith, r.comparisons);
     moves = omega (arith, r.moves);
     followers = followers ∙ r.followers;
+    before = before ∙ r.before;
   },
 )
 
@@ -298,6 +309,7 @@ cost_up old new at to within u = record {
   comparisons = omega (arith, u.comparisons);
   moves = u.moves;
   followers = u.followers;
+  before = u.before;
 }
 
 pub cost_down : (old was new : HeapEntries) (at to : ℕ) → length was.entries ≡ length old.entries → CostsToRaise old was at to → CostsToLower was new at → CostsToMend old new
@@ -309,6 +321,7 @@ cost_down old was new at to long u l =
       comparisons = omega (arith, u.comparisons, l.comparisons);
       moves = omega (arith, u.moves, l.moves);
       followers = l.followers ∙ u.followers;
+      before = l.before ∙ u.before;
     }
 
 -- a new entry that rose from the end
@@ -385,7 +398,7 @@ module _ (old mid : List Entry) (at : ℕ) (next : Entry) (within : at < length 
   pub followed_heap : IsHeap comes_before old → IsHeapBut comes_before mid at
   followed_heap h = subst (λ es. IsHeapBut comes_before es at) (sym rest) (followed_but comes_before old at next within entries_rank h)
 
-pub take_work : (old new : HeapEntries) (held : ℕ) → old.comparisons ≡ 0 → old.moves ≤ 1 → length old.entries ≤ held → CostsToMend old new → IsLogarithmic held new
+pub take_work : (old new : HeapEntries) (held : ℕ) → old.comparisons ≡ 0 → old.moves ≤ 2 → length old.entries ≤ held → CostsToMend old new → IsLogarithmic held new
 take_work old new held none one less u =
     let few = levels_digits u.levels held (omega (arith, u.fits)) in
     record {

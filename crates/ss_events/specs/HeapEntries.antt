@@ -3,6 +3,8 @@ use Rattle.std.specs.Prelude.{◌≡◌, ◌⊎◌, ℕ, ◌-◌, ◌<◌, ℤ, 
 use Rattle.std.specs.List.{swap_remove, All}
 use Rattle.std.specs.List.Sorted.{IsPermutation}
 use Rattle.ss_events.specs.declared.entry.Entry.{Entry}
+use Rattle.ss_events.specs.CallWork.{CallWork}
+use Rattle.ss_events.specs.CountedList.{Work}
 use Rattle.ss_world.specs.Order.{comes_before}
 
 -- the first of each line, by place, and the others, each of which follows another
@@ -10,16 +12,21 @@ pub record HeadsAndFollowers : Type 0 where
   pub heads : List Entry
   pub followers : List Entry
 
--- heads and followers, and how many comparisons of two keys and how many moves of an entry were counted
+-- heads and followers, what the call has counted so far, and the work of all calls before it
 pub record HeapEntries : Type 0 where
   pub entries : List Entry
   pub followers : List Entry
   pub comparisons : ℕ
   pub moves : ℕ
+  pub before : Work
 
 -- the heads and the others, without what was counted
 abbrev pub heap_lines : HeapEntries → HeadsAndFollowers
 heap_lines h = record { heads = h.entries; followers = h.followers }
+
+-- what was counted
+abbrev pub call_work_of : HeapEntries → CallWork
+call_work_of h = record { comparisons = h.comparisons; moves = h.moves; before = h.before }
 
 -- all entries
 abbrev pub all_of : HeapEntries → List Entry

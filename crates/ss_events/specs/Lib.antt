@@ -1,4 +1,5 @@
 pub mod Digits
+pub mod CallWork
 pub mod CountedList
 pub mod HeapEntries
 pub mod HeapOrder

@@ -25,6 +25,7 @@ pub record CostsToRaise (old new : HeapEntries) (from to : ℕ) : Type 0 where
   pub some : 0 < from → 0 < levels
   pub grows : old.moves ≤ new.moves
   pub followers : new.followers ≡ old.followers
+  pub before : new.before ≡ old.before
 
 -- the entry at `from`, which was under its parent, sank until all were in order
 pub record Lowers (old new : List Entry) (from : ℕ) : Type 0 where
@@ -38,6 +39,7 @@ pub record CostsToLower (old new : HeapEntries) (from : ℕ) : Type 0 where
   pub comparisons : new.comparisons ≤ old.comparisons + 4 * levels
   pub moves : new.moves ≤ old.moves + 2 * levels
   pub followers : new.followers ≡ old.followers
+  pub before : new.before ≡ old.before
 
 -- the entry at `from` was put in order
 pub record Mends (old new : List Entry) (from : ℕ) : Type 0 where
@@ -51,6 +53,7 @@ pub record CostsToMend (old new : HeapEntries) : Type 0 where
   pub comparisons : new.comparisons ≤ old.comparisons + 4 * levels
   pub moves : new.moves ≤ old.moves + 2 * levels
   pub followers : new.followers ≡ old.followers
+  pub before : new.before ≡ old.before
 
 -- the work of one change to a heap that held so many entries
 pub record IsLogarithmic (held : ℕ) (new : HeapEntries) : Type 0 where

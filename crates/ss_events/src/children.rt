@@ -15,6 +15,7 @@ pub fn first_child(heap: &mut EntryHeap, at: usize) -> Option<usize>
     ensures followers { heap.new.followers ≡ heap.old.followers }
     ensures comparisons { heap.new.comparisons ≤ heap.old.comparisons + (if is_some result then 3 else 0) }
     ensures moves { heap.new.moves ≡ heap.old.moves }
+    ensures before { heap.new.before ≡ heap.old.before }
 {
     let last = heap.len() - 1;
     if at < last / 4 {
@@ -39,6 +40,7 @@ fn first_of_few(heap: &mut EntryHeap, from: usize, many: usize) -> usize
     ensures followers { heap.new.followers ≡ heap.old.followers }
     ensures comparisons { heap.new.comparisons ≤ heap.old.comparisons + 3 }
     ensures moves { heap.new.moves ≡ heap.old.moves }
+    ensures before { heap.new.before ≡ heap.old.before }
 {
     if many == 1 {
         return from;

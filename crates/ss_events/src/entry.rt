@@ -1,11 +1,12 @@
 //! Keys and entries.
 //!
 //! Nothing but this module reads a key, and none of its functions hands an entry out. So two keys are compared and an
-//! entry is put into a place only by `EntryHeap`, which counts it.
+//! entry is put into a place only by functions of this module, and each of them counts it in a `WorkCounter`.
 ghost use Rattle.std.specs.Prelude.{◌≡◌, ◌<◌, ◌*◌, [], pos, IfOk, IfSome, IsTrue, ◌↔◌, int_lt, map};
 ghost use Rattle.ss_world.specs.PendingList.{FitsClass};
 ghost use Rattle.ss_events.specs.Slots.{is_tied, no_entry, no_mark, order_of, mark_of, plain_entry, plain_ranks, plain_numbers};
 
+mod counter;
 mod directory;
 mod heap;
 mod order;

@@ -14,8 +14,8 @@ use std::marker::Model;
 ///
 /// The least comes first: by time; then by the rank of its class; then by the ties of its class in turn, each low
 /// or high; then by the order of scheduling. A contract sees the list of the entries in the order of
-/// scheduling, how many schedulings there were, the tie shapes of the classes, and the comparisons and the moves of
-/// the last call that takes `&mut self`.
+/// scheduling, how many schedulings there were, the tie shapes of the classes, the comparisons and the moves of
+/// the last call that takes `&mut self`, and the work of all calls so far.
 #[derive(Drop)]
 pub struct Pending {
     heap: EntryHeap,
@@ -25,24 +25,25 @@ pub struct Pending {
 
 impl Model for Pending {
     ghost use Rattle.std.specs.Prelude.{map};
-    ghost use Rattle.ss_events.specs.CountedList.{CountedList};
+    ghost use Rattle.ss_events.specs.CountedList.{CountedList, with_work};
     ghost use Rattle.ss_events.specs.HeapEntries.{all_of};
     ghost use Rattle.ss_events.specs.InOrder.{in_order, IsAgenda};
 
     ghost Value = { CountedList };
 
-    ghost view = { λ p. record { list = record { entries = in_order (all_of p.heap); schedulings = p.schedulings; classes = map (λ shapes. shapes.items) p.classes.items }; comparisons = p.heap.comparisons; moves = p.heap.moves } };
+    ghost view = { λ p. record { list = record { entries = in_order (all_of p.heap); schedulings = p.schedulings; classes = map (λ shapes. shapes.items) p.classes.items }; comparisons = p.heap.comparisons; moves = p.heap.moves; total = with_work p.heap.before p.heap.comparisons p.heap.moves } };
 
     ghost invariant = { λ p. IsAgenda p.heap.entries (all_of p.heap) p.schedulings };
 }
 
 impl Pending {
+    ghost use Rattle.ss_events.specs.CountedList.{no_work, with_work};
     ghost use Rattle.ss_events.specs.Digits.{binary_digits};
     ghost use Rattle.ss_world.specs.PendingList.{none_pending, FitsClass, is_pending, scheduled, IsRefusal, cancelled, next, after_next};
 
     /// No notice is pending. `classes` has the shapes of the ties of each class, by its rank.
     pub fn new(alloc: Global, classes: &[Vec<TieShape>]) -> Result<Pending, AllocError>
-        ensures { IfOk result (λ pending. pending ≡ record { list = none_pending (map (λ shapes. shapes.items) classes.now); comparisons = 0; moves = 0 }) }
+        ensures { IfOk result (λ pending. pending ≡ record { list = none_pending (map (λ shapes. shapes.items) classes.now); comparisons = 0; moves = 0; total = no_work }) }
     {
         Ok(Pending {
             heap: EntryHeap::new(alloc),
@@ -91,6 +92,7 @@ impl Pending {
         ensures moves { self.new.moves ≤ 3 * binary_digits (length self.old.list.entries) + 4 }
         ensures moved { OnOk result (0 < self.new.moves) }
         ensures compared { OnOk result (0 < length self.old.list.entries → 0 < self.new.comparisons) }
+        ensures total { self.new.total ≡ with_work self.old.total self.new.comparisons self.new.moves }
     {
         self.heap.reset_counts();
         if self.heap.holds(notice) {
@@ -117,6 +119,7 @@ impl Pending {
         ensures moves { self.new.moves ≤ 3 * binary_digits (length self.old.list.entries) + 4 }
         ensures moved { result ≡ true → 0 < self.new.moves }
         ensures compared { result ≡ true → 0 < length self.old.list.entries → 0 < self.new.comparisons }
+        ensures total { self.new.total ≡ with_work self.old.total self.new.comparisons self.new.moves }
     {
         self.heap.reset_counts();
         if rank >= PLAIN_RANKS || self.schedulings >= PLAIN_NUMBERS {
@@ -138,6 +141,7 @@ impl Pending {
 
         ensures comparisons { self.new.comparisons ≤ 3 * binary_digits (length self.old.list.entries) }
         ensures moves { self.new.moves ≤ 3 * binary_digits (length self.old.list.entries) + 4 }
+        ensures total { self.new.total ≡ with_work self.old.total self.new.comparisons self.new.moves }
     {
         self.heap.reset_counts();
         if let Some(at) = self.heap.find(notice) {
@@ -156,6 +160,7 @@ impl Pending {
         ensures unchanged { self.new.list ≡ self.old.list }
         ensures comparisons { self.new.comparisons ≡ 0 }
         ensures moves { self.new.moves ≡ 0 }
+        ensures total { self.new.total ≡ with_work self.old.total self.new.comparisons self.new.moves }
     {
         self.heap.reset_counts();
         if self.heap.len() == 0 {
@@ -175,6 +180,7 @@ impl Pending {
 
         ensures comparisons { self.new.comparisons ≤ 3 * binary_digits (length self.old.list.entries) }
         ensures moves { self.new.moves ≤ 3 * binary_digits (length self.old.list.entries) + 4 }
+        ensures total { self.new.total ≡ with_work self.old.total self.new.comparisons self.new.moves }
     {
         self.heap.reset_counts();
         if self.heap.len() == 0 {

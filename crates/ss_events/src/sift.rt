@@ -14,20 +14,22 @@ use crate::children::first_child;
 use crate::entry::{EntryHeap, Key, MANY, PLAIN_NUMBERS, PLAIN_RANKS};
 use std::alloc::AllocError;
 
-/// Puts an entry of a notice into a heap in order. Counts anew.
+/// Puts an entry of a notice into a heap in order.
 pub fn insert(heap: &mut EntryHeap, key: Key, number: u64, notice: i64) -> Result<(), AllocError>
     requires order { IsHeap comes_before heap.old.entries }
     requires apart { list_any (int_eq notice) (notices_of heap.old.entries) ≡ false }
     requires fresh { list_any (int_eq notice) (notices_of heap.old.followers) ≡ false }
+    requires uncompared { heap.old.comparisons ≡ 0 }
+    requires unmoved { heap.old.moves ≡ 0 }
     ensures order { IsHeap comes_before heap.new.entries }
     ensures ok { OnOk result (IsPermutation (record { key = key; number = number; notice = notice } ∷ all_of heap.old) (all_of heap.new)) }
     ensures err_entries { OnErr result (heap.new.entries ≡ heap.old.entries) }
     ensures err_followers { OnErr result (heap.new.followers ≡ heap.old.followers) }
     ensures work { IsLogarithmic (length heap.old.entries) heap.new }
+    ensures before { heap.new.before ≡ heap.old.before }
     ensures moved { OnOk result (0 < heap.new.moves) }
     ensures compared { OnOk result (0 < length heap.old.entries → 0 < heap.new.comparisons) }
 {
-    heap.reset_counts();
     heap.make_room()?;
     if let Some((time, rank)) = key.untied()
         && rank < PLAIN_RANKS
@@ -36,7 +38,6 @@ pub fn insert(heap: &mut EntryHeap, key: Key, number: u64, notice: i64) -> Resul
         if insert_plain(heap, time, rank, number, notice) {
             return Ok(());
         }
-        heap.reset_counts();
     }
     let place = heap.len();
     heap.push(key, number, notice)?;
@@ -45,12 +46,14 @@ pub fn insert(heap: &mut EntryHeap, key: Key, number: u64, notice: i64) -> Resul
 }
 
 /// Puts a plain entry into a heap in order, if there is room for it and its notice is found to be new at once; and says whether it
-/// did. If not, the entries are what they were. Counts anew.
+/// did. If not, the entries are what they were, after one comparison at most.
 #[inline(always)]
 pub fn insert_plain(heap: &mut EntryHeap, time: i64, rank: usize, number: u64, notice: i64) -> bool
     requires order { IsHeap comes_before heap.old.entries }
     requires rank { rank < plain_ranks }
     requires number { number < plain_numbers }
+    requires uncompared { heap.old.comparisons ≡ 0 }
+    requires unmoved { heap.old.moves ≡ 0 }
     ensures order { IsHeap comes_before heap.new.entries }
     ensures done { result ≡ true → IsPermutation (record { key = record { time = time; rank = rank; ties = [] }; number = number; notice = notice } ∷ all_of heap.old) (all_of heap.new) }
     ensures apart { result ≡ true → list_any (int_eq notice) (notices_of heap.old.entries) ≡ false }
@@ -58,10 +61,13 @@ pub fn insert_plain(heap: &mut EntryHeap, time: i64, rank: usize, number: u64, n
     ensures kept_entries { result ≡ false → heap.new.entries ≡ heap.old.entries }
     ensures kept_followers { result ≡ false → heap.new.followers ≡ heap.old.followers }
     ensures work { IsLogarithmic (length heap.old.entries) heap.new }
+    ensures before { heap.new.before ≡ heap.old.before }
     ensures moved { result ≡ true → 0 < heap.new.moves }
     ensures compared { result ≡ true → 0 < length heap.old.entries → 0 < heap.new.comparisons }
+    ensures one { result ≡ false → heap.new.comparisons ≤ 1 }
+    ensures few { result ≡ false → heap.new.comparisons ≤ length heap.old.entries }
+    ensures unmoved { result ≡ false → heap.new.moves ≡ 0 }
 {
-    heap.reset_counts();
     let place = heap.len();
     if place >= MANY && heap.append_plain(time, rank, number, notice) {
         return true;
@@ -73,15 +79,17 @@ pub fn insert_plain(heap: &mut EntryHeap, time: i64, rank: usize, number: u64, n
     true
 }
 
-/// Takes the entry out of a place of a heap in order, and answers its time and its notice. Counts anew.
+/// Takes the entry out of a place of a heap in order, and answers its time and its notice.
 pub fn take_out(heap: &mut EntryHeap, at: usize) -> (i64, i64)
     requires order { IsHeap comes_before heap.old.entries }
     requires within { at < length heap.old.entries }
+    requires uncompared { heap.old.comparisons ≡ 0 }
+    requires unmoved { heap.old.moves ≡ 0 }
     ensures order { IsHeap comes_before heap.new.entries }
     ensures taken { TakesOut heap.old heap.new at result }
     ensures work { IsLogarithmic (length heap.old.entries) heap.new }
+    ensures before { heap.new.before ≡ heap.old.before }
 {
-    heap.reset_counts();
     let event = heap.remove(at);
     if at < heap.len() {
         mend(heap, at);
@@ -94,7 +102,7 @@ fn mend(heap: &mut EntryHeap, at: usize)
     requires within { at < length heap.old.entries }
     requires small { length heap.old.entries < 2 ^ 64 }
     requires comparisons { heap.old.comparisons ≤ 1 }
-    requires moves { heap.old.moves ≤ 1 }
+    requires moves { heap.old.moves ≤ 2 }
     ensures mends { Mends heap.old.entries heap.new.entries at }
     ensures cost { CostsToMend heap.old heap.new }
 {

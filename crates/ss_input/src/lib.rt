@@ -5,6 +5,7 @@ mod block;
 mod number;
 mod passing;
 mod source;
+mod value;
 
 pub use block::{BLOCK, Block, ReadFailed};
 pub use source::{Missed, Source};

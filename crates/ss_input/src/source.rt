@@ -9,11 +9,12 @@ ghost use Rattle.ss_input.specs.declared.source.Missed.{Missed as MissedSeen};
 ghost use Rattle.ss_input.specs.Blocks.{KnowsEnd};
 ghost use Rattle.ss_input.specs.Sources.{Gives, GapPassed, NextIs, Suffices, Unasked, HasWord, Wants, Lacks};
 ghost use Rattle.ss_input.specs.Inputs.{source_block, source_gap, source_missed, source_reader, IsFresh, IsBuffered, IsBeforeWord, Reads, Finds, Reaches, missed_of, failures_after};
-ghost use Rattle.ss_input.specs.Words.{is_separator, is_word_byte, is_ended, next_word, value_given};
+ghost use Rattle.ss_input.specs.Words.{is_separator, is_word_byte, if_read, is_ended, next_word, value_given};
 
 use crate::block::{Block, ReadFailed};
-use crate::number::{leading_number, number_read, separators};
+use crate::number::{leading_number, separators};
 use crate::passing::{SEPARATOR_LIMIT, WORD_LIMIT, pass_gap, pass_word};
+use crate::value::WordValue;
 use ss_base::{Alpha, FaultKind, FaultyRead};
 use std::marker::Model;
 
@@ -137,10 +138,10 @@ impl<R: FaultyRead> Source<R> {
         }
     }
 
-    // Reads the next word as a whole number.
-    fn read_integer(&mut self) -> Result<i64, Missed>
-        ensures read { (number : ℤ) → result ≡ Ok number → Reads R.remaining self.old self.new (λ input rest. value_given Integer input ≡ Ok (record { value = Whole number; rest = rest })) }
-        ensures fault { (kind : FaultSeen) → result ≡ Err (Missed.Fault kind) → Finds R.remaining self.old self.new (λ input. value_given Integer input ≡ Err kind) }
+    // Reads the next word as a value of a mode.
+    fn read_value<V: WordValue>(&mut self) -> Result<V, Missed>
+        ensures read { (value : V) → result ≡ Ok value → Reads R.remaining self.old self.new (λ input rest. value_given V.mode input ≡ if_read (V.values (Some value)) rest) }
+        ensures fault { (kind : FaultSeen) → result ≡ Err (Missed.Fault kind) → Finds R.remaining self.old self.new (λ input. value_given V.mode input ≡ Err kind) }
         ensures gives { result ≡ Err Missed.Input → Gives R.remaining (source_block self.old) (source_block self.new) }
         ensures lacks { result ≡ Err Missed.Input → Lacks R.remaining (source_block self.old) (source_block self.new) }
         ensures missed { source_missed self.new ≡ source_missed self.old }
@@ -150,27 +151,8 @@ impl<R: FaultyRead> Source<R> {
     {
         let mut word = [0; WORD_LIMIT];
         let count = self.read_word(&mut word)?;
-        match number_read(&word[..count]) {
-            Some(number) => Ok(number),
-            None => Err(Missed::Fault(FaultKind::BadData)),
-        }
-    }
-
-    // Reads the next word as a text.
-    fn read_alpha(&mut self) -> Result<Alpha, Missed>
-        ensures read { (text : List ℕ) → result ≡ Ok text → Reads R.remaining self.old self.new (λ input rest. value_given AlphaMode input ≡ Ok (record { value = Text text; rest = rest })) }
-        ensures fault { (kind : FaultSeen) → result ≡ Err (Missed.Fault kind) → Finds R.remaining self.old self.new (λ input. value_given AlphaMode input ≡ Err kind) }
-        ensures gives { result ≡ Err Missed.Input → Gives R.remaining (source_block self.old) (source_block self.new) }
-        ensures lacks { result ≡ Err Missed.Input → Lacks R.remaining (source_block self.old) (source_block self.new) }
-        ensures missed { source_missed self.new ≡ source_missed self.old }
-        ensures counted { R.faults (source_reader self.new) ≡ failures_after result (R.faults (source_reader self.old)) }
-        ensures unasked { HasWord (source_block self.old) → source_reader self.new ≡ source_reader self.old }
-        ensures end { KnowsEnd R.remaining (source_block self.old) → KnowsEnd R.remaining (source_block self.new) }
-    {
-        let mut word = [0; WORD_LIMIT];
-        let count = self.read_word(&mut word)?;
-        match Alpha::of(&word[..count]) {
-            Some(text) => Ok(text),
+        match V::of_word(&word[..count]) {
+            Some(value) => Ok(value),
             None => Err(Missed::Fault(FaultKind::BadData)),
         }
     }
@@ -279,16 +261,11 @@ impl<R: FaultyRead> Source<R> {
             self.pass_number(number);
             return Ok(number.value as i64);
         }
-        let answer = self.read_integer();
+        let answer = self.read_value::<i64>();
         self.remember(answer)
     }
 
-    /// The text that the next word is: 1 to 16 bytes from 33 to 126.
-    ///
-    /// `Missed::Fault` with END OF DATA where no word is left, and with BAD DATA for any other word, one
-    /// of more than 64 bytes, or more than 1,048,576 separators before it; `Missed::Input` just where the
-    /// reader answered an error, which is not asked again. The reader is not asked at all where the word ends
-    /// within the buffered bytes. After a `Missed` every call answers the same and reads nothing.
+    /// The text that the next word is: 1 to 16 bytes from 33 to 126. Its errors are those of `integer`, and it reads as that does.
     pub fn alpha(&mut self) -> Result<Alpha, Missed>
         ensures again { (missed : MissedSeen) → source_missed self.old ≡ Some missed → (result ≡ Err missed) × (self.new ≡ self.old) }
         ensures read { (text : List ℕ) → result ≡ Ok text → Reads R.remaining self.old self.new (λ input rest. value_given AlphaMode input ≡ Ok (record { value = Text text; rest = rest })) }
@@ -305,7 +282,7 @@ impl<R: FaultyRead> Source<R> {
         if let Some(missed) = self.missed {
             return Err(missed);
         }
-        let answer = self.read_alpha();
+        let answer = self.read_value::<Alpha>();
         self.remember(answer)
     }
 

@@ -202,6 +202,16 @@ impl Population {
         }
     }
 
+    /// Whether `destroy` lets an entity go. Faults: those of `destroy`.
+    pub fn may_destroy(&mut self, class: usize, n: i64) -> Result<(), FaultKind>
+        requires class { class < length self.old.layout.classes }
+        requires kind { IsPermanent (kind_of self.old.layout class) → ⊥ }
+        ensures value { result ≡ no_value (destroyed self.old class n) }
+        ensures same { self.new ≡ self.old }
+    {
+        self.heap.may_destroy(class, n)
+    }
+
     /// An entity goes. Faults: 1 to 4, then 9 and 10.
     #[inline(always)]
     pub fn destroy(&mut self, class: usize, n: i64) -> Result<(), FaultKind>

@@ -1,3 +1,4 @@
 pub mod Stepping
 pub mod Taking
 pub mod Passing
+mod Begun

@@ -12,7 +12,8 @@ use Rattle.ss_program.specs.declared.expression.Variable.TheVariants.{Global}
 use Rattle.ss_meaning.specs.Values.{Trouble as Meant, turned}
 use Rattle.ss_meaning.specs.Store.{Notices, Store}
 use Rattle.ss_meaning.specs.Places.{assigned_variable}
-use Rattle.ss_meaning.specs.Events.{Ranked, Coming, Beginning, ranked_as, next_event, event_begun, saved_or_gone}
+use Rattle.ss_meaning.specs.Entities.{gone}
+use Rattle.ss_meaning.specs.Events.{Ranked, Coming, Beginning, ranked_as, next_event, attributes_given, event_begun, saved_or_gone}
 use Rattle.ss_machine_events.specs.declared.coming.TakenEvent.{TakenEvent}
 use Rattle.ss_machine_events.specs.declared.coming.Fate.{Fate}
 use Rattle.ss_machine_events.specs.declared.coming.Fate.TheVariants.{Saved, Gone}
@@ -22,7 +23,7 @@ use Rattle.ss_machine_entities.specs.declared.trouble.Unmade.TheVariants as unma
 use Rattle.ss_machine_entities.specs.Answered.{to_meaning}
 use Rattle.ss_machine_entities.specs.Layouts.{kind_at}
 use Rattle.ss_machine_events.specs.Scheduled.{Finds}
-use Rattle.ss_machine_world.specs.Seen.{Seen, with_seen}
+use Rattle.ss_machine_world.specs.Seen.{Seen, GoesWell, with_seen}
 
 -- ## What comes next
 
@@ -123,9 +124,16 @@ Lets c old new (Ok Gone) = (s : Store) → saved_or_gone c.saved c.class (Whole 
 Lets c old new (Err (unmade.Fault kind)) =
     ((s : Store) → saved_or_gone c.saved c.class (Whole c.notice) (with_seen s old) ≡ to_meaning {A = Store} (Err (Fault kind))) × (new ≡ old)
 Lets c old new (Err unmade.Misfit) = ((s : Store) → saved_or_gone c.saved c.class (Whole c.notice) (with_seen s old) ≡ to_meaning {A = Store} (Err Misfit)) × (new ≡ old)
-Lets c old new (Err unmade.Memory) = new ≡ old
+Lets c old new (Err unmade.Memory) = ⊥
 
--- an event begins with values; its notice is gone, or it is still to be assigned to a global variable
+-- why the notice of an event does not go where memory was refused before: for the trouble that is due, or none is
+abbrev pub IsUnremoved : TakenEvent → Seen → Unmade → Type 0
+IsUnremoved c e (unmade.Fault kind) = (s : Store) → saved_or_gone c.saved c.class (Whole c.notice) (with_seen s e) ≡ to_meaning {A = Store} (Err (Fault kind))
+IsUnremoved c e unmade.Misfit = (s : Store) → saved_or_gone c.saved c.class (Whole c.notice) (with_seen s e) ≡ to_meaning {A = Store} (Err Misfit)
+IsUnremoved c e unmade.Memory = c.saved ≡ None → GoesWell (gone c.class (Whole c.notice)) e
+
+-- an event begins with values; its notice is gone, or it is still to be assigned to a global variable. It is out of memory only where its
+-- values are found and its notice may go, unless that is saved.
 abbrev pub Begins : TakenEvent → List RankKey → List Value → (old new : Seen) → Result Fate Unmade → Type 0
 Begins c ties vs old new (Ok (Saved k)) =
     ((s : Store) → event_begun (coming_meant c ties (with_seen s old)) ≡ turned (beginning c.rank vs) (assigned_variable (Global k) (Whole c.notice) (with_seen s old)))
@@ -134,4 +142,7 @@ Begins c ties vs old new (Ok Gone) = (s : Store) → event_begun (coming_meant c
 Begins c ties vs old new (Err (unmade.Fault kind)) =
     ((s : Store) → event_begun (coming_meant c ties (with_seen s old)) ≡ to_meaning {A = Beginning} (Err (Fault kind))) × (new ≡ old)
 Begins c ties vs old new (Err unmade.Misfit) = ((s : Store) → event_begun (coming_meant c ties (with_seen s old)) ≡ to_meaning {A = Beginning} (Err Misfit)) × (new ≡ old)
-Begins c ties vs old new (Err unmade.Memory) = new ≡ old
+Begins c ties vs old new (Err unmade.Memory) =
+    GoesWell (attributes_given c.class 0 c.given (Whole c.notice)) old
+    × (c.saved ≡ None → GoesWell (gone c.class (Whole c.notice)) old)
+    × (new ≡ old)

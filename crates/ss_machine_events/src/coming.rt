@@ -1,7 +1,8 @@
 //! Events: which comes next, and how it begins.
 
-ghost use Rattle.std.specs.Prelude.{◌≡◌, true, false, List, Ok, Some, IfSome};
+ghost use Rattle.std.specs.Prelude.{◌≡◌, true, false, List, Ok, Err, Some, IfSome};
 ghost use Rattle.ss_base.specs.declared.layout.RankKey.{RankKey as KeySeen};
+ghost use Rattle.ss_base.specs.declared.value.Value.{Value as ValueSeen};
 ghost use Rattle.ss_base.specs.declared.value.Value.TheVariants.{Whole};
 ghost use Rattle.ss_meaning.specs.Entities.{attribute, gone};
 ghost use Rattle.ss_meaning.specs.Events.{attributes_given};
@@ -9,8 +10,8 @@ ghost use Rattle.ss_meaning.specs.Store.{Store as StoreSeen};
 ghost use Rattle.ss_records.specs.Classed.{HasClass};
 ghost use Rattle.ss_machine_entities.specs.Layouts.{kind_at};
 ghost use Rattle.ss_machine_world.specs.Seen.{with_seen};
-ghost use Rattle.ss_machine_events.specs.Scheduled.{Finds, put_there};
-ghost use Rattle.ss_machine_events.specs.Events.{IsNextEvent, Nears, passed_on, Begins, Lets, First, IsEventOf, AddsFound, IsPut, is_of, is_notice_kind};
+ghost use Rattle.ss_machine_events.specs.Scheduled.{Finds, Gets, put_there};
+ghost use Rattle.ss_machine_events.specs.Events.{IsNextEvent, Nears, passed_on, Begins, Lets, IsUnremoved, First, IsEventOf, AddsFound, IsPut, is_of, is_notice_kind};
 
 use crate::scheduling::lacking;
 use ss_base::{ClassKind, Line, Value};
@@ -241,6 +242,51 @@ fn read(
     Ok(())
 }
 
+// Why the values of a notice are not read where memory for them was refused: the first trouble that is due, if any.
+fn unread(scene: &Scene, class: usize, count: usize, known: EntityId) -> Unmade
+    ensures { Gets {A = List ValueSeen} (attributes_given class 0 count (Whole known.number)) scene.now (Err result) }
+{
+    for field in 0..count {
+        match scene.field_value(class, field, known) {
+            Err(trouble) => return lacking(trouble),
+            Ok(_) => {}
+        }
+    }
+    Unmade::Memory
+}
+
+// Why the notice of an event does not go where memory was refused before: the trouble that is due, if any.
+fn unremoved(scene: &mut Scene, event: TakenEvent) -> Unmade
+    ensures value { IsUnremoved event scene.old result }
+    ensures same { scene.new ≡ scene.old }
+{
+    let known = EntityId {
+        number: event.notice,
+    };
+    match event.saved {
+        Some(_) => Unmade::Memory,
+        None => match scene.may_remove(event.class, known) {
+            Ok(()) => Unmade::Memory,
+            Err(trouble) => lacking(trouble),
+        },
+    }
+}
+
+// Why an event does not begin where memory for its values was refused: the first trouble that is due, if any.
+#[inline(never)]
+fn unbegun(scene: &mut Scene, event: TakenEvent) -> Unmade
+    ensures { (ties : List KeySeen) (values : List ValueSeen) → Begins event ties values scene.old scene.new (Err result) }
+{
+    let known = EntityId {
+        number: event.notice,
+    };
+    match unread(scene, event.class, event.given, known) {
+        Unmade::Fault(kind) => Unmade::Fault(kind),
+        Unmade::Misfit => Unmade::Misfit,
+        Unmade::Memory => unremoved(scene, event),
+    }
+}
+
 // What becomes of the notice of an event.
 #[inline(always)]
 fn let_go(scene: &mut Scene, event: TakenEvent) -> Result<Fate, Unmade>
@@ -256,8 +302,8 @@ fn let_go(scene: &mut Scene, event: TakenEvent) -> Result<Fate, Unmade>
 }
 
 /// An event that was taken out begins: its routine takes the values, which are those of the first attributes of the
-/// notice, in place of what was there. The notice is destroyed unless it is to be saved. Faults: 9 and 10. Nothing
-/// changes after a fault, or where memory for the values was refused.
+/// notice, in place of what was there. The notice is destroyed unless it is to be saved. Faults: 9 and 10. It is out of
+/// memory only where no fault is due. Nothing changes after a fault, or where memory for the values was refused.
 pub fn begin_event(
     scene: &mut Scene,
     event: TakenEvent,
@@ -269,7 +315,9 @@ pub fn begin_event(
         number: event.notice,
     };
     match read(scene, event.class, event.given, known, values) {
-        Err(unmade) => Err(unmade),
+        Err(Unmade::Fault(kind)) => Err(Unmade::Fault(kind)),
+        Err(Unmade::Misfit) => Err(Unmade::Misfit),
+        Err(Unmade::Memory) => Err(unbegun(scene, event)),
         Ok(()) => let_go(scene, event),
     }
 }

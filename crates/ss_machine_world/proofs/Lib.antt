@@ -15,3 +15,4 @@ pub mod Going
 mod Renoting
 pub mod Making
 pub mod Skims
+mod Leaving

@@ -85,6 +85,10 @@ ChangesWhere P f old new (Err t) = ((s : Store) → P (with_seen s old) → f (w
 abbrev pub GoesWell : {A : Type 0} → (Store → Result A Meant) → Seen → Type 0
 GoesWell f e = (s : Store) → IsOk (f (with_seen s e))
 
+-- whether an operation goes well, or else its trouble
+abbrev pub without_store : (Store → Result Store Meant) → Store → Result (Unit {0}) Meant
+without_store f s = turned (λ _. tt) (f s)
+
 -- an operation that needs memory changes what is seen and gives a value, or fails and changes nothing. It is out of memory only where it
 -- does not fail, and then it changes nothing.
 abbrev pub Makes : {A : Type 0} → (Store → Result (A × Store) Meant) → (old new : Seen) → Result A Unmade → Type 0

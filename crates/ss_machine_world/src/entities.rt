@@ -8,7 +8,7 @@ ghost use Rattle.ss_meaning.specs.Store.{Store as StoreSeen};
 ghost use Rattle.ss_meaning.specs.Places.{is_of_mode, assigned_attribute};
 ghost use Rattle.ss_machine_entities.specs.Answered.{number_found};
 ghost use Rattle.ss_machine_entities.specs.Layouts.{class_in, kind_at};
-ghost use Rattle.ss_machine_world.specs.Seen.{Looks, Changes, Notes, Makes, ChangesWithMemory, GoesWell, IsEarlier, as_value, count_open, number_made, created_all_known, mode_of_field, with_seen};
+ghost use Rattle.ss_machine_world.specs.Seen.{Looks, Changes, Notes, Makes, ChangesWithMemory, GoesWell, IsEarlier, without_store, as_value, count_open, number_made, created_all_known, mode_of_field, with_seen};
 
 use crate::scene::Scene;
 use ss_base::{ClassKind, FaultKind, Mode, Refused, Value};
@@ -343,6 +343,29 @@ impl Scene {
             Made::Last => Err(Unmade::Fault(FaultKind::Overflow)),
             Made::Misfit => Err(Unmade::Misfit),
             Made::Wanting => Err(Unmade::Memory),
+        }
+    }
+
+    /// Whether `remove_known` lets an entity go. Faults: those of `remove_known`.
+    pub fn may_remove(&mut self, class: usize, known: EntityId) -> Result<(), Trouble>
+        ensures value { Looks (without_store (gone class (Whole known.number))) self.old result }
+        ensures same { self.new ≡ self.old }
+    {
+        if !self.is_single(class) {
+            return Err(Trouble::Misfit);
+        }
+        self.may_remove_single(class, known)
+    }
+
+    // Whether an entity may go by its number, of a class whose entities come and go one by one.
+    fn may_remove_single(&mut self, class: usize, known: EntityId) -> Result<(), Trouble>
+        requires single { is_single (class_in self.old.heap.layout class) ≡ true }
+        ensures value { Looks (without_store (gone class (Whole known.number))) self.old result }
+        ensures same { self.new ≡ self.old }
+    {
+        match self.population.may_destroy(class, known.number) {
+            Ok(()) => Ok(()),
+            Err(kind) => Err(Trouble::Fault(kind)),
         }
     }
 

@@ -1,16 +1,14 @@
 //! The classes, and the modes that DEFINE and NORMALLY give.
 
-ghost use Rattle.std.specs.Prelude.{◌≡◌, IfOk};
-ghost use Rattle.std.specs.List.{flat_map};
+ghost use Rattle.std.specs.Prelude.{◌≡◌};
 ghost use Rattle.ss_names.specs.Entities.{class_by, defined_by, mode_by_normally, usual_mode};
-ghost use Rattle.ss_names_declarations.specs.Firsts.{firsts};
 
 use crate::entry::Class;
-use crate::telling::{Telling, collect_firsts};
+use crate::telling::Telling;
 use ss_base::Name;
-use ss_names_declarations::{Said, Saying, Seed, Table, insert_first};
+use ss_names_declarations::{Said, Saying, Table, insert_first};
 use ss_tree::preamble::Mode;
-use std::alloc::{AllocError, Global};
+use std::alloc::AllocError;
 
 // The mode that NORMALLY gives, if this is a NORMALLY.
 fn normal(said: &Said) -> Option<Mode>
@@ -33,8 +31,8 @@ pub fn usual_mode(sayings: &[Saying]) -> Option<Mode>
     found
 }
 
-// The modes of DEFINE.
-struct DefinedModes;
+/// The modes of DEFINE: for each name that it gives one, the first.
+pub struct DefinedModes;
 
 impl Telling for DefinedModes {
     type Entry = Mode;
@@ -59,19 +57,8 @@ impl Telling for DefinedModes {
     }
 }
 
-/// Each name that a DEFINE gives a mode, with the first mode.
-pub fn defined_modes(
-    alloc: Global,
-    seed: Seed,
-    sayings: &[Saying],
-) -> Result<Table<Name, Mode>, AllocError>
-    ensures { IfOk result (λ entries. entries ≡ firsts (flat_map (defined_by) sayings.now)) }
-{
-    collect_firsts::<DefinedModes>(alloc, seed, &(), sayings)
-}
-
-// The classes that are declared.
-struct Classes;
+/// The classes that are declared, in the order of the text.
+pub struct Classes;
 
 impl Telling for Classes {
     type Entry = Class;
@@ -100,15 +87,4 @@ impl Telling for Classes {
             _ => Ok(()),
         }
     }
-}
-
-/// The classes, in the order of the text.
-pub fn classes_of(
-    alloc: Global,
-    seed: Seed,
-    sayings: &[Saying],
-) -> Result<Table<Name, Class>, AllocError>
-    ensures { IfOk result (λ entries. entries ≡ firsts (flat_map (class_by) sayings.now)) }
-{
-    collect_firsts::<Classes>(alloc, seed, &(), sayings)
 }

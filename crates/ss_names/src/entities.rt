@@ -6,8 +6,9 @@ ghost use Rattle.ss_names_declarations.specs.Firsts.{firsts};
 ghost use Rattle.ss_names.specs.Entities.{AreAttributes, attribute_by, attributes, classes, defined_modes, fields, usual_mode};
 
 use crate::attributes::{Attributes, attributes_of};
-use crate::classes::{classes_of, defined_modes, usual_mode};
+use crate::classes::{Classes, DefinedModes, usual_mode};
 use crate::entry::Class;
+use crate::telling::collect_firsts;
 use ss_base::Name;
 use ss_names_declarations::{Saying, Seed, Table};
 use std::alloc::{AllocError, Global};
@@ -27,7 +28,7 @@ fn attributes_in(
 ) -> Result<Attributes, AllocError>
     ensures { IfOk result (AreAttributes (usual_mode sayings.now) (defined_modes sayings.now) (length classes.now) (firsts (flat_map (attribute_by classes.now) sayings.now))) }
 {
-    let defined = defined_modes(alloc, classes.seed(), sayings)?;
+    let defined = collect_firsts::<DefinedModes>(alloc, classes.seed(), &(), sayings)?;
     attributes_of(alloc, classes, usual_mode(sayings), &defined, sayings)
 }
 
@@ -40,7 +41,7 @@ pub fn entities_of(alloc: Global, seed: Seed, sayings: &[Saying]) -> Result<Enti
     ensures attributes { IfOk result (λ e. e.attributes.entries ≡ attributes sayings.now) }
     ensures fields { IfOk result (λ e. e.attributes.fields ≡ fields sayings.now) }
 {
-    let classes = classes_of(alloc, seed, sayings)?;
+    let classes = collect_firsts::<Classes>(alloc, seed, &(), sayings)?;
     let attributes = attributes_in(alloc, &classes, sayings)?;
     Ok(Entities {
         classes,

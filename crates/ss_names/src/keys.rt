@@ -1,8 +1,9 @@
 //! The keys by which members are ranked and ties of notices are decided.
 
-ghost use Rattle.std.specs.Prelude.{◌≡◌, ◌++◌, OnOk, IfOk};
+ghost use Rattle.std.specs.Prelude.{◌≡◌, ◌++◌, List, OnOk, IfOk};
 ghost use Rattle.std.specs.List.{flat_map};
 ghost use Rattle.ss_names.specs.Keys.{rank_by, tie_by};
+ghost use Rattle.ss_names_declarations.specs.declared.saying.Saying.{Saying as SayingSeen};
 
 use ss_base::Name;
 use ss_names_declarations::{Said, Saying};
@@ -26,66 +27,68 @@ pub struct TiedBy {
     pub high: bool,
 }
 
-// Adds a key of a ranked set.
-fn add_rank(out: &mut Vec<RankedBy>, saying: &Saying) -> Result<(), AllocError>
-    ensures { OnOk result (out.new.items ≡ out.old.items ++ rank_by saying.now) }
-{
-    match &saying.said {
-        Said::RankKey { statement, high } => match &saying.name {
-            Some(name) => {
-                let key = RankedBy {
-                    statement: *statement,
-                    attribute: *name,
-                    high: *high,
-                };
-                out.push(key)?;
-                Ok(())
-            }
-            None => Ok(()),
-        },
-        _ => Ok(()),
+/// A kind of keys that sayings give.
+pub trait OrderKey: Copy {
+    ghost keys_by: { SayingSeen → List Self };
+
+    /// Adds the key of a saying, if it gives one.
+    fn note(keys: &mut Vec<Self>, saying: &Saying) -> Result<(), AllocError>
+        ensures { OnOk result (keys.new.items ≡ keys.old.items ++ keys_by saying.now) };
+}
+
+impl OrderKey for RankedBy {
+    ghost keys_by = { rank_by };
+
+    // Adds a key of a ranked set.
+    fn note(keys: &mut Vec<RankedBy>, saying: &Saying) -> Result<(), AllocError> {
+        match &saying.said {
+            Said::RankKey { statement, high } => match &saying.name {
+                Some(name) => {
+                    let key = RankedBy {
+                        statement: *statement,
+                        attribute: *name,
+                        high: *high,
+                    };
+                    keys.push(key)?;
+                    Ok(())
+                }
+                None => Ok(()),
+            },
+            _ => Ok(()),
+        }
     }
 }
 
-/// The keys of ranked sets, in the order of the text.
-pub fn rank_keys_of(alloc: Global, sayings: &[Saying]) -> Result<Vec<RankedBy>, AllocError>
-    ensures { IfOk result (λ keys. keys.items ≡ flat_map rank_by sayings.now) }
+impl OrderKey for TiedBy {
+    ghost keys_by = { tie_by };
+
+    // Adds a key for ties.
+    fn note(keys: &mut Vec<TiedBy>, saying: &Saying) -> Result<(), AllocError> {
+        match &saying.said {
+            Said::TieKey { class, high } => match &saying.name {
+                Some(name) => {
+                    let key = TiedBy {
+                        class: *class,
+                        attribute: *name,
+                        high: *high,
+                    };
+                    keys.push(key)?;
+                    Ok(())
+                }
+                None => Ok(()),
+            },
+            _ => Ok(()),
+        }
+    }
+}
+
+/// The keys of one kind, in the order of the text.
+pub fn keys_of<K: OrderKey>(alloc: Global, sayings: &[Saying]) -> Result<Vec<K>, AllocError>
+    ensures { IfOk result (λ keys. keys.items ≡ flat_map K.keys_by sayings.now) }
 {
     let mut keys = Vec::new(alloc);
     for saying in sayings {
-        add_rank(&mut keys, saying)?;
-    }
-    Ok(keys)
-}
-
-// Adds a key for ties.
-fn add_tie(out: &mut Vec<TiedBy>, saying: &Saying) -> Result<(), AllocError>
-    ensures { OnOk result (out.new.items ≡ out.old.items ++ tie_by saying.now) }
-{
-    match &saying.said {
-        Said::TieKey { class, high } => match &saying.name {
-            Some(name) => {
-                let key = TiedBy {
-                    class: *class,
-                    attribute: *name,
-                    high: *high,
-                };
-                out.push(key)?;
-                Ok(())
-            }
-            None => Ok(()),
-        },
-        _ => Ok(()),
-    }
-}
-
-/// The keys for the ties of notices, in the order of the text.
-pub fn tie_keys_of(alloc: Global, sayings: &[Saying]) -> Result<Vec<TiedBy>, AllocError>
-    ensures { IfOk result (λ keys. keys.items ≡ flat_map tie_by sayings.now) }
-{
-    let mut keys = Vec::new(alloc);
-    for saying in sayings {
-        add_tie(&mut keys, saying)?;
+        K::note(&mut keys, saying)?;
     }
     Ok(keys)
 }

@@ -5,10 +5,11 @@ ghost use Rattle.ss_names.specs.Notices.{notices};
 ghost use Rattle.ss_names.specs.Entities.{classes as classes_said};
 
 use crate::entry::{Class, EventSection};
-use crate::keys::{RankedBy, TiedBy, rank_keys_of, tie_keys_of};
+use crate::keys::{RankedBy, TiedBy, keys_of};
 use crate::making::beside;
 use crate::ranks::ranks_of;
-use crate::sections::events_of;
+use crate::sections::Events;
+use crate::telling::collect_firsts;
 use ss_base::Name;
 use ss_names_declarations::{Saying, Table};
 use std::alloc::{AllocError, Global};
@@ -41,10 +42,10 @@ pub fn notices_of(
     requires { classes.now ≡ classes_said sayings.now }
     ensures { IfOk result (λ n. n ≡ notices sayings.now) }
 {
-    let events = events_of(alloc, classes.seed(), sayings)?;
+    let events = collect_firsts::<Events>(alloc, classes.seed(), &(), sayings)?;
     let (events, ranks) = beside(events, ranks_of(alloc, classes, sayings))?;
-    let (ordered, rank_keys) = beside((events, ranks), rank_keys_of(alloc, sayings))?;
-    let (keyed, tie_keys) = beside((ordered, rank_keys), tie_keys_of(alloc, sayings))?;
+    let (ordered, rank_keys) = beside((events, ranks), keys_of::<RankedBy>(alloc, sayings))?;
+    let (keyed, tie_keys) = beside((ordered, rank_keys), keys_of::<TiedBy>(alloc, sayings))?;
     let ((events, ranks), rank_keys) = keyed;
     Ok(Notices {
         events,

@@ -59,8 +59,8 @@ pub fn routines_of(
     collect_firsts::<Routines>(alloc, seed, &(), sayings)
 }
 
-// The EVENT sections.
-struct Events;
+/// The EVENT sections, by their names.
+pub struct Events;
 
 impl Telling for Events {
     type Entry = EventSection;
@@ -94,15 +94,4 @@ impl Telling for Events {
             _ => Ok(()),
         }
     }
-}
-
-/// The EVENT sections, by their names.
-pub fn events_of(
-    alloc: Global,
-    seed: Seed,
-    sayings: &[Saying],
-) -> Result<Table<Name, EventSection>, AllocError>
-    ensures { IfOk result (λ entries. entries ≡ firsts (flat_map (event_by) sayings.now)) }
-{
-    collect_firsts::<Events>(alloc, seed, &(), sayings)
 }

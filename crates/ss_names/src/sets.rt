@@ -41,17 +41,6 @@ impl Telling for Owners {
     }
 }
 
-/// Each set that has an owner, with the first owner.
-pub fn owners_of(
-    alloc: Global,
-    classes: &Table<Name, Class>,
-    sayings: &[Saying],
-) -> Result<Table<Name, Owner>, AllocError>
-    ensures { IfOk result (λ entries. entries ≡ firsts (flat_map (owner_declared classes.now) sayings.now)) }
-{
-    collect_firsts::<Owners>(alloc, classes.seed(), classes, sayings)
-}
-
 // The classes of the members of sets.
 struct Members;
 
@@ -76,17 +65,6 @@ impl Telling for Members {
             _ => Ok(()),
         }
     }
-}
-
-/// Each set that has members, with the number of their first class.
-pub fn members_of(
-    alloc: Global,
-    classes: &Table<Name, Class>,
-    sayings: &[Saying],
-) -> Result<Table<Name, usize>, AllocError>
-    ensures { IfOk result (λ entries. entries ≡ firsts (flat_map (member_by classes.now) sayings.now)) }
-{
-    collect_firsts::<Members>(alloc, classes.seed(), classes, sayings)
 }
 
 // How DEFINE orders sets.
@@ -119,17 +97,6 @@ impl Telling for Orderings {
             _ => Ok(()),
         }
     }
-}
-
-/// Each name that a DEFINE orders as a set, with the first order.
-pub fn orderings_of(
-    alloc: Global,
-    seed: Seed,
-    sayings: &[Saying],
-) -> Result<Table<Name, Ordering>, AllocError>
-    ensures { IfOk result (λ entries. entries ≡ firsts (flat_map (ordering_by) sayings.now)) }
-{
-    collect_firsts::<Orderings>(alloc, seed, &(), sayings)
 }
 
 // Adds a name, unless it is there.
@@ -211,7 +178,7 @@ fn ordered_sets(
 ) -> Result<Vec<Set>, AllocError>
     ensures { IfOk result (λ out. out.items ≡ map (set_of owners.now members.now (orderings_said sayings.now)) names.now) }
 {
-    let orderings = orderings_of(alloc, owners.seed(), sayings)?;
+    let orderings = collect_firsts::<Orderings>(alloc, owners.seed(), &(), sayings)?;
     sets_of(alloc, owners, members, &orderings, names.as_slice())
 }
 
@@ -225,7 +192,7 @@ fn owned_sets(
 ) -> Result<Vec<Set>, AllocError>
     ensures { IfOk result (λ out. out.items ≡ map (set_of owners.now (firsts (flat_map (member_by classes.now) sayings.now)) (orderings_said sayings.now)) names.now) }
 {
-    let members = members_of(alloc, classes, sayings)?;
+    let members = collect_firsts::<Members>(alloc, classes.seed(), classes, sayings)?;
     ordered_sets(alloc, owners, &members, names, sayings)
 }
 
@@ -240,6 +207,6 @@ pub fn sets_in(
     requires names { names.now ≡ set_names_said sayings.now }
     ensures { IfOk result (λ out. out.items ≡ sets_said sayings.now) }
 {
-    let owners = owners_of(alloc, classes, sayings)?;
+    let owners = collect_firsts::<Owners>(alloc, classes.seed(), classes, sayings)?;
     owned_sets(alloc, classes, &owners, names, sayings)
 }

@@ -1,3 +1,2 @@
 mod Rows
-pub mod Rooms
 pub mod Entries

@@ -1,4 +1,4 @@
 pub mod Sayings
 pub mod Examples
 pub mod Firsts
-pub mod Spellings
+pub use Rattle.ss_base.specs.Spellings

@@ -7,7 +7,6 @@ mod saying;
 mod sayings;
 mod seed;
 mod spelled;
-mod spelling;
 mod table;
 
 pub use first::{has_entry, insert_first, insert_if, key_at, value_at};
@@ -16,5 +15,5 @@ pub use saying::{Said, Saying, SetRule};
 pub use sayings::sayings_of;
 pub use seed::Seed;
 pub use spelled::{insert_spelled, spelled_at};
-pub use spelling::{SPELLING_LIMIT, Spelling};
+pub use ss_base::{SPELLING_LIMIT, Spelling};
 pub use table::Table;

@@ -4,8 +4,8 @@ ghost use Rattle.std.specs.Prelude.{◌≡◌, slice_get, OnErr, OnOk};
 ghost use Rattle.std.specs.Map.{values_of};
 ghost use Rattle.ss_names_declarations.specs.Firsts.{with_first};
 
-use crate::spelling::Spelling;
 use crate::table::Table;
+use ss_base::Spelling;
 use std::alloc::AllocError;
 
 /// Adds an entry after the others. If its spelling has one, the table stays as it was.

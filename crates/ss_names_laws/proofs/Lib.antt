@@ -27,6 +27,7 @@ pub mod Subjects
 pub mod Walks
 pub mod Known
 pub mod Meant
+pub mod Names
 pub mod Wholes
 pub mod Locals
 pub mod Sections

@@ -3,6 +3,7 @@ pub mod Rules
 pub mod Uses
 pub mod Parts
 pub mod Declarations
+pub mod Names
 pub mod Tables
 pub mod Subjects
 pub mod Locals

@@ -1,6 +1,7 @@
 //! Laws of the table of a program that breaks no rule.
 
 ghost use Rattle.ss_names_laws.specs.Locals.{LocalsAreKept};
+ghost use Rattle.ss_names_laws.specs.Names.{NamesAreDeclared};
 ghost use Rattle.ss_names_laws.specs.Subjects.{SubjectsAreWhole};
 ghost use Rattle.ss_names_laws.specs.Tables.{TablesAreKept};
 
@@ -11,4 +12,10 @@ pub fn laws_of_tables()
     ensures tables { TablesAreKept }
     ensures subjects { SubjectsAreWhole }
     ensures locals { LocalsAreKept }
+{}
+
+/// The table of a program that breaks no rule on declarations has just the global and derived names that the
+/// program declares.
+pub fn names_are_declared()
+    ensures { NamesAreDeclared }
 {}

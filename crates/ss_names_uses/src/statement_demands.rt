@@ -265,27 +265,7 @@ fn note_inner(alloc: Global, into: &mut Demands, statement: &Statement) -> Resul
             note_body(alloc, into, otherwise)
         }
         Statement::Loop { body, .. } => note_body(alloc, into, body),
-        Statement::Let { .. }
-        | Statement::Add { .. }
-        | Statement::Subtract { .. }
-        | Statement::Call { .. }
-        | Statement::Return { .. }
-        | Statement::Stop { .. }
-        | Statement::Read { .. }
-        | Statement::StartSimulation { .. }
-        | Statement::Find { .. }
-        | Statement::Create { .. }
-        | Statement::CreateEvery { .. }
-        | Statement::Destroy { .. }
-        | Statement::File { .. }
-        | Statement::RemoveEnd { .. }
-        | Statement::Remove { .. }
-        | Statement::ScheduleNew { .. }
-        | Statement::Schedule { .. }
-        | Statement::Cancel { .. }
-        | Statement::Reset { .. }
-        | Statement::Print { .. }
-        | Statement::Skip { .. } => Ok(()),
+        _ => Ok(()),
     }
 }
 

@@ -42,10 +42,10 @@ pub one_tree : One_tree
 one_tree ts n m p q s r =
     result_is p q (sym (raised n (max n m) ts p (omega arith) (program_complete n ts p s)) ∙ raised m (max n m) ts q (omega arith) (program_complete m ts q r))
 
-pub none_at_all : (ts : List Token) → program_of 64 ts ≡ Err Syntax → (levels : ℕ) → Without_tree ts levels
-none_at_all ts h levels p s =
-    let read = raised levels (max 64 levels) ts p (omega arith) (program_complete levels ts p s) in
-    elim (program_upto 64 (max 64 levels) ts (omega arith)) [ inl e ↦ absurd cc | inr e ↦ absurd cc ]
+pub none_at_all : (limit : ℕ) (ts : List Token) → program_of limit ts ≡ Err Syntax → (levels : ℕ) → Without_tree ts levels
+none_at_all limit ts h levels p s =
+    let read = raised levels (max limit levels) ts p (omega arith) (program_complete levels ts p s) in
+    elim (program_upto limit (max limit levels) ts (omega arith)) [ inl e ↦ absurd cc | inr e ↦ absurd cc ]
 
 deep : (r : Result (ProgramTree × List Token) ParseFault) (k n : ℕ) → Bounded k n r → (r >>= none_left) ≡ Err TooDeep → k ≤ n
 deep (Ok (p, [])) k n h e = absurd cc
@@ -53,14 +53,14 @@ deep (Ok (p, x ∷ rest)) k n h e = absurd cc
 deep (Err Syntax) k n h e = absurd cc
 deep (Err TooDeep) k n h e = h
 
-pub none_of_64 : (ts : List Token) → program_of 64 ts ≡ Err TooDeep → Without_tree ts 64 × (64 < openers ts)
+pub none_within : (limit : ℕ) (ts : List Token) → program_of limit ts ≡ Err TooDeep → Without_tree ts limit × (limit < openers ts)
 unfolding program_of
-none_of_64 ts h = (λ p s. let read = program_complete 64 ts p s in absurd cc, deep (program_in 65 ts) 65 (openers ts) ((program_reads 64 64 (omega arith)).opening ts) h)
+none_within limit ts h = (λ p s. let read = program_complete limit ts p s in absurd cc, deep (program_in (suc limit) ts) (suc limit) (openers ts) ((program_reads limit limit (omega arith)).opening ts) h)
 
 -- no tokens at all are a program
-pub some_tokens : (f : ParseFault) → program_of 64 [] ≡ Err f → ⊥
-some_tokens f h = let read = program_complete 64 [] (record { preamble = []; sections = [] }) ([], inl refl, refl) in absurd cc
+pub some_tokens : (limit : ℕ) (f : ParseFault) → program_of limit [] ≡ Err f → ⊥
+some_tokens limit f h = let read = program_complete limit [] (record { preamble = []; sections = [] }) ([], inl refl, refl) in absurd cc
 
-pub tokens_there : (ts : List Token) (f : ParseFault) → program_of 64 ts ≡ Err f → 0 < length ts
-tokens_there [] f h = absurd (some_tokens f h)
-tokens_there (t ∷ ts) f h = omega arith
+pub tokens_there : (limit : ℕ) (ts : List Token) (f : ParseFault) → program_of limit ts ≡ Err f → 0 < length ts
+tokens_there limit [] f h = absurd (some_tokens limit f h)
+tokens_there limit (t ∷ ts) f h = omega arith

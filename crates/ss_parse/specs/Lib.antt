@@ -1,3 +1,4 @@
+pub use Rattle.ss_parse_expressions.specs.Openers
 pub mod SpelledPreambles
 pub mod SpelledPrograms
 pub mod ReadPreambles

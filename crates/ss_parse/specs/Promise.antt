@@ -5,18 +5,18 @@ use Rattle.ss_lex.specs.declared.token.Token.{Token}
 use Rattle.ss_parse.specs.declared.error.ParseError.{ParseError}
 use Rattle.ss_parse.specs.declared.error.ParseError.TheVariants as errors
 use Rattle.ss_tree.specs.Tree.{ProgramTree}
-use Rattle.ss_parse_expressions.specs.Openers.{openers}
+use Rattle.ss_parse_expressions.specs.Openers.{nesting_limit, openers}
 use Rattle.ss_parse.specs.SpelledPrograms.{Spell}
 
 -- The tokens have no tree of so many levels.
 abbrev pub Without_tree : List Token → ℕ → Type 0
 Without_tree ts levels = (p : ProgramTree) → Spell ts levels p → ⊥
 
--- When tokens are refused: they have no tree of 64 levels. For syntax they have none of any depth; where it is too deep,
--- more than 64 of them open a level.
+-- When tokens are refused: they have no tree within the limit on nesting. For syntax they have none of any depth; where it is
+-- too deep, more of them than the limit open a level.
 abbrev pub Is_refused : List Token → ParseError → Type 0
 Is_refused ts (errors.Syntax line) = (levels : ℕ) → Without_tree ts levels
-Is_refused ts (errors.TooDeep line) = Without_tree ts 64 × (64 < openers ts)
+Is_refused ts (errors.TooDeep line) = Without_tree ts nesting_limit × (nesting_limit < openers ts)
 Is_refused ts errors.Memory = Unit {0}
 
 -- the line of one of the tokens

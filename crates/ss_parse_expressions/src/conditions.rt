@@ -3,7 +3,7 @@
 ghost use Rattle.std.specs.Prelude.{◌≡◌, map};
 ghost use Rattle.ss_tree.specs.Tree.{expression_row};
 ghost use Rattle.ss_tree.specs.View.{view_expression, view_option, view_named, view_test, view_conjunction, view_condition};
-ghost use Rattle.ss_parse_expressions.specs.Reading.{GivesReading, begins_by, taken, in_table, word, expect, apply};
+ghost use Rattle.ss_parse_expressions.specs.Reading.{GivesReading, word, expect, apply};
 ghost use Rattle.ss_parse_expressions.specs.declared.conditions.Verb.TheVariants.{Compares};
 ghost use Rattle.ss_parse_expressions.specs.ReadConditions.{relation_symbol, test_word_of, verb_end, worded_verb, verb, is_short, is_reference, reference_of, data_test, test_end, sum_test, test_in, conjunction_in, condition_in};
 
@@ -11,6 +11,7 @@ use crate::expressions::sum;
 use crate::failure::Failure;
 use crate::places::reference;
 use crate::steps::{alone, beside};
+use crate::tables::{WordTable, take_word_of};
 use crate::tokens::{begins_word, expect_word, skip_word, syntax, too_deep};
 use crate::words::relation_of;
 use ss_lex::{Symbol, Token, TokenKind, Word};
@@ -49,32 +50,23 @@ fn relation_symbol(kind: &TokenKind) -> Option<Relation>
     }
 }
 
-fn test_word_of(word: Word) -> Option<TestWord>
-    ensures { result ≡ test_word_of word }
-{
-    match word {
-        Word::Empty => Some(TestWord::Empty),
-        Word::In => Some(TestWord::In),
-        Word::Equal => Some(TestWord::Equal),
-        Word::Less => Some(TestWord::Less),
-        Word::Greater => Some(TestWord::Greater),
-        _ => None,
-    }
-}
+/// The words of a test in words.
+struct TestWords;
 
-/// The word that says what is tested.
-fn test_word(tokens: &[Token]) -> Result<(TestWord, &[Token]), Failure>
-    ensures { GivesReading (λ x. (x.0, x.1.now)) result (taken (in_table test_word_of) tokens.now) }
-{
-    match tokens {
-        [] => Err(syntax(tokens)),
-        [first, rest @ ..] => match &first.kind {
-            TokenKind::Word(found) => match test_word_of(*found) {
-                Some(tested) => Ok((tested, rest)),
-                None => Err(syntax(tokens)),
-            },
-            _ => Err(syntax(tokens)),
-        },
+impl WordTable for TestWords {
+    type Means = TestWord;
+
+    ghost table = { test_word_of };
+
+    fn meaning_of(word: Word) -> Option<TestWord> {
+        match word {
+            Word::Empty => Some(TestWord::Empty),
+            Word::In => Some(TestWord::In),
+            Word::Equal => Some(TestWord::Equal),
+            Word::Less => Some(TestWord::Less),
+            Word::Greater => Some(TestWord::Greater),
+            _ => None,
+        }
     }
 }
 
@@ -116,7 +108,7 @@ fn worded_verb(tokens: &[Token]) -> Result<(Verb, &[Token]), Failure>
     let is = begins_word(tokens, Word::Is);
     let rest = skip_word(tokens, Word::Is);
     let negated = begins_word(rest, Word::Not);
-    let (tested, rest) = test_word(skip_word(rest, Word::Not))?;
+    let (tested, rest) = take_word_of::<TestWords>(skip_word(rest, Word::Not))?;
     verb_end(is, negated, tested, rest)
 }
 

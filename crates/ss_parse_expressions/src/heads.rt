@@ -2,8 +2,7 @@
 
 ghost use Rattle.std.specs.Prelude.{◌≡◌, map};
 ghost use Rattle.ss_tree.specs.View.{view_expression, view_option, view_phrase, view_guard, view_start, view_head, view_loop_head};
-ghost use Rattle.ss_parse_expressions.specs.WordTables.{phrase_of, guard_of};
-ghost use Rattle.ss_parse_expressions.specs.Reading.{GivesReading, taken, in_table, apply, skip_comma};
+ghost use Rattle.ss_parse_expressions.specs.Reading.{GivesReading, apply, skip_comma};
 ghost use Rattle.ss_parse_expressions.specs.ReadHeads.{begins_phrase, begins_guard, phrase_in, guard_in, phrases_in, further_guards, step_in, range_in, start_in, reverse, members_in, class_in, class_tree, each_named, each_in, for_in, guarded_in};
 
 use crate::classes::{WordClass, begins_class, expect_class};
@@ -13,43 +12,20 @@ use crate::failure::Failure;
 use crate::names::name;
 use crate::places::reference;
 use crate::steps::{alone, beside};
-use crate::tokens::{
-    after_first, begins_word, expect_symbol, expect_word, skip_symbol, skip_word, syntax,
-};
-use crate::words::{guard_of, phrase_of};
+use crate::tables::{begins_word_of, take_word_of};
+use crate::tokens::{after_first, begins_word, expect_symbol, expect_word, skip_symbol, skip_word};
+use crate::words::{GuardWords, PhraseWords};
 use ss_base::Name;
-use ss_lex::{Symbol, Token, TokenKind, Word};
+use ss_lex::{Symbol, Token, Word};
 use ss_tree::expression::Expression;
-use ss_tree::head::{Guard, GuardKind, Head, LoopHead, MemberStart, Phrase, PhraseKind};
+use ss_tree::head::{Guard, GuardKind, Head, LoopHead, MemberStart, Phrase};
 use std::alloc::Global;
-
-/// The word that begins a phrase.
-fn phrase_kind(tokens: &[Token]) -> Result<(PhraseKind, &[Token]), Failure>
-    ensures { GivesReading (λ x. (x.0, x.1.now)) result (taken (in_table phrase_of) tokens.now) }
-{
-    match tokens {
-        [] => Err(syntax(tokens)),
-        [first, rest @ ..] => match &first.kind {
-            TokenKind::Word(found) => match phrase_of(*found) {
-                Some(kind) => Ok((kind, rest)),
-                None => Err(syntax(tokens)),
-            },
-            _ => Err(syntax(tokens)),
-        },
-    }
-}
 
 /// Whether a phrase, with a comma before it or not, is first.
 fn begins_phrase(tokens: &[Token]) -> bool
     ensures { result ≡ begins_phrase (skip_comma tokens.now) }
 {
-    match skip_symbol(tokens, Symbol::Comma) {
-        [] => false,
-        [first, ..] => match &first.kind {
-            TokenKind::Word(found) => phrase_of(*found).is_some(),
-            _ => false,
-        },
-    }
+    begins_word_of::<PhraseWords>(skip_symbol(tokens, Symbol::Comma))
 }
 
 /// A phrase.
@@ -57,7 +33,7 @@ fn begins_phrase(tokens: &[Token]) -> bool
 fn phrase(alloc: Global, tokens: &[Token], room: u8) -> Result<(Phrase, &[Token]), Failure>
     ensures { GivesReading (λ x. (view_phrase x.0, x.1.now)) result (phrase_in room tokens.now) }
 {
-    let (kind, rest) = phrase_kind(tokens)?;
+    let (kind, rest) = take_word_of::<PhraseWords>(tokens)?;
     let (condition, rest) = condition(alloc, rest, room)?;
     Ok((Phrase { kind, condition }, rest))
 }
@@ -76,33 +52,11 @@ fn phrases(alloc: Global, tokens: &[Token], room: u8) -> Result<(Vec<Phrase>, &[
     Ok((all, rest))
 }
 
-/// WHILE or UNTIL.
-fn guard_kind(tokens: &[Token]) -> Result<(GuardKind, &[Token]), Failure>
-    ensures { GivesReading (λ x. (x.0, x.1.now)) result (taken (in_table guard_of) tokens.now) }
-{
-    match tokens {
-        [] => Err(syntax(tokens)),
-        [first, rest @ ..] => match &first.kind {
-            TokenKind::Word(found) => match guard_of(*found) {
-                Some(kind) => Ok((kind, rest)),
-                None => Err(syntax(tokens)),
-            },
-            _ => Err(syntax(tokens)),
-        },
-    }
-}
-
 /// Whether WHILE or UNTIL is first.
 pub fn begins_guard(tokens: &[Token]) -> bool
     ensures { result ≡ begins_guard tokens.now }
 {
-    match tokens {
-        [] => false,
-        [first, ..] => match &first.kind {
-            TokenKind::Word(found) => guard_of(*found).is_some(),
-            _ => false,
-        },
-    }
+    begins_word_of::<GuardWords>(tokens)
 }
 
 /// Whether WHILE or UNTIL, with a comma before it or not, is first.
@@ -117,7 +71,7 @@ fn begins_next_guard(tokens: &[Token]) -> bool
 fn guard(alloc: Global, tokens: &[Token], room: u8) -> Result<(Guard, &[Token]), Failure>
     ensures { GivesReading (λ x. (view_guard x.0, x.1.now)) result (guard_in room tokens.now) }
 {
-    let (kind, rest) = guard_kind(tokens)?;
+    let (kind, rest) = take_word_of::<GuardWords>(tokens)?;
     let (condition, rest) = condition(alloc, rest, room)?;
     Ok((Guard { kind, condition }, rest))
 }

@@ -10,5 +10,6 @@ pub mod names;
 pub mod nesting;
 pub mod places;
 pub mod steps;
+pub mod tables;
 pub mod tokens;
 pub mod words;

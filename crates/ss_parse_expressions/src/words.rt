@@ -3,6 +3,7 @@
 ghost use Rattle.std.specs.Prelude.{◌≡◌};
 ghost use Rattle.ss_parse_expressions.specs.WordTables.{relation_of, function_of, phrase_of, guard_of, outcome_of, mode_of_word, rank_of, statistic_of};
 
+use crate::tables::WordTable;
 use ss_lex::Word;
 use ss_tree::condition::Relation;
 use ss_tree::expression::Function;
@@ -39,74 +40,110 @@ pub fn function_of(word: Word) -> Option<Function>
     }
 }
 
-/// The phrase that begins with the word.
-pub fn phrase_of(word: Word) -> Option<PhraseKind>
-    ensures { result ≡ phrase_of word }
-{
-    match word {
-        Word::With | Word::When => Some(PhraseKind::With),
-        Word::Unless => Some(PhraseKind::Unless),
-        Word::While => Some(PhraseKind::While),
-        Word::Until => Some(PhraseKind::Until),
-        _ => None,
+/// The words that begin phrases.
+pub struct PhraseWords;
+
+impl WordTable for PhraseWords {
+    type Means = PhraseKind;
+
+    ghost table = { phrase_of };
+
+    fn meaning_of(word: Word) -> Option<PhraseKind> {
+        match word {
+            Word::With | Word::When => Some(PhraseKind::With),
+            Word::Unless => Some(PhraseKind::Unless),
+            Word::While => Some(PhraseKind::While),
+            Word::Until => Some(PhraseKind::Until),
+            _ => None,
+        }
     }
 }
 
-/// The condition of a loop that begins with the word.
-pub fn guard_of(word: Word) -> Option<GuardKind>
-    ensures { result ≡ guard_of word }
-{
-    match word {
-        Word::While => Some(GuardKind::While),
-        Word::Until => Some(GuardKind::Until),
-        _ => None,
+/// The words that begin conditions of loops.
+pub struct GuardWords;
+
+impl WordTable for GuardWords {
+    type Means = GuardKind;
+
+    ghost table = { guard_of };
+
+    fn meaning_of(word: Word) -> Option<GuardKind> {
+        match word {
+            Word::While => Some(GuardKind::While),
+            Word::Until => Some(GuardKind::Until),
+            _ => None,
+        }
     }
 }
 
-/// The outcome of a FIND that the word names.
-pub fn outcome_of(word: Word) -> Option<FindOutcome>
-    ensures { result ≡ outcome_of word }
-{
-    match word {
-        Word::Found => Some(FindOutcome::Found),
-        Word::None => Some(FindOutcome::None),
-        _ => None,
+/// The words for the outcomes of a FIND.
+pub struct OutcomeWords;
+
+impl WordTable for OutcomeWords {
+    type Means = FindOutcome;
+
+    ghost table = { outcome_of };
+
+    fn meaning_of(word: Word) -> Option<FindOutcome> {
+        match word {
+            Word::Found => Some(FindOutcome::Found),
+            Word::None => Some(FindOutcome::None),
+            _ => None,
+        }
     }
 }
 
-/// The mode that the word names.
-pub fn mode_of_word(word: Word) -> Option<Mode>
-    ensures { result ≡ mode_of_word word }
-{
-    match word {
-        Word::Integer => Some(Mode::Integer),
-        Word::Alpha => Some(Mode::Alpha),
-        Word::Real => Some(Mode::Real),
-        _ => None,
+/// The words for modes.
+pub struct ModeWords;
+
+impl WordTable for ModeWords {
+    type Means = Mode;
+
+    ghost table = { mode_of_word };
+
+    fn meaning_of(word: Word) -> Option<Mode> {
+        match word {
+            Word::Integer => Some(Mode::Integer),
+            Word::Alpha => Some(Mode::Alpha),
+            Word::Real => Some(Mode::Real),
+            _ => None,
+        }
     }
 }
 
-/// Whether the word says that the highest value comes first.
-pub fn rank_of(word: Word) -> Option<bool>
-    ensures { result ≡ rank_of word }
-{
-    match word {
-        Word::High => Some(true),
-        Word::Low => Some(false),
-        _ => None,
+/// The words that say whether the highest value comes first.
+pub struct RankWords;
+
+impl WordTable for RankWords {
+    type Means = bool;
+
+    ghost table = { rank_of };
+
+    fn meaning_of(word: Word) -> Option<bool> {
+        match word {
+            Word::High => Some(true),
+            Word::Low => Some(false),
+            _ => None,
+        }
     }
 }
 
-/// The kind of statistic that the word names.
-pub fn statistic_of(word: Word) -> Option<StatisticKind>
-    ensures { result ≡ statistic_of word }
-{
-    match word {
-        Word::Number => Some(StatisticKind::Number),
-        Word::Sum => Some(StatisticKind::Sum),
-        Word::Maximum => Some(StatisticKind::Maximum),
-        Word::Minimum => Some(StatisticKind::Minimum),
-        Word::Mean => Some(StatisticKind::Mean),
-        _ => None,
+/// The words for the kinds of statistics.
+pub struct StatisticWords;
+
+impl WordTable for StatisticWords {
+    type Means = StatisticKind;
+
+    ghost table = { statistic_of };
+
+    fn meaning_of(word: Word) -> Option<StatisticKind> {
+        match word {
+            Word::Number => Some(StatisticKind::Number),
+            Word::Sum => Some(StatisticKind::Sum),
+            Word::Maximum => Some(StatisticKind::Maximum),
+            Word::Minimum => Some(StatisticKind::Minimum),
+            Word::Mean => Some(StatisticKind::Mean),
+            _ => None,
+        }
     }
 }

@@ -29,7 +29,7 @@ use Rattle.ss_parse_expressions.proofs.ConditionLaws.{In_condition, continues_co
 use Rattle.ss_parse_expressions.proofs.HeadLaws.{head_more, continues_head, continues_for, continues_guarded, for_reads, Guarded_parts, guarded_reads}
 use Rattle.ss_parse_statements.specs.SpelledStatements.{noisy, Find_words, opening_word, May_be_governed, Statement_rest, Statement_from, Statements_are, Else_part, Branches, Governed}
 use Rattle.ss_parse_statements.specs.ReadSimple.{simple_at}
-use Rattle.ss_parse_statements.specs.ReadStatements.{by_word, form_word, begins_form_kind, begins_form, begins_statement, begins_outcome, begins_find_if_form, begins_find_if, statements_with, else_with, branches_with, do_with, governed_with, body_with, find_words, if_with, loop_with, find_if_with, found_with, find_with, for_with, while_with, until_with, nested_word, nested_at, nested_in, form_in, statement_in, statements_in}
+use Rattle.ss_parse_statements.specs.ReadStatements.{by_word, form_word, begins_form_kind, begins_form, begins_statement, begins_outcome, begins_find_if_form, begins_find_if, statements_with, else_with, branches_with, do_with, governed_with, body_with, find_words, if_with, loop_with, find_if_with, found_with, find_with, for_with, guarded_with, nested_word, nested_at, nested_in, form_in, statement_in, statements_in}
 use Rattle.ss_parse_statements.proofs.FirstWords.{Form, plain_form, opening_form, by_word_reads, first_less}
 use Rattle.ss_parse_statements.proofs.StatementParts.{statement_more, continues_simple}
 use Rattle.ss_parse_statements.proofs.SimpleLaws.{is_nested, nested_first, form_first, Form_is, no_form, let_reads, add_reads, subtract_reads, call_reads, return_reads, stop_reads, read_reads, start_reads, create_reads, destroy_reads, cancel_reads, file_reads, remove_reads, schedule_reads, reset_reads, print_reads, skip_reads}
@@ -540,21 +540,17 @@ module _ (k j : ℕ) (le : k ≤ j) (inner : Reads (suc k) (statement_in (suc k)
   guarded_from kind w is guards_it line (print_statement a b c) ts rest (at, u, s) = absurd (no_guard_word words.Print w refl u guards_it)
   guarded_from kind w is guards_it line (skip_statement a b) ts rest (at, u, s) = absurd (no_guard_word words.Skip w refl u guards_it)
 
-  while_law : (line : Line) → Reads (suc k) (while_with line (suc k) (statement_in (suc k))) (while_with line (suc j) (statement_in (suc j))) (Form_is (suc k) line words.While) continues_statement
-  unfolding while_with
-  while_law line = reshaped_reads (bind_reads (guarded_reads k j le guards.While) (loop_reads line) (body_no_guarded line)) (Form_is (suc k) line words.While) (guarded_to guards.While words.While refl line) (guarded_from guards.While words.While refl refl line)
-
-  until_law : (line : Line) → Reads (suc k) (until_with line (suc k) (statement_in (suc k))) (until_with line (suc j) (statement_in (suc j))) (Form_is (suc k) line words.Until) continues_statement
-  unfolding until_with
-  until_law line = reshaped_reads (bind_reads (guarded_reads k j le guards.Until) (loop_reads line) (body_no_guarded line)) (Form_is (suc k) line words.Until) (guarded_to guards.Until words.Until refl line) (guarded_from guards.Until words.Until refl refl line)
+  guarded_law : (kind : GuardKind) (w : Word) → guard_word kind ≡ w → is_some (guard_of w) ≡ true → (line : Line) → Reads (suc k) (guarded_with line (suc k) (statement_in (suc k)) kind) (guarded_with line (suc j) (statement_in (suc j)) kind) (Form_is (suc k) line w) continues_statement
+  unfolding guarded_with
+  guarded_law kind w is guards_it line = reshaped_reads (bind_reads (guarded_reads k j le kind) (loop_reads line) (body_no_guarded line)) (Form_is (suc k) line w) (guarded_to kind w is line) (guarded_from kind w is guards_it line)
 
   -- ---- by the first word
 
   nested_law : (line : Line) (w : Word) → nested_word w ≡ true → Reads (suc k) (nested_at line (suc k) (statement_in (suc k)) w) (nested_at line (suc j) (statement_in (suc j)) w) (Form_is (suc k) line w) continues_statement
   nested_law line words.If e = fewer_reads (reshaped_reads (if_reads line) (Form_is (suc k) line words.If) (if_to line) (if_from line)) continues_statement (λ ts stop. refl)
   nested_law line words.For e = reshaped_reads (for_law line) (Form_is (suc k) line words.For) (for_to line) (for_from line)
-  nested_law line words.While e = while_law line
-  nested_law line words.Until e = until_law line
+  nested_law line words.While e = guarded_law guards.While words.While refl refl line
+  nested_law line words.Until e = guarded_law guards.Until words.Until refl refl line
   nested_law line _ e = absurd cc
 
 -- where no level may be opened, no statement with others in it is spelled

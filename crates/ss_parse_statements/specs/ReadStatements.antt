@@ -6,6 +6,7 @@ use Rattle.ss_lex.specs.declared.word.Word.TheVariants as words
 use Rattle.ss_lex.specs.declared.token.TokenKind.{TokenKind}
 use Rattle.ss_lex.specs.declared.token.TokenKind.TheVariants as kinds
 use Rattle.ss_lex.specs.declared.token.Token.{Token}
+use Rattle.ss_tree.specs.declared.head.GuardKind.{GuardKind}
 use Rattle.ss_tree.specs.declared.head.GuardKind.TheVariants as guards
 use Rattle.ss_tree.specs.Tree.{HeadTree, LoopHeadTree, for_head, StatementTree, if_statement, loop_statement, find_statement, find_if_statement, StatementRow, statement_row}
 use Rattle.ss_parse_expressions.specs.declared.failure.ParseFault.TheVariants.{Syntax}
@@ -126,11 +127,8 @@ module _ (line : Line) (room : ℕ) (statement : Reader StatementTree) where
   for_with ts = for_in room ts >>= λ h. choose_reader (begins_noisy (word words.Find)) (find_with h.0) (loop_with (for_head h.0)) h.1
 
   -- a loop, after WHILE or UNTIL
-  unfoldable pub while_with : Reader StatementTree
-  while_with ts = guarded_in room guards.While ts >>= λ h. loop_with h.0 h.1
-
-  unfoldable pub until_with : Reader StatementTree
-  until_with ts = guarded_in room guards.Until ts >>= λ h. loop_with h.0 h.1
+  unfoldable pub guarded_with : GuardKind → Reader StatementTree
+  guarded_with kind ts = guarded_in room kind ts >>= λ h. loop_with h.0 h.1
 
 -- ---- statements
 
@@ -138,8 +136,8 @@ module _ (line : Line) (room : ℕ) (statement : Reader StatementTree) where
 abbrev pub nested_at : Line → ℕ → Reader StatementTree → Word → Reader StatementTree
 nested_at line room statement words.If = if_with line room statement
 nested_at line room statement words.For = for_with line room statement
-nested_at line room statement words.While = while_with line room statement
-nested_at line room statement words.Until = until_with line room statement
+nested_at line room statement words.While = guarded_with line room statement guards.While
+nested_at line room statement words.Until = guarded_with line room statement guards.Until
 nested_at line room statement _ = fail
 
 abbrev pub nested_word : Word → Bool

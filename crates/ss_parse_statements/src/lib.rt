@@ -1,7 +1,6 @@
 //! Reading statements.
 #![tactic(auto)]
 
-mod outcomes;
 mod parts;
 pub mod simple;
 pub mod statements;

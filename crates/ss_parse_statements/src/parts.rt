@@ -2,7 +2,7 @@
 
 ghost use Rattle.std.specs.Prelude.{◌≡◌, map};
 ghost use Rattle.ss_tree.specs.View.{view_expression, view_option, view_named, view_position, view_when};
-ghost use Rattle.ss_parse_expressions.specs.Reading.{GivesReading, word, expect, after_dropped, begins_by, taken, in_table};
+ghost use Rattle.ss_parse_expressions.specs.Reading.{GivesReading, word, expect, after_dropped, taken};
 ghost use Rattle.ss_parse_expressions.specs.ReadExpressions.{sum_in};
 ghost use Rattle.ss_parse_expressions.specs.ReadPlaces.{target_in};
 ghost use Rattle.ss_parse_statements.specs.SpelledParts.{end_of};
@@ -15,48 +15,26 @@ use ss_parse_expressions::expressions::{sum, sums};
 use ss_parse_expressions::failure::Failure;
 use ss_parse_expressions::places::{reference, target, targets};
 use ss_parse_expressions::steps::beside;
+use ss_parse_expressions::tables::WordTable;
 use ss_parse_expressions::tokens::{begins_word, expect_symbol, expect_word, skip_word, syntax};
 use ss_tree::expression::{Expression, Named};
 use ss_tree::statement::{Position, SetEnd, When};
 use std::alloc::Global;
 
-/// The end of a set that the word names.
-fn end_of(word: Word) -> Option<SetEnd>
-    ensures { result ≡ end_of word }
-{
-    match word {
-        Word::First => Some(SetEnd::First),
-        Word::Last => Some(SetEnd::Last),
-        _ => None,
-    }
-}
+/// FIRST and LAST.
+pub struct EndWords;
 
-/// FIRST or LAST.
-pub fn set_end(tokens: &[Token]) -> Result<(SetEnd, &[Token]), Failure>
-    ensures { GivesReading (λ x. (x.0, x.1.now)) result (taken (in_table end_of) tokens.now) }
-{
-    match tokens {
-        [] => Err(syntax(tokens)),
-        [first, rest @ ..] => match &first.kind {
-            TokenKind::Word(found) => match end_of(*found) {
-                Some(end) => Ok((end, rest)),
-                None => Err(syntax(tokens)),
-            },
-            _ => Err(syntax(tokens)),
-        },
-    }
-}
+impl WordTable for EndWords {
+    type Means = SetEnd;
 
-/// Whether FIRST or LAST is first.
-pub fn begins_end(tokens: &[Token]) -> bool
-    ensures { result ≡ begins_by (in_table end_of) tokens.now }
-{
-    match tokens {
-        [] => false,
-        [first, ..] => match &first.kind {
-            TokenKind::Word(found) => end_of(*found).is_some(),
-            _ => false,
-        },
+    ghost table = { end_of };
+
+    fn meaning_of(word: Word) -> Option<SetEnd> {
+        match word {
+            Word::First => Some(SetEnd::First),
+            Word::Last => Some(SetEnd::Last),
+            _ => None,
+        }
     }
 }
 

@@ -6,8 +6,8 @@ ghost use Rattle.ss_parse_expressions.specs.Reading.{GivesReading};
 ghost use Rattle.ss_parse_statements.specs.ReadSimple.{let_at, add_at, subtract_at, call_at, read_at, start_at, new_at, create_at, destroy_at, cancel_at, file_at, remove_end_at, remove_this_at, remove_at, schedule_the_at, schedule_a_at, schedule_at, reset_at, print_head, print_at, skip_at, simple_at};
 
 use crate::parts::{
-    begins_end, called_target, called_value, given, given_and_due, items, pictures, place,
-    positive, set_after, set_end, target_after, trigger, value_set, yielding,
+    EndWords, called_target, called_value, given, given_and_due, items, pictures, place, positive,
+    set_after, target_after, trigger, value_set, yielding,
 };
 use ss_base::Line;
 use ss_lex::{Token, Word};
@@ -17,6 +17,7 @@ use ss_parse_expressions::failure::Failure;
 use ss_parse_expressions::names::{name, names};
 use ss_parse_expressions::places::{target, targets};
 use ss_parse_expressions::steps::beside;
+use ss_parse_expressions::tables::{begins_word_of, take_word_of};
 use ss_parse_expressions::tokens::{after_first, begins_word, expect_word, skip_word, syntax};
 use ss_tree::expression::Expression;
 use ss_tree::statement::Statement;
@@ -240,7 +241,7 @@ fn remove_end_form(
 ) -> Result<(Statement, &[Token]), Failure>
     ensures { GivesReading (λ x. (view_statement x.0, x.1.now)) result (remove_end_at line room tokens.now) }
 {
-    let (end, rest) = set_end(tokens)?;
+    let (end, rest) = take_word_of::<EndWords>(tokens)?;
     let (target, rest) = target(alloc, rest, room)?;
     let (target, (set, rest)) = beside(target, set_after(alloc, Word::From, rest, room))?;
     let form = Statement::RemoveEnd {
@@ -278,7 +279,7 @@ fn remove_form(
     ensures { GivesReading (λ x. (view_statement x.0, x.1.now)) result (remove_at line room tokens.now) }
 {
     let rest = skip_word(tokens, Word::The);
-    if begins_end(rest) {
+    if begins_word_of::<EndWords>(rest) {
         remove_end_form(alloc, line, rest, room)
     } else {
         remove_this_form(alloc, line, rest, room)

@@ -7,9 +7,8 @@ ghost use Rattle.ss_parse_expressions.specs.WordTables.{outcome_of};
 ghost use Rattle.ss_lex.specs.declared.word.Word.TheVariants.{If};
 ghost use Rattle.ss_parse_expressions.specs.Reading.{GivesReading, word, skip, skip_comma, after_dropped, seq, taken, in_table};
 ghost use Rattle.ss_parse_expressions.specs.ReadWords.{begins_noisy, expect_noisy};
-ghost use Rattle.ss_parse_statements.specs.ReadStatements.{nested_word, begins_form, begins_statement, begins_find_if, statements_with, else_with, branches_with, do_with, governed_with, body_with, find_words, if_with, loop_with, find_if_with, found_with, find_with, for_with, while_with, until_with, nested_in, statement_in, statements_in};
+ghost use Rattle.ss_parse_statements.specs.ReadStatements.{nested_word, begins_form, begins_statement, begins_find_if, statements_with, else_with, branches_with, do_with, governed_with, body_with, find_words, if_with, loop_with, find_if_with, found_with, find_with, for_with, guarded_with, nested_in, statement_in, statements_in};
 
-use crate::outcomes::{begins_outcome, outcome};
 use crate::simple::simple_form;
 use ss_base::Line;
 use ss_lex::{Symbol, Token, TokenKind, Word};
@@ -17,9 +16,11 @@ use ss_parse_expressions::conditions::condition;
 use ss_parse_expressions::failure::Failure;
 use ss_parse_expressions::heads::{begins_guard, for_head, guarded_head};
 use ss_parse_expressions::steps::{alone, beside};
+use ss_parse_expressions::tables::{begins_word_of, take_word_of};
 use ss_parse_expressions::tokens::{
     begins_word, expect_word, skip_symbol, skip_word, syntax, too_deep,
 };
+use ss_parse_expressions::words::OutcomeWords;
 use ss_tree::head::{GuardKind, Head, LoopHead};
 use ss_tree::statement::{FindOutcome, Statement};
 use std::alloc::Global;
@@ -100,7 +101,7 @@ fn begins_find_if(tokens: &[Token]) -> bool
     ensures { result ≡ begins_find_if tokens.now }
 {
     let tokens = skip_symbol(tokens, Symbol::Comma);
-    begins_word(tokens, Word::If) && begins_outcome(skip_word(tokens, Word::If))
+    begins_word(tokens, Word::If) && begins_word_of::<OutcomeWords>(skip_word(tokens, Word::If))
 }
 
 /// FIND THE FIRST CASE.
@@ -257,7 +258,7 @@ fn outcome_and_branches(
     ensures { GivesReading (λ x. ((x.0, (statement_row (map view_statement x.1.0.items), statement_row (map view_statement x.1.1.items))), x.2.now)) result (after_dropped (expect_noisy (word If)) (seq (taken (in_table outcome_of)) (branches_with (statement_in room))) tokens.now) }
 {
     let rest = expect_noisy(tokens, Word::If)?;
-    let (outcome, rest) = outcome(rest)?;
+    let (outcome, rest) = take_word_of::<OutcomeWords>(rest)?;
     let (then, otherwise, rest) = branches(alloc, rest, room)?;
     Ok((outcome, (then, otherwise), rest))
 }
@@ -327,33 +328,19 @@ fn for_form(
     }
 }
 
-/// The rest of a loop, after WHILE.
+/// The rest of a loop, after WHILE or UNTIL.
 #[cycle(statements)]
-#[tactic(auto, unfolding(crate::specs::ReadStatements::while_with))]
-fn while_form(
+#[tactic(auto, unfolding(crate::specs::ReadStatements::guarded_with))]
+fn guarded_form(
     alloc: Global,
     line: Line,
+    kind: GuardKind,
     tokens: &[Token],
     room: u8,
 ) -> Result<(Statement, &[Token]), Failure>
-    ensures { GivesReading (λ x. (view_statement x.0, x.1.now)) result (while_with line room (statement_in room) tokens.now) }
+    ensures { GivesReading (λ x. (view_statement x.0, x.1.now)) result (guarded_with line room (statement_in room) kind tokens.now) }
 {
-    let (head, rest) = guarded_head(alloc, GuardKind::While, tokens, room)?;
-    loop_form(alloc, line, head, rest, room)
-}
-
-/// The rest of a loop, after UNTIL.
-#[cycle(statements)]
-#[tactic(auto, unfolding(crate::specs::ReadStatements::until_with))]
-fn until_form(
-    alloc: Global,
-    line: Line,
-    tokens: &[Token],
-    room: u8,
-) -> Result<(Statement, &[Token]), Failure>
-    ensures { GivesReading (λ x. (view_statement x.0, x.1.now)) result (until_with line room (statement_in room) tokens.now) }
-{
-    let (head, rest) = guarded_head(alloc, GuardKind::Until, tokens, room)?;
+    let (head, rest) = guarded_head(alloc, kind, tokens, room)?;
     loop_form(alloc, line, head, rest, room)
 }
 
@@ -376,8 +363,8 @@ fn nested_form(
     match word {
         Word::If => if_form(alloc, line, tokens, room),
         Word::For => for_form(alloc, line, tokens, room),
-        Word::While => while_form(alloc, line, tokens, room),
-        Word::Until => until_form(alloc, line, tokens, room),
+        Word::While => guarded_form(alloc, line, GuardKind::While, tokens, room),
+        Word::Until => guarded_form(alloc, line, GuardKind::Until, tokens, room),
         _ => Err(syntax(tokens)),
     }
 }

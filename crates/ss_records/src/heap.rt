@@ -223,6 +223,18 @@ impl Heap {
         self.records.create_all(&self.alloc, class, n)
     }
 
+    /// Whether `destroy` destroys an entity. Faults: those of `destroy`.
+    pub fn may_destroy(&mut self, class: usize, r: i64) -> Result<(), FaultKind>
+        requires class { class < length self.old.state.layout.classes }
+        requires kind { IsPermanent (kind_of self.old.state.layout class) → ⊥ }
+        ensures value { result ≡ no_value (destroyed self.old.state class r) }
+        ensures same { self.new.state ≡ self.old.state }
+        ensures touches { self.new.total ≡ self.old.total + self.new.touches }
+    {
+        self.records.start();
+        self.records.may_destroy(class, r)
+    }
+
     /// Destroys an entity that is in no set and has no members. Faults: 1 to 4, then 9, then 10.
     #[inline(always)]
     pub fn destroy(&mut self, class: usize, r: i64) -> Result<(), FaultKind>

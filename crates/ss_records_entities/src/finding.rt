@@ -1,6 +1,6 @@
 // Where the block of an entity lies, by its number.
-ghost use Rattle.std.specs.Prelude.{◌≡◌, ◌<◌, length, MatchResult, IfSome, Ok, Err, slice_get};
-ghost use Rattle.ss_world.specs.State.{entity_in, notice, numbered, and_then, of_class, kind_of, is_notice};
+ghost use Rattle.std.specs.Prelude.{◌≡◌, ℕ, suc, ◌+◌, ◌^◌, ◌<◌, ◌≤◌, length, MatchResult, IfSome, Ok, Err, Some, false, slice_get};
+ghost use Rattle.ss_world.specs.State.{entity_in, notice, numbered, and_then, of_class, kind_of, is_notice, in_a_set, owns_members, destroyed};
 ghost use Rattle.ss_records_blocks.specs.Cells.{words_at};
 ghost use Rattle.ss_records_words.specs.Reading.{record_of};
 ghost use Rattle.ss_records_blocks.specs.Places.{row_in};
@@ -10,7 +10,7 @@ ghost use Rattle.ss_records_entities.specs.Parts.{IsKept, state, Found, FoundNot
 ghost use Rattle.ss_records_entities.specs.Classed.{HasClass};
 
 use crate::records::Records;
-use ss_base::{ClassKind, FaultKind};
+use ss_base::{ClassKind, FaultKind, Owner};
 use ss_records_blocks::{Address, CLASS};
 
 impl Records {
@@ -70,6 +70,87 @@ impl Records {
         ensures found { MatchResult result (λ p. Found self.now class r p) (λ e. entity_in (state self.now) class r ≡ Err e) }
     {
         self.of_class(class, r)
+    }
+
+    // Whether an entity is in a set.
+    #[inline(always)]
+    fn in_a_set(&mut self, class: usize, place: Address, number: u64) -> bool
+        requires kept { IsKept self.old }
+        requires entry { (i : ℕ) × (slice_get self.old.directory.places i ≡ Some (Some place)) × (number ≡ suc i) }
+        requires class { class_at_place self.old.blocks.cells place ≡ class }
+        requires touches { self.old.blocks.touches ≤ 2 ^ 32 }
+        ensures value { result ≡ in_a_set self.old.layout.sets 0 self.old.notes.lists class number }
+        ensures same { self.new ≡ record self.old { blocks = self.new.blocks } }
+        ensures cells { self.new.blocks.cells ≡ self.old.blocks.cells }
+        ensures touches { (self.new.blocks.touches ≤ self.old.blocks.touches + 1048576) × (self.new.blocks.total + self.old.blocks.touches ≡ self.old.blocks.total + self.new.blocks.touches) }
+    {
+        let end = self.layout.owned_start(Owner::Class(class));
+        let mut k = self.layout.links_start(class);
+        'links: while k < end {
+            let next = self.blocks.follow(place, k);
+            if next.number != number {
+                return true;
+            }
+            k += 3;
+        }
+        false
+    }
+
+    // Whether an entity has members in a set.
+    #[inline(always)]
+    fn owns_members(&mut self, class: usize, place: Address, number: u64) -> bool
+        requires kept { IsKept self.old }
+        requires entry { (i : ℕ) × (slice_get self.old.directory.places i ≡ Some (Some place)) × (number ≡ suc i) }
+        requires class { class_at_place self.old.blocks.cells place ≡ class }
+        requires touches { self.old.blocks.touches ≤ 2 ^ 33 }
+        ensures value { result ≡ owns_members self.old.layout.sets 0 self.old.notes.lists class number }
+        ensures same { self.new ≡ record self.old { blocks = self.new.blocks } }
+        ensures cells { self.new.blocks.cells ≡ self.old.blocks.cells }
+        ensures touches { (self.new.blocks.touches ≤ self.old.blocks.touches + 1048576) × (self.new.blocks.total + self.old.blocks.touches ≡ self.old.blocks.total + self.new.blocks.touches) }
+    {
+        let mut left = self.layout.owned_count(Owner::Class(class));
+        if left == 0 {
+            return false;
+        }
+        for s in 0..self.layout.names() {
+            if self.layout.is_owner(s, class) {
+                if self.owns_in(s, place, number) {
+                    return true;
+                }
+                left -= 1;
+                if left == 0 {
+                    return false;
+                }
+            }
+        }
+        false
+    }
+
+    // The block of an entity that is in no set and has no members, of a class whose entities come and go one by one.
+    #[inline(always)]
+    pub(crate) fn find_free(&mut self, class: usize, r: i64) -> Result<Address, FaultKind>
+        requires kept { IsKept self.old }
+        requires class { class < length self.old.layout.classes }
+        requires kind { IsPermanent (kind_of self.old.layout class) → ⊥ }
+        requires touches { self.old.blocks.touches ≡ 0 }
+        ensures found { MatchResult result (λ p. (f : Found self.old class r p) × (in_a_set self.old.layout.sets 0 self.old.notes.lists class (suc f.index) ≡ false) × (owns_members self.old.layout.sets 0 self.old.notes.lists class (suc f.index) ≡ false)) (λ e. destroyed (state self.old) class r ≡ Err e) }
+        ensures same { self.new ≡ record self.old { blocks = self.new.blocks } }
+        ensures cells { self.new.blocks.cells ≡ self.old.blocks.cells }
+        ensures touches { self.new.blocks.total + self.old.blocks.touches ≡ self.old.blocks.total + self.new.blocks.touches }
+    {
+        match self.find_single(class, r) {
+            Ok(place) => {
+                let number = r as u64;
+                if self.in_a_set(class, place, number) {
+                    return Err(FaultKind::InASet);
+                }
+                if self.owns_members(class, place, number) {
+                    return Err(FaultKind::OwnsMembers);
+                }
+                Ok(place)
+            }
+            Err(fault) => Err(fault),
+        }
     }
 
     // The block of an index of a permanent class.

@@ -1,8 +1,9 @@
 // The records, and what the block of each says.
-ghost use Rattle.std.specs.Prelude.{◌≡◌, ℕ, ◌+◌, ◌-◌, ◌*◌, ◌^◌, ◌<◌, ◌≤◌, length, MatchResult, IfOk, IfSome, Ok, Err, Some, None, slice_get, true, false, ⊤, suc};
-ghost use Rattle.ss_world.specs.State.{kind_of, modes_of, is_notice, first_state, living_numbers, living_records, value_in, time_in, in_a_set, owns_members, destroyed, created, created_all, is_made, with_made, assigned, timed, no_value, RefusedFor};
+ghost use Rattle.std.specs.Prelude.{◌≡◌, ℕ, List, ◌+◌, ◌-◌, ◌*◌, ◌/◌, ◌^◌, ◌<◌, ◌≤◌, length, MatchResult, IfOk, IfSome, Ok, Err, Some, None, slice_get, true, false, ⊤};
+ghost use Rattle.ss_world.specs.State.{Members, kind_of, modes_of, is_notice, first_state, living_numbers, living_records, value_in, time_in, destroyed, created, created_all, is_made, with_made, assigned, timed, no_value, RefusedFor};
 ghost use Rattle.ss_world.specs.Sets.{owner_kind};
 ghost use Rattle.ss_records_blocks.specs.Cells.{words_at};
+ghost use Rattle.ss_records_blocks.specs.Pages.{in_page};
 ghost use Rattle.ss_base.specs.Layout.{mode_of};
 ghost use Rattle.ss_records_words.specs.Shape.{values_end};
 ghost use Rattle.ss_records_words.specs.Kept.{Kept, Small, IsPermanent, RowsHeld};
@@ -10,7 +11,6 @@ ghost use Rattle.ss_records_words.specs.Places.{class_at_place, lying};
 ghost use Rattle.ss_records_entities.specs.Parts.{IsKept, state};
 ghost use Rattle.ss_records_entities.specs.Added.{Added};
 
-use crate::ties;
 use ss_base::{FaultKind, Layout, Mode, Owner, Refused, Value, plus};
 use ss_records_blocks::placing::{give_places_back, place_all};
 use ss_records_blocks::row::{self, Row};
@@ -97,20 +97,12 @@ impl Records {
         let Records {
             layout,
             mut blocks,
-            notes,
+            notes: _,
             system,
             directory,
             permanents,
         } = self;
-        give_all_back(
-            &mut blocks,
-            alloc,
-            &layout,
-            &directory,
-            &permanents,
-            &notes,
-            system,
-        );
+        give_all_back(&mut blocks, alloc, &layout, &directory, &permanents, system);
         let words = layout.block_words(Owner::System);
         blocks.give_back(alloc, system, words);
         blocks.close();
@@ -451,54 +443,21 @@ impl Records {
         Ok(())
     }
 
-    // Whether an entity is in a set.
-    #[inline(always)]
-    fn in_a_set(&mut self, class: usize, place: Address, number: u64) -> bool
+    /// Whether `destroy` destroys an entity. Faults: those of `destroy`.
+    pub fn may_destroy(&mut self, class: usize, r: i64) -> Result<(), FaultKind>
         requires kept { IsKept self.old }
-        requires entry { (i : ℕ) × (slice_get self.old.directory.places i ≡ Some (Some place)) × (number ≡ suc i) }
-        requires class { class_at_place self.old.blocks.cells place ≡ class }
-        requires touches { self.old.blocks.touches ≤ 2 ^ 32 }
-        ensures value { result ≡ in_a_set self.old.layout.sets 0 self.old.notes.lists class number }
-        ensures same { self.new ≡ record self.old { blocks = self.new.blocks } }
-        ensures cells { self.new.blocks.cells ≡ self.old.blocks.cells }
-        ensures touches { (self.new.blocks.touches ≤ self.old.blocks.touches + 1048576) × (self.new.blocks.total + self.old.blocks.touches ≡ self.old.blocks.total + self.new.blocks.touches) }
+        requires class { class < length self.old.layout.classes }
+        requires kind { IsPermanent (kind_of self.old.layout class) → ⊥ }
+        requires touches { self.old.blocks.touches ≡ 0 }
+        ensures kept { IsKept self.new }
+        ensures value { result ≡ no_value (destroyed (state self.old) class r) }
+        ensures same { state self.new ≡ state self.old }
+        ensures touches { self.new.blocks.total + self.old.blocks.touches ≡ self.old.blocks.total + self.new.blocks.touches }
     {
-        ties::in_a_set(
-            &mut self.blocks,
-            &self.layout,
-            &self.directory,
-            &self.permanents,
-            &self.notes,
-            self.system,
-            class,
-            place,
-            number,
-        )
-    }
-
-    // Whether an entity has members in a set.
-    #[inline(always)]
-    fn owns_members(&mut self, class: usize, place: Address, number: u64) -> bool
-        requires kept { IsKept self.old }
-        requires entry { (i : ℕ) × (slice_get self.old.directory.places i ≡ Some (Some place)) × (number ≡ suc i) }
-        requires class { class_at_place self.old.blocks.cells place ≡ class }
-        requires touches { self.old.blocks.touches ≤ 2 ^ 33 }
-        ensures value { result ≡ owns_members self.old.layout.sets 0 self.old.notes.lists class number }
-        ensures same { self.new ≡ record self.old { blocks = self.new.blocks } }
-        ensures cells { self.new.blocks.cells ≡ self.old.blocks.cells }
-        ensures touches { (self.new.blocks.touches ≤ self.old.blocks.touches + 1048576) × (self.new.blocks.total + self.old.blocks.touches ≡ self.old.blocks.total + self.new.blocks.touches) }
-    {
-        ties::owns_members(
-            &mut self.blocks,
-            &self.layout,
-            &self.directory,
-            &self.permanents,
-            &self.notes,
-            self.system,
-            class,
-            place,
-            number,
-        )
+        match self.find_free(class, r) {
+            Ok(_) => Ok(()),
+            Err(fault) => Err(fault),
+        }
     }
 
     /// Gives the block of an entity back.
@@ -512,17 +471,10 @@ impl Records {
         ensures done { MatchResult result (λ _. destroyed (state self.old) class r ≡ Ok (state self.new)) (λ e. (destroyed (state self.old) class r ≡ Err e) × (state self.new ≡ state self.old)) }
         ensures touches { self.new.blocks.total + self.old.blocks.touches ≡ self.old.blocks.total + self.new.blocks.touches }
     {
-        match self.find_single(class, r) {
+        match self.find_free(class, r) {
             Ok(place) => {
-                let number = r as u64;
-                if self.in_a_set(class, place, number) {
-                    return Err(FaultKind::InASet);
-                }
-                if self.owns_members(class, place, number) {
-                    return Err(FaultKind::OwnsMembers);
-                }
                 let words = self.layout.block_words(Owner::Class(class));
-                self.directory.clear(number as usize - 1);
+                self.directory.clear(r as usize - 1);
                 self.blocks.give_back(alloc, place, words);
                 Ok(())
             }
@@ -538,29 +490,37 @@ fn give_all_back(
     layout: &LayoutPlan,
     directory: &Directory,
     permanents: &[Row],
-    notes: &Notes,
     system: Address,
 )
-    requires kept { Kept layout.now blocks.old.cells system.at (lying directory.now.places permanents.now) notes.now.lists }
+    requires kept { (ms : List Members) × Kept layout.now blocks.old.cells system.at (lying directory.now.places permanents.now) ms }
     ensures system { words_at blocks.new.cells system.at ≡ words_at blocks.old.cells system.at }
     ensures count { length blocks.new.cells ≡ 1 }
 {
     for stretch in 0..directory.stretches() {
-        if directory.holds(stretch) {
-            let first = stretch * PAGE;
-            for i in first..first + PAGE {
-                match directory.place_of(i) {
-                    Some(place) => {
-                        let class = blocks.number(place, CLASS) as usize;
-                        let words = layout.block_words(Owner::Class(class));
-                        blocks.give_back(alloc, place, words);
-                    }
-                    None => {}
+        let first = stretch * PAGE;
+        for i in first..first + numbers_in(directory, stretch) {
+            match directory.place_of(i) {
+                Some(place) => {
+                    let class = blocks.number(place, CLASS) as usize;
+                    let words = layout.block_words(Owner::Class(class));
+                    blocks.give_back(alloc, place, words);
                 }
+                None => {}
             }
         }
     }
     give_rows_back(blocks, alloc, layout, permanents, system);
+}
+
+// How many numbers of a stretch are to be looked at: none where its page is not held.
+fn numbers_in(directory: &Directory, stretch: usize) -> usize
+    ensures few { result ≤ 256 }
+    ensures others { (i : ℕ) → i / 256 ≡ stretch → stretch * 256 + result ≤ i → in_page (slice_get directory.now.places i) ≡ None }
+{
+    if directory.holds(stretch) {
+        return PAGE;
+    }
+    0
 }
 
 // Gives back the blocks of the permanent entities.

@@ -1,6 +1,6 @@
 -- A name is found at its place, and it is at the place where it is found.
-use Rattle.std.proofs.Common.{◌≡◌, ℕ, List, [], Option, Some, None, sym, ap, subst, ◌∙◌}
-use Rattle.std.specs.Prelude.{slice_get, option_map, get_or, IfSome}
+use Rattle.std.proofs.Common.{◌≡◌, ℕ, List, [], Option, Some, None, refl, sym, ap, subst, ◌∙◌}
+use Rattle.std.specs.Prelude.{slice_get, option_map, get_or, is_some, IfSome}
 use Rattle.std.specs.Map.{keys_of}
 use Rattle.std.specs.Cmp.Lexicographic.{bytes_decides}
 use Rattle.std.proofs.lemmas.List.Quantifiers.{position-Some}
@@ -12,6 +12,8 @@ use Rattle.ss_names.specs.declared.names.NameId.{NameId}
 use Rattle.ss_names_declarations.specs.Firsts.{place_among, place_in, same_name}
 use Rattle.ss_names.specs.Laws.{NamesHaveOneEntry}
 use Rattle.ss_names.specs.Table.{Table, table}
+use Rattle.ss_names_laws.specs.Names.{NamesAreDeclared, is_declared}
+use Rattle.ss_tables.specs.Tables.{AreTablesOf}
 
 is_there : (names : List NameBytes) (name : NameBytes) (n : ℕ) → place_among names name ≡ Some n → slice_get names n ≡ Some name
 is_there names name n h =
@@ -27,3 +29,14 @@ found_is_there (Some id) entries name h = is_there (keys_of entries) name id.0 (
 pub there_is_found : NamesHaveOneEntry → (p : ProgramTree) (t : Table) → t ≡ table p → (n : ℕ) (name : NameBytes) →
     slice_get (keys_of t.names) n ≡ Some name → place_in t.names name ≡ Some n
 there_is_found once p t e n name h = subst (λ z. place_in z.names name ≡ Some n) (sym e) (once p n name (subst (λ z. slice_get (keys_of z.names) n ≡ Some name) e h))
+
+-- ---- names that are declared
+
+same_answer : (found : Option NameId) → is_some found ≡ is_some (option_map (λ (id : NameId). id.0) found)
+same_answer None = refl
+same_answer (Some id) = refl
+
+pub found_if_declared : NamesAreDeclared → (p : ProgramTree) (t : Table) → AreTablesOf p t → (found : Option NameId) (name : NameBytes) →
+    option_map (λ id. id.0) found ≡ place_in t.names name → is_some found ≡ is_declared p name
+found_if_declared law p t a found name h =
+    same_answer found ∙ ap is_some h ∙ ap (λ (z : Table). is_some (place_in z.names name)) a.is_of_program ∙ law p a.kept name

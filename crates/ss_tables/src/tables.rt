@@ -1,11 +1,13 @@
 //! The tables of a program.
 
-ghost use Rattle.std.specs.Prelude.{◌≡◌, ◌<◌, length, map, slice_get, option_map, Some, None, IfSome, IfOk, IfErr, OnOk};
+ghost use Rattle.std.specs.Prelude.{◌≡◌, ◌<◌, length, map, slice_get, option_map, is_some, Some, None, IfSome, IfOk, IfErr, OnOk};
 ghost use Rattle.std.specs.Map.{keys_of};
+ghost use Rattle.ss_tree.specs.Tree.{ProgramTree};
 ghost use Rattle.ss_tree.specs.View.{view_program, view_section};
 ghost use Rattle.ss_tables_rules.specs.Broken.{refusal_of_declarations, refusal_by};
 ghost use Rattle.ss_names_declarations.specs.Firsts.{place_in};
 ghost use Rattle.ss_names.specs.Table.{declared};
+ghost use Rattle.ss_names_laws.specs.Names.{is_declared};
 ghost use Rattle.ss_names_meaning.specs.Layouts.{layout};
 ghost use Rattle.ss_tables.specs.Tables.{AreTables, AreTablesOf, ReportsTableError};
 
@@ -15,6 +17,7 @@ use ss_names::laws::names_have_one_entry;
 use ss_names::{NameId, Names};
 use ss_names_declarations::{Saying, sayings_of};
 use ss_names_laws::layout_laws::layouts_are_there;
+use ss_names_laws::table_laws::names_are_declared;
 use ss_names_meaning::layout;
 use ss_tables_rules::{refusal_of, seed_of};
 use ss_tree::program::{Program, Section};
@@ -68,11 +71,13 @@ impl Tables {
         Ok(Tables { names })
     }
 
-    /// The global or derived name of this spelling, in capitals. None where there is none.
+    /// The global or derived name of this spelling, in capitals. None just where the program declares none.
     pub fn find(&self, spelling: &[u8]) -> Option<NameId>
+        ensures declared { (p : ProgramTree) → AreTablesOf p self.now → is_some result ≡ is_declared p spelling.now }
         ensures place { option_map (λ id. id.0) result ≡ place_in self.now.names spelling.now }
         ensures named { IfSome result (λ id. slice_get (keys_of self.now.names) id.0 ≡ Some spelling.now) }
     {
+        names_are_declared();
         self.names.find(spelling)
     }
 

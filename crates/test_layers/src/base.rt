@@ -148,80 +148,60 @@ fn first_values_have_their_mode(rt: HostRuntime) {
     assert!(rt; Mode::Alpha.first_value() == Value::Text(Alpha::empty()));
 }
 
-// Two numbers and what comes of them.
-type Sum = (i64, i64, Result<i64, FaultKind>);
-
-static SUMS: [Sum; 3] = [
-    (2, 3, Ok(5)),
-    (i64::MAX, 0, Ok(i64::MAX)),
-    (i64::MAX, 1, Err(FaultKind::Overflow)),
-];
-
-static DIFFERENCES: [Sum; 3] = [
-    (2, 3, Ok(-1)),
-    (0, i64::MAX, Ok(-i64::MAX)),
-    (0, i64::MIN, Err(FaultKind::Overflow)),
-];
-
-static PRODUCTS: [Sum; 3] = [
-    (6, 7, Ok(42)),
-    (-3037000500, 3037000500, Err(FaultKind::Overflow)),
-    (i64::MIN, 1, Ok(i64::MIN)),
-];
-
-static QUOTIENTS: [Sum; 4] = [
-    (-7, 2, Ok(-3)),
-    (7, -2, Ok(-3)),
-    (7, 0, Err(FaultKind::ZeroDivisor)),
-    (i64::MIN, -1, Err(FaultKind::Overflow)),
-];
-
-static RESTS: [Sum; 4] = [
-    (-7, 2, Ok(-1)),
-    (7, -2, Ok(1)),
-    (7, 0, Err(FaultKind::ZeroDivisor)),
-    (i64::MIN, -1, Ok(0)),
-];
-
-fn are_sums(rows: &[Sum]) -> bool {
-    for (x, y, wanted) in rows {
-        if plus(*x, *y) != *wanted {
-            return false;
-        }
-    }
-    true
+// What joins two numbers.
+enum Operation {
+    Plus,
+    Minus,
+    Times,
+    DivF,
+    ModF,
 }
 
-fn are_differences(rows: &[Sum]) -> bool {
-    for (x, y, wanted) in rows {
-        if minus(*x, *y) != *wanted {
-            return false;
+impl Operation {
+    // What comes of two numbers.
+    fn answer(&self, x: i64, y: i64) -> Result<i64, FaultKind> {
+        match self {
+            Operation::Plus => plus(x, y),
+            Operation::Minus => minus(x, y),
+            Operation::Times => times(x, y),
+            Operation::DivF => div_f(x, y),
+            Operation::ModF => mod_f(x, y),
         }
     }
-    true
 }
 
-fn are_products(rows: &[Sum]) -> bool {
-    for (x, y, wanted) in rows {
-        if times(*x, *y) != *wanted {
-            return false;
-        }
-    }
-    true
-}
+// Two numbers with what joins them, and what comes of them.
+type Calculation = (i64, Operation, i64, Result<i64, FaultKind>);
 
-fn are_quotients(rows: &[Sum]) -> bool {
-    for (x, y, wanted) in rows {
-        if div_f(*x, *y) != *wanted {
-            return false;
-        }
-    }
-    true
-}
+static CALCULATIONS: [Calculation; 17] = [
+    (2, Operation::Plus, 3, Ok(5)),
+    (i64::MAX, Operation::Plus, 0, Ok(i64::MAX)),
+    (i64::MAX, Operation::Plus, 1, Err(FaultKind::Overflow)),
+    (2, Operation::Minus, 3, Ok(-1)),
+    (0, Operation::Minus, i64::MAX, Ok(-i64::MAX)),
+    (0, Operation::Minus, i64::MIN, Err(FaultKind::Overflow)),
+    (6, Operation::Times, 7, Ok(42)),
+    (
+        -3037000500,
+        Operation::Times,
+        3037000500,
+        Err(FaultKind::Overflow),
+    ),
+    (i64::MIN, Operation::Times, 1, Ok(i64::MIN)),
+    (-7, Operation::DivF, 2, Ok(-3)),
+    (7, Operation::DivF, -2, Ok(-3)),
+    (7, Operation::DivF, 0, Err(FaultKind::ZeroDivisor)),
+    (i64::MIN, Operation::DivF, -1, Err(FaultKind::Overflow)),
+    (-7, Operation::ModF, 2, Ok(-1)),
+    (7, Operation::ModF, -2, Ok(1)),
+    (7, Operation::ModF, 0, Err(FaultKind::ZeroDivisor)),
+    (i64::MIN, Operation::ModF, -1, Ok(0)),
+];
 
-fn are_rests(rows: &[Sum]) -> bool {
-    for (x, y, wanted) in rows {
-        if mod_f(*x, *y) != *wanted {
+// Whether these come of their numbers.
+fn are_right(rows: &[Calculation]) -> bool {
+    for (x, operation, y, wanted) in rows {
+        if operation.answer(*x, *y) != *wanted {
             return false;
         }
     }
@@ -230,11 +210,7 @@ fn are_rests(rows: &[Sum]) -> bool {
 
 #[test]
 fn results_fit_64_bits_or_are_faults(rt: HostRuntime) {
-    assert!(rt; are_sums(&SUMS));
-    assert!(rt; are_differences(&DIFFERENCES));
-    assert!(rt; are_products(&PRODUCTS));
-    assert!(rt; are_quotients(&QUOTIENTS));
-    assert!(rt; are_rests(&RESTS));
+    assert!(rt; are_right(&CALCULATIONS));
 }
 
 // A class: its kind, and the modes of its fields.

@@ -141,6 +141,141 @@ fn equals_come_out_in_order_of_scheduling(rt: HostRuntime) {
     assert!(rt; keep_their_order(rt.alloc(), listed(rt.alloc(), &PLAIN_ALONE)));
 }
 
+// Whether the last call made so many comparisons and so many moves.
+fn has_counted(pending: &Pending, counts: (u64, u64)) -> bool {
+    pending.comparisons() == counts.0 && pending.moves() == counts.1
+}
+
+// Whether a notice without ties is scheduled with so many comparisons and moves.
+fn is_scheduled_with(
+    alloc: Global,
+    pending: &mut Pending,
+    event: (i64, i64),
+    counts: (u64, u64),
+) -> bool {
+    schedule(alloc, pending, (event.0, 0, &[]), event.1).is_ok() && has_counted(pending, counts)
+}
+
+// Whether a notice is cancelled with so many.
+fn is_cancelled_with(pending: &mut Pending, notice: i64, counts: (u64, u64)) -> bool {
+    pending.cancel(notice).is_ok() && has_counted(pending, counts)
+}
+
+// Whether an event is taken with so many.
+fn is_taken_with(pending: &mut Pending, event: (i64, i64), counts: (u64, u64)) -> bool {
+    pending.take() == Some(event) && has_counted(pending, counts)
+}
+
+// A time, a notice, and how many comparisons and moves it takes to schedule it. A move is its own; of those that come before their
+// parent, the notice 4 passes one entry and the notice 6 passes two.
+static FEW_SCHEDULED: [((i64, i64), (u64, u64)); 6] = [
+    ((5, 1), (0, 1)),
+    ((6, 2), (1, 1)),
+    ((7, 3), (1, 1)),
+    ((4, 4), (1, 3)),
+    ((8, 5), (1, 1)),
+    ((3, 6), (2, 5)),
+];
+
+fn few_are_scheduled(alloc: Global, pending: &mut Pending) -> bool {
+    for (event, counts) in &FEW_SCHEDULED {
+        if !is_scheduled_with(alloc, pending, *event, *counts) {
+            return false;
+        }
+    }
+    true
+}
+
+// Whether calls that change nothing count nothing. A notice of 3 comes first then.
+fn nothing_is_counted(alloc: Global, pending: &mut Pending) -> bool {
+    let nothing = (0, 0);
+    if pending.least() != Some((3, 6)) || !has_counted(pending, nothing) {
+        return false;
+    }
+    if pending.cancel(7).is_ok() || !has_counted(pending, nothing) {
+        return false;
+    }
+    schedule(alloc, pending, (9, 0, &[]), 6).is_err() && has_counted(pending, nothing)
+}
+
+// Whether notices go with so many. The times in the places are 3 4 7 5 8 6 at first, where the first place has the four after it as
+// children; then 4 6 7 5 8, then 4 6 7 8, and then 4 6 7.
+fn few_go(pending: &mut Pending) -> bool {
+    is_taken_with(pending, (3, 6), (4, 4))
+        && is_cancelled_with(pending, 1, (1, 2))
+        && is_cancelled_with(pending, 5, (0, 2))
+        && is_taken_with(pending, (4, 4), (1, 4))
+}
+
+fn few_are_counted(alloc: Global, list: Result<Pending, AllocError>) -> bool {
+    match list {
+        Ok(mut pending) => {
+            few_are_scheduled(alloc, &mut pending)
+                && nothing_is_counted(alloc, &mut pending)
+                && few_go(&mut pending)
+        }
+        Err(_) => false,
+    }
+}
+
+#[test]
+fn comparisons_and_moves_of_few_notices(rt: HostRuntime) {
+    assert!(rt; few_are_counted(rt.alloc(), listed(rt.alloc(), &PLAIN_ALONE)));
+}
+
+// Whether 64 notices, each at its own time, are scheduled in order, each after its parent.
+fn many_are_scheduled(alloc: Global, pending: &mut Pending) -> bool {
+    for notice in 1i64..65 {
+        let counts = if notice == 1 { (0, 1) } else { (1, 1) };
+        if !is_scheduled_with(alloc, pending, (notice, notice), counts) {
+            return false;
+        }
+    }
+    true
+}
+
+// Whether a line of four is made: one comparison each, the first with its parent and the others with the last of the line.
+fn line_is_made(alloc: Global, pending: &mut Pending) -> bool {
+    for notice in 65i64..69 {
+        if !is_scheduled_with(alloc, pending, (1000, notice), (1, 1)) {
+            return false;
+        }
+    }
+    true
+}
+
+// Whether those of a line go with so many: the second, after which another one comes into its place; the last; and the first, into
+// whose place the third comes, which is compared with its parent.
+fn those_of_a_line_go(pending: &mut Pending) -> bool {
+    is_cancelled_with(pending, 66, (0, 1))
+        && is_cancelled_with(pending, 68, (0, 0))
+        && is_cancelled_with(pending, 65, (1, 1))
+}
+
+// Whether two more are scheduled. For the first no line is found: what was last in it is gone. For the second one is found, but the
+// cell of its notice is that of notice 1: so it is put into a place of its own, after a second comparison.
+fn two_more_are_scheduled(alloc: Global, pending: &mut Pending) -> bool {
+    is_scheduled_with(alloc, pending, (1000, 69), (1, 1))
+        && is_scheduled_with(alloc, pending, (1000, 513), (2, 1))
+}
+
+fn line_is_counted(alloc: Global, list: Result<Pending, AllocError>) -> bool {
+    match list {
+        Ok(mut pending) => {
+            many_are_scheduled(alloc, &mut pending)
+                && line_is_made(alloc, &mut pending)
+                && those_of_a_line_go(&mut pending)
+                && two_more_are_scheduled(alloc, &mut pending)
+        }
+        Err(_) => false,
+    }
+}
+
+#[test]
+fn comparisons_and_moves_of_a_line(rt: HostRuntime) {
+    assert!(rt; line_is_counted(rt.alloc(), listed(rt.alloc(), &PLAIN_ALONE)));
+}
+
 // A hundred notices, of which the later are scheduled first, numbered after so many.
 fn line_up_after(alloc: Global, pending: &mut Pending, before: i64) -> Result<(), Refused> {
     for number in 1i64..101 {

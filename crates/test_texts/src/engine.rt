@@ -1,9 +1,8 @@
 //! The engine, as cases ask for it.
 
-use crate::refusals::{of_lexer, of_parser};
 use ss_base::{MemoryRead, MemoryWrite};
 use ss_engine::{Model, Outcome, Refusal, Session, compile, outcome_line, simulate};
-use ss_lex::{Tokens, tokens};
+use ss_lex::tokens;
 use ss_parse::parse;
 use ss_tree::release::release_tree;
 use std::alloc::{AllocError, Global};
@@ -36,9 +35,13 @@ impl Simulator for Engine {
     }
 
     fn tree(&self, alloc: Global, text: &[u8]) -> Result<TreeCounts, Outcome> {
-        match tokens(alloc, text) {
-            Ok(tokens) => tree_of(alloc, &tokens),
-            Err(error) => Err(Outcome::Refused(of_lexer(error))),
+        match tree_of(alloc, text) {
+            Some(counts) => Ok(counts),
+            // The lexer and the parser come first, so the whole text is refused as they refuse it.
+            None => match self.refusal(alloc, text) {
+                Some(outcome) => Err(outcome),
+                None => Err(Outcome::Refused(Refusal::Memory)),
+            },
         }
     }
 
@@ -87,15 +90,18 @@ impl Simulator for Engine {
     }
 }
 
-// The counts of the tree that tokens spell.
-fn tree_of(alloc: Global, tokens: &Tokens) -> Result<TreeCounts, Outcome> {
-    match parse(alloc, tokens) {
+// The counts of the tree of a text, if it has one.
+fn tree_of(alloc: Global, text: &[u8]) -> Option<TreeCounts> {
+    let Ok(tokens) = tokens(alloc, text) else {
+        return None;
+    };
+    match parse(alloc, &tokens) {
         Ok(program) => {
             let counts = counted(&program);
             release_tree(program);
-            Ok(counts)
+            Some(counts)
         }
-        Err(error) => Err(Outcome::Refused(of_parser(error))),
+        Err(_) => None,
     }
 }
 

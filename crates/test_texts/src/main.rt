@@ -7,7 +7,6 @@
 #![tactic(auto)]
 
 mod engine;
-mod refusals;
 
 use engine::Engine;
 use std::process::ExitCode;

@@ -4,12 +4,15 @@ ghost use Rattle.std.specs.Ordering.{int_eq};
 ghost use Rattle.std.specs.List.{list_any};
 ghost use Rattle.std.specs.List.Sorted.{IsPermutation};
 ghost use Rattle.ss_events.specs.declared.entry.Entry.{Entry};
-ghost use Rattle.ss_events.specs.HeapEntries.{heap_lines, notices_of, event_of, Removes, Leaves, AreAfterHeads};
+ghost use Rattle.ss_events.specs.CallWork.{ComparesOnce, Moves};
+ghost use Rattle.ss_events.specs.CountedList.{no_work, with_work};
+ghost use Rattle.ss_events.specs.HeapEntries.{heap_lines, call_work_of, notices_of, event_of, Removes, Leaves, AreAfterHeads};
 ghost use Rattle.ss_events.specs.HeapOrder.{IsFirstOf, IsFirstAmong};
 ghost use Rattle.ss_world.specs.Order.{comes_before};
 ghost use Rattle.ss_events.specs.Slots.{mark_of, plain_ranks, plain_numbers};
 ghost use Rattle.ss_events.specs.declared.entry.places.HeapNode.{HeapNode as HeapNodeSeen};
 
+use super::counter::WorkCounter;
 use super::order::comes_before;
 use super::places::{HeapNode, Places};
 use super::{Entry, Key, Mark, NOT_PLAIN, PLAIN_NUMBERS};
@@ -22,8 +25,7 @@ use std::marker::Model;
 #[derive(Drop)]
 pub struct EntryHeap {
     entries: Places,
-    comparisons: u64,
-    moves: u64,
+    counter: WorkCounter,
 }
 
 impl Model for EntryHeap {
@@ -31,17 +33,16 @@ impl Model for EntryHeap {
 
     ghost Value = { HeapEntries };
 
-    ghost view = { λ h. record { entries = h.entries.heads; followers = h.entries.followers; comparisons = h.comparisons; moves = h.moves } };
+    ghost view = { λ h. record { entries = h.entries.heads; followers = h.entries.followers; comparisons = h.counter.comparisons; moves = h.counter.moves; before = h.counter.before } };
 }
 
 impl EntryHeap {
     pub(crate) fn new(alloc: Global) -> EntryHeap
-        ensures { result ≡ record { entries = []; followers = []; comparisons = 0; moves = 0 } }
+        ensures { result ≡ record { entries = []; followers = []; comparisons = 0; moves = 0; before = no_work } }
     {
         EntryHeap {
             entries: Places::new(alloc),
-            comparisons: 0,
-            moves: 0,
+            counter: WorkCounter::new(),
         }
     }
 
@@ -51,24 +52,26 @@ impl EntryHeap {
         self.entries.len()
     }
 
+    /// The comparisons since the counts were reset.
     pub(crate) fn comparisons(&self) -> u64
         ensures { result ≡ self.now.comparisons }
     {
-        self.comparisons
+        self.counter.comparisons()
     }
 
+    /// The moves since the counts were reset.
     pub(crate) fn moves(&self) -> u64
         ensures { result ≡ self.now.moves }
     {
-        self.moves
+        self.counter.moves()
     }
 
-    /// Begins to count anew.
+    /// Resets the comparisons and the moves of a call to 0, as the next call begins. The total of all calls stays as it is.
+    #[inline(always)]
     pub(crate) fn reset_counts(&mut self)
-        ensures { self.new ≡ record self.old { comparisons = 0; moves = 0 } }
+        ensures { self.new ≡ record self.old { comparisons = 0; moves = 0; before = with_work self.old.before self.old.comparisons self.old.moves } }
     {
-        self.comparisons = 0;
-        self.moves = 0;
+        self.counter.begin_call();
     }
 
     /// Does nothing. Its contract says that each follower comes after a head.
@@ -122,7 +125,7 @@ impl EntryHeap {
         ensures value { (d : Entry) → result ≡ comes_before (slice_index_or self.old.entries a d) (slice_index_or self.old.entries b d) }
         ensures counted { self.new ≡ record self.old { comparisons = self.old.comparisons + 1 } }
     {
-        self.comparisons += 1;
+        self.counter.count_comparisons(1);
         let (early, late) = (self.entries.mark(a), self.entries.mark(b));
         if early.time != late.time {
             return early.time < late.time;
@@ -142,20 +145,11 @@ impl EntryHeap {
         ensures first { IsFirstAmong comes_before self.old.entries from (from + 4) result }
         ensures counted { self.new ≡ record self.old { comparisons = self.old.comparisons + 3 } }
     {
-        self.comparisons += 3;
+        self.counter.count_comparisons(3);
         let four = self.entries.four(from);
         let left = first_of(&self.entries, four, from, 0, 1);
         let right = first_of(&self.entries, four, from, 2, 3);
         from + first_of(&self.entries, four, from, left, right)
-    }
-
-    // Counts a move.
-    #[inline(always)]
-    fn count_move(&mut self)
-        requires { self.old.moves + 1 < 2 ^ 64 }
-        ensures { self.new ≡ record self.old { moves = self.old.moves + 1 } }
-    {
-        self.moves += 1;
     }
 
     /// Lets the entries of two places change places. Counts two moves.
@@ -166,8 +160,7 @@ impl EntryHeap {
         requires countable { self.old.moves + 2 < 2 ^ 64 }
         ensures { self.new ≡ record self.old { entries = swap self.old.entries a b; moves = self.old.moves + 2 } }
     {
-        self.moves += 2;
-        self.entries.swap(a, b);
+        self.entries.swap(a, b, &mut self.counter);
     }
 
     /// Makes room for one more entry.
@@ -185,13 +178,12 @@ impl EntryHeap {
         ensures ok { OnOk result (self.new ≡ record self.old { entries = self.old.entries ++ record { key = key; number = number; notice = notice } ∷ []; moves = self.old.moves + 1 }) }
         ensures err { OnErr result (self.new ≡ self.old) }
     {
-        self.entries.push(Entry {
+        let entry = Entry {
             key,
             number,
             notice,
-        })?;
-        self.count_move();
-        Ok(())
+        };
+        self.entries.push(entry, &mut self.counter)
     }
 
     /// Puts a plain entry into the next place, if there is room and its notice is found to be new at once, and says whether it did.
@@ -206,18 +198,12 @@ impl EntryHeap {
         ensures fresh { result ≡ true → list_any (int_eq notice) (notices_of self.old.followers) ≡ false }
         ensures kept { result ≡ false → self.new ≡ self.old }
     {
-        if !self
-            .entries
-            .push_plain(plain_mark(time, rank, number), notice)
-        {
-            return false;
-        }
-        self.count_move();
-        true
+        let mark = plain_mark(time, rank, number);
+        self.entries.push_plain(mark, notice, &mut self.counter)
     }
 
     /// Puts a plain entry after the last of a line of its time, where one is found that comes before it; and says whether it did.
-    /// Counts a comparison, and a move where it did. If not, nothing else has changed.
+    /// Counts a comparison where there is an entry to compare it with, and a move where it did. If not, the entries are what they were.
     #[inline(never)]
     pub(crate) fn append_plain(&mut self, time: i64, rank: usize, number: u64, notice: i64) -> bool
         requires rank { rank < plain_ranks }
@@ -230,38 +216,35 @@ impl EntryHeap {
         ensures fresh { result ≡ true → list_any (int_eq notice) (notices_of self.old.followers) ≡ false }
         ensures moved { result ≡ true → self.new.moves ≡ self.old.moves + 1 }
         ensures compared { result ≡ true → self.new.comparisons ≡ self.old.comparisons + 1 }
-        ensures kept { result ≡ false → self.new ≡ record self.old { comparisons = self.old.comparisons + 1 } }
+        ensures before { self.new.before ≡ self.old.before }
+        ensures kept { result ≡ false → self.new.followers ≡ self.old.followers }
+        ensures tried { result ≡ false → ComparesOnce (call_work_of self.old) (call_work_of self.new) }
     {
         let mark = plain_mark(time, rank, number);
-        self.comparisons += 1;
-        if !self.entries.append_plain(mark, notice) {
-            return false;
-        }
-        self.count_move();
-        true
+        self.entries.append_plain(mark, notice, &mut self.counter)
     }
 
     /// Takes the entry out of a place, into which the next of its line moves, or else the last head, and answers its time and its
-    /// notice. Counts that move.
+    /// notice. Counts the move of the next of the line, or the two by which the entry and the last head change places.
     pub(crate) fn remove(&mut self, at: usize) -> (i64, i64)
         requires within { at < length self.old.entries }
-        requires countable { self.old.moves + 1 < 2 ^ 64 }
+        requires countable { self.old.moves + 2 < 2 ^ 64 }
         ensures removed { Removes (heap_lines self.old) (heap_lines self.new) at result }
-        ensures comparisons { self.new.comparisons ≡ self.old.comparisons }
-        ensures moves { self.new.moves ≡ self.old.moves + 1 }
+        ensures moved { Moves 1 2 (call_work_of self.old) (call_work_of self.new) }
     {
-        self.count_move();
-        self.entries.remove(at)
+        self.entries.remove(at, &mut self.counter)
     }
 
-    /// Takes out the entry of a notice where it follows another one, and says whether it did. If not, nothing has changed.
+    /// Takes out the entry of a notice where it follows another one, and says whether it did. Counts a move where another one comes into
+    /// its place in the line. If it did not, nothing has changed.
     pub(crate) fn remove_follower(&mut self, notice: i64) -> bool
+        requires countable { self.old.moves + 1 < 2 ^ 64 }
         ensures found { result ≡ list_any (int_eq notice) (notices_of self.old.followers) }
         ensures left { result ≡ true → Leaves (heap_lines self.old) (heap_lines self.new) notice }
-        ensures counts { (self.new.comparisons ≡ self.old.comparisons) × (self.new.moves ≡ self.old.moves) }
+        ensures moved { Moves 0 1 (call_work_of self.old) (call_work_of self.new) }
         ensures kept { result ≡ false → self.new ≡ self.old }
     {
-        self.entries.remove_follower(notice)
+        self.entries.remove_follower(notice, &mut self.counter)
     }
 }
 

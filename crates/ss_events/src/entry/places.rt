@@ -5,9 +5,11 @@ ghost use Rattle.std.specs.List.{list_any};
 ghost use Rattle.std.specs.List.Sorted.{IsPermutation};
 ghost use Rattle.ss_events.specs.declared.entry.Entry.{Entry};
 ghost use Rattle.ss_events.specs.declared.entry.places.HeapNode.{HeapNode as HeapNodeSeen};
+ghost use Rattle.ss_events.specs.CallWork.{ComparesOnce, Moves};
 ghost use Rattle.ss_events.specs.HeapEntries.{notices_of, event_of, Removes, Leaves, AreAfterHeads};
 ghost use Rattle.ss_events.specs.Slots.{no_entry, no_mark, blank_slot, no_slot, no_node, following, mark_of, not_plain, order_of, IsBut, plain_entry, plain_ranks, plain_numbers, slot_at, node, IsTaken, AreDistinct, AreLed, at_put, next_put, exchanged};
 
+use super::counter::WorkCounter;
 use super::directory::SlotDirectory;
 use super::{Entry, Mark, NOT_PLAIN, PLAIN_NUMBERS, mark_of, plain_entry};
 use std::alloc::{AllocError, Global};
@@ -215,12 +217,15 @@ impl Places {
         Ok(())
     }
 
-    /// Puts an entry of a new notice into the next place, as a line of its own.
-    pub(crate) fn push(&mut self, entry: Entry) -> Result<(), AllocError>
+    /// Puts an entry of a new notice into the next place, as a line of its own. Counts a move.
+    pub(crate) fn push(&mut self, entry: Entry, counter: &mut WorkCounter) -> Result<(), AllocError>
         requires apart { list_any (int_eq entry.notice) (notices_of self.old.heads) ≡ false }
         requires fresh { list_any (int_eq entry.notice) (notices_of self.old.followers) ≡ false }
+        requires countable { counter.old.moves + 1 < 2 ^ 64 }
         ensures ok { OnOk result (self.new ≡ record self.old { heads = self.old.heads ++ entry ∷ [] }) }
         ensures err { OnErr result (self.new ≡ self.old) }
+        ensures moved { OnOk result (counter.new ≡ record counter.old { moves = counter.old.moves + 1 }) }
+        ensures unmoved { OnErr result (counter.new ≡ counter.old) }
     {
         make_cells(
             &mut self.directory,
@@ -235,6 +240,7 @@ impl Places {
         let mark = mark_of(&entry);
         reach(&mut self.entries, slot, mark)?;
         self.directory.note(entry.notice, slot)?;
+        counter.count_moves(1);
         self.nodes[next] = HeapNode { mark, slot };
         self.count = next + 1;
         self.free -= 1;
@@ -245,14 +251,17 @@ impl Places {
     }
 
     /// Puts a plain entry into the next place, if there is room and its notice is found to be new at once, and says whether it did.
-    /// If not, nothing has changed.
+    /// Counts a move where it did. If not, nothing has changed.
     #[inline(always)]
-    pub(crate) fn push_plain(&mut self, mark: Mark, notice: i64) -> bool
+    pub(crate) fn push_plain(&mut self, mark: Mark, notice: i64, counter: &mut WorkCounter) -> bool
         requires plain { mark.order < plain_ranks * plain_numbers }
+        requires countable { counter.old.moves + 1 < 2 ^ 64 }
         ensures done { result ≡ true → self.new ≡ record self.old { heads = self.old.heads ++ plain_entry mark notice ∷ [] } }
         ensures apart { result ≡ true → list_any (int_eq notice) (notices_of self.old.heads) ≡ false }
         ensures fresh { result ≡ true → list_any (int_eq notice) (notices_of self.old.followers) ≡ false }
         ensures kept { result ≡ false → self.new ≡ self.old }
+        ensures moved { result ≡ true → counter.new ≡ record counter.old { moves = counter.old.moves + 1 } }
+        ensures unmoved { result ≡ false → counter.new ≡ counter.old }
     {
         if self.free == 0 || self.slots.len() - self.free >= self.directory.cells() / 4 {
             return false;
@@ -262,6 +271,7 @@ impl Places {
         if !self.directory.note_at_once(notice, slot) {
             return false;
         }
+        counter.count_moves(1);
         self.nodes[next] = HeapNode { mark, slot };
         self.count = next + 1;
         self.free -= 1;
@@ -271,34 +281,54 @@ impl Places {
     }
 
     /// Puts a plain entry after the last of a line of its time, if a line is found that ends before it, there is room for it, and its
-    /// notice is found to be new at once; and says whether it did. If not, nothing has changed.
+    /// notice is found to be new at once; and says whether it did. If not, no entry has changed. Counts a comparison where the last of a
+    /// line is found, and a move where it did.
     #[inline(always)]
-    pub(crate) fn append_plain(&mut self, mark: Mark, notice: i64) -> bool
+    pub(crate) fn append_plain(
+        &mut self,
+        mark: Mark,
+        notice: i64,
+        counter: &mut WorkCounter,
+    ) -> bool
         requires plain { mark.order < plain_ranks * plain_numbers }
+        requires comparable { counter.old.comparisons + 1 < 2 ^ 64 }
+        requires countable { counter.old.moves + 1 < 2 ^ 64 }
         ensures heads { self.new.heads ≡ self.old.heads }
         ensures done { result ≡ true → IsPermutation (plain_entry mark notice ∷ self.old.followers) self.new.followers }
         ensures apart { result ≡ true → list_any (int_eq notice) (notices_of self.old.heads) ≡ false }
         ensures fresh { result ≡ true → list_any (int_eq notice) (notices_of self.old.followers) ≡ false }
         ensures kept { result ≡ false → self.new ≡ self.old }
+        ensures counted { result ≡ true → counter.new ≡ record counter.old { comparisons = counter.old.comparisons + 1; moves = counter.old.moves + 1 } }
+        ensures tried { result ≡ false → ComparesOnce counter.old counter.new }
     {
         let before = hinted(&self.hints, mark);
         if before == NO_SLOT {
             return false;
         }
-        self.append_to(before, mark, notice)
+        self.append_to(before, mark, notice, counter)
     }
 
     // Puts a plain entry after the entry of a slot, if that is the last of such a line.
     #[inline(never)]
-    fn append_to(&mut self, before: usize, mark: Mark, notice: i64) -> bool
+    fn append_to(
+        &mut self,
+        before: usize,
+        mark: Mark,
+        notice: i64,
+        counter: &mut WorkCounter,
+    ) -> bool
         requires plain { mark.order < plain_ranks * plain_numbers }
+        requires comparable { counter.old.comparisons + 1 < 2 ^ 64 }
+        requires countable { counter.old.moves + 1 < 2 ^ 64 }
         ensures heads { self.new.heads ≡ self.old.heads }
         ensures done { result ≡ true → IsPermutation (plain_entry mark notice ∷ self.old.followers) self.new.followers }
         ensures apart { result ≡ true → list_any (int_eq notice) (notices_of self.old.heads) ≡ false }
         ensures fresh { result ≡ true → list_any (int_eq notice) (notices_of self.old.followers) ≡ false }
         ensures kept { result ≡ false → self.new ≡ self.old }
+        ensures counted { result ≡ true → counter.new ≡ record counter.old { comparisons = counter.old.comparisons + 1; moves = counter.old.moves + 1 } }
+        ensures tried { result ≡ false → ComparesOnce counter.old counter.new }
     {
-        if !is_last_before(&self.slots, self.count, before, mark) {
+        if !is_last_before(&self.slots, self.count, before, mark, counter) {
             return false;
         }
         if self.free == 0 || self.slots.len() - self.free >= self.directory.cells() / 4 {
@@ -310,31 +340,35 @@ impl Places {
             return false;
         }
         self.free -= 1;
-        line_up(&mut self.slots, before, slot, notice, mark);
+        line_up(&mut self.slots, before, slot, notice, mark, counter);
         remember(&mut self.hints, self.count, mark, slot);
         true
     }
 
-    /// Lets the lines of two places change places.
+    /// Lets the lines of two places change places. Counts two moves.
     #[inline(always)]
-    pub(crate) fn swap(&mut self, a: usize, b: usize)
+    pub(crate) fn swap(&mut self, a: usize, b: usize, counter: &mut WorkCounter)
         requires a_within { a < length self.old.heads }
         requires b_within { b < length self.old.heads }
-        ensures { self.new ≡ record self.old { heads = swap self.old.heads a b } }
+        requires countable { counter.old.moves + 2 < 2 ^ 64 }
+        ensures swapped { self.new ≡ record self.old { heads = swap self.old.heads a b } }
+        ensures moved { counter.new ≡ record counter.old { moves = counter.old.moves + 2 } }
     {
-        exchange(&mut self.nodes, &mut self.slots, a, b);
+        exchange(&mut self.nodes, &mut self.slots, a, b, counter);
     }
 
     /// Takes the entry out of a place, into which the next of its line comes, or else the last head, and answers its time and its
-    /// notice.
-    pub(crate) fn remove(&mut self, at: usize) -> (i64, i64)
-        requires { at < length self.old.heads }
-        ensures { Removes self.old self.new at result }
+    /// notice. Counts the move of the next of the line, or the two by which the entry and the last head change places.
+    pub(crate) fn remove(&mut self, at: usize, counter: &mut WorkCounter) -> (i64, i64)
+        requires within { at < length self.old.heads }
+        requires countable { counter.old.moves + 2 < 2 ^ 64 }
+        ensures removed { Removes self.old self.new at result }
+        ensures moved { Moves 1 2 counter.old counter.new }
     {
         let node = self.nodes[at];
         let Slot { notice, next, .. } = self.slots[node.slot];
         if next != NO_SLOT {
-            advance(&mut self.nodes, &mut self.slots, at, next);
+            advance(&mut self.nodes, &mut self.slots, at, next, counter);
             release(
                 &mut self.nodes,
                 &mut self.slots,
@@ -343,7 +377,7 @@ impl Places {
             );
         } else {
             let last = self.count - 1;
-            exchange(&mut self.nodes, &mut self.slots, at, last);
+            exchange(&mut self.nodes, &mut self.slots, at, last, counter);
             self.count = last;
             clear(&mut self.entries, node.slot, node.mark);
         }
@@ -352,11 +386,15 @@ impl Places {
         (node.mark.time, notice)
     }
 
-    /// Takes out the entry of a notice where it follows another one, and says whether it did. If not, nothing has changed.
-    pub(crate) fn remove_follower(&mut self, notice: i64) -> bool
+    /// Takes out the entry of a notice where it follows another one, and says whether it did. Counts a move where another one comes into
+    /// its place in the line. If it did not, nothing has changed.
+    pub(crate) fn remove_follower(&mut self, notice: i64, counter: &mut WorkCounter) -> bool
+        requires countable { counter.old.moves + 1 < 2 ^ 64 }
         ensures found { result ≡ list_any (int_eq notice) (notices_of self.old.followers) }
         ensures left { result ≡ true → Leaves self.old self.new notice }
         ensures kept { result ≡ false → self.new ≡ self.old }
+        ensures moved { Moves 0 1 counter.old counter.new }
+        ensures unmoved { result ≡ false → counter.new ≡ counter.old }
     {
         let Some(slot) = slot_of(&self.directory, &self.slots, self.count, notice) else {
             return false;
@@ -365,7 +403,7 @@ impl Places {
         if at < FOLLOWING {
             return false;
         }
-        close_up(&mut self.slots, at - FOLLOWING, next);
+        close_up(&mut self.slots, at - FOLLOWING, next, counter);
         release(
             &mut self.nodes,
             &mut self.slots,
@@ -513,14 +551,24 @@ fn give_hint(hints: &mut [Hint], mark: Mark, slot: usize) {
     }
 }
 
-// Whether the entry in a slot is the last of a line, comes at the time of a mark, and before it.
+// Whether the entry in a slot is the last of a line, comes at the time of a mark, and before it. Counts a comparison where there is
+// such a last one.
 #[inline(always)]
-fn is_last_before(slots: &[Slot], count: usize, slot: usize, mark: Mark) -> bool
+fn is_last_before(
+    slots: &[Slot],
+    count: usize,
+    slot: usize,
+    mark: Mark,
+    counter: &mut WorkCounter,
+) -> bool
+    requires { counter.old.comparisons + 1 < 2 ^ 64 }
     ensures within { result ≡ true → slot < length slots.now }
     ensures taken { result ≡ true → IsTaken count (slot_at slots.now slot) }
     ensures last { result ≡ true → (slot_at slots.now slot).next ≡ no_slot }
     ensures time { result ≡ true → (slot_at slots.now slot).mark.time ≡ mark.time }
     ensures order { result ≡ true → (slot_at slots.now slot).mark.order < mark.order }
+    ensures counted { result ≡ true → counter.new ≡ record counter.old { comparisons = counter.old.comparisons + 1 } }
+    ensures tried { ComparesOnce counter.old counter.new }
 {
     if slot >= slots.len() {
         return false;
@@ -529,43 +577,80 @@ fn is_last_before(slots: &[Slot], count: usize, slot: usize, mark: Mark) -> bool
     if it.at >= count && it.at < FOLLOWING {
         return false;
     }
-    it.next == NO_SLOT && it.mark.time == mark.time && it.mark.order < mark.order
+    if it.next != NO_SLOT {
+        return false;
+    }
+    is_before_at_its_time(it.mark, mark, counter)
 }
 
-// Puts a new entry into a slot, after that of another.
+// Whether one entry comes before another one and at the same time, by their marks. Counts a comparison.
 #[inline(always)]
-fn line_up(slots: &mut [Slot], before: usize, slot: usize, notice: i64, mark: Mark)
+fn is_before_at_its_time(early: Mark, late: Mark, counter: &mut WorkCounter) -> bool
+    requires { counter.old.comparisons + 1 < 2 ^ 64 }
+    ensures time { result ≡ true → early.time ≡ late.time }
+    ensures order { result ≡ true → early.order < late.order }
+    ensures counted { counter.new ≡ record counter.old { comparisons = counter.old.comparisons + 1 } }
+{
+    counter.count_comparisons(1);
+    early.time == late.time && early.order < late.order
+}
+
+// Puts a new entry into a slot, after that of another. Counts a move.
+#[inline(always)]
+fn line_up(
+    slots: &mut [Slot],
+    before: usize,
+    slot: usize,
+    notice: i64,
+    mark: Mark,
+    counter: &mut WorkCounter,
+)
     requires before { before < length slots.old }
     requires small { length slots.old < following }
     requires within { slot < length slots.old }
-    ensures { slots.new ≡ slice_set (next_put slots.old before slot) slot (record { notice = notice; mark = mark; next = no_slot; at = following + before }) }
+    requires countable { counter.old.moves + 1 < 2 ^ 64 }
+    ensures slots { slots.new ≡ slice_set (next_put slots.old before slot) slot (record { notice = notice; mark = mark; next = no_slot; at = following + before }) }
+    ensures moved { counter.new ≡ record counter.old { moves = counter.old.moves + 1 } }
 {
+    counter.count_moves(1);
     slots[before].next = slot;
     slots[slot] = alone(notice, mark, FOLLOWING + before);
 }
 
-// Joins the entry of a slot to the next one in its line, or to none, where the one between goes.
+// Puts the next of a line, or none, after the entry of a slot, where the one between goes. Counts a move where there is a next one.
 #[inline(always)]
-fn close_up(slots: &mut [Slot], before: usize, next: usize)
+fn close_up(slots: &mut [Slot], before: usize, next: usize, counter: &mut WorkCounter)
     requires small { length slots.old < following }
     requires before { before < length slots.old }
     requires next { next ≢ no_slot → next < length slots.old }
-    ensures { slots.new ≡ (if next == no_slot then next_put slots.old before next else at_put (next_put slots.old before next) next (following + before)) }
+    requires countable { counter.old.moves + 1 < 2 ^ 64 }
+    ensures moved { counter.new ≡ record counter.old { moves = counter.old.moves + (if next == no_slot then 0 else 1) } }
+    ensures slots { slots.new ≡ (if next == no_slot then next_put slots.old before next else at_put (next_put slots.old before next) next (following + before)) }
 {
     slots[before].next = next;
     if next != NO_SLOT {
         slots[next].at = FOLLOWING + before;
+        counter.count_moves(1);
     }
 }
 
-// Puts the next of a line into the place of its first.
+// Puts the next of a line into the place of its first. Counts a move.
 #[inline(always)]
-fn advance(nodes: &mut [HeapNode], slots: &mut [Slot], at: usize, next: usize)
+fn advance(
+    nodes: &mut [HeapNode],
+    slots: &mut [Slot],
+    at: usize,
+    next: usize,
+    counter: &mut WorkCounter,
+)
     requires at { at < length nodes.old }
     requires next { next < length slots.old }
+    requires countable { counter.old.moves + 1 < 2 ^ 64 }
     ensures nodes { nodes.new ≡ slice_set nodes.old at (record { mark = (slot_at slots.old next).mark; slot = next }) }
     ensures slots { slots.new ≡ at_put slots.old next at }
+    ensures moved { counter.new ≡ record counter.old { moves = counter.old.moves + 1 } }
 {
+    counter.count_moves(1);
     nodes[at] = HeapNode {
         mark: slots[next].mark,
         slot: next,
@@ -714,16 +799,25 @@ fn noted(
     Ok(directory)
 }
 
-// Exchanges the nodes of two places, and writes into each of the two slots its new place.
+// Exchanges the nodes of two places, and writes into each of the two slots its new place. Counts two moves.
 #[inline(always)]
-fn exchange(nodes: &mut [HeapNode], slots: &mut [Slot], a: usize, b: usize)
+fn exchange(
+    nodes: &mut [HeapNode],
+    slots: &mut [Slot],
+    a: usize,
+    b: usize,
+    counter: &mut WorkCounter,
+)
     requires a_within { a < length nodes.old }
     requires b_within { b < length nodes.old }
     requires a_there { (node nodes.old a).slot < length slots.old }
     requires b_there { (node nodes.old b).slot < length slots.old }
+    requires countable { counter.old.moves + 2 < 2 ^ 64 }
     ensures nodes { nodes.new ≡ swap nodes.old a b }
     ensures slots { slots.new ≡ exchanged nodes.old slots.old a b }
+    ensures moved { counter.new ≡ record counter.old { moves = counter.old.moves + 2 } }
 {
+    counter.count_moves(2);
     let first = nodes[a];
     let second = nodes[b];
     nodes[a] = second;

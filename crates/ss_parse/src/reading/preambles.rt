@@ -2,11 +2,11 @@
 
 ghost use Rattle.std.specs.Prelude.{◌≡◌, None, map};
 ghost use Rattle.ss_tree.specs.View.{view_clause, view_order, view_preamble};
-ghost use Rattle.ss_parse_expressions.specs.Reading.{GivesReading, word, begins, expect, after_dropped, closed, maybe_list, begins_by, begins_more, taken, in_table};
+ghost use Rattle.ss_parse_expressions.specs.Reading.{GivesReading, word, begins, expect, after_dropped, closed, maybe_list, begins_more, taken, in_table};
 ghost use Rattle.ss_lex.specs.declared.word.Word.TheVariants.{Include, Variable};
 ghost use Rattle.ss_parse_expressions.specs.ReadWords.{begins_name, names};
 ghost use Rattle.ss_parse.specs.SpelledPreambles.{group_after};
-ghost use Rattle.ss_parse_expressions.specs.WordTables.{mode_of_word, rank_of, statistic_of};
+ghost use Rattle.ss_parse_expressions.specs.WordTables.{mode_of_word, rank_of};
 ghost use Rattle.ss_parse.specs.ReadPreambles.{then_rank, keys, statistic_kind, found, clause, begins_clause, clause_list, clauses, ranking, order, permanent_at, temporary_at, notices_at, every_at, normally_at, system_at, define_end, define_at, priority_at, break_at, statistics_at, preamble_at, begins_preamble, preamble_in, preambles, whole_preamble};
 
 use ss_base::{Line, Name};
@@ -15,10 +15,11 @@ use ss_parse_expressions::classes::{WordClass, skip_class};
 use ss_parse_expressions::failure::Failure;
 use ss_parse_expressions::names::{begins_name, items, name, names};
 use ss_parse_expressions::steps::{alone, beside};
+use ss_parse_expressions::tables::{begins_word_of, take_word_of};
 use ss_parse_expressions::tokens::{
     after_first, begins_symbol, begins_word, expect_word, skip_separator, skip_word, syntax,
 };
-use ss_parse_expressions::words::{mode_of_word, rank_of, statistic_of};
+use ss_parse_expressions::words::{ModeWords, RankWords, StatisticWords};
 use ss_parse_statements::statements::{begins_noisy, expect_noisy};
 use ss_tree::preamble::{
     ClassKind, Clause, Key, Mode, PreambleStatement, SetOrder, Statistic, StatisticKind, Weighting,
@@ -29,16 +30,7 @@ use std::alloc::Global;
 fn mode(tokens: &[Token]) -> Result<(Mode, &[Token]), Failure>
     ensures { GivesReading (λ x. (x.0, x.1.now)) result (taken (in_table mode_of_word) tokens.now) }
 {
-    match tokens {
-        [] => Err(syntax(tokens)),
-        [first, rest @ ..] => match &first.kind {
-            TokenKind::Word(word) => match mode_of_word(*word) {
-                Some(mode) => Ok((mode, rest)),
-                None => Err(syntax(tokens)),
-            },
-            _ => Err(syntax(tokens)),
-        },
-    }
+    take_word_of::<ModeWords>(tokens)
 }
 
 /// The end of a DEFINE of variables: a mode.
@@ -50,33 +42,11 @@ pub fn variable_mode(tokens: &[Token]) -> Result<(Mode, &[Token]), Failure>
     Ok((mode, rest))
 }
 
-/// Whether a mode is first.
-fn begins_mode(tokens: &[Token]) -> bool
-    ensures { result ≡ begins_by (in_table mode_of_word) tokens.now }
-{
-    match tokens {
-        [] => false,
-        [first, ..] => match &first.kind {
-            TokenKind::Word(word) => mode_of_word(*word).is_some(),
-            _ => false,
-        },
-    }
-}
-
 /// HIGH or LOW.
 fn rank(tokens: &[Token]) -> Result<(bool, &[Token]), Failure>
     ensures { GivesReading (λ x. (x.0, x.1.now)) result (taken (in_table rank_of) tokens.now) }
 {
-    match tokens {
-        [] => Err(syntax(tokens)),
-        [first, rest @ ..] => match &first.kind {
-            TokenKind::Word(word) => match rank_of(*word) {
-                Some(high) => Ok((high, rest)),
-                None => Err(syntax(tokens)),
-            },
-            _ => Err(syntax(tokens)),
-        },
-    }
+    take_word_of::<RankWords>(tokens)
 }
 
 /// A clause of an EVERY.
@@ -129,28 +99,12 @@ fn keys(alloc: Global, tokens: &[Token]) -> Result<(Vec<Key>, &[Token]), Failure
     Ok((all, rest))
 }
 
-/// The word for the kind of a statistic.
-fn measure(tokens: &[Token]) -> Result<(StatisticKind, &[Token]), Failure>
-    ensures { GivesReading (λ x. (x.0, x.1.now)) result (taken (in_table statistic_of) tokens.now) }
-{
-    match tokens {
-        [] => Err(syntax(tokens)),
-        [first, rest @ ..] => match &first.kind {
-            TokenKind::Word(word) => match statistic_of(*word) {
-                Some(kind) => Ok((kind, rest)),
-                None => Err(syntax(tokens)),
-            },
-            _ => Err(syntax(tokens)),
-        },
-    }
-}
-
 /// AS and the kind of a statistic.
 fn statistic_kind(tokens: &[Token]) -> Result<(StatisticKind, &[Token]), Failure>
     ensures { GivesReading (λ x. (x.0, x.1.now)) result (statistic_kind tokens.now) }
 {
     let rest = expect_word(tokens, Word::As)?;
-    measure(skip_word(rest, Word::The))
+    take_word_of::<StatisticWords>(skip_word(rest, Word::The))
 }
 
 /// Whether a separator and then a name follow.
@@ -360,7 +314,7 @@ fn define_end(
 ) -> Result<(PreambleStatement, &[Token]), Failure>
     ensures { GivesReading (λ x. (view_preamble x.0, x.1.now)) result (define_end line names.items tokens.now) }
 {
-    if begins_mode(tokens) {
+    if begins_word_of::<ModeWords>(tokens) {
         let (names, (mode, rest)) = beside(names, variable_mode(tokens))?;
         Ok((
             PreambleStatement::DefineVariables { line, names, mode },

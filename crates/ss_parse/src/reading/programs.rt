@@ -1,6 +1,7 @@
 //! Programs.
 
 ghost use Rattle.std.specs.Prelude.{◌≡◌, map};
+ghost use Rattle.ss_parse_expressions.specs.Openers.{nesting_limit};
 ghost use Rattle.ss_parse_expressions.specs.Shapes.{first_token_line};
 ghost use Rattle.ss_tree.specs.View.{view_definition, view_kind, view_statement, view_section, view_program};
 ghost use Rattle.ss_parse_expressions.specs.Reading.{GivesReading, word, begins, expect, after_dropped, maybe_list, rows};
@@ -236,7 +237,7 @@ fn parts(alloc: Global, tokens: &[Token], room: u8) -> Result<(Program, &[Token]
 /// A program to the end of the tokens.
 #[tactic(auto, unfolding(crate::specs::ReadPrograms::program_of))]
 pub fn program(alloc: Global, tokens: &[Token]) -> Result<Program, Failure>
-    ensures { GivesReading view_program result (program_of 64 tokens.now) }
+    ensures { GivesReading view_program result (program_of nesting_limit tokens.now) }
 {
     let (program, rest) = parts(alloc, tokens, levels() + 1)?;
     match rest {

@@ -1,9 +1,9 @@
-use Rattle.std.proofs.Common.{rules, arith, ◌≡◌, ◌+◌, ◌++◌, [], sym, ap, ◌∙◌, take, length, ◌∷◌}
+use Rattle.std.proofs.Common.{rules, arith, ◌≡◌, ◌+◌, [], refl, sym, ap, ◌∙◌, take, drop, length, ◌∷◌}
 use Rattle.std.specs.List.{sum}
 use Rattle.ss_machine.specs.Stop.TheVariants.{Paused}
 use Rattle.ss_engine.specs.Sessions.{session_machine, last_stop}
-use Rattle.ss_engine.proofs.Handing.{next_piece, some_used, more_used, all_used, no_sum, all_handed}
-use Rattle.ss_engine.proofs.Running.{kept_stop, last_some}
+use Rattle.ss_engine.proofs.Handing.{next_piece, next_run, no_runs, runs_so_far, some_used, more_used, all_used, no_sum, all_handed}
+use Rattle.ss_engine.proofs.Running.{kept_stop, runs_last}
 use Rattle.ss_engine.proofs.run.run_pieces.Goals as goal
 
 pub loop-ticks-preserved : goal.loop-ticks-preserved
@@ -20,9 +20,10 @@ loop-ticks-preserved g c =
       goes_on = e.goes_on on;
       stopped = kept_stop c.run-stop-in-loop-ticks.result ∙ ap last_stop (sym (e.stopped on));
       right = e.never_failed on;
-      was_run = λ code reader writer h.
-          let w = i.was_run code reader writer h in
-          record { pieces = w.pieces ++ _ ∷ []; some = last_some w.pieces _; run = e.has_run code reader writer w.pieces w.run };
+      was_run = λ code reader writer b h.
+          let w = i.was_run code reader writer b h in
+          runs_last g.R.FaultyRead.remaining g.R.Faulty.faults g.W.FaultyWrite.contents g.W.Faulty.faults code reader writer _ _ _ mid now c.run-stop-in-loop-ticks.result
+          (next_run c.args.pieces.now c.in-Some.rest.now c.in-Some.first.now c.loop-ticks.ticks-index split c.loop-ticks-test.true) (λ none. absurd (w.some none)) on w.run (e.has_run code reader writer _ w.run) (e.stopped on) e.used.0 (e.output on) (e.input on);
       used = more_used _ _ (session_machine mid).used (session_machine now).used _ piece i.used e.used.1;
       paused = λ p. all_used _ _ (session_machine mid).used (session_machine now).used _ piece (i.paused paused) (e.paused on p);
     }
@@ -38,7 +39,9 @@ loop-ticks-init g c =
       goes_on = e.goes_on on;
       stopped = kept_stop c.run-stop.result ∙ ap last_stop (sym (e.stopped on));
       right = e.never_failed on;
-      was_run = λ code reader writer h. record { pieces = [] ++ _ ∷ []; some = last_some [] _; run = e.has_run code reader writer [] h };
+      was_run = λ code reader writer b h.
+          runs_last g.R.FaultyRead.remaining g.R.Faulty.faults g.W.FaultyWrite.contents g.W.Faulty.faults code reader writer _ [] c.in-Some.first.now c.args.session.now now c.run-stop.result
+          (ap (take 1) split) (λ none. (b.fresh.reader_is, b.writer_is)) on h (e.has_run code reader writer [] h) (e.stopped on) e.used.0 (e.output on) (e.input on);
       used = omega (arith, e.used.1, one, c.requires.first);
       paused = λ p. omega (arith, e.paused on p, one, c.requires.first);
     }
@@ -50,7 +53,13 @@ returns-in_default g c =
     let on = c.requires.goes_on in
     let empty : length c.args.pieces.now ≡ 0 = search rules in
     record {
-      was_run = λ code reader writer h. record { pieces = [] ++ 0 ∷ []; some = last_some [] 0; run = e.has_run code reader writer [] h };
+      was_run = λ code reader writer b h. (
+        0 ∷ [],
+        [],
+        no_runs c.args.pieces.now empty,
+        runs_last g.R.FaultyRead.remaining g.R.Faulty.faults g.W.FaultyWrite.contents g.W.Faulty.faults code reader writer _ [] 0 c.args.session.now c.run.new.self c.run.result
+            refl (λ none. (b.fresh.reader_is, b.writer_is)) on h (e.has_run code reader writer [] h) (e.stopped on) e.used.0 (e.output on) (e.input on),
+      );
       stopped = kept_stop c.run.result ∙ ap last_stop (sym (e.stopped on));
       never_failed = e.never_failed on;
       used = omega (arith, e.used.1, c.requires.first);
@@ -59,7 +68,9 @@ returns-in_default g c =
 
 -- a run stopped before the last piece
 pub returns-then-ne-clause-was_run : goal.returns-then-ne-clause-was_run
-returns-then-ne-clause-was_run g c = c.loop-ticks.invariant.was_run
+returns-then-ne-clause-was_run g c code reader writer b h =
+    let n = c.loop-ticks.ticks-index + 1 in
+    (take n c.args.pieces.now, drop n c.args.pieces.now, runs_so_far c.args.pieces.now c.in-Some.rest.now c.in-Some.first.now n c.in-Some.ensures.cases.0, c.loop-ticks.invariant.was_run code reader writer b h)
 
 pub returns-then-ne-clause-stopped : goal.returns-then-ne-clause-stopped
 returns-then-ne-clause-stopped g c = c.loop-ticks.invariant.stopped
@@ -72,7 +83,9 @@ returns-then-ne-clause-used g c = some_used c.args.pieces.now (c.loop-ticks.tick
 
 -- no piece is left
 pub returns-after-loop-ticks-clause-was_run : goal.returns-after-loop-ticks-clause-was_run
-returns-after-loop-ticks-clause-was_run g c = c.loop-ticks.invariant.was_run
+returns-after-loop-ticks-clause-was_run g c code reader writer b h =
+    let n = c.loop-ticks.ticks-index + 1 in
+    (take n c.args.pieces.now, drop n c.args.pieces.now, runs_so_far c.args.pieces.now c.in-Some.rest.now c.in-Some.first.now n c.in-Some.ensures.cases.0, c.loop-ticks.invariant.was_run code reader writer b h)
 
 pub returns-after-loop-ticks-clause-stopped : goal.returns-after-loop-ticks-clause-stopped
 returns-after-loop-ticks-clause-stopped g c = c.loop-ticks.invariant.stopped

@@ -1,10 +1,8 @@
-use Rattle.std.proofs.Common.{◌+◌}
+use Rattle.ss_engine.proofs.Meanings.{reports_grow, endings_stay}
 use Rattle.ss_engine.proofs.text_laws.longer_bounds_extend_the_report.Goals as goal
 
 pub returns-clause-reports_grow : goal.returns-clause-reports_grow
-returns-clause-reports_grow c text p m input n more =
-    c.laws-2.ensures.prefixes p input n more (c.laws.ensures.never_wrong text p m input n) (c.laws.ensures.never_wrong text p m input (n + more))
+returns-clause-reports_grow c = reports_grow c.laws.ensures.one_program c.laws.ensures.never_wrong c.laws-2.ensures.prefixes
 
 pub returns-clause-endings_stay : goal.returns-clause-endings_stay
-returns-clause-endings_stay c text p m input n more stays =
-    c.laws-2.ensures.endings_stay p input n more stays (c.laws.ensures.never_wrong text p m input n)
+returns-clause-endings_stay c = endings_stay c.laws.ensures.never_wrong c.laws-2.ensures.endings_stay

@@ -22,11 +22,12 @@ loop-child-preserved c =
     (omega (arith, ap (λ h. h.comparisons) c.swap.ensures, ap (λ h. h.comparisons) looked, found.comparisons))
     (omega (arith, ap (λ h. h.moves) c.swap.ensures, ap (λ h. h.moves) looked, found.moves))
     (ap (λ h. h.followers) c.swap.ensures ∙ ap (λ h. h.followers) looked ∙ found.followers)
+    (ap (λ h. h.before) c.swap.ensures ∙ ap (λ h. h.before) looked ∙ found.before)
 
 pub returns-in_default-clause-cost : goal.returns-in_default-clause-cost
 returns-in_default-clause-cost c =
     let found = c.in_default.ensures in
-    (sinking_leaf c.args.heap.now c.loop-child.heap c.first_child.new.heap c.args.at c.loop-child.at c.loop-child.invariant found.child found.entries (omega (arith, found.comparisons)) found.moves found.followers).1
+    (sinking_leaf c.args.heap.now c.loop-child.heap c.first_child.new.heap c.args.at c.loop-child.at c.loop-child.invariant found.child found.entries (omega (arith, found.comparisons)) found.moves found.followers found.before).1
 
 pub returns-then-not-is_before-clause-lowers : goal.returns-then-not-is_before-clause-lowers
 returns-then-not-is_before-clause-lowers c =
@@ -37,7 +38,8 @@ returns-then-not-is_before-clause-lowers c =
     (ap (λ h. h.entries) looked ∙ found.entries)
     (omega (arith, ap (λ h. h.comparisons) looked, found.comparisons))
     (ap (λ h. h.moves) looked ∙ found.moves)
-    (ap (λ h. h.followers) looked ∙ found.followers)).0
+    (ap (λ h. h.followers) looked ∙ found.followers)
+    (ap (λ h. h.before) looked ∙ found.before)).0
 
 pub returns-then-not-is_before-clause-cost : goal.returns-then-not-is_before-clause-cost
 returns-then-not-is_before-clause-cost c =
@@ -48,4 +50,5 @@ returns-then-not-is_before-clause-cost c =
     (ap (λ h. h.entries) looked ∙ found.entries)
     (omega (arith, ap (λ h. h.comparisons) looked, found.comparisons))
     (ap (λ h. h.moves) looked ∙ found.moves)
-    (ap (λ h. h.followers) looked ∙ found.followers)).1
+    (ap (λ h. h.followers) looked ∙ found.followers)
+    (ap (λ h. h.before) looked ∙ found.before)).1

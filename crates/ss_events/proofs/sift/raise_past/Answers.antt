@@ -45,13 +45,13 @@ pub returns-then-not-is_before-clause-raises : goal.returns-then-not-is_before-c
 returns-then-not-is_before-clause-raises c =
     let looked = c.is_before.ensures.counted in
     (rising_rests (but_one c.args.heap.now) c.swap.new.self c.is_before.new.self c.args.at c.loop-at.parent (omega (arith, c.if-at-eq0.false)) (past (goal.at.returns-then-not-is_before-clause-raises c).After-swap) (λ d. sym (c.if-not-is_before.ensures.value d))
-    (ap (λ h. h.entries) looked) (ap (λ h. h.comparisons) looked) (ap (λ h. h.moves) looked) (ap (λ h. h.followers) looked)).0
+    (ap (λ h. h.entries) looked) (ap (λ h. h.comparisons) looked) (ap (λ h. h.moves) looked) (ap (λ h. h.followers) looked) (ap (λ h. h.before) looked)).0
 
 pub returns-then-not-is_before-clause-cost : goal.returns-then-not-is_before-clause-cost
 returns-then-not-is_before-clause-cost c =
     let looked = c.is_before.ensures.counted in
     (rising_rests (but_one c.args.heap.now) c.swap.new.self c.is_before.new.self c.args.at c.loop-at.parent (omega (arith, c.if-at-eq0.false)) (past (goal.at.returns-then-not-is_before-clause-cost c).After-swap) (λ d. sym (c.if-not-is_before.ensures.value d))
-    (ap (λ h. h.entries) looked) (ap (λ h. h.comparisons) looked) (ap (λ h. h.moves) looked) (ap (λ h. h.followers) looked)).1
+    (ap (λ h. h.entries) looked) (ap (λ h. h.comparisons) looked) (ap (λ h. h.moves) looked) (ap (λ h. h.followers) looked) (ap (λ h. h.before) looked)).1
 
 pub loop-at-smaller : goal.loop-at-smaller
 loop-at-smaller c = omega (arith, c.loop-at.invariant.parent_is, c.loop-at.invariant.some)

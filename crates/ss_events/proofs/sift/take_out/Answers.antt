@@ -1,23 +1,18 @@
-use Rattle.std.proofs.Common.{◌≡◌, ℕ, ℤ, ◌∷◌, ◌++◌, ◌∙◌, ap, length, List, IsPermutation, sym, subst, arith}
+use Rattle.std.proofs.Common.{◌≡◌, ◌∷◌, ◌++◌, ◌∙◌, ap, length, List, IsPermutation, sym, subst, arith}
 use Rattle.std.proofs.lemmas.List.Sorted.{IsPermutation-append_left, IsPermutation-cons, IsPermutation-trans}
 use Rattle.ss_events.specs.declared.entry.Entry.{Entry}
-use Rattle.ss_events.specs.HeapEntries.{HeapEntries, HeadsAndFollowers, Removes, heap_lines, all_of}
+use Rattle.ss_events.specs.HeapEntries.{heap_lines, all_of}
 use Rattle.ss_events.proofs.Sifts.{take_work}
 use Rattle.ss_events.proofs.Taken.{removed_few, removed_heap, removed_end, removed_all}
 use Rattle.ss_events.proofs.sift.take_out.Goals as goal
 
--- what went, of the entries that there were
-went : (old anew : HeapEntries) (mid : HeadsAndFollowers) (at : ℕ) (event : ℤ × ℤ) → anew ≡ record old { comparisons = 0; moves = 0 } → Removes (heap_lines anew) mid at event → Removes (heap_lines old) mid at event
-went old anew mid at event is r = subst (λ (h : HeapEntries). Removes (heap_lines h) mid at event) is r
-
 pub returns-then-at-len-clause-order : goal.returns-then-at-len-clause-order
 returns-then-at-len-clause-order c =
-    let r = went c.args.heap.now c.reset_counts.new.self (heap_lines c.remove-event.new.self) c.args.at c.remove-event.result c.reset_counts.ensures c.remove-event.ensures.removed in
-    c.mend.ensures.mends.heap (removed_heap (heap_lines c.args.heap.now) (heap_lines c.remove-event.new.self) c.args.at c.remove-event.result c.requires.within r c.requires.order)
+    c.mend.ensures.mends.heap (removed_heap (heap_lines c.args.heap.now) (heap_lines c.remove-event.new.self) c.args.at c.remove-event.result c.requires.within c.remove-event.ensures.removed c.requires.order)
 
 pub returns-then-at-len-clause-taken : goal.returns-then-at-len-clause-taken
 returns-then-at-len-clause-taken c =
-    let r = went c.args.heap.now c.reset_counts.new.self (heap_lines c.remove-event.new.self) c.args.at c.remove-event.result c.reset_counts.ensures c.remove-event.ensures.removed in
+    let r = c.remove-event.ensures.removed in
     let mid = c.remove-event.new.self in
     let new = c.mend.new.heap in
     let others : IsPermutation (mid.entries ++ mid.followers) (new.entries ++ new.followers)
@@ -32,25 +27,28 @@ returns-then-at-len-clause-taken c =
 
 pub returns-then-at-len-clause-work : goal.returns-then-at-len-clause-work
 returns-then-at-len-clause-work c =
-    let anew = c.reset_counts.ensures in
-    let r = went c.args.heap.now c.reset_counts.new.self (heap_lines c.remove-event.new.self) c.args.at c.remove-event.result anew c.remove-event.ensures.removed in
     take_work c.remove-event.new.self c.mend.new.heap (length c.args.heap.now.entries)
-    (c.remove-event.ensures.comparisons ∙ ap (λ h. h.comparisons) anew)
-    (omega (arith, c.remove-event.ensures.moves, ap (λ h. h.moves) anew))
-    (removed_few (heap_lines c.args.heap.now) (heap_lines c.remove-event.new.self) c.args.at c.remove-event.result c.requires.within r)
+    (c.remove-event.ensures.moved.comparisons ∙ c.requires.uncompared)
+    (omega (arith, c.remove-event.ensures.moved.moves, c.requires.unmoved))
+    (removed_few (heap_lines c.args.heap.now) (heap_lines c.remove-event.new.self) c.args.at c.remove-event.result c.requires.within c.remove-event.ensures.removed)
     c.mend.ensures.cost
+
+pub returns-then-at-len-clause-before : goal.returns-then-at-len-clause-before
+returns-then-at-len-clause-before c = c.mend.ensures.cost.before ∙ c.remove-event.ensures.moved.before
 
 pub returns-else-at-len-clause-order : goal.returns-else-at-len-clause-order
 returns-else-at-len-clause-order c =
-    let r = went c.args.heap.now c.reset_counts.new.self (heap_lines c.remove-event.new.self) c.args.at c.remove-event.result c.reset_counts.ensures c.remove-event.ensures.removed in
-    removed_end (heap_lines c.args.heap.now) (heap_lines c.remove-event.new.self) c.args.at c.remove-event.result c.requires.within r (omega (arith, c.if-at-len.false, c.len.ensures)) c.requires.order
+    removed_end (heap_lines c.args.heap.now) (heap_lines c.remove-event.new.self) c.args.at c.remove-event.result c.requires.within c.remove-event.ensures.removed (omega (arith, c.if-at-len.false, c.len.ensures)) c.requires.order
 
 pub returns-else-at-len-clause-taken : goal.returns-else-at-len-clause-taken
 returns-else-at-len-clause-taken c =
-    let r = went c.args.heap.now c.reset_counts.new.self (heap_lines c.remove-event.new.self) c.args.at c.remove-event.result c.reset_counts.ensures c.remove-event.ensures.removed in
+    let r = c.remove-event.ensures.removed in
     record {
       entry = r.entry;
       there = r.there;
       is = r.is;
       rest = removed_all (heap_lines c.args.heap.now) (heap_lines c.remove-event.new.self) c.args.at c.remove-event.result c.requires.within r;
     }
+
+pub returns-else-at-len-clause-before : goal.returns-else-at-len-clause-before
+returns-else-at-len-clause-before c = c.remove-event.ensures.moved.before

@@ -41,11 +41,8 @@ decreases-if_form l = 16 * l.room + 4
 abbrev pub decreases-for_form : goal.decreases-for_form
 decreases-for_form l = 16 * l.room + 7
 
-abbrev pub decreases-while_form : goal.decreases-while_form
-decreases-while_form l = 16 * l.room + 6
-
-abbrev pub decreases-until_form : goal.decreases-until_form
-decreases-until_form l = 16 * l.room + 6
+abbrev pub decreases-guarded_form : goal.decreases-guarded_form
+decreases-guarded_form l = 16 * l.room + 6
 
 abbrev pub decreases-nested_form : goal.decreases-nested_form
 decreases-nested_form l = 16 * l.room + 8

@@ -1,4 +1,4 @@
-use Rattle.std.proofs.Common.{◌≡◌, ◌∷◌, ◌∙◌, ◌||◌, ◌++◌, Bool, true, false, refl, List, Ok, length, map, int_eq, to_z, of_z, w64, ap, subst, sym, to_z-of_z, IsPermutation}
+use Rattle.std.proofs.Common.{◌≡◌, ◌∷◌, ◌∙◌, ◌||◌, ◌++◌, Bool, true, false, refl, List, Ok, length, map, int_eq, to_z, of_z, w64, ap, subst, sym, to_z-of_z, IsPermutation, arith}
 use Rattle.std.specs.List.{list_any}
 use Rattle.std.specs.Cmp.{int_eq_equiv}
 use Rattle.std.proofs.lemmas.Bool.{or_from, or_left}
@@ -8,10 +8,12 @@ use Rattle.ss_events.specs.HeapEntries.{HeapEntries, heap_lines, all_of, notices
 use Rattle.ss_events.specs.HeapOrder.{IsHeap}
 use Rattle.ss_world.specs.Order.{comes_before}
 use Rattle.ss_world.specs.PendingList.{is_pending, without_notice}
+use Rattle.ss_events.specs.CountedList.{with_work}
 use Rattle.ss_events.specs.Sifting.{IsLogarithmic}
 use Rattle.ss_events.proofs.Agendas.{found-pending, found-at, agenda-taken, in_order-taken, work_of}
 use Rattle.ss_events.proofs.Outcomes.{cancelled-pending, cancelled-none}
 use Rattle.ss_events.proofs.pending.Pending.cancel.Goals as goal
+use Rattle.ss_events.proofs.pending.Pending.cancel.Goals.{After-reset_counts}
 
 or_right : (a b : Bool) → b ≡ true → (a || b) ≡ true
 or_right true b e = refl
@@ -97,3 +99,30 @@ returns-clause-refused c =
     let known = found-pending c.self.inside.heap c.args.self.now.list.entries (ap (λ v. v.list.entries) c.self.view_is) c.reset_counts.new.self z c.args.notice false (ap all_of c.reset_counts.ensures) (to_z-of_z c.ranges.notice)
     (sym (or_from (list_any (int_eq z) (notices_of c.reset_counts.new.self.entries)) (list_any (int_eq z) (notices_of c.reset_counts.new.self.followers)) (sym c.in_default.ensures.found) (sym c.remove_follower.ensures.found ∙ c.if-remove_follower.false))) in
     cancelled-none c.args.notice c.args.self.now.list (sym known)
+
+-- ---- the counts and the total
+
+pub returns-then-remove_follower-clause-comparisons : goal.returns-then-remove_follower-clause-comparisons
+returns-then-remove_follower-clause-comparisons c = omega (arith, c.remove_follower.ensures.moved.comparisons, ap (λ h. h.comparisons) c.reset_counts.ensures)
+
+pub returns-then-remove_follower-clause-moves : goal.returns-then-remove_follower-clause-moves
+returns-then-remove_follower-clause-moves c = omega (arith, c.remove_follower.ensures.moved.moves, ap (λ h. h.moves) c.reset_counts.ensures)
+
+-- that before the call
+begun : (c : After-reset_counts) → c.reset_counts.new.self.before ≡ c.args.self.now.total
+begun c = ap (λ h. h.before) c.reset_counts.ensures ∙ ap (λ v. v.total) c.self.view_is
+
+pub returns-in-Some-clause-total : goal.returns-in-Some-clause-total
+returns-in-Some-clause-total c =
+    let h = c.take_out-event.new.heap in
+    ap (λ t. with_work t h.comparisons h.moves) (c.take_out-event.ensures.before ∙ begun (goal.at.returns-in-Some-clause-total c).After-reset_counts)
+
+pub returns-then-remove_follower-clause-total : goal.returns-then-remove_follower-clause-total
+returns-then-remove_follower-clause-total c =
+    let h = c.remove_follower.new.self in
+    ap (λ t. with_work t h.comparisons h.moves) (c.remove_follower.ensures.moved.before ∙ begun (goal.at.returns-then-remove_follower-clause-total c).After-reset_counts)
+
+pub returns-clause-total : goal.returns-clause-total
+returns-clause-total c =
+    let h = c.remove_follower.new.self in
+    ap (λ t. with_work t h.comparisons h.moves) (c.remove_follower.ensures.moved.before ∙ begun (goal.at.returns-clause-total c).After-reset_counts)

@@ -1,5 +1,6 @@
 use Rattle.std.proofs.Common.{◌≡◌, ◌<◌, ◌∙◌, List, [], ◌∷◌, Some, length, get_or, refl, ap, sym, subst, arith}
 use Rattle.ss_events.specs.declared.entry.Entry.{Entry}
+use Rattle.ss_events.specs.CountedList.{with_work}
 use Rattle.ss_events.specs.HeapEntries.{HeapEntries, AreAfterHeads, event_of}
 use Rattle.ss_events.proofs.Agendas.{next-none, next-first}
 use Rattle.ss_events.proofs.pending.Pending.least.Goals as goal
@@ -23,3 +24,13 @@ returns-clause-next c =
     let top = at_top c.self.inside.heap.entries some in
     ap Some (c.first-event.ensures top.0 ∙ ap (λ h. event_of (get_or h.entries 0 top.0)) anew ∙ ap event_of (sym top.1))
     ∙ sym (next-first c.self.inside.heap c.args.self.now.list (ap (λ v. v.list.entries) c.self.view_is) following c.self.inside.schedulings c.self.invariant top.0 some top.1)
+
+pub returns-then-len-eq0-clause-total : goal.returns-then-len-eq0-clause-total
+returns-then-len-eq0-clause-total c =
+    let h = c.reset_counts.new.self in
+    ap (λ t. with_work t h.comparisons h.moves) (ap (λ h. h.before) c.reset_counts.ensures ∙ ap (λ v. v.total) c.self.view_is)
+
+pub returns-clause-total : goal.returns-clause-total
+returns-clause-total c =
+    let h = c.look_ahead.new.self in
+    ap (λ t. with_work t h.comparisons h.moves) (ap (λ h. h.before) (c.look_ahead.ensures ∙ c.reset_counts.ensures) ∙ ap (λ v. v.total) c.self.view_is)

@@ -1,4 +1,5 @@
 use Rattle.std.proofs.Common.{◌∙◌, [], map, ap}
+use Rattle.ss_events.specs.CountedList.{no_work, with_work}
 use Rattle.ss_events.specs.HeapEntries.{all_of}
 use Rattle.ss_events.specs.InOrder.{in_order}
 use Rattle.ss_events.proofs.Agendas.{agenda-none}
@@ -9,5 +10,5 @@ invariant_of-result c = agenda-none c.new.result.entries c.new.result.followers 
 
 pub returns : goal.returns
 unfolding in_order
-returns c = ap (λ h. record { list = record { entries = in_order (all_of h); schedulings = 0; classes = map (λ shapes. shapes.items) c.in_ok-copied.field-0.items }; comparisons = h.comparisons; moves = h.moves }) c.new.ensures
-    ∙ ap (λ shapes. record { list = record { entries = []; schedulings = 0; classes = shapes }; comparisons = 0; moves = 0 }) c.in_ok-copied.ensures
+returns c = ap (λ h. record { list = record { entries = in_order (all_of h); schedulings = 0; classes = map (λ shapes. shapes.items) c.in_ok-copied.field-0.items }; comparisons = h.comparisons; moves = h.moves; total = with_work h.before h.comparisons h.moves }) c.new.ensures
+    ∙ ap (λ shapes. record { list = record { entries = []; schedulings = 0; classes = shapes }; comparisons = 0; moves = 0; total = no_work }) c.in_ok-copied.ensures

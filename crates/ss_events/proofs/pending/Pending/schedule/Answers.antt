@@ -4,11 +4,12 @@ use Rattle.ss_world.specs.PendingList.{scheduling_limit, with_entry}
 use Rattle.std.specs.List.{list_any}
 use Rattle.std.proofs.lemmas.Bool.{or_parts}
 use Rattle.ss_events.specs.HeapEntries.{HeapEntries, all_of, notices_of, AreAfterHeads}
+use Rattle.ss_events.specs.CountedList.{with_work}
 use Rattle.ss_events.specs.Sifting.{IsLogarithmic}
 use Rattle.ss_events.proofs.Agendas.{found-pending, any-append, some_head, work_of, in_order-inserted, agenda-inserted}
 use Rattle.ss_events.proofs.Outcomes.{scheduled-pending, scheduled-full, scheduled-room}
 use Rattle.ss_events.proofs.pending.Pending.schedule.Goals as goal
-use Rattle.ss_events.proofs.pending.Pending.schedule.Goals.{After-are_after_heads}
+use Rattle.ss_events.proofs.pending.Pending.schedule.Goals.{After-are_after_heads, After-reset_counts}
 
 pub returns-then-holds-clause-refused : goal.returns-then-holds-clause-refused
 returns-then-holds-clause-refused c =
@@ -91,3 +92,29 @@ insert-requires-clause-apart c = (none (goal.at.insert-requires-clause-apart c).
 
 pub insert-requires-clause-fresh : goal.insert-requires-clause-fresh
 insert-requires-clause-fresh c = (none (goal.at.insert-requires-clause-fresh c).After-are_after_heads).1
+
+-- ---- the total
+
+-- that before the call
+begun : (c : After-reset_counts) → c.reset_counts.new.self.before ≡ c.args.self.now.total
+begun c = ap (λ h. h.before) c.reset_counts.ensures ∙ ap (λ v. v.total) c.self.view_is
+
+pub returns-then-holds-clause-total : goal.returns-then-holds-clause-total
+returns-then-holds-clause-total c =
+    let h = c.reset_counts.new.self in
+    ap (λ t. with_work t h.comparisons h.moves) (begun (goal.at.returns-then-holds-clause-total c).After-reset_counts)
+
+pub returns-then-self-eq-MOST_SCHEDULINGS-clause-total : goal.returns-then-self-eq-MOST_SCHEDULINGS-clause-total
+returns-then-self-eq-MOST_SCHEDULINGS-clause-total c =
+    let h = c.reset_counts.new.self in
+    ap (λ t. with_work t h.comparisons h.moves) (begun (goal.at.returns-then-self-eq-MOST_SCHEDULINGS-clause-total c).After-reset_counts)
+
+pub returns-in_err-insert-clause-total : goal.returns-in_err-insert-clause-total
+returns-in_err-insert-clause-total c =
+    let h = c.insert.new.heap in
+    ap (λ t. with_work t h.comparisons h.moves) (c.in_err-insert.ensures.before ∙ begun (goal.at.returns-in_err-insert-clause-total c).After-reset_counts)
+
+pub returns-clause-total : goal.returns-clause-total
+returns-clause-total c =
+    let h = c.insert.new.heap in
+    ap (λ t. with_work t h.comparisons h.moves) (c.in_ok-insert.ensures.before ∙ begun (goal.at.returns-clause-total c).After-reset_counts)

@@ -4,6 +4,7 @@ use Rattle.ss_world.specs.PendingList.{scheduling_limit, with_entry, is_pending}
 use Rattle.std.specs.List.{list_any}
 use Rattle.std.proofs.lemmas.Bool.{or_from}
 use Rattle.ss_events.specs.HeapEntries.{HeapEntries, all_of, notices_of, AreAfterHeads}
+use Rattle.ss_events.specs.CountedList.{with_work}
 use Rattle.ss_events.specs.Sifting.{IsLogarithmic}
 use Rattle.ss_world.specs.SortKey.{SortKey}
 use Rattle.ss_events.proofs.Agendas.{found-pending, any-append, some_head, work_of, in_order-inserted, agenda-inserted}
@@ -72,3 +73,18 @@ returns-clause-compared c = λ _ some.
     let following : AreAfterHeads c.self.inside.heap.entries c.self.inside.heap.followers = subst (λ (h : HeapEntries). AreAfterHeads h.entries h.followers) c.reset_counts.ensures c.are_after_heads.ensures in
     let head = some_head c.self.inside.heap c.args.self.now.list.entries (ap (λ v. v.list.entries) c.self.view_is) following some in
     c.insert_plain.ensures.compared c.if-not-insert_plain.false (omega (arith, head, ap (λ h. length h.entries) c.reset_counts.ensures))
+
+-- ---- the total
+
+begun : (c : After-insert_plain) → c.insert_plain.new.heap.before ≡ c.args.self.now.total
+begun c = c.insert_plain.ensures.before ∙ ap (λ h. h.before) c.reset_counts.ensures ∙ ap (λ v. v.total) c.self.view_is
+
+pub returns-then-not-insert_plain-clause-total : goal.returns-then-not-insert_plain-clause-total
+returns-then-not-insert_plain-clause-total c =
+    let h = c.insert_plain.new.heap in
+    ap (λ t. with_work t h.comparisons h.moves) (begun (goal.at.returns-then-not-insert_plain-clause-total c).After-insert_plain)
+
+pub returns-clause-total : goal.returns-clause-total
+returns-clause-total c =
+    let h = c.insert_plain.new.heap in
+    ap (λ t. with_work t h.comparisons h.moves) (begun (goal.at.returns-clause-total c).After-insert_plain)

@@ -3,6 +3,7 @@ use Rattle.std.specs.Cmp.{int_eq_equiv}
 use Rattle.ss_events.specs.HeapEntries.{HeapEntries, all_of, AreAfterHeads}
 use Rattle.ss_world.specs.PendingList.{without_notice}
 use Rattle.ss_events.specs.InOrder.{in_order}
+use Rattle.ss_events.specs.CountedList.{with_work}
 use Rattle.ss_events.specs.Sifting.{IsLogarithmic}
 use Rattle.ss_events.proofs.Agendas.{next-none, after_next-none, next-first, after_next-first, agenda-taken, in_order-taken, work_of}
 use Rattle.ss_events.proofs.pending.Pending.take.Goals as goal
@@ -62,3 +63,13 @@ returns-clause-comparisons c = (work c).comparisons
 
 pub returns-clause-moves : goal.returns-clause-moves
 returns-clause-moves c = (work c).moves
+
+pub returns-then-len-eq0-clause-total : goal.returns-then-len-eq0-clause-total
+returns-then-len-eq0-clause-total c =
+    let h = c.reset_counts.new.self in
+    ap (λ t. with_work t h.comparisons h.moves) (ap (λ h. h.before) c.reset_counts.ensures ∙ ap (λ v. v.total) c.self.view_is)
+
+pub returns-clause-total : goal.returns-clause-total
+returns-clause-total c =
+    let h = c.take_out.new.heap in
+    ap (λ t. with_work t h.comparisons h.moves) (c.take_out.ensures.before ∙ ap (λ h. h.before) c.reset_counts.ensures ∙ ap (λ v. v.total) c.self.view_is)

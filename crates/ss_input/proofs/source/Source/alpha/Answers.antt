@@ -10,31 +10,31 @@ use Rattle.ss_input.proofs.source.Source.alpha.Goals as goal
 
 pub returns-clause-read : goal.returns-clause-read
 returns-clause-read g c x e =
-    reads_moved g.R.FaultyRead.remaining c.args.self.now c.read_alpha-answer.new.self c.remember.new.self (λ input rest. value_given Alpha input ≡ Ok (record { value = Text x; rest = rest })) (sym c.remember.ensures.block) (sym c.remember.ensures.gap) (c.read_alpha-answer.ensures.read x (sym c.remember.ensures.same ∙ e))
+    reads_moved g.R.FaultyRead.remaining c.args.self.now c.read_value-answer.new.self c.remember.new.self (λ input rest. value_given Alpha input ≡ Ok (record { value = Text x; rest = rest })) (sym c.remember.ensures.block) (sym c.remember.ensures.gap) (c.read_value-answer.ensures.read x (sym c.remember.ensures.same ∙ e))
 
 pub returns-clause-fault : goal.returns-clause-fault
 returns-clause-fault g c none kind e =
-    finds_moved g.R.FaultyRead.remaining c.args.self.now c.read_alpha-answer.new.self c.remember.new.self (λ input. value_given Alpha input ≡ Err kind) (sym c.remember.ensures.block) (sym c.remember.ensures.gap) (c.read_alpha-answer.ensures.fault kind (sym c.remember.ensures.same ∙ e))
+    finds_moved g.R.FaultyRead.remaining c.args.self.now c.read_value-answer.new.self c.remember.new.self (λ input. value_given Alpha input ≡ Err kind) (sym c.remember.ensures.block) (sym c.remember.ensures.gap) (c.read_value-answer.ensures.fault kind (sym c.remember.ensures.same ∙ e))
 
 pub returns-clause-lost : goal.returns-clause-lost
 returns-clause-lost g c none e =
-    nothing_found g.R.FaultyRead.remaining c.args.self.now c.read_alpha-answer.new.self c.remember.new.self (sym c.remember.ensures.block) (c.read_alpha-answer.ensures.gives (sym c.remember.ensures.same ∙ e))
+    nothing_found g.R.FaultyRead.remaining c.args.self.now c.read_value-answer.new.self c.remember.new.self (sym c.remember.ensures.block) (c.read_value-answer.ensures.gives (sym c.remember.ensures.same ∙ e))
 
 pub returns-clause-input : goal.returns-clause-input
 returns-clause-input g c none e =
-    failed_once c.read_alpha-answer.result _ _ (sym c.remember.ensures.same ∙ e)
-    (ap (λ (b : BlockSeen g.row.R.Denot). g.R.Faulty.faults b.reader) c.remember.ensures.block ∙ c.read_alpha-answer.ensures.counted)
+    failed_once c.read_value-answer.result _ _ (sym c.remember.ensures.same ∙ e)
+    (ap (λ (b : BlockSeen g.row.R.Denot). g.R.Faulty.faults b.reader) c.remember.ensures.block ∙ c.read_value-answer.ensures.counted)
 
 pub returns-clause-counted : goal.returns-clause-counted
 returns-clause-counted g c none =
-    ap (λ (b : BlockSeen g.row.R.Denot). g.R.Faulty.faults b.reader) c.remember.ensures.block ∙ c.read_alpha-answer.ensures.counted
+    ap (λ (b : BlockSeen g.row.R.Denot). g.R.Faulty.faults b.reader) c.remember.ensures.block ∙ c.read_value-answer.ensures.counted
     ∙ ap (λ a. failures_after a (g.R.Faulty.faults c.args.self.now.block.reader)) (sym c.remember.ensures.same)
 
 pub returns-clause-never_falls : goal.returns-clause-never_falls
 returns-clause-never_falls g c =
-    never_falls c.read_alpha-answer.result _ _
-    (ap (λ (b : BlockSeen g.row.R.Denot). g.R.Faulty.faults b.reader) c.remember.ensures.block ∙ c.read_alpha-answer.ensures.counted)
+    never_falls c.read_value-answer.result _ _
+    (ap (λ (b : BlockSeen g.row.R.Denot). g.R.Faulty.faults b.reader) c.remember.ensures.block ∙ c.read_value-answer.ensures.counted)
 
 pub returns-clause-unasked : goal.returns-clause-unasked
 returns-clause-unasked g c has =
-    ap (λ (b : BlockSeen g.row.R.Denot). b.reader) c.remember.ensures.block ∙ c.read_alpha-answer.ensures.unasked has
+    ap (λ (b : BlockSeen g.row.R.Denot). b.reader) c.remember.ensures.block ∙ c.read_value-answer.ensures.unasked has

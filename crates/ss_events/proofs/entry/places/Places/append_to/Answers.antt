@@ -54,7 +54,7 @@ slots c =
     let s = c.index.result.now.slot in
     let n = to_z w64 (of_z w64 c.args.notice) in
     written c.self.inside.slots c.line_up.new.slots (joined xs p s n c.args.mark)
-    (c.line_up.ensures ∙ ap (λ l. joined l p s n c.args.mark) c.deref_mut.ensures.value)
+    (c.line_up.ensures.slots ∙ ap (λ l. joined l p s n c.args.mark) c.deref_mut.ensures.value)
     (length-joined xs p s n c.args.mark ∙ sym c.self.inside.slots.ok.0)
 
 pub line_up-requires-clause-within : goal.line_up-requires-clause-within

@@ -25,7 +25,7 @@ release-requires-clause-place c =
     let d = c.self.inside.directory in
     let k = c.args.at in
     let h = c.self.invariant in
-    let k_in : k < n = omega (arith, c.requires, ap (λ (l : HeadsAndFollowers). length l.heads) c.self.view_is, long_heads n xs ws ss (omega (arith, h.few))) in
+    let k_in : k < n = omega (arith, c.requires.within, ap (λ (l : HeadsAndFollowers). length l.heads) c.self.view_is, long_heads n xs ws ss (omega (arith, h.few))) in
     let x_is = read_head n f xs ws ss d h k k_in c.index-node.result.now c.index.result.now c.index-node.ensures c.index.ensures in
     let room = room_spare n f xs ws ss d h k k_in (λ none. c.if-next.true (ap (λ (x : Slot). x.next) x_is ∙ none)) in
     omega (arith, room, ap length c.deref_mut-then-next-2.ensures.value, c.deref_mut-then-next-2.ensures.len, c.self.inside.nodes.ok.0)
@@ -40,7 +40,7 @@ release-requires-clause-slot c =
     let d = c.self.inside.directory in
     let k = c.args.at in
     let h = c.self.invariant in
-    let k_in : k < n = omega (arith, c.requires, ap (λ (l : HeadsAndFollowers). length l.heads) c.self.view_is, long_heads n xs ws ss (omega (arith, h.few))) in
+    let k_in : k < n = omega (arith, c.requires.within, ap (λ (l : HeadsAndFollowers). length l.heads) c.self.view_is, long_heads n xs ws ss (omega (arith, h.few))) in
     let y_is = ap (λ (y : HeapNode). y.slot) (read_node n f xs ws ss d h k k_in c.index-node.result.now c.index-node.ensures) in
     omega (arith, y_is, out_slot n f xs ws ss d h k k_in, c.deref_mut-then-next-3.ensures.len, c.self.inside.slots.ok.0)
 
@@ -54,7 +54,7 @@ clear-requires c = λ not_plain_there.
     let d = c.self.inside.directory in
     let k = c.args.at in
     let h = c.self.invariant in
-    let k_in : k < n = omega (arith, c.requires, ap (λ (l : HeadsAndFollowers). length l.heads) c.self.view_is, long_heads n xs ws ss (omega (arith, h.few))) in
+    let k_in : k < n = omega (arith, c.requires.within, ap (λ (l : HeadsAndFollowers). length l.heads) c.self.view_is, long_heads n xs ws ss (omega (arith, h.few))) in
     let y = c.index-node.result.now in
     omega (arith, node_whole n f xs ws ss d h k k_in y (read_node n f xs ws ss d h k k_in y c.index-node.ensures) not_plain_there, c.self.inside.entries.ok.0)
 
@@ -62,7 +62,7 @@ k_in : (c : After-forget) → c.args.at < c.self.inside.count
 k_in c =
     omega (
       arith,
-      c.requires,
+      c.requires.within,
       ap (λ (l : HeadsAndFollowers). length l.heads) c.self.view_is,
       long_heads c.self.inside.count c.self.inside.slots.items c.self.inside.entries.items c.self.inside.nodes.items (omega (arith, c.self.invariant.few)),
     )
@@ -156,9 +156,9 @@ gone c =
 pub invariant_of-self : goal.invariant_of-self
 invariant_of-self c = (gone (goal.at.invariant_of-self c).After-forget).held
 
-pub returns : goal.returns
-returns c =
-    let e = (goal.at.returns c).After-forget in
+pub returns-clause-removed : goal.returns-clause-removed
+returns-clause-removed c =
+    let e = (goal.at.returns-clause-removed c).After-forget in
     let n = c.self.inside.count in
     let f = c.self.inside.free in
     let xs = c.self.inside.slots.items in
@@ -179,3 +179,21 @@ returns c =
       is = λ i. (time i, notice i);
       rest = (gone e).rest;
     })
+
+pub returns-clause-moved : goal.returns-clause-moved
+returns-clause-moved c = elim c.if-next.branch [
+  | then-next w ↦
+      let is = w.counter-is ∙ w.advance.ensures.moved in record {
+        comparisons = ap (λ t. t.comparisons) is;
+        some = omega (arith, ap (λ t. t.moves) is);
+        moves = omega (arith, ap (λ t. t.moves) is);
+        before = ap (λ t. t.before) is;
+      }
+  | else-next w ↦
+      let is = w.counter-is ∙ w.exchange.ensures.moved in record {
+        comparisons = ap (λ t. t.comparisons) is;
+        some = omega (arith, ap (λ t. t.moves) is);
+        moves = omega (arith, ap (λ t. t.moves) is);
+        before = ap (λ t. t.before) is;
+      }
+]

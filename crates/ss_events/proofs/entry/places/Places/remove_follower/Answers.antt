@@ -74,7 +74,7 @@ closed_then c =
     let xs = c.self.inside.slots.items in
     let x = slot_at xs c.in-Some.slot in
     written c.self.inside.slots c.close_up.new.slots (close xs (x.at - following) x.next)
-    (c.close_up.ensures ∙ (λ i. close (c.deref_mut.ensures.value i) ((s_is c i).at - following) (s_is c i).next))
+    (c.close_up.ensures.slots ∙ (λ i. close (c.deref_mut.ensures.value i) ((s_is c i).at - following) (s_is c i).next))
     (closed_long c.self.inside.count c.self.inside.free xs c.self.inside.entries.items c.self.inside.nodes.items c.self.inside.directory c.self.invariant c.in-Some.slot (s_in c) (s_follows c)
     ∙ sym c.self.inside.slots.ok.0)
 

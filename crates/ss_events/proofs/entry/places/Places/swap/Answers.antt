@@ -42,9 +42,9 @@ invariant_of-self c =
     (subst (λ l. AreHeld s.count s.free (exchanged s.nodes.items s.slots.items c.args.a c.args.b) s.entries.items l s.directory) (sym (nodes e))
     (held-swapped s.count s.free s.slots.items s.entries.items s.nodes.items s.directory c.self.invariant c.args.a c.args.b (a_in e) (b_in e)))
 
-pub returns : goal.returns
-returns c =
-    let e = (goal.at.returns c).After-exchange in
+pub returns-clause-swapped : goal.returns-clause-swapped
+returns-clause-swapped c =
+    let e = (goal.at.returns-clause-swapped c).After-exchange in
     let s = c.self.inside in
     let a = c.args.a in
     let b = c.args.b in
