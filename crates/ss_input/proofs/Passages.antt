@@ -1,6 +1,6 @@
 -- Bytes that are passed one after another.
-use Rattle.std.proofs.Common.{◌≡◌, ℕ, ◌+◌, Bool, true, List, [], ◌∷◌, ◌++◌, length, take, drop, slice_set, ◌<◌, Option, Some, None, false, refl, sym, ap, subst, ◌∙◌, arith}
-use Rattle.std.proofs.lemmas.List.{append_assoc, append-nil, length-append, take_more_set}
+use Rattle.std.proofs.Common.{◌≡◌, ℕ, ◌+◌, ◌≤◌, Bool, true, List, [], ◌∷◌, ◌++◌, length, take, drop, slice_set, ◌<◌, Option, Some, None, false, refl, sym, ap, subst, ◌∙◌, arith}
+use Rattle.std.proofs.lemmas.List.{append_assoc, append-nil, length-append, length-take, take_more_set}
 use Rattle.std.proofs.lemmas.List.Folds.{list_all-append}
 use Rattle.std.specs.Io.KnownBytes.{Consumes, Keeps}
 use Rattle.std.specs.List.{list_all}
@@ -78,15 +78,15 @@ gives_after remaining a b c xs h u = record {
   consumes_kept (Some a) (Some b) (Some c) got h k = h ∙ ap (λ t. got ++ t) (sym k)
 
 -- an error of the reader, where all that was buffered passed a test
-pub wants_after : {R : Type 0} (remaining : R → Option (List ℕ)) (passes : ℕ → Bool) (a b c : BlockSeen R) (xs : List ℕ) → Passes remaining a b xs → list_all passes xs ≡ true → Unread remaining b c → (b.left ≡ []) × (b.ended ≡ false) → Wants remaining passes a c
+pub wants_after : {R : Type 0} (remaining : R → Option (List ℕ)) (passes : ℕ → Bool) (before limit : ℕ) (a b c : BlockSeen R) (xs : List ℕ) → Passes remaining a b xs → list_all passes xs ≡ true → before + length xs ≤ limit → Unread remaining b c → (b.left ≡ []) × (b.ended ≡ false) → Wants remaining passes before limit a c
 unfolding gives_after
-wants_after remaining passes a b c xs h all u w =
+wants_after remaining passes before limit a b c xs h all few u w =
     let g = gives_after remaining a b c xs h u in
     record {
       passed = record {
         bytes = xs;
         passes = record { got = h.got; consumed = g.consumed; after_end = g.after_end; same = h.same ∙ ap (λ l. xs ++ l) (sym u.left) };
-        holds = all;
+        holds = (all, few);
       };
       none_left = u.left ∙ w.0;
       goes_on = u.ended ∙ w.1;
@@ -135,3 +135,11 @@ module _ {R : Type 0} (remaining : R → Option (List ℕ)) where
 
   pub word_stays : (a b c : BlockSeen R) (bytes : List ℕ) → WordPassed remaining a b bytes → Passes remaining b c [] → WordPassed remaining a c bytes
   word_stays a b c bytes h g = (subst (Passes remaining a c) (append-nil bytes) (passes_then remaining a b c bytes [] h.0 g), h.1)
+
+  -- ---- where the reader failed
+
+  pub gap_wants : (a b c : BlockSeen R) (before n limit : ℕ) → GapPassed remaining a b before n → n ≤ limit → Unread remaining b c → (b.left ≡ []) × (b.ended ≡ false) → Wants remaining is_separator before limit a c
+  gap_wants a b c before n limit h few u w = wants_after remaining is_separator before limit a b c h.bytes h.passes h.holds.0 (omega (arith, h.holds.1, few)) u w
+
+  pub word_wants : (a b c : BlockSeen R) (word : List ℕ) (n limit : ℕ) → WordPassed remaining a b (take n word) → n ≤ limit → Unread remaining b c → (b.left ≡ []) × (b.ended ≡ false) → Wants remaining is_word_byte 0 limit a c
+  word_wants a b c word n limit h few u w = wants_after remaining is_word_byte 0 limit a b c (take n word) h.0 h.1 (omega (arith, length-take word n, few)) u w

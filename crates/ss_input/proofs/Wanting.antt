@@ -1,64 +1,52 @@
 -- Where the reader failed, more of its bytes were needed.
-use Rattle.std.proofs.Common.{◌≡◌, ℕ, Bool, true, false, not, ◌&&◌, List, [], ◌∷◌, ◌++◌, Option, refl, ap, ◌∙◌}
-use Rattle.std.specs.List.{list_all}
+use Rattle.std.proofs.Common.{◌≡◌, ℕ, ◌+◌, ◌≤◌, List, [], ◌++◌, length, Option, refl, ap, ◌∙◌, arith}
 use Rattle.std.proofs.lemmas.List.{append-nil}
 use Rattle.ss_input.specs.Blocks.{BlockSeen}
-use Rattle.ss_input.specs.Sources.{GapPassed, Wants, Lacks, after}
-use Rattle.ss_input.specs.Words.{is_separator, is_word_byte}
+use Rattle.ss_input.specs.Sources.{GapPassed, Wants, Lacks}
+use Rattle.ss_input.specs.Words.{is_separator, is_word_byte, separator_limit, word_limit}
 use Rattle.ss_input.proofs.Passages.{passes_then}
 
-and-left : (a b : Bool) → (a && b) ≡ true → a ≡ true
-and-left true b e = refl
-and-left false b e = absurd cc
+within : (a b c limit : ℕ) → a + b ≡ c → c ≤ limit → a + b ≤ limit
+within a b c limit e h = omega (arith, e, h)
 
-and-right : (a b : Bool) → (a && b) ≡ true → b ≡ true
-and-right true b e = e
-and-right false b e = absurd cc
-
--- nothing comes after bytes that all pass
-pub after_all : (p : ℕ → Bool) (bs : List ℕ) → list_all p bs ≡ true → after p bs ≡ []
-after_all p [] e = refl
-after_all p (b ∷ bs) e = rw (and-left (p b) (list_all p bs) e) (after_all p bs (and-right (p b) (list_all p bs) e))
-
-no-separator : (b : Bool) → not b ≡ true → b ≡ false
-no-separator true e = absurd cc
-no-separator false e = refl
-
-word_first : (w : List ℕ) → list_all is_word_byte w ≡ true → after is_separator w ≡ w
-word_first [] e = refl
-word_first (x ∷ w) e = rw (no-separator (is_separator x) (and-left (is_word_byte x) (list_all is_word_byte w) e)) refl
-
-after_gap : (gap w : List ℕ) → list_all is_separator gap ≡ true → list_all is_word_byte w ≡ true → after is_separator (gap ++ w) ≡ w
-after_gap [] w s e = word_first w e
-after_gap (b ∷ gap) w s e = rw (and-left (is_separator b) (list_all is_separator gap) s) (after_gap gap w (and-right (is_separator b) (list_all is_separator gap) s) e)
-
--- separators and then the bytes of a word
-pub short_so : (gap w : List ℕ) → list_all is_separator gap ≡ true → list_all is_word_byte w ≡ true → after is_word_byte (after is_separator (gap ++ w)) ≡ []
-short_so gap w s e = ap (after is_word_byte) (after_gap gap w s e) ∙ after_all is_word_byte w e
+none_long : length [] ≤ word_limit
+none_long = omega arith
 
 module _ {R : Type 0} (remaining : R → Option (List ℕ)) where
   -- the reader failed before the word
-  pub lacks_gap : (a c : BlockSeen R) → Wants remaining is_separator a c → Lacks remaining a c
-  lacks_gap a c h =
+  pub lacks_gap : (before : ℕ) (a c : BlockSeen R) → Wants remaining is_separator before separator_limit a c → Lacks remaining before a c
+  lacks_gap before a c h =
       let p = h.passed.passes in
-      let all : a.left ++ p.got ≡ h.passed.bytes = p.same ∙ ap (λ l. h.passed.bytes ++ l) h.none_left ∙ append-nil h.passed.bytes in
       record {
         got = p.got;
         consumed = p.consumed;
         after_end = p.after_end;
-        short = ap (λ l. after is_word_byte (after is_separator l)) all ∙ ap (after is_word_byte) (after_all is_separator h.passed.bytes h.passed.holds);
+        gap = h.passed.bytes;
+        word = [];
+        all = p.same ∙ ap (λ l. h.passed.bytes ++ l) h.none_left;
+        separators = h.passed.holds.0;
+        bytes = refl;
+        few = h.passed.holds.1;
+        short = none_long;
+        none_left = h.none_left;
         goes_on = h.goes_on;
       }
 
   -- and within it
-  pub lacks_word : (a b c : BlockSeen R) (before count : ℕ) → GapPassed remaining a b before count → Wants remaining is_word_byte b c → Lacks remaining a c
-  lacks_word a b c before count g h =
+  pub lacks_word : (before count : ℕ) (a b c : BlockSeen R) → GapPassed remaining a b before count → count ≤ separator_limit → Wants remaining is_word_byte 0 word_limit b c → Lacks remaining before a c
+  lacks_word before count a b c g small h =
       let p = passes_then remaining a b c g.bytes h.passed.bytes g.passes h.passed.passes in
-      let all : a.left ++ p.got ≡ g.bytes ++ h.passed.bytes = p.same ∙ ap (λ l. (g.bytes ++ h.passed.bytes) ++ l) h.none_left ∙ append-nil (g.bytes ++ h.passed.bytes) in
       record {
         got = p.got;
         consumed = p.consumed;
         after_end = p.after_end;
-        short = ap (λ l. after is_word_byte (after is_separator l)) all ∙ short_so g.bytes h.passed.bytes g.holds.0 h.passed.holds;
+        gap = g.bytes;
+        word = h.passed.bytes;
+        all = p.same ∙ ap (λ l. (g.bytes ++ h.passed.bytes) ++ l) h.none_left ∙ append-nil (g.bytes ++ h.passed.bytes);
+        separators = g.holds.0;
+        bytes = h.passed.holds.0;
+        few = within before (length g.bytes) count separator_limit g.holds.1 small;
+        short = h.passed.holds.1;
+        none_left = h.none_left;
         goes_on = h.goes_on;
       }

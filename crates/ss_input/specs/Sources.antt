@@ -1,9 +1,9 @@
 -- What is seen of a source of input data, and what a call of it reads.
-use Rattle.std.specs.Prelude.{◌≡◌, ◌≢◌, ◌⊎◌, ℕ, ◌+◌, Bool, true, false, List, [], ◌∷◌, ◌++◌, length, if◌then◌else◌, Option}
+use Rattle.std.specs.Prelude.{◌≡◌, ◌≢◌, ◌⊎◌, ℕ, ◌+◌, ◌≤◌, Bool, true, false, List, [], ◌∷◌, ◌++◌, length, if◌then◌else◌, Option}
 use Rattle.std.specs.List.{list_all}
 use Rattle.std.specs.Io.KnownBytes.{Consumes}
 use Rattle.ss_input.specs.Blocks.{BlockSeen}
-use Rattle.ss_input.specs.Words.{is_separator, is_word_byte}
+use Rattle.ss_input.specs.Words.{is_separator, is_word_byte, separator_limit, word_limit}
 
 -- the reader gave some bytes, none after its end
 pub record Gives {R : Type 0} (remaining : R → Option (List ℕ)) (old new : BlockSeen R) : Type 0 where
@@ -59,16 +59,25 @@ pub record Unasked {R : Type 0} (passes : ℕ → Bool) (old new : BlockSeen R) 
 abbrev pub HasWord : {R : Type 0} → BlockSeen R → Type 0
 HasWord block = (block.ended ≡ true) ⊎ (after is_word_byte (after is_separator block.left) ≢ [])
 
--- all buffered bytes, and those that the reader gave, pass a test and were passed; it gave no end, and has to be asked for more
-pub record Wants {R : Type 0} (remaining : R → Option (List ℕ)) (passes : ℕ → Bool) (old new : BlockSeen R) : Type 0 where
-  pub passed : Passed remaining old new (λ bytes. list_all passes bytes ≡ true)
+-- A byte more is wanted: all buffered bytes, and those that the reader gave, pass a test and were passed. With so many before them
+-- they are within a limit. The reader gave no end.
+pub record Wants {R : Type 0} (remaining : R → Option (List ℕ)) (passes : ℕ → Bool) (before limit : ℕ) (old new : BlockSeen R) : Type 0 where
+  pub passed : Passed remaining old new (λ bytes. (list_all passes bytes ≡ true) × (before + length bytes ≤ limit))
   pub none_left : new.left ≡ []
   pub goes_on : new.ended ≡ false
 
--- the next word ends neither in the buffered bytes nor in those that the reader gave, and it gave no end
-pub record Lacks {R : Type 0} (remaining : R → Option (List ℕ)) (old new : BlockSeen R) : Type 0 where
+-- A byte more is needed: the buffered bytes, and those that the reader gave, are separators and then bytes of a word, neither too
+-- many, where so many separators came before them. None is buffered any more, and the reader gave no end.
+pub record Lacks {R : Type 0} (remaining : R → Option (List ℕ)) (before : ℕ) (old new : BlockSeen R) : Type 0 where
   pub got : List ℕ
   pub consumed : Consumes (remaining old.reader) (remaining new.reader) got
   pub after_end : old.ended ≡ true → (got ≡ []) × (new.ended ≡ true)
-  pub short : after is_word_byte (after is_separator (old.left ++ got)) ≡ []
+  pub gap : List ℕ
+  pub word : List ℕ
+  pub all : old.left ++ got ≡ gap ++ word
+  pub separators : list_all is_separator gap ≡ true
+  pub bytes : list_all is_word_byte word ≡ true
+  pub few : before + length gap ≤ separator_limit
+  pub short : length word ≤ word_limit
+  pub none_left : new.left ≡ []
   pub goes_on : new.ended ≡ false

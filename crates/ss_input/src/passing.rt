@@ -72,7 +72,7 @@ pub(crate) fn pass_gap<R: FaultyRead>(
     ensures passed { (count : ℕ) → result ≡ Ok (Some count) → GapPassed R.remaining block.old block.new before count × (count ≤ SEPARATOR_LIMIT) × NextIs is_word_byte block.new }
     ensures too_many { result ≡ Ok None → GapPassed R.remaining block.old block.new before (SEPARATOR_LIMIT + 1) }
     ensures gives { OnErr result (Gives R.remaining block.old block.new) }
-    ensures wants { OnErr result (Wants R.remaining is_separator block.old block.new) }
+    ensures wants { OnErr result (Wants R.remaining is_separator before SEPARATOR_LIMIT block.old block.new) }
     ensures counted { R.faults block.new.reader ≡ errors_after result (R.faults block.old.reader) }
     ensures unasked { Suffices is_separator block.old → Unasked is_separator block.old block.new }
     ensures end { KnowsEnd R.remaining block.old → KnowsEnd R.remaining block.new }
@@ -98,7 +98,7 @@ pub(crate) fn pass_word<R: FaultyRead>(
     ensures passed { (count : ℕ) → result ≡ Ok (Some count) → WordPassed R.remaining block.old block.new (take count word.new) × (count ≤ WORD_LIMIT) × NextIs is_separator block.new }
     ensures too_long { result ≡ Ok None → Passed R.remaining block.old block.new (λ bytes. (list_all is_word_byte bytes ≡ true) × (length bytes ≡ WORD_LIMIT + 1)) }
     ensures gives { OnErr result (Gives R.remaining block.old block.new) }
-    ensures wants { OnErr result (Wants R.remaining is_word_byte block.old block.new) }
+    ensures wants { OnErr result (Wants R.remaining is_word_byte 0 WORD_LIMIT block.old block.new) }
     ensures counted { R.faults block.new.reader ≡ errors_after result (R.faults block.old.reader) }
     ensures unasked { Suffices is_word_byte block.old → Unasked is_word_byte block.old block.new }
     ensures end { KnowsEnd R.remaining block.old → KnowsEnd R.remaining block.new }

@@ -9,7 +9,7 @@ ghost use Rattle.ss_input.specs.declared.source.Missed.{Missed as MissedSeen};
 ghost use Rattle.ss_input.specs.Blocks.{KnowsEnd};
 ghost use Rattle.ss_input.specs.Sources.{Gives, GapPassed, NextIs, Suffices, Unasked, HasWord, Wants, Lacks};
 ghost use Rattle.ss_input.specs.Inputs.{source_block, source_gap, source_missed, source_reader, IsFresh, IsBuffered, IsBeforeWord, Reads, Finds, Reaches, missed_of, failures_after};
-ghost use Rattle.ss_input.specs.Words.{is_separator, is_word_byte, is_ended, next_word, value_given};
+ghost use Rattle.ss_input.specs.Words.{is_separator, is_word_byte, separator_limit, is_ended, next_word, value_given};
 
 use crate::block::{Block, ReadFailed};
 use crate::number::{leading_number, number_read, separators};
@@ -29,8 +29,9 @@ pub enum Missed {
 
 /// The words that a reader gives.
 ///
-/// The reader is asked for 4,096 bytes at a time, and only where none is buffered and one is needed. Its
-/// first end is remembered. After a `Missed` every call answers the same and reads nothing.
+/// The reader is asked for 4,096 bytes at a time, and only where none is buffered and one is needed: where it
+/// answers an error, which it may at every read, the clauses `lacks` and `wants` say that a byte more was
+/// needed. Its first end is remembered. After a `Missed` every call answers the same and reads nothing.
 #[derive(Debug, Drop)]
 pub struct Source<R> {
     block: Block<R>,
@@ -95,7 +96,7 @@ impl<R: FaultyRead> Source<R> {
         ensures ok { OnOk result (Reaches R.remaining self.old self.new) }
         ensures fault { (kind : FaultSeen) → result ≡ Err (Missed.Fault kind) → (kind ≡ FaultKind.BadData) × GapPassed R.remaining (source_block self.old) (source_block self.new) (source_gap self.old) 1048577 }
         ensures gives { result ≡ Err Missed.Input → Gives R.remaining (source_block self.old) (source_block self.new) }
-        ensures wants { result ≡ Err Missed.Input → Wants R.remaining is_separator (source_block self.old) (source_block self.new) }
+        ensures wants { result ≡ Err Missed.Input → Wants R.remaining is_separator (source_gap self.old) separator_limit (source_block self.old) (source_block self.new) }
         ensures missed { source_missed self.new ≡ source_missed self.old }
         ensures counted { R.faults (source_reader self.new) ≡ failures_after result (R.faults (source_reader self.old)) }
         ensures unasked { Suffices is_separator (source_block self.old) → Unasked is_separator (source_block self.old) (source_block self.new) }
@@ -117,7 +118,7 @@ impl<R: FaultyRead> Source<R> {
         ensures read { (count : ℕ) → result ≡ Ok count → Reads R.remaining self.old self.new (λ input rest. next_word input ≡ Ok (record { value = take count word.new; rest = rest })) }
         ensures fault { (kind : FaultSeen) → result ≡ Err (Missed.Fault kind) → Finds R.remaining self.old self.new (λ input. next_word input ≡ Err kind) }
         ensures gives { result ≡ Err Missed.Input → Gives R.remaining (source_block self.old) (source_block self.new) }
-        ensures lacks { result ≡ Err Missed.Input → Lacks R.remaining (source_block self.old) (source_block self.new) }
+        ensures lacks { result ≡ Err Missed.Input → Lacks R.remaining (source_gap self.old) (source_block self.old) (source_block self.new) }
         ensures missed { source_missed self.new ≡ source_missed self.old }
         ensures counted { R.faults (source_reader self.new) ≡ failures_after result (R.faults (source_reader self.old)) }
         ensures unasked { HasWord (source_block self.old) → source_reader self.new ≡ source_reader self.old }
@@ -142,7 +143,7 @@ impl<R: FaultyRead> Source<R> {
         ensures read { (number : ℤ) → result ≡ Ok number → Reads R.remaining self.old self.new (λ input rest. value_given Integer input ≡ Ok (record { value = Whole number; rest = rest })) }
         ensures fault { (kind : FaultSeen) → result ≡ Err (Missed.Fault kind) → Finds R.remaining self.old self.new (λ input. value_given Integer input ≡ Err kind) }
         ensures gives { result ≡ Err Missed.Input → Gives R.remaining (source_block self.old) (source_block self.new) }
-        ensures lacks { result ≡ Err Missed.Input → Lacks R.remaining (source_block self.old) (source_block self.new) }
+        ensures lacks { result ≡ Err Missed.Input → Lacks R.remaining (source_gap self.old) (source_block self.old) (source_block self.new) }
         ensures missed { source_missed self.new ≡ source_missed self.old }
         ensures counted { R.faults (source_reader self.new) ≡ failures_after result (R.faults (source_reader self.old)) }
         ensures unasked { HasWord (source_block self.old) → source_reader self.new ≡ source_reader self.old }
@@ -161,7 +162,7 @@ impl<R: FaultyRead> Source<R> {
         ensures read { (text : List ℕ) → result ≡ Ok text → Reads R.remaining self.old self.new (λ input rest. value_given AlphaMode input ≡ Ok (record { value = Text text; rest = rest })) }
         ensures fault { (kind : FaultSeen) → result ≡ Err (Missed.Fault kind) → Finds R.remaining self.old self.new (λ input. value_given AlphaMode input ≡ Err kind) }
         ensures gives { result ≡ Err Missed.Input → Gives R.remaining (source_block self.old) (source_block self.new) }
-        ensures lacks { result ≡ Err Missed.Input → Lacks R.remaining (source_block self.old) (source_block self.new) }
+        ensures lacks { result ≡ Err Missed.Input → Lacks R.remaining (source_gap self.old) (source_block self.old) (source_block self.new) }
         ensures missed { source_missed self.new ≡ source_missed self.old }
         ensures counted { R.faults (source_reader self.new) ≡ failures_after result (R.faults (source_reader self.old)) }
         ensures unasked { HasWord (source_block self.old) → source_reader self.new ≡ source_reader self.old }
@@ -265,7 +266,7 @@ impl<R: FaultyRead> Source<R> {
         ensures fault { source_missed self.old ≡ None → (kind : FaultSeen) → result ≡ Err (Missed.Fault kind) → Finds R.remaining self.old self.new (λ input. value_given Integer input ≡ Err kind) }
         ensures input { source_missed self.old ≡ None → result ≡ Err Missed.Input → HasRisen (R.faults (source_reader self.old)) (R.faults (source_reader self.new)) }
         ensures lost { source_missed self.old ≡ None → result ≡ Err Missed.Input → Finds R.remaining self.old self.new (λ input. Unit {0}) }
-        ensures lacks { source_missed self.old ≡ None → result ≡ Err Missed.Input → Lacks R.remaining (source_block self.old) (source_block self.new) }
+        ensures lacks { source_missed self.old ≡ None → result ≡ Err Missed.Input → Lacks R.remaining (source_gap self.old) (source_block self.old) (source_block self.new) }
         ensures missed { source_missed self.old ≡ None → source_missed self.new ≡ missed_of result }
         ensures counted { source_missed self.old ≡ None → R.faults (source_reader self.new) ≡ failures_after result (R.faults (source_reader self.old)) }
         ensures never_falls { HasRisenBy 0 (R.faults (source_reader self.old)) (R.faults (source_reader self.new)) }
@@ -295,7 +296,7 @@ impl<R: FaultyRead> Source<R> {
         ensures fault { source_missed self.old ≡ None → (kind : FaultSeen) → result ≡ Err (Missed.Fault kind) → Finds R.remaining self.old self.new (λ input. value_given AlphaMode input ≡ Err kind) }
         ensures input { source_missed self.old ≡ None → result ≡ Err Missed.Input → HasRisen (R.faults (source_reader self.old)) (R.faults (source_reader self.new)) }
         ensures lost { source_missed self.old ≡ None → result ≡ Err Missed.Input → Finds R.remaining self.old self.new (λ input. Unit {0}) }
-        ensures lacks { source_missed self.old ≡ None → result ≡ Err Missed.Input → Lacks R.remaining (source_block self.old) (source_block self.new) }
+        ensures lacks { source_missed self.old ≡ None → result ≡ Err Missed.Input → Lacks R.remaining (source_gap self.old) (source_block self.old) (source_block self.new) }
         ensures missed { source_missed self.old ≡ None → source_missed self.new ≡ missed_of result }
         ensures counted { source_missed self.old ≡ None → R.faults (source_reader self.new) ≡ failures_after result (R.faults (source_reader self.old)) }
         ensures never_falls { HasRisenBy 0 (R.faults (source_reader self.old)) (R.faults (source_reader self.new)) }
@@ -314,7 +315,7 @@ impl<R: FaultyRead> Source<R> {
         ensures read { (ended : Bool) → result ≡ Ok ended → Reads R.remaining self.old self.new (λ input rest. (rest ≡ input) × (is_ended input ≡ Ok ended)) }
         ensures fault { (kind : FaultSeen) → result ≡ Err (Missed.Fault kind) → Finds R.remaining self.old self.new (λ input. is_ended input ≡ Err kind) }
         ensures gives { result ≡ Err Missed.Input → Gives R.remaining (source_block self.old) (source_block self.new) }
-        ensures wants { result ≡ Err Missed.Input → Wants R.remaining is_separator (source_block self.old) (source_block self.new) }
+        ensures wants { result ≡ Err Missed.Input → Wants R.remaining is_separator (source_gap self.old) separator_limit (source_block self.old) (source_block self.new) }
         ensures missed { source_missed self.new ≡ source_missed self.old }
         ensures counted { R.faults (source_reader self.new) ≡ failures_after result (R.faults (source_reader self.old)) }
         ensures unasked { Suffices is_separator (source_block self.old) → Unasked is_separator (source_block self.old) (source_block self.new) }
@@ -337,7 +338,7 @@ impl<R: FaultyRead> Source<R> {
         ensures fault { source_missed self.old ≡ None → (kind : FaultSeen) → result ≡ Err (Missed.Fault kind) → Finds R.remaining self.old self.new (λ input. is_ended input ≡ Err kind) }
         ensures input { source_missed self.old ≡ None → result ≡ Err Missed.Input → HasRisen (R.faults (source_reader self.old)) (R.faults (source_reader self.new)) }
         ensures lost { source_missed self.old ≡ None → result ≡ Err Missed.Input → Finds R.remaining self.old self.new (λ input. Unit {0}) }
-        ensures wants { source_missed self.old ≡ None → result ≡ Err Missed.Input → Wants R.remaining is_separator (source_block self.old) (source_block self.new) }
+        ensures wants { source_missed self.old ≡ None → result ≡ Err Missed.Input → Wants R.remaining is_separator (source_gap self.old) separator_limit (source_block self.old) (source_block self.new) }
         ensures missed { source_missed self.old ≡ None → source_missed self.new ≡ missed_of result }
         ensures counted { source_missed self.old ≡ None → R.faults (source_reader self.new) ≡ failures_after result (R.faults (source_reader self.old)) }
         ensures never_falls { HasRisenBy 0 (R.faults (source_reader self.old)) (R.faults (source_reader self.new)) }

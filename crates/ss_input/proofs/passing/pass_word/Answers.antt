@@ -1,11 +1,11 @@
-use Rattle.std.proofs.Common.{rules, arith, length, take, ◌≡◌, ◌<◌, ◌∷◌, ◌++◌, [], true, refl, subst, ◌∙◌}
+use Rattle.std.proofs.Common.{rules, arith, length, take, ◌≡◌, ◌≤◌, ◌<◌, ◌∷◌, ◌++◌, [], true, refl, subst, ◌∙◌}
 use Rattle.std.proofs.lemmas.List.{length-append}
 use Rattle.std.proofs.lemmas.Result.{err_from_is_err_and}
 use Rattle.std.proofs.lemmas.List.Folds.{list_all-append}
 use Rattle.ss_input.specs.Sources.{Passes, WordPassed, NextIs}
 use Rattle.ss_input.specs.Words.{is_separator, is_word_byte}
 use Rattle.ss_input.proofs.Asked.{unasked_then}
-use Rattle.ss_input.proofs.Passages.{word_more, word_stays, passes_then, gives_after, wants_after}
+use Rattle.ss_input.proofs.Passages.{word_more, word_stays, passes_then, gives_after, word_wants}
 use Rattle.ss_input.proofs.passing.pass_word.Goals as goal
 
 pub loop-count-preserved : goal.loop-count-preserved
@@ -54,4 +54,5 @@ returns-in_err-pass_word_byte-clause-gives g c =
 pub returns-in_err-pass_word_byte-clause-wants : goal.returns-in_err-pass_word_byte-clause-wants
 returns-in_err-pass_word_byte-clause-wants g c =
     let e = err_from_is_err_and c.from_residual-in_err-pass_word_byte.result c.from_residual-in_err-pass_word_byte.ensures.1 in
-    rw e.1 (wants_after g.R.FaultyRead.remaining is_word_byte c.args.block.now c.loop-count.block c.pass_word_byte-2.new.block (take c.loop-count.count c.loop-count.word) c.loop-count.invariant.passed.0 c.loop-count.invariant.passed.1 c.in_err-pass_word_byte.ensures.unread c.in_err-pass_word_byte.ensures.wanted)
+    let at_most : c.loop-count.count ≤ 64 = omega (arith, c.loop-count.auto.count-end) in
+    rw e.1 (word_wants g.R.FaultyRead.remaining c.args.block.now c.loop-count.block c.pass_word_byte-2.new.block c.loop-count.word c.loop-count.count 64 c.loop-count.invariant.passed at_most c.in_err-pass_word_byte.ensures.unread c.in_err-pass_word_byte.ensures.wanted)

@@ -4,7 +4,7 @@ use Rattle.ss_input.specs.declared.source.Missed.TheVariants.{Fault, Input}
 use Rattle.ss_input.specs.declared.source.Source.{Source}
 use Rattle.ss_input.specs.Blocks.{first_input_byte}
 use Rattle.ss_input.specs.Words.{next_word, leading_word}
-use Rattle.ss_input.specs.Inputs.{Reaches, Reads, Finds, source_block}
+use Rattle.ss_input.specs.Inputs.{Reaches, Reads, Finds, source_block, source_gap}
 use Rattle.ss_input.proofs.Reached.{too_many_found, none_found, word_found, too_long_found, finds_so}
 use Rattle.ss_input.proofs.Asked.{gap_unasked, word_unasked}
 use Rattle.ss_input.proofs.Passages.{gives_then}
@@ -78,9 +78,9 @@ returns-in-Err-clause-unasked g c =
 pub returns-in_err-reach_word-clause-lacks : goal.returns-in_err-reach_word-clause-lacks
 returns-in_err-reach_word-clause-lacks g c e =
     let same : c.reach_word.result ≡ Err Input = search rules in
-    lacks_gap g.R.FaultyRead.remaining (source_block c.args.self.now) (source_block c.reach_word.new.self) (c.reach_word.ensures.wants same)
+    lacks_gap g.R.FaultyRead.remaining (source_gap c.args.self.now) (source_block c.args.self.now) (source_block c.reach_word.new.self) (c.reach_word.ensures.wants same)
 
 pub returns-in-Err-clause-lacks : goal.returns-in-Err-clause-lacks
 returns-in-Err-clause-lacks g c e =
     let reached : Reaches g.R.FaultyRead.remaining c.args.self.now c.reach_word.new.self = search rules in
-    lacks_word g.R.FaultyRead.remaining (source_block c.args.self.now) (source_block c.reach_word.new.self) c.pass_word.new.block _ _ reached.passed c.in-Err.ensures.wants
+    lacks_word g.R.FaultyRead.remaining (source_gap c.args.self.now) (source_gap c.reach_word.new.self) (source_block c.args.self.now) (source_block c.reach_word.new.self) c.pass_word.new.block reached.passed reached.small c.in-Err.ensures.wants
