@@ -1,4 +1,4 @@
-pub mod Sayings
-pub mod Examples
+pub mod Declarations
+pub mod Earliest
 pub mod Firsts
 pub use Rattle.ss_base.specs.Spellings

@@ -1,0 +1,113 @@
+//! The uses in heads of loops.
+
+ghost use Rattle.std.specs.Prelude.{◌≡◌, ◌++◌, map, IfOk};
+ghost use Rattle.std.specs.List.{flat_map};
+ghost use Rattle.ss_tree.specs.View.{view_head, view_loop_head, view_phrase, view_start};
+ghost use Rattle.ss_names_uses.specs.Uses.{in_head, in_loop_head, in_phrase, in_start, loop_variable};
+
+use crate::conditions::add_condition;
+use crate::expressions::{add, add_expression, add_maybe, add_place};
+use crate::used::{ClassNeed, Role, Use, Used};
+use ss_base::{Line, Name};
+use ss_tree::expression::Designator;
+use ss_tree::head::{Head, LoopHead, MemberStart, Phrase};
+use std::alloc::AllocError;
+
+// Adds the use of the variable of a loop, which takes numbers.
+fn add_variable(into: &mut Vec<Use>, line: Line, variable: Name) -> Result<(), AllocError>
+    ensures { IfOk result (λ _. into.new.items ≡ into.old.items ++ loop_variable line variable) }
+{
+    let variable = Used::Place {
+        role: Role::LoopVariable,
+        place: Designator::Name(variable),
+        subscripts: 0,
+        number: true,
+    };
+    add(into, line, variable)
+}
+
+// Adds the uses of the member with which a loop begins.
+fn add_start(into: &mut Vec<Use>, line: Line, start: &MemberStart) -> Result<(), AllocError>
+    ensures { IfOk result (λ _. into.new.items ≡ into.old.items ++ in_start line (view_start start.now)) }
+{
+    match start {
+        MemberStart::End => Ok(()),
+        MemberStart::From(member) | MemberStart::After(member) => {
+            add_expression(into, line, true, member)
+        }
+    }
+}
+
+// Adds the uses of the phrases of a FOR.
+fn add_phrases(into: &mut Vec<Use>, line: Line, phrases: &[Phrase]) -> Result<(), AllocError>
+    ensures { IfOk result (λ _. into.new.items ≡ into.old.items ++ flat_map (in_phrase line) (map view_phrase phrases.now)) }
+{
+    for phrase in phrases {
+        add_condition(into, line, &phrase.condition)?;
+    }
+    Ok(())
+}
+
+/// Adds the uses of the head of a FOR.
+pub fn add_head(into: &mut Vec<Use>, line: Line, head: &Head) -> Result<(), AllocError>
+    ensures { IfOk result (λ _. into.new.items ≡ into.old.items ++ in_head line (view_head head.now)) }
+{
+    match head {
+        Head::Range {
+            variable,
+            from,
+            to,
+            step,
+            phrases,
+        } => {
+            add_variable(into, line, *variable)?;
+            add_expression(into, line, true, from)?;
+            add_expression(into, line, true, to)?;
+            add_maybe(into, line, step)?;
+            add_phrases(into, line, phrases)
+        }
+        Head::Members {
+            variable,
+            set,
+            start,
+            phrases,
+            ..
+        } => {
+            add_variable(into, line, *variable)?;
+            add_place(into, line, Role::Set, false, set)?;
+            add_start(into, line, start)?;
+            add_phrases(into, line, phrases)
+        }
+        Head::Class {
+            class,
+            called,
+            phrases,
+        } => {
+            let each = Used::Class {
+                need: ClassNeed::Permanent,
+                class: *class,
+                called: called.is_some(),
+            };
+            add(into, line, each)?;
+            if let Some(variable) = called {
+                add_variable(into, line, *variable)?;
+            }
+            add_phrases(into, line, phrases)
+        }
+    }
+}
+
+/// Adds the uses of the head of a loop.
+pub fn add_loop_head(into: &mut Vec<Use>, line: Line, head: &LoopHead) -> Result<(), AllocError>
+    ensures { IfOk result (λ _. into.new.items ≡ into.old.items ++ in_loop_head line (view_loop_head head.now)) }
+{
+    match head {
+        LoopHead::For(head) => add_head(into, line, head),
+        LoopHead::Guards(guards) => {
+            for guard in guards {
+                add_condition(into, line, &guard.condition)?;
+            }
+            Ok(())
+        }
+    }
+}
