@@ -1,0 +1,233 @@
+-- One table of what a program declares. Each thing is numbered by its place in a list.
+use Rattle.std.specs.Prelude.{ℕ, ◌+◌, ◌++◌, ◌==◌, ◌&&◌, Bool, true, false, not, List, [], ◌∷◌, map, length, Option, Some, None, is_some, if◌then◌else◌, slice_get, nat_lt}
+use Rattle.std.specs.List.{flat_map}
+use Rattle.std.specs.Map.{keys_of, values_of}
+use Rattle.std.specs.Option.{option_map}
+use Rattle.ss_base.specs.declared.line.Line.{Line}
+use Rattle.ss_base.specs.Lines.{line_if}
+use Rattle.ss_base.specs.declared.layout.Mode.{Mode}
+use Rattle.ss_base.specs.declared.layout.ClassKind.{ClassKind}
+use Rattle.ss_base.specs.declared.layout.ClassKind.TheVariants.{Permanent}
+use Rattle.ss_base.specs.declared.layout.Owner.{Owner}
+use Rattle.ss_base.specs.declared.layout.Owner.TheVariants as owners
+use Rattle.ss_program.specs.declared.expression.Fold.{Fold}
+use Rattle.ss_program.specs.declared.expression.Fold.TheVariants as folds
+use Rattle.ss_program.specs.declared.expression.SetQuery.TheVariants.{FirstMember, LastMember, MemberCount}
+use Rattle.ss_program.specs.declared.expression.MemberQuery.TheVariants.{Predecessor, Successor, Membership}
+use Rattle.ss_program.specs.declared.expression.Variable.TheVariants.{Global}
+use Rattle.ss_program.specs.declared.sections.Subject.{Subject}
+use Rattle.ss_program.specs.declared.sections.Subject.TheVariants as subjects
+use Rattle.ss_tree.specs.Names.{NameBytes}
+use Rattle.ss_tree.specs.Tree.{ProgramTree}
+use Rattle.ss_tree.specs.declared.preamble.StatisticKind.{StatisticKind}
+use Rattle.ss_tree.specs.declared.preamble.StatisticKind.TheVariants as kinds
+use Rattle.ss_tree.specs.declared.preamble.Weighting.{Weighting}
+use Rattle.ss_names_declarations.specs.Declarations.{declarations}
+use Rattle.ss_names_declarations.specs.Earliest.{earliest}
+use Rattle.ss_names_declarations.specs.Firsts.{entry_if, firsts, place_among, place_in, value_for}
+use Rattle.ss_names_declarations.specs.declared.declaration.Declared.{Declared}
+use Rattle.ss_names_declarations.specs.declared.declaration.Declared.TheVariants as d
+use Rattle.ss_names_declarations.specs.declared.declaration.Declaration.{Declaration}
+use Rattle.ss_names.specs.declared.entry.Attribute.{Attribute}
+use Rattle.ss_names.specs.declared.entry.Set.{Set}
+use Rattle.ss_names.specs.declared.entry.RoutineSection.{RoutineSection}
+use Rattle.ss_names.specs.declared.entry.EventSection.{EventSection}
+use Rattle.ss_names.specs.declared.entry.RankedBy.{RankedBy}
+use Rattle.ss_names.specs.declared.entry.TiedBy.{TiedBy}
+use Rattle.ss_names.specs.declared.meaning.Meaning.{Meaning}
+use Rattle.ss_names.specs.declared.meaning.Meaning.TheVariants as m
+use Rattle.ss_names.specs.Entries.{attributes, classes, count_name, events, fields, given_by, histories, modes, rank_key_by, ranks, routines, set_names, sets, tie_key_by, usual_mode, variables}
+use Rattle.ss_names.specs.Modes.{value_mode}
+
+pub record Table : Type 0 where
+  -- each global and derived name, with what it means
+  pub meanings : List (NameBytes × Meaning)
+  -- the first line where a name is declared as two things
+  pub clash : Option Line
+  -- the mode that NORMALLY gives
+  pub usual : Option Mode
+  -- the modes that DEFINEs give
+  pub modes : List (NameBytes × Mode)
+  pub classes : List (NameBytes × ClassKind)
+  pub attributes : List (NameBytes × Attribute)
+  -- the attributes of each class
+  pub fields : List (List NameBytes)
+  pub set_names : List NameBytes
+  pub sets : List Set
+  -- the global variables
+  pub variables : List (NameBytes × Mode)
+  pub routines : List (NameBytes × RoutineSection)
+  pub events : List (NameBytes × EventSection)
+  -- the classes of notices in the order of rank
+  pub ranks : List ℕ
+  -- the subjects of TALLY and ACCUMULATE, each of which has a history, and what they are
+  pub histories : List (NameBytes × Weighting)
+  pub subjects : List (Option Subject)
+  pub rank_keys : List RankedBy
+  pub tie_keys : List TiedBy
+
+-- ---- what is declared of names
+
+-- a derived name of a set: a letter, a period and its name
+abbrev pub derived_name : ℕ → NameBytes → NameBytes
+derived_name letter name = letter ∷ 46 ∷ name
+
+-- a set, and F., L., N., P., S. and M. of it
+abbrev pub set_meanings : NameBytes → Option ℕ → List (NameBytes × Meaning)
+set_meanings name None = []
+set_meanings name (Some set) =
+    (name, m.Set set)
+    ∷ (derived_name 70 name, m.OfSet FirstMember set)
+    ∷ (derived_name 76 name, m.OfSet LastMember set)
+    ∷ (derived_name 78 name, m.OfSet MemberCount set)
+    ∷ (derived_name 80 name, m.OfMember Predecessor set)
+    ∷ (derived_name 83 name, m.OfMember Successor set)
+    ∷ (derived_name 77 name, m.OfMember Membership set)
+    ∷ []
+
+-- N. of a permanent class
+abbrev pub count_meaning : ClassKind → NameBytes → ℕ → Option ℕ → List (NameBytes × Meaning)
+count_meaning Permanent name class (Some variable) =
+    (count_name name, m.Count (record { class = class; variable = variable })) ∷ []
+count_meaning _ name class _ = []
+
+-- a class and its variable, and N. of it where it is permanent
+abbrev pub class_meanings : List Declaration → NameBytes → Option ℕ → Option ClassKind → Option ℕ → List (NameBytes × Meaning)
+class_meanings ds name (Some class) (Some kind) (Some variable) =
+    (name, m.Class class kind variable) ∷ count_meaning kind name class (place_in (variables ds) (count_name name))
+class_meanings ds name _ _ _ = []
+
+abbrev pub attribute_meaning : Attribute → Meaning
+attribute_meaning a = m.Attribute a.class a.field a.mode
+
+-- a DEFINE of an attribute gives its mode and declares nothing
+abbrev pub variable_meaning : List Declaration → NameBytes → Mode → Option Meaning
+variable_meaning ds name mode =
+    if is_some (value_for (attributes ds) name) then None
+    else option_map (λ n. m.Variable (Global n) mode) (place_in (variables ds) name)
+
+-- the fold of a statistic; a MEAN has none
+abbrev pub fold_of : StatisticKind → Option Fold
+fold_of kinds.Number = Some folds.Number
+fold_of kinds.Sum = Some folds.Sum
+fold_of kinds.Maximum = Some folds.Maximum
+fold_of kinds.Minimum = Some folds.Minimum
+fold_of kinds.Mean = None
+
+-- the names that a declaration declares, and what they mean; a set is declared by its owner and by its members
+abbrev pub declares : List Declaration → Declared → List (NameBytes × Meaning)
+declares ds (d.Class name kind) =
+    class_meanings ds name (place_in (classes ds) name) (value_for (classes ds) name) (place_in (variables ds) name)
+declares ds (d.Attribute name class) = entry_if name (option_map attribute_meaning (value_for (attributes ds) name))
+declares ds (d.Owner name class) = set_meanings name (place_among (set_names ds) name)
+declares ds (d.Member name class) = set_meanings name (place_among (set_names ds) name)
+declares ds (d.Variable name mode) = entry_if name (variable_meaning ds name (value_mode mode))
+declares ds (d.Statistic name kind subject) =
+    entry_if name (option_map (m.Statistic (fold_of kind)) (place_in (histories ds) subject))
+declares ds (d.Routine name section given yielding) = entry_if name (option_map m.Routine (place_in (routines ds) name))
+declares ds _ = []
+
+-- each global and derived name, with what it means by its first declaration
+abbrev pub meanings : List Declaration → List (NameBytes × Meaning)
+meanings ds = firsts (given_by (declares ds) ds)
+
+-- ---- names that are declared twice
+
+-- a name that a declaration declares, what it means by it, and the line
+pub record Entered : Type 0 where
+  pub line : Line
+  pub name : NameBytes
+  pub meaning : Meaning
+
+abbrev pub entered_by : List Declaration → Declaration → List Entered
+entered_by ds x = map (λ e. record { line = x.line; name = e.0; meaning = e.1 }) (declares ds x.what)
+
+-- what a set's owner and its members' class both declare
+abbrev pub is_of_set : Meaning → Bool
+is_of_set (m.Set set) = true
+is_of_set (m.OfSet query set) = true
+is_of_set (m.OfMember query set) = true
+is_of_set _ = false
+
+-- whether a name that means the one is declared as another
+abbrev pub is_another : Option Meaning → Meaning → Bool
+is_another None new = false
+is_another (Some old) new = not (is_of_set new && old == new)
+
+-- the lines where a name is declared that means something by the declarations before it
+abbrev pub clashes_after : List (NameBytes × Meaning) → List Entered → List Line
+clashes_after before [] = []
+clashes_after before (e ∷ es) =
+    line_if (is_another (value_for before e.name) e.meaning) e.line
+    ++ clashes_after (before ++ (e.name, e.meaning) ∷ []) es
+
+abbrev pub clashes : List Declaration → List Line
+clashes ds = clashes_after [] (flat_map (entered_by ds) ds)
+
+-- whether a line comes before another
+abbrev pub is_above : Line → Line → Bool
+is_above a b = nat_lt a.0 b.0
+
+-- ---- subjects of statistics
+
+-- what may have a history: a variable of a DEFINE, an attribute, or N. of a set
+abbrev pub subject_of : Option Meaning → Option Subject
+subject_of (Some (m.Variable (Global n) mode)) = Some (subjects.OfVariable n)
+subject_of (Some (m.Attribute class field mode)) = Some (subjects.OfAttribute class field)
+subject_of (Some (m.OfSet MemberCount set)) = Some (subjects.OfCount set)
+subject_of _ = None
+
+-- ---- the table
+
+abbrev pub declared : List Declaration → Table
+declared ds = record {
+  meanings = meanings ds;
+  clash = earliest is_above (clashes ds);
+  usual = usual_mode ds;
+  modes = modes ds;
+  classes = classes ds;
+  attributes = attributes ds;
+  fields = fields ds;
+  set_names = set_names ds;
+  sets = sets ds;
+  variables = variables ds;
+  routines = routines ds;
+  events = events ds;
+  ranks = ranks ds;
+  histories = histories ds;
+  subjects = map (λ name. subject_of (value_for (meanings ds) name)) (keys_of (histories ds));
+  rank_keys = given_by rank_key_by ds;
+  tie_keys = given_by tie_key_by ds;
+}
+
+-- the table of a program
+abbrev pub table : ProgramTree → Table
+table p = declared (declarations p)
+
+-- ---- who has what a name means
+
+abbrev pub owner_or_system : Option Owner → Owner
+owner_or_system None = owners.System
+owner_or_system (Some owner) = owner
+
+abbrev pub owner_of_set : Option Set → Owner
+owner_of_set None = owners.System
+owner_of_set (Some set) = owner_or_system set.owner
+
+abbrev pub owner_of_member : Option Set → Owner
+owner_of_member None = owners.System
+owner_of_member (Some set) = owner_or_system (option_map owners.Class set.member)
+
+abbrev pub owner_of_subject : Table → Option (Option Subject) → Owner
+owner_of_subject t (Some (Some (subjects.OfAttribute class field))) = owners.Class class
+owner_of_subject t (Some (Some (subjects.OfCount set))) = owner_of_set (slice_get t.sets set)
+owner_of_subject t _ = owners.System
+
+-- who has what a name means: each entity of a class, or else THE SYSTEM. A statistic is its subject's.
+abbrev pub owner_of : Table → Meaning → Owner
+owner_of t (m.Attribute class field mode) = owners.Class class
+owner_of t (m.Set set) = owner_of_set (slice_get t.sets set)
+owner_of t (m.OfSet query set) = owner_of_set (slice_get t.sets set)
+owner_of t (m.OfMember query set) = owner_of_member (slice_get t.sets set)
+owner_of t (m.Statistic fold statistic) = owner_of_subject t (slice_get t.subjects statistic)
+owner_of t _ = owners.System

@@ -1,0 +1,2 @@
+pub mod Locals
+pub mod Scopes

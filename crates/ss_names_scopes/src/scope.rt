@@ -1,0 +1,102 @@
+//! What a name means in a section.
+
+ghost use Rattle.std.specs.Prelude.{◌≡◌};
+ghost use Rattle.ss_names_scopes.specs.Scopes.{mode_of, variable_of};
+
+use crate::locals::Locals;
+use ss_base::{Mode, Name, Owner};
+use ss_names::{Meaning, Names};
+use ss_program::expression::Variable;
+use ss_tree::expression::Designator;
+use std::marker::Model;
+
+/// A section of a program: the table, the local variables of the section, and those of all sections.
+#[derive(Clone, Copy)]
+pub struct Scope<'a> {
+    pub names: &'a Names,
+    pub locals: &'a Locals,
+    pub sections: &'a [Locals],
+}
+
+/// The mode of what a name means; a set and a routine have none.
+pub fn mode_of(meaning: Meaning) -> Option<Mode>
+    ensures { result ≡ mode_of meaning }
+{
+    match meaning {
+        Meaning::Variable { mode, .. } | Meaning::Attribute { mode, .. } => Some(mode),
+        Meaning::Set { .. } | Meaning::Routine { .. } => None,
+        Meaning::Class { .. }
+        | Meaning::Count { .. }
+        | Meaning::OfSet { .. }
+        | Meaning::OfMember { .. }
+        | Meaning::Statistic { .. }
+        | Meaning::Clock
+        | Meaning::NoticeTime => Some(Mode::Integer),
+    }
+}
+
+/// The variable that a name means: a local or a global one, or that of a class.
+pub fn variable_of(meaning: Meaning) -> Option<Variable>
+    ensures { result ≡ variable_of meaning }
+{
+    match meaning {
+        Meaning::Variable { variable, .. } => Some(variable),
+        Meaning::Class { variable, .. } => Some(Variable::Global { number: variable }),
+        _ => None,
+    }
+}
+
+impl<'a> Scope<'a> {
+    /// What a name means in the section: a local variable hides what it means in the whole program.
+    pub fn meaning_of_name(&self, name: &Name) -> Option<Meaning> {
+        match self.locals.number(name) {
+            Some(number) => {
+                let mode = match self.locals.mode_at(number) {
+                    Some(Some(mode)) => mode,
+                    Some(None) | None => Mode::Integer,
+                };
+                Some(Meaning::Variable {
+                    variable: Variable::Local { number },
+                    mode,
+                })
+            }
+            None => self.names.meaning(name),
+        }
+    }
+
+    /// What is named.
+    pub fn meaning(&self, place: Designator) -> Option<Meaning> {
+        match place {
+            Designator::Name(name) => self.meaning_of_name(&name),
+            Designator::TimeV => Some(Meaning::Clock),
+            Designator::TimeA => Some(Meaning::NoticeTime),
+        }
+    }
+
+    /// What the name of a class means in the section: the variable that has an entity of the class where none is named.
+    pub fn meaning_of_class(&self, class: usize) -> Option<Meaning> {
+        match self.names.classes.keys().get(class) {
+            Some(name) => self.meaning_of_name(name),
+            None => None,
+        }
+    }
+
+    /// The variable that has the entity of what a name means, where no subscript is written. None where it is of no entity.
+    pub fn implied(&self, meaning: Meaning) -> Option<Meaning> {
+        match self.names.owner_of(meaning) {
+            Owner::Class(class) => self.meaning_of_class(class),
+            Owner::System => None,
+        }
+    }
+
+    /// The mode of the parameter of a routine of this number, the given ones before those that it yields.
+    pub fn parameter_mode(&self, section: usize, number: usize) -> Option<Mode> {
+        match self.sections.get(section) {
+            Some(locals) => match locals.mode_at(number) {
+                Some(Some(mode)) => Some(mode),
+                Some(None) | None => None,
+            },
+            None => None,
+        }
+    }
+}
