@@ -1,96 +1,70 @@
-//! The rules in statements of the preamble.
+//! The rules on classes of notices and on subjects of statistics.
 
-ghost use Rattle.std.specs.Prelude.{◌≡◌, map};
-ghost use Rattle.std.specs.List.{flat_map};
-ghost use Rattle.ss_tree.specs.View.{view_preamble};
-ghost use Rattle.ss_check_rules.specs.Events.{declares_eventless, lacks_event};
-ghost use Rattle.ss_check_rules.specs.Lines.{first_of_lines};
-ghost use Rattle.ss_check_rules.specs.Modes.{text_subjects};
-ghost use Rattle.ss_check_rules.specs.Refusal.{in_preamble};
-ghost use Rattle.ss_check_rules.specs.Unknown.{unknown_subjects};
+ghost use Rattle.std.specs.Prelude.{◌≡◌};
 
-use crate::events::{eventless_of, first_eventless};
-use crate::lines::line_if;
-use crate::modes::{differ, global_mode};
-use crate::rule::Rule;
-use crate::unknown::is_known_subject;
+use crate::error::CheckError;
 use ss_base::{Line, Mode, Name};
-use ss_check_scopes::Globals;
-use ss_names_declarations::Keys;
-use ss_tree::preamble::PreambleStatement;
+use ss_names::{Meaning, Names};
+use ss_names_declarations::earlier_of;
+use ss_names_scopes::mode_of;
+use ss_program::expression::SetQuery;
+use ss_tree::preamble::{ClassKind, PreambleStatement};
 
-// The line of a statement that declares a class of notices without an EVENT section.
-fn declares_eventless(events: &Keys<Name>, statement: &PreambleStatement) -> Option<Line>
-    ensures { result ≡ first_of_lines (declares_eventless (lacks_event events.now) (view_preamble statement.now)) }
-{
-    match statement {
-        PreambleStatement::EventNotices { line, included } => {
-            first_eventless(events, *line, included)
+// The breach of a class of notices without an EVENT section.
+fn class_breaks(names: &Names, line: Line, class: &Name) -> Option<CheckError> {
+    if names.events.get(class).is_some() {
+        None
+    } else {
+        Some(CheckError::NoEventRoutine(line))
+    }
+}
+
+// Whether a TALLY or an ACCUMULATE may be of it: a global variable of a DEFINE, an attribute or N. of a set.
+fn may_be_watched(meaning: Meaning) -> bool {
+    match meaning {
+        Meaning::Variable { .. } | Meaning::Attribute { .. } => true,
+        Meaning::OfSet { query, .. } => matches!(query, SetQuery::MemberCount),
+        _ => false,
+    }
+}
+
+// The first of the rules that a subject breaks.
+fn subject_breaks(names: &Names, line: Line, subject: &Name) -> Option<CheckError> {
+    match names.meaning(subject) {
+        Some(meaning) => {
+            if !may_be_watched(meaning) {
+                Some(CheckError::Unknown(line))
+            } else if matches!(mode_of(meaning), Some(Mode::Alpha)) {
+                Some(CheckError::Mode(line))
+            } else {
+                None
+            }
         }
-        PreambleStatement::Every {
-            line,
-            kind,
-            class,
-            ..
-        } => eventless_of(events, *line, *kind, *class),
-        _ => None,
+        None => Some(CheckError::Unknown(line)),
     }
 }
 
-// The line of a TALLY or an ACCUMULATE of what can have none.
-fn unknown_subjects<G: Globals>(globals: &G, statement: &PreambleStatement) -> Option<Line>
-    ensures { result ≡ first_of_lines (unknown_subjects (G.whole globals.now) (view_preamble statement.now)) }
-{
-    match statement {
-        PreambleStatement::Statistics { line, subject, .. } => {
-            line_if(!is_known_subject(globals, *subject), *line)
-        }
-        _ => None,
-    }
-}
-
-// The line of a TALLY or an ACCUMULATE of texts.
-fn text_subjects<G: Globals>(globals: &G, statement: &PreambleStatement) -> Option<Line>
-    ensures { result ≡ first_of_lines (text_subjects (G.whole globals.now) (view_preamble statement.now)) }
-{
-    match statement {
-        PreambleStatement::Statistics { line, subject, .. } => line_if(
-            differ(global_mode(globals, *subject), Some(Mode::Integer)),
-            *line,
-        ),
-        _ => None,
-    }
-}
-
-// The first line in which a statement breaks a rule.
-fn first_in_statement<G: Globals>(
-    globals: &G,
-    events: &Keys<Name>,
-    rule: Rule,
-    statement: &PreambleStatement,
-) -> Option<Line>
-    ensures { result ≡ first_of_lines (in_preamble rule (G.whole globals.now) (lacks_event events.now) (view_preamble statement.now)) }
-{
-    match rule {
-        Rule::NoEventRoutine => declares_eventless(events, statement),
-        Rule::Unknown => unknown_subjects(globals, statement),
-        Rule::Mode => text_subjects(globals, statement),
-        _ => None,
-    }
-}
-
-/// The first line in which a preamble breaks a rule, where EVENT sections have these names; None where it breaks none.
-pub fn first_in_preamble<G: Globals>(
-    globals: &G,
-    events: &Keys<Name>,
-    rule: Rule,
-    preamble: &[PreambleStatement],
-) -> Option<Line>
-    ensures { result ≡ first_of_lines (flat_map (in_preamble rule (G.whole globals.now) (lacks_event events.now)) (map view_preamble preamble.now)) }
-{
+/// What was found so far, or the first rule that a preamble breaks.
+pub fn preamble_breaks(names: &Names, preamble: &[PreambleStatement]) -> Option<CheckError> {
     let mut found = None;
     for statement in preamble {
-        found = found.or(first_in_statement(globals, events, rule, statement));
+        match statement {
+            PreambleStatement::EventNotices { line, included } => {
+                for class in included {
+                    found = earlier_of(found, class_breaks(names, *line, class));
+                }
+            }
+            PreambleStatement::Every {
+                line,
+                kind: ClassKind::EventNotice,
+                class,
+                ..
+            } => found = earlier_of(found, class_breaks(names, *line, class)),
+            PreambleStatement::Statistics { line, subject, .. } => {
+                found = earlier_of(found, subject_breaks(names, *line, subject));
+            }
+            _ => {}
+        }
     }
     found
 }
