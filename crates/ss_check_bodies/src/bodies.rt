@@ -23,7 +23,8 @@ use crate::statements::{
     resolve_subtract,
 };
 use ss_base::Line;
-use ss_names_meaning::{ResolveError, Scope};
+use ss_names_meaning::ResolveError;
+use ss_names_scopes::Scope;
 use ss_program::statement::Statement as Resolved;
 use ss_tree::condition::Condition;
 use ss_tree::head::Head;
@@ -60,15 +61,15 @@ fn no_bodies(alloc: Global) -> Bodies
 
 // An IF around its sides.
 #[tactic(auto, unfolding(ss_program::specs::View::view_statement))]
-fn resolve_if<S: Scope>(
+fn resolve_if(
     alloc: Global,
-    scope: &S,
+    scope: &Scope,
     line: Line,
     condition: &Condition,
     then: Vec<Resolved>,
     otherwise: Vec<Resolved>,
 ) -> Result<Resolved, ResolveError>
-    ensures { Gives view_resolved result (if_over line (S.context scope.now) (view_condition condition.now) (view_body then.items) (view_body otherwise.items)) }
+    ensures { Gives view_resolved result (if_over line scope.now (view_condition condition.now) (view_body then.items) (view_body otherwise.items)) }
 {
     let condition = resolve_condition(alloc, scope, condition)?;
     Ok(Resolved::If {
@@ -80,15 +81,15 @@ fn resolve_if<S: Scope>(
 }
 
 // FIND THE FIRST CASE, where the body for this outcome comes first.
-fn resolve_find_by<S: Scope>(
+fn resolve_find_by(
     alloc: Global,
-    scope: &S,
+    scope: &Scope,
     line: Line,
     head: &Head,
     outcome: FindOutcome,
     bodies: Bodies,
 ) -> Result<Resolved, ResolveError>
-    ensures { Gives view_resolved result (find_by outcome line (S.context scope.now) (view_head head.now) (view_body bodies.first.items) (view_body bodies.second.items)) }
+    ensures { Gives view_resolved result (find_by outcome line scope.now (view_head head.now) (view_body bodies.first.items) (view_body bodies.second.items)) }
 {
     let Bodies { first, second } = bodies;
     match outcome {
@@ -99,13 +100,13 @@ fn resolve_find_by<S: Scope>(
 
 // A statement around its resolved bodies.
 #[tactic(auto, unfolding(ss_names_meaning::specs::Statements::statement, ss_tree::specs::View::view_statement, ss_program::specs::View::view_statement))]
-fn resolve_around<S: Scope>(
+fn resolve_around(
     alloc: Global,
-    scope: &S,
+    scope: &Scope,
     tree: &Statement,
     bodies: Bodies,
 ) -> Result<Resolved, ResolveError>
-    ensures { inner (S.context scope.now) (view_statement tree.now) ≡ Some (bodies_seen bodies) → Gives view_resolved result (statement (S.context scope.now) (view_statement tree.now)) }
+    ensures { inner scope.now (view_statement tree.now) ≡ Some (bodies_seen bodies) → Gives view_resolved result (statement scope.now (view_statement tree.now)) }
 {
     match tree {
         Statement::Let {
@@ -217,12 +218,12 @@ fn resolve_around<S: Scope>(
 // The bodies in a statement.
 #[cycle(nesting)]
 #[tactic(auto, unfolding(ss_tree::specs::View::view_statement))]
-fn resolve_inner<S: Scope>(
+fn resolve_inner(
     alloc: Global,
-    scope: &S,
+    scope: &Scope,
     tree: &Statement,
 ) -> Result<Bodies, ResolveError>
-    ensures { Gives bodies_seen result (inner (S.context scope.now) (view_statement tree.now)) }
+    ensures { Gives bodies_seen result (inner scope.now (view_statement tree.now)) }
 {
     match tree {
         Statement::If {
@@ -253,12 +254,12 @@ fn resolve_inner<S: Scope>(
 
 /// Statements one after the other.
 #[cycle(nesting)]
-pub fn resolve_body<S: Scope>(
+pub fn resolve_body(
     alloc: Global,
-    scope: &S,
+    scope: &Scope,
     trees: &[Statement],
 ) -> Result<Vec<Resolved>, ResolveError>
-    ensures { Gives (λ v. view_body v.items) result (statements (S.context scope.now) (statement_row (map view_statement trees.now))) }
+    ensures { Gives (λ v. view_body v.items) result (statements scope.now (statement_row (map view_statement trees.now))) }
 {
     let mut resolved = Vec::new(alloc);
     for tree in trees {

@@ -1,97 +1,91 @@
-//! Classes by their kind.
+//! Classes by the kind that their place needs.
 
 ghost use Rattle.std.specs.Prelude.{◌≡◌};
 ghost use Rattle.ss_names_meaning.specs.Answers.{Gives, each};
-ghost use Rattle.ss_names_meaning.specs.Contexts.{counted, if_notice, if_permanent, if_single, notice_class, permanent_class, single_class};
+ghost use Rattle.ss_names_meaning.specs.Classes.{class_named, counted};
 
-use ss_base::{ClassKind, Name};
-use ss_names_meaning::{ClassMeant, ResolveError, Scope};
+use ss_base::{ClassKind, Name, Spelling};
+use ss_names::Meaning;
+use ss_names_meaning::ResolveError;
+use ss_names_scopes::{Scope, variable_of};
+use ss_names_uses::ClassNeed;
+use ss_program::expression::Variable;
 use ss_program::statement::CountedClass;
 use std::alloc::Global;
 
-// A class whose entities are made one by one.
-fn if_single(class: ClassMeant) -> Result<ClassMeant, ResolveError>
-    ensures { Gives (λ x. x) result (if_single class class.kind) }
-{
-    match class.kind {
-        ClassKind::Permanent => Err(ResolveError::Unresolved),
-        ClassKind::Temporary => Ok(class),
-        ClassKind::Notice => Ok(class),
+/// A class that is named, and the variable that has its entity where none is named.
+#[derive(Clone, Copy)]
+pub(crate) struct NamedClass {
+    pub(crate) class: usize,
+    /// How many attributes it has.
+    pub(crate) attributes: usize,
+    pub(crate) variable: Variable,
+}
+
+// Whether a class of this kind suits a place that needs the other.
+fn suits(kind: ClassKind, need: ClassNeed) -> bool {
+    match need {
+        ClassNeed::Permanent => matches!(kind, ClassKind::Permanent),
+        ClassNeed::Notice => matches!(kind, ClassKind::Notice),
+        ClassNeed::Single => !matches!(kind, ClassKind::Permanent),
     }
 }
 
-// A notice class.
-fn if_notice(class: ClassMeant) -> Result<ClassMeant, ResolveError>
-    ensures { Gives (λ x. x) result (if_notice class class.kind) }
-{
-    match class.kind {
-        ClassKind::Permanent => Err(ResolveError::Unresolved),
-        ClassKind::Temporary => Err(ResolveError::Unresolved),
-        ClassKind::Notice => Ok(class),
-    }
-}
-
-// A permanent class.
-fn if_permanent(class: ClassMeant) -> Result<ClassMeant, ResolveError>
-    ensures { Gives (λ x. x) result (if_permanent class class.kind) }
-{
-    match class.kind {
-        ClassKind::Permanent => Ok(class),
-        ClassKind::Temporary => Err(ResolveError::Unresolved),
-        ClassKind::Notice => Err(ResolveError::Unresolved),
-    }
-}
-
-/// The temporary or notice class of a name.
-pub(crate) fn single_class<S: Scope>(scope: &S, name: Name) -> Result<ClassMeant, ResolveError>
-    ensures { Gives (λ x. x) result (single_class (S.context scope.now) name) }
-{
-    let class = scope.class(name)?;
-    if_single(class)
-}
-
-/// The notice class of a name.
-pub(crate) fn notice_class<S: Scope>(scope: &S, name: Name) -> Result<ClassMeant, ResolveError>
-    ensures { Gives (λ x. x) result (notice_class (S.context scope.now) name) }
-{
-    let class = scope.class(name)?;
-    if_notice(class)
-}
-
-/// The permanent class of a name.
-pub(crate) fn permanent_class<S: Scope>(scope: &S, name: Name) -> Result<ClassMeant, ResolveError>
-    ensures { Gives (λ x. x) result (permanent_class (S.context scope.now) name) }
-{
-    let class = scope.class(name)?;
-    if_permanent(class)
-}
-
-// A permanent class with its N.
-fn counted<S: Scope>(scope: &S, name: Name) -> Result<CountedClass, ResolveError>
-    ensures { Gives (λ x. x) result (counted (S.context scope.now) name) }
-{
-    let class = permanent_class(scope, name)?;
-    match class.count {
-        Some(variable) => Ok(CountedClass {
-            class: class.class,
-            variable,
-        }),
+// The variable of a class, which may be hidden by a local one.
+fn variable_named(scope: &Scope, name: &Name) -> Result<Variable, ResolveError> {
+    match scope.meaning_of_name(name) {
+        Some(meaning) => variable_of(meaning).ok_or(ResolveError::Unresolved),
         None => Err(ResolveError::Unresolved),
     }
 }
 
+/// The class of a name, where it is of the kind that its place needs.
+pub(crate) fn class_named(
+    scope: &Scope,
+    need: ClassNeed,
+    name: Name,
+) -> Result<NamedClass, ResolveError>
+    ensures { Gives (λ x. x) result (class_named scope.now need name) }
+{
+    match scope.names.meaning(&name) {
+        Some(Meaning::Class { class, kind, .. }) => {
+            if suits(kind, need) {
+                let variable = variable_named(scope, &name)?;
+                let attributes = scope.names.fields(class).len();
+                Ok(NamedClass {
+                    class,
+                    attributes,
+                    variable,
+                })
+            } else {
+                Err(ResolveError::Unresolved)
+            }
+        }
+        _ => Err(ResolveError::Unresolved),
+    }
+}
+
+// A permanent class with its N.
+fn counted(scope: &Scope, name: &Name) -> Result<CountedClass, ResolveError>
+    ensures { Gives (λ x. x) result (counted scope.now name.now) }
+{
+    match scope.names.meanings.get(&Spelling::derived(b'N', name)) {
+        Some(Meaning::Count { count }) => Ok(*count),
+        _ => Err(ResolveError::Unresolved),
+    }
+}
+
 /// The classes of a CREATE EVERY.
-pub(crate) fn all_counted<S: Scope>(
+pub(crate) fn all_counted(
     alloc: Global,
-    scope: &S,
-    trees: &[Name],
+    scope: &Scope,
+    names: &[Name],
 ) -> Result<Vec<CountedClass>, ResolveError>
-    ensures { Gives (λ v. v.items) result (each (counted (S.context scope.now)) trees.now) }
+    ensures { Gives (λ v. v.items) result (each (counted scope.now) names.now) }
 {
     let mut resolved = Vec::new(alloc);
-    for tree in trees {
-        let one = counted(scope, *tree)?;
-        resolved.push(one)?;
+    for name in names {
+        resolved.push(counted(scope, name)?)?;
     }
     Ok(resolved)
 }

@@ -10,7 +10,8 @@ use crate::expressions::resolve_expression;
 use crate::places::resolve_set;
 use crate::results::beside;
 use crate::words::resolved_relation;
-use ss_names_meaning::{ResolveError, Scope};
+use ss_names_meaning::ResolveError;
+use ss_names_scopes::Scope;
 use ss_program::condition::{
     Condition as ResolvedCondition, Conjunction as ResolvedConjunction, Test as ResolvedTest,
 };
@@ -19,12 +20,12 @@ use std::alloc::Global;
 
 // A test.
 #[tactic(auto, unfolding(ss_names_meaning::specs::Conditions::one_test))]
-fn resolve_test<S: Scope>(
+fn resolve_test(
     alloc: Global,
-    scope: &S,
+    scope: &Scope,
     tree: &Test,
 ) -> Result<ResolvedTest, ResolveError>
-    ensures { Gives test_seen result (one_test (S.context scope.now) (view_test tree.now)) }
+    ensures { Gives test_seen result (one_test scope.now (view_test tree.now)) }
 {
     match tree {
         Test::Compare {
@@ -67,12 +68,12 @@ fn resolve_test<S: Scope>(
 }
 
 // Tests joined by AND.
-fn resolve_tests<S: Scope>(
+fn resolve_tests(
     alloc: Global,
-    scope: &S,
+    scope: &Scope,
     trees: &[Test],
 ) -> Result<Vec<ResolvedTest>, ResolveError>
-    ensures { Gives (λ v. map test_seen v.items) result (conjunction (S.context scope.now) (map view_test trees.now)) }
+    ensures { Gives (λ v. map test_seen v.items) result (conjunction scope.now (map view_test trees.now)) }
 {
     let mut resolved = Vec::new(alloc);
     for tree in trees {
@@ -83,24 +84,24 @@ fn resolve_tests<S: Scope>(
 }
 
 // A conjunction.
-fn resolve_conjunction<S: Scope>(
+fn resolve_conjunction(
     alloc: Global,
-    scope: &S,
+    scope: &Scope,
     tree: &Conjunction,
 ) -> Result<ResolvedConjunction, ResolveError>
-    ensures { Gives conjunction_seen result (conjunction (S.context scope.now) (view_conjunction tree.now)) }
+    ensures { Gives conjunction_seen result (conjunction scope.now (view_conjunction tree.now)) }
 {
     let tests = resolve_tests(alloc, scope, &tree.tests)?;
     Ok(ResolvedConjunction { tests })
 }
 
 // Conjunctions joined by OR.
-fn resolve_alternatives<S: Scope>(
+fn resolve_alternatives(
     alloc: Global,
-    scope: &S,
+    scope: &Scope,
     trees: &[Conjunction],
 ) -> Result<Vec<ResolvedConjunction>, ResolveError>
-    ensures { Gives (λ v. map conjunction_seen v.items) result (condition (S.context scope.now) (map view_conjunction trees.now)) }
+    ensures { Gives (λ v. map conjunction_seen v.items) result (condition scope.now (map view_conjunction trees.now)) }
 {
     let mut resolved = Vec::new(alloc);
     for tree in trees {
@@ -111,12 +112,12 @@ fn resolve_alternatives<S: Scope>(
 }
 
 /// A condition.
-pub(crate) fn resolve_condition<S: Scope>(
+pub(crate) fn resolve_condition(
     alloc: Global,
-    scope: &S,
+    scope: &Scope,
     tree: &Condition,
 ) -> Result<ResolvedCondition, ResolveError>
-    ensures { Gives condition_seen result (condition (S.context scope.now) (view_condition tree.now)) }
+    ensures { Gives condition_seen result (condition scope.now (view_condition tree.now)) }
 {
     let alternatives = resolve_alternatives(alloc, scope, &tree.alternatives)?;
     Ok(ResolvedCondition { alternatives })

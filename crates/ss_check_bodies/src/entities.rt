@@ -7,13 +7,15 @@ ghost use Rattle.ss_program.specs.View.{view_position as position_seen, view_sta
 ghost use Rattle.ss_names_meaning.specs.Answers.{Gives};
 ghost use Rattle.ss_names_meaning.specs.Statements.{position, statement};
 
-use crate::classes::{all_counted, single_class};
+use crate::classes::{all_counted, class_named};
 use crate::expressions::resolve_expression;
 use crate::places::{resolve_entity_called, resolve_new_place, resolve_set, resolve_target};
 use crate::results::beside;
 use crate::words::resolved_end;
 use ss_base::{Line, Name};
-use ss_names_meaning::{ResolveError, Scope};
+use ss_names_meaning::ResolveError;
+use ss_names_scopes::Scope;
+use ss_names_uses::ClassNeed;
 use ss_program::statement::{Position as ResolvedPosition, Statement as Resolved};
 use ss_tree::expression::{Expression, Named};
 use ss_tree::statement::{Position, SetEnd};
@@ -21,16 +23,16 @@ use std::alloc::Global;
 
 /// CREATE A.
 #[tactic(auto, unfolding(ss_names_meaning::specs::Statements::statement, ss_program::specs::View::view_statement))]
-pub(crate) fn resolve_create<S: Scope>(
+pub(crate) fn resolve_create(
     alloc: Global,
-    scope: &S,
+    scope: &Scope,
     line: Line,
     class: Name,
     called: &Option<Named>,
 ) -> Result<Resolved, ResolveError>
-    ensures { Gives view_resolved result (statement (S.context scope.now) (create_statement line class (view_option view_named called.now))) }
+    ensures { Gives view_resolved result (statement scope.now (create_statement line class (view_option view_named called.now))) }
 {
-    let class = single_class(scope, class)?;
+    let class = class_named(scope, ClassNeed::Single, class)?;
     let into = resolve_new_place(alloc, scope, class.variable, called)?;
     Ok(Resolved::Create {
         line,
@@ -41,13 +43,13 @@ pub(crate) fn resolve_create<S: Scope>(
 
 /// CREATE EVERY.
 #[tactic(auto, unfolding(ss_names_meaning::specs::Statements::statement, ss_program::specs::View::view_statement))]
-pub(crate) fn resolve_create_every<S: Scope>(
+pub(crate) fn resolve_create_every(
     alloc: Global,
-    scope: &S,
+    scope: &Scope,
     line: Line,
     classes: &[Name],
 ) -> Result<Resolved, ResolveError>
-    ensures { Gives view_resolved result (statement (S.context scope.now) (create_every line classes.now)) }
+    ensures { Gives view_resolved result (statement scope.now (create_every line classes.now)) }
 {
     let classes = all_counted(alloc, scope, classes)?;
     Ok(Resolved::CreateEvery { line, classes })
@@ -55,16 +57,16 @@ pub(crate) fn resolve_create_every<S: Scope>(
 
 /// DESTROY.
 #[tactic(auto, unfolding(ss_names_meaning::specs::Statements::statement, ss_program::specs::View::view_statement))]
-pub(crate) fn resolve_destroy<S: Scope>(
+pub(crate) fn resolve_destroy(
     alloc: Global,
-    scope: &S,
+    scope: &Scope,
     line: Line,
     class: Name,
     called: &Option<Expression>,
 ) -> Result<Resolved, ResolveError>
-    ensures { Gives view_resolved result (statement (S.context scope.now) (destroy_statement line class (view_option view_expression called.now))) }
+    ensures { Gives view_resolved result (statement scope.now (destroy_statement line class (view_option view_expression called.now))) }
 {
-    let class = single_class(scope, class)?;
+    let class = class_named(scope, ClassNeed::Single, class)?;
     let entity = resolve_entity_called(alloc, scope, class.variable, called)?;
     Ok(Resolved::Destroy {
         line,
@@ -74,12 +76,12 @@ pub(crate) fn resolve_destroy<S: Scope>(
 }
 
 // Where a member is filed.
-fn resolve_position<S: Scope>(
+fn resolve_position(
     alloc: Global,
-    scope: &S,
+    scope: &Scope,
     tree: &Position,
 ) -> Result<ResolvedPosition, ResolveError>
-    ensures { Gives position_seen result (position (S.context scope.now) (view_position tree.now)) }
+    ensures { Gives position_seen result (position scope.now (view_position tree.now)) }
 {
     match tree {
         Position::Discipline => Ok(ResolvedPosition::ByDiscipline),
@@ -98,15 +100,15 @@ fn resolve_position<S: Scope>(
 
 /// FILE.
 #[tactic(auto, unfolding(ss_names_meaning::specs::Statements::statement, ss_program::specs::View::view_statement))]
-pub(crate) fn resolve_file<S: Scope>(
+pub(crate) fn resolve_file(
     alloc: Global,
-    scope: &S,
+    scope: &Scope,
     line: Line,
     member: &Expression,
     position: &Position,
     set: &Named,
 ) -> Result<Resolved, ResolveError>
-    ensures { Gives view_resolved result (statement (S.context scope.now) (file_statement line (view_expression member.now) (view_position position.now) (view_named set.now))) }
+    ensures { Gives view_resolved result (statement scope.now (file_statement line (view_expression member.now) (view_position position.now) (view_named set.now))) }
 {
     let member = resolve_expression(alloc, scope, member)?;
     let filed = beside(member, resolve_position(alloc, scope, position))?;
@@ -122,15 +124,15 @@ pub(crate) fn resolve_file<S: Scope>(
 
 /// REMOVE FIRST and REMOVE LAST.
 #[tactic(auto, unfolding(ss_names_meaning::specs::Statements::statement, ss_program::specs::View::view_statement))]
-pub(crate) fn resolve_remove_end<S: Scope>(
+pub(crate) fn resolve_remove_end(
     alloc: Global,
-    scope: &S,
+    scope: &Scope,
     line: Line,
     end: SetEnd,
     target: &Named,
     set: &Named,
 ) -> Result<Resolved, ResolveError>
-    ensures { Gives view_resolved result (statement (S.context scope.now) (remove_end line end (view_named target.now) (view_named set.now))) }
+    ensures { Gives view_resolved result (statement scope.now (remove_end line end (view_named target.now) (view_named set.now))) }
 {
     let into = resolve_target(alloc, scope, target)?;
     let (into, (set, owner)) = beside(into, resolve_set(alloc, scope, set))?;
@@ -145,14 +147,14 @@ pub(crate) fn resolve_remove_end<S: Scope>(
 
 /// REMOVE of a given member.
 #[tactic(auto, unfolding(ss_names_meaning::specs::Statements::statement, ss_program::specs::View::view_statement))]
-pub(crate) fn resolve_remove<S: Scope>(
+pub(crate) fn resolve_remove(
     alloc: Global,
-    scope: &S,
+    scope: &Scope,
     line: Line,
     member: &Expression,
     set: &Named,
 ) -> Result<Resolved, ResolveError>
-    ensures { Gives view_resolved result (statement (S.context scope.now) (remove_statement line (view_expression member.now) (view_named set.now))) }
+    ensures { Gives view_resolved result (statement scope.now (remove_statement line (view_expression member.now) (view_named set.now))) }
 {
     let member = resolve_expression(alloc, scope, member)?;
     let (member, (set, owner)) = beside(member, resolve_set(alloc, scope, set))?;

@@ -8,124 +8,149 @@ ghost use Rattle.ss_program.specs.Program.{Calculate};
 ghost use Rattle.ss_program.specs.View.{view_expression as view_resolved, view_option};
 ghost use Rattle.ss_program.specs.Views.{with_operation};
 ghost use Rattle.ss_names_meaning.specs.Answers.{Gives};
-ghost use Rattle.ss_names_meaning.specs.Expressions.{entity_of, expression, factors, one, without_subscript, subscript, terms, resolved_time, two, resolved_value};
+ghost use Rattle.ss_names_meaning.specs.Expressions.{entity_implied, entity_of, expression, factors, one, place_named, resolved_value, subscript, terms, two, value_alone, value_of_entity};
 ghost use Rattle.ss_check_bodies.specs.Results.{operation};
 
 use crate::results::unresolved;
 use crate::words::{resolved_operator, resolved_sign};
-use ss_base::Value;
-use ss_names_meaning::{Meaning, ResolveError, Scope};
+use ss_base::{Owner, Value};
+use ss_names::Meaning;
+use ss_names_meaning::ResolveError;
+use ss_names_scopes::{Scope, variable_of};
 use ss_program::expression::{Expression as Resolved, Operation, Operator, Variable};
 use ss_tree::expression::{Designator, Expression, Function, Term};
 use std::alloc::Global;
 
 // ---- what is named
 
-// The entity that a name is of: the one in the subscript, or else the one in the implied variable.
+// The entity in the variable of a class.
 #[tactic(auto, unfolding(ss_program::specs::View::view_expression))]
-pub(crate) fn entity_of(implied: Variable, subscript: Option<Resolved>) -> Resolved
-    ensures { view_resolved result ≡ entity_of implied (view_option view_resolved subscript) }
+fn entity_implied(scope: &Scope, class: usize) -> Result<Resolved, ResolveError>
+    ensures { Gives view_resolved result (entity_implied scope.now class) }
 {
-    match subscript {
-        Some(entity) => entity,
-        None => Resolved::Fetch { variable: implied },
-    }
-}
-
-/// What takes no subscript.
-pub(crate) fn without_subscript<T: Drop>(
-    subscript: Option<Resolved>,
-    value: T,
-) -> Result<T, ResolveError>
-    ensures { Gives (λ x. x) result (without_subscript (view_option view_resolved subscript) value) }
-{
-    match subscript {
-        Some(_) => Err(ResolveError::Unresolved),
-        None => Ok(value),
-    }
-}
-
-// TIME.A.
-#[tactic(auto, unfolding(ss_program::specs::View::view_expression))]
-fn resolved_time(alloc: Global, subscript: Option<Resolved>) -> Result<Resolved, ResolveError>
-    ensures { Gives view_resolved result (resolved_time (view_option view_resolved subscript)) }
-{
-    match subscript {
-        Some(notice) => {
-            let notice = Box::new(alloc, notice)?;
-            Ok(Resolved::TimeOf { notice })
-        }
+    let Some(meaning) = scope.meaning_of_class(class) else {
+        return Err(ResolveError::Unresolved);
+    };
+    match variable_of(meaning) {
+        Some(variable) => Ok(Resolved::Fetch { variable }),
         None => Err(ResolveError::Unresolved),
     }
 }
 
-// The value of what is named, with the subscript if there is one; a mean is no value.
+/// The entity that has what a name means: that of the subscript, or else the one in the variable of its class. None for what no
+/// entity has, which takes no subscript.
+pub(crate) fn entity_of(
+    scope: &Scope,
+    meaning: Meaning,
+    subscript: Option<Resolved>,
+) -> Result<Option<Resolved>, ResolveError>
+    ensures { Gives (view_option view_resolved) result (entity_of scope.now meaning (view_option view_resolved subscript)) }
+{
+    if matches!(meaning, Meaning::NoticeTime) {
+        return Ok(subscript);
+    }
+    match scope.names.owner_of(meaning) {
+        Owner::Class(class) => match subscript {
+            Some(entity) => Ok(Some(entity)),
+            None => Ok(Some(entity_implied(scope, class)?)),
+        },
+        Owner::System => match subscript {
+            Some(_) => Err(ResolveError::Unresolved),
+            None => Ok(None),
+        },
+    }
+}
+
+// The value of what an entity has.
 #[tactic(auto, unfolding(ss_program::specs::View::view_expression), using(crate::proofs::Seen::plain_seen))]
+fn value_of_entity(
+    alloc: Global,
+    meaning: Meaning,
+    entity: Resolved,
+) -> Result<Resolved, ResolveError>
+    ensures { Gives view_resolved result (value_of_entity meaning (view_resolved entity)) }
+{
+    let of = Box::new(alloc, entity)?;
+    match meaning {
+        Meaning::Attribute { class, field, .. } => Ok(Resolved::Attribute { class, field, of }),
+        Meaning::OfSet { query, set } => Ok(Resolved::OfSet {
+            query,
+            set,
+            owner: of,
+        }),
+        Meaning::OfMember { query, set } => Ok(Resolved::OfMember {
+            query,
+            set,
+            member: of,
+        }),
+        Meaning::Statistic {
+            fold: Some(fold),
+            statistic,
+        } => Ok(Resolved::FigureOf {
+            fold,
+            statistic,
+            entity: of,
+        }),
+        Meaning::NoticeTime => Ok(Resolved::TimeOf { notice: of }),
+        _ => Err(unresolved(of)),
+    }
+}
+
+// The value of what there is one of.
+#[tactic(auto, unfolding(ss_program::specs::View::view_expression), using(crate::proofs::Seen::plain_seen))]
+fn value_alone(meaning: Meaning) -> Result<Resolved, ResolveError>
+    ensures { Gives view_resolved result (value_alone meaning) }
+{
+    match meaning {
+        Meaning::Variable { variable, .. } => Ok(Resolved::Fetch { variable }),
+        Meaning::Class { variable, .. } => Ok(Resolved::Fetch {
+            variable: Variable::Global { number: variable },
+        }),
+        Meaning::Count { count } => Ok(Resolved::Fetch {
+            variable: Variable::Global {
+                number: count.variable,
+            },
+        }),
+        Meaning::OfSet { query, set } => Ok(Resolved::OfSystemSet { query, set }),
+        Meaning::Statistic {
+            fold: Some(fold),
+            statistic,
+        } => Ok(Resolved::Figure { fold, statistic }),
+        Meaning::Clock => Ok(Resolved::Clock),
+        _ => Err(ResolveError::Unresolved),
+    }
+}
+
+/// The value of what a name means, of the entity that has it; a mean is no value.
 pub(crate) fn resolved_value(
     alloc: Global,
     meaning: Meaning,
-    subscript: Option<Resolved>,
+    entity: Option<Resolved>,
 ) -> Result<Resolved, ResolveError>
-    ensures { Gives view_resolved result (resolved_value meaning (view_option view_resolved subscript)) }
+    ensures { Gives view_resolved result (resolved_value meaning (view_option view_resolved entity)) }
 {
-    match meaning {
-        Meaning::Variable { variable, .. } => without_subscript(
-            subscript,
-            Resolved::Fetch { variable },
-        ),
-        Meaning::Count { count } => {
-            let variable = Variable::Global {
-                number: count.variable,
-            };
-            without_subscript(subscript, Resolved::Fetch { variable })
-        }
-        Meaning::Attribute {
-            class,
-            field,
-            implied,
-            ..
-        } => {
-            let of = Box::new(alloc, entity_of(implied, subscript))?;
-            Ok(Resolved::Attribute { class, field, of })
-        }
-        Meaning::OfSystemSet { query, set } => {
-            without_subscript(subscript, Resolved::OfSystemSet { query, set })
-        }
-        Meaning::OfSet {
-            query,
-            set,
-            implied,
-        } => {
-            let owner = Box::new(alloc, entity_of(implied, subscript))?;
-            Ok(Resolved::OfSet { query, set, owner })
-        }
-        Meaning::OfMember {
-            query,
-            set,
-            implied,
-        } => {
-            let member = Box::new(alloc, entity_of(implied, subscript))?;
-            Ok(Resolved::OfMember { query, set, member })
-        }
-        Meaning::Figure { fold, statistic } => {
-            without_subscript(subscript, Resolved::Figure { fold, statistic })
-        }
-        Meaning::FigureOf {
-            fold,
-            statistic,
-            implied,
-        } => {
-            let entity = Box::new(alloc, entity_of(implied, subscript))?;
-            Ok(Resolved::FigureOf {
-                fold,
-                statistic,
-                entity,
-            })
-        }
-        Meaning::Clock => without_subscript(subscript, Resolved::Clock),
-        Meaning::NoticeTime => resolved_time(alloc, subscript),
-        Meaning::Mean { .. } | Meaning::MeanOf { .. } => Err(unresolved(subscript)),
+    match entity {
+        Some(entity) => value_of_entity(alloc, meaning, entity),
+        None => value_alone(meaning),
     }
+}
+
+/// What is named, and the entity that has it.
+#[cycle(resolving)]
+pub(crate) fn resolve_place(
+    alloc: Global,
+    scope: &Scope,
+    place: Designator,
+    subscripts: &[Expression],
+) -> Result<(Meaning, Option<Resolved>), ResolveError>
+    ensures { Gives (λ p. (p.0, view_option view_resolved p.1)) result (place_named scope.now place (expression_row (map view_expression subscripts.now))) }
+{
+    let Some(meaning) = scope.meaning(place) else {
+        return Err(ResolveError::Unresolved);
+    };
+    let subscript = resolve_subscript(alloc, scope, subscripts)?;
+    let entity = entity_of(scope, meaning, subscript)?;
+    Ok((meaning, entity))
 }
 
 // ---- expressions
@@ -133,12 +158,12 @@ pub(crate) fn resolved_value(
 // The expression with its names resolved.
 #[cycle(resolving)]
 #[tactic(auto, unfolding(ss_tree::specs::View::view_expression, ss_program::specs::View::view_expression, ss_names_meaning::specs::Expressions::expression))]
-pub(crate) fn resolve_expression<S: Scope>(
+pub(crate) fn resolve_expression(
     alloc: Global,
-    scope: &S,
+    scope: &Scope,
     tree: &Expression,
 ) -> Result<Resolved, ResolveError>
-    ensures { Gives view_resolved result (expression (S.context scope.now) (view_expression tree.now)) }
+    ensures { Gives view_resolved result (expression scope.now (view_expression tree.now)) }
 {
     match tree {
         Expression::Number(number) => Ok(Resolved::Constant {
@@ -181,28 +206,27 @@ pub(crate) fn resolve_expression<S: Scope>(
 // What is named, with its subscripts.
 #[cycle(resolving)]
 #[tactic(auto, unfolding(ss_names_meaning::specs::Expressions::expression))]
-fn resolve_named<S: Scope>(
+fn resolve_named(
     alloc: Global,
-    scope: &S,
+    scope: &Scope,
     designator: Designator,
     subscripts: &[Expression],
 ) -> Result<Resolved, ResolveError>
-    ensures { Gives view_resolved result (expression (S.context scope.now) (named designator (expression_row (map view_expression subscripts.now)))) }
+    ensures { Gives view_resolved result (expression scope.now (named designator (expression_row (map view_expression subscripts.now)))) }
 {
-    let meaning = scope.meaning(designator)?;
-    let subscript = resolve_subscript(alloc, scope, subscripts)?;
-    resolved_value(alloc, meaning, subscript)
+    let (meaning, entity) = resolve_place(alloc, scope, designator, subscripts)?;
+    resolved_value(alloc, meaning, entity)
 }
 
 // The subscript, if there is one.
 #[cycle(resolving)]
 #[tactic(auto, unfolding(ss_names_meaning::specs::Expressions::subscript))]
-pub(crate) fn resolve_subscript<S: Scope>(
+pub(crate) fn resolve_subscript(
     alloc: Global,
-    scope: &S,
+    scope: &Scope,
     subscripts: &[Expression],
 ) -> Result<Option<Resolved>, ResolveError>
-    ensures { Gives (view_option view_resolved) result (subscript (S.context scope.now) (expression_row (map view_expression subscripts.now))) }
+    ensures { Gives (view_option view_resolved) result (subscript scope.now (expression_row (map view_expression subscripts.now))) }
 {
     match subscripts {
         [] => Ok(None),
@@ -217,13 +241,13 @@ pub(crate) fn resolve_subscript<S: Scope>(
 // A function with its arguments.
 #[cycle(resolving)]
 #[tactic(auto, unfolding(ss_names_meaning::specs::Expressions::expression, ss_program::specs::View::view_expression))]
-fn resolve_call<S: Scope>(
+fn resolve_call(
     alloc: Global,
-    scope: &S,
+    scope: &Scope,
     function: Function,
     arguments: &[Expression],
 ) -> Result<Resolved, ResolveError>
-    ensures { Gives view_resolved result (expression (S.context scope.now) (call function (expression_row (map view_expression arguments.now)))) }
+    ensures { Gives view_resolved result (expression scope.now (call function (expression_row (map view_expression arguments.now)))) }
 {
     match function {
         Function::Abs => {
@@ -240,13 +264,13 @@ fn resolve_call<S: Scope>(
 
 // A function of two numbers, by what it makes of them.
 #[cycle(resolving)]
-fn resolve_operation<S: Scope>(
+fn resolve_operation(
     alloc: Global,
-    scope: &S,
+    scope: &Scope,
     operator: Operator,
     arguments: &[Expression],
 ) -> Result<Resolved, ResolveError>
-    ensures { Gives view_resolved result (operation (S.context scope.now) operator (expression_row (map view_expression arguments.now))) }
+    ensures { Gives view_resolved result (operation scope.now operator (expression_row (map view_expression arguments.now))) }
 {
     let (left, right) = resolve_two(alloc, scope, arguments)?;
     calculate(alloc, left, operator, right)
@@ -255,12 +279,12 @@ fn resolve_operation<S: Scope>(
 // One argument.
 #[cycle(resolving)]
 #[tactic(auto, unfolding(ss_names_meaning::specs::Expressions::one))]
-fn resolve_one<S: Scope>(
+fn resolve_one(
     alloc: Global,
-    scope: &S,
+    scope: &Scope,
     arguments: &[Expression],
 ) -> Result<Resolved, ResolveError>
-    ensures { Gives view_resolved result (one (S.context scope.now) (expression_row (map view_expression arguments.now))) }
+    ensures { Gives view_resolved result (one scope.now (expression_row (map view_expression arguments.now))) }
 {
     match arguments {
         [only] => resolve_expression(alloc, scope, only),
@@ -272,12 +296,12 @@ fn resolve_one<S: Scope>(
 // Two arguments, the left one in a box.
 #[cycle(resolving)]
 #[tactic(auto, unfolding(ss_names_meaning::specs::Expressions::two))]
-fn resolve_two<S: Scope>(
+fn resolve_two(
     alloc: Global,
-    scope: &S,
+    scope: &Scope,
     arguments: &[Expression],
 ) -> Result<(Box<Resolved>, Resolved), ResolveError>
-    ensures { Gives (λ p. (view_resolved p.0.value, view_resolved p.1)) result (two (S.context scope.now) (expression_row (map view_expression arguments.now))) }
+    ensures { Gives (λ p. (view_resolved p.0.value, view_resolved p.1)) result (two scope.now (expression_row (map view_expression arguments.now))) }
 {
     match arguments {
         [left, right] => {
@@ -294,12 +318,12 @@ fn resolve_two<S: Scope>(
 
 // The further factors of a product.
 #[cycle(resolving)]
-fn resolve_factors<S: Scope>(
+fn resolve_factors(
     alloc: Global,
-    scope: &S,
+    scope: &Scope,
     trees: &[Expression],
 ) -> Result<Vec<Operation>, ResolveError>
-    ensures { (left : _) → Gives (λ v. fold with_operation left v.items) result (factors (S.context scope.now) left (expression_row (map view_expression trees.now))) }
+    ensures { (left : _) → Gives (λ v. fold with_operation left v.items) result (factors scope.now left (expression_row (map view_expression trees.now))) }
 {
     let mut operations = Vec::new(alloc);
     for tree in trees {
@@ -314,12 +338,12 @@ fn resolve_factors<S: Scope>(
 
 // The further terms of a sum.
 #[cycle(resolving)]
-fn resolve_terms<S: Scope>(
+fn resolve_terms(
     alloc: Global,
-    scope: &S,
+    scope: &Scope,
     trees: &[Term],
 ) -> Result<Vec<Operation>, ResolveError>
-    ensures { (left : _) → Gives (λ v. fold with_operation left v.items) result (terms (S.context scope.now) left (term_row (map view_term trees.now))) }
+    ensures { (left : _) → Gives (λ v. fold with_operation left v.items) result (terms scope.now left (term_row (map view_term trees.now))) }
 {
     let mut operations = Vec::new(alloc);
     for tree in trees {

@@ -8,31 +8,33 @@ ghost use Rattle.ss_names_meaning.specs.Contexts.{if_permanent, permanent_class}
 ghost use Rattle.ss_names_meaning.specs.Expressions.{expression};
 ghost use Rattle.ss_names_meaning.specs.Heads.{called_variable, guard, head, if_variable, loop_variable, resolved_phrase, phrases_of, resolved_start};
 
-use crate::classes::permanent_class;
+use crate::classes::class_named;
 use crate::conditions::resolve_condition;
 use crate::expressions::resolve_expression;
 use crate::places::resolve_set;
 use crate::results::beside;
 use crate::words::{guard_kind_of, phrase_kind_of};
 use ss_base::Name;
-use ss_names_meaning::{Meaning, ResolveError, Scope};
+use ss_names_meaning::ResolveError;
+use ss_names_scopes::{Scope, variable_of};
+use ss_names_uses::ClassNeed;
 use ss_program::expression::{Expression as Resolved, Variable};
 use ss_program::head::{
     Guard as ResolvedGuard, Head as ResolvedHead, Phrase as ResolvedPhrase, Start,
 };
-use ss_tree::expression::{Designator, Expression};
+use ss_tree::expression::Expression;
 use ss_tree::head::{Guard, Head, MemberStart, Phrase};
 use std::alloc::Global;
 
 // ---- conditions of loops
 
 // A phrase.
-fn resolve_phrase<S: Scope>(
+fn resolve_phrase(
     alloc: Global,
-    scope: &S,
+    scope: &Scope,
     tree: &Phrase,
 ) -> Result<ResolvedPhrase, ResolveError>
-    ensures { Gives phrase_seen result (resolved_phrase (S.context scope.now) (view_phrase tree.now)) }
+    ensures { Gives phrase_seen result (resolved_phrase scope.now (view_phrase tree.now)) }
 {
     let condition = resolve_condition(alloc, scope, &tree.condition)?;
     Ok(ResolvedPhrase {
@@ -42,12 +44,12 @@ fn resolve_phrase<S: Scope>(
 }
 
 /// Phrases.
-pub(crate) fn resolve_phrases<S: Scope>(
+pub(crate) fn resolve_phrases(
     alloc: Global,
-    scope: &S,
+    scope: &Scope,
     trees: &[Phrase],
 ) -> Result<Vec<ResolvedPhrase>, ResolveError>
-    ensures { Gives (λ v. map phrase_seen v.items) result (each (resolved_phrase (S.context scope.now)) (map view_phrase trees.now)) }
+    ensures { Gives (λ v. map phrase_seen v.items) result (each (resolved_phrase scope.now) (map view_phrase trees.now)) }
 {
     let mut resolved = Vec::new(alloc);
     for tree in trees {
@@ -58,12 +60,12 @@ pub(crate) fn resolve_phrases<S: Scope>(
 }
 
 // A condition of a loop that begins with WHILE or UNTIL.
-fn resolve_guard<S: Scope>(
+fn resolve_guard(
     alloc: Global,
-    scope: &S,
+    scope: &Scope,
     tree: &Guard,
 ) -> Result<ResolvedGuard, ResolveError>
-    ensures { Gives guard_seen result (guard (S.context scope.now) (view_guard tree.now)) }
+    ensures { Gives guard_seen result (guard scope.now (view_guard tree.now)) }
 {
     let condition = resolve_condition(alloc, scope, &tree.condition)?;
     Ok(ResolvedGuard {
@@ -73,12 +75,12 @@ fn resolve_guard<S: Scope>(
 }
 
 /// The conditions of a loop that begins with WHILE or UNTIL.
-pub(crate) fn resolve_guards<S: Scope>(
+pub(crate) fn resolve_guards(
     alloc: Global,
-    scope: &S,
+    scope: &Scope,
     trees: &[Guard],
 ) -> Result<Vec<ResolvedGuard>, ResolveError>
-    ensures { Gives (λ v. map guard_seen v.items) result (each (guard (S.context scope.now)) (map view_guard trees.now)) }
+    ensures { Gives (λ v. map guard_seen v.items) result (each (guard scope.now) (map view_guard trees.now)) }
 {
     let mut resolved = Vec::new(alloc);
     for tree in trees {
@@ -100,41 +102,23 @@ pub(crate) fn phrases_of(head: &Head) -> &[Phrase]
 
 // ---- what a FOR goes over
 
-// A variable.
-fn if_variable(meaning: Meaning) -> Result<Variable, ResolveError>
-    ensures { Gives (λ x. x) result (if_variable meaning) }
+// The variable that takes the items of a loop.
+fn loop_variable(scope: &Scope, name: Name) -> Result<Variable, ResolveError>
+    ensures { Gives (λ x. x) result (loop_variable scope.now name) }
 {
-    match meaning {
-        Meaning::Variable { variable, .. } => Ok(variable),
-        Meaning::Count { .. }
-        | Meaning::Attribute { .. }
-        | Meaning::OfSystemSet { .. }
-        | Meaning::OfSet { .. }
-        | Meaning::OfMember { .. }
-        | Meaning::Figure { .. }
-        | Meaning::FigureOf { .. }
-        | Meaning::Mean { .. }
-        | Meaning::MeanOf { .. }
-        | Meaning::Clock
-        | Meaning::NoticeTime => Err(ResolveError::Unresolved),
+    match scope.meaning_of_name(&name) {
+        Some(meaning) => variable_of(meaning).ok_or(ResolveError::Unresolved),
+        None => Err(ResolveError::Unresolved),
     }
 }
 
-// The variable that takes the items of a loop.
-fn loop_variable<S: Scope>(scope: &S, name: Name) -> Result<Variable, ResolveError>
-    ensures { Gives (λ x. x) result (loop_variable (S.context scope.now) name) }
-{
-    let meaning = scope.meaning(Designator::Name(name))?;
-    if_variable(meaning)
-}
-
 // The variable after CALLED, or else that of the class.
-fn called_variable<S: Scope>(
-    scope: &S,
+fn called_variable(
+    scope: &Scope,
     implied: Variable,
     called: &Option<Name>,
 ) -> Result<Variable, ResolveError>
-    ensures { Gives (λ x. x) result (called_variable (S.context scope.now) implied called.now) }
+    ensures { Gives (λ x. x) result (called_variable scope.now implied called.now) }
 {
     match called {
         None => Ok(implied),
@@ -143,12 +127,12 @@ fn called_variable<S: Scope>(
 }
 
 // The member with which a FOR over a set begins.
-fn resolve_start<S: Scope>(
+fn resolve_start(
     alloc: Global,
-    scope: &S,
+    scope: &Scope,
     tree: &MemberStart,
 ) -> Result<Start, ResolveError>
-    ensures { Gives start_seen result (resolved_start (S.context scope.now) (view_start tree.now)) }
+    ensures { Gives start_seen result (resolved_start scope.now (view_start tree.now)) }
 {
     match tree {
         MemberStart::End => Ok(Start::AtEnd),
@@ -164,12 +148,12 @@ fn resolve_start<S: Scope>(
 }
 
 // The step of a FOR, where one is written.
-fn resolve_step<S: Scope>(
+fn resolve_step(
     alloc: Global,
-    scope: &S,
+    scope: &Scope,
     tree: &Option<Expression>,
 ) -> Result<Option<Resolved>, ResolveError>
-    ensures { Gives (option_seen view_resolved) result (if_there (expression (S.context scope.now)) (view_option view_expression tree.now)) }
+    ensures { Gives (option_seen view_resolved) result (if_there (expression scope.now) (view_option view_expression tree.now)) }
 {
     match tree {
         None => Ok(None),
@@ -182,12 +166,12 @@ fn resolve_step<S: Scope>(
 
 /// What a FOR goes over.
 #[tactic(auto, unfolding(ss_names_meaning::specs::Heads::head))]
-pub(crate) fn resolve_head<S: Scope>(
+pub(crate) fn resolve_head(
     alloc: Global,
-    scope: &S,
+    scope: &Scope,
     tree: &Head,
 ) -> Result<ResolvedHead, ResolveError>
-    ensures { Gives head_seen result (head (S.context scope.now) (view_head tree.now)) }
+    ensures { Gives head_seen result (head scope.now (view_head tree.now)) }
 {
     match tree {
         Head::Range {
@@ -227,7 +211,7 @@ pub(crate) fn resolve_head<S: Scope>(
             })
         }
         Head::Class { class, called, .. } => {
-            let class = permanent_class(scope, *class)?;
+            let class = class_named(scope, ClassNeed::Permanent, *class)?;
             let variable = called_variable(scope, class.variable, called)?;
             Ok(ResolvedHead::Each {
                 variable,

@@ -8,10 +8,10 @@ ghost use Rattle.ss_program.specs.View.{view_expression as view_resolved, view_i
 ghost use Rattle.ss_names_meaning.specs.Answers.{Gives, each};
 ghost use Rattle.ss_names_meaning.specs.Expressions.{expression, item, resolved_item, resolved_value};
 
-use crate::expressions::{
-    entity_of, resolve_expression, resolve_subscript, resolved_value, without_subscript,
-};
-use ss_names_meaning::{Meaning, ResolveError, Scope};
+use crate::expressions::{resolve_expression, resolve_place, resolved_value};
+use ss_names::Meaning;
+use ss_names_meaning::ResolveError;
+use ss_names_scopes::Scope;
 use ss_program::expression::Expression as Resolved;
 use ss_program::statement::Item;
 use ss_tree::expression::{Designator, Expression};
@@ -19,69 +19,52 @@ use std::alloc::Global;
 
 // ---- what is named
 
-// The value of what is named, with the subscript if there is one.
-fn named_value(
-    alloc: Global,
-    meaning: Meaning,
-    subscript: Option<Resolved>,
-) -> Result<Item, ResolveError>
-    ensures { Gives view_item result (option_map AValue (resolved_value meaning (view_option view_resolved subscript))) }
-{
-    let value = resolved_value(alloc, meaning, subscript)?;
-    Ok(Item::Value { value })
-}
-
-// What PRINT shows of what is named, with the subscript if there is one.
+// What PRINT shows of what a name means, of the entity that has it.
 #[tactic(auto, using(crate::proofs::Seen::plain_seen))]
 fn resolved_item(
     alloc: Global,
     meaning: Meaning,
-    subscript: Option<Resolved>,
+    entity: Option<Resolved>,
 ) -> Result<Item, ResolveError>
-    ensures { Gives view_item result (resolved_item meaning (view_option view_resolved subscript)) }
+    ensures { Gives view_item result (resolved_item meaning (view_option view_resolved entity)) }
 {
     match meaning {
-        Meaning::Mean { statistic } => without_subscript(subscript, Item::Mean { statistic }),
-        Meaning::MeanOf { statistic, implied } => {
-            let entity = entity_of(implied, subscript);
-            Ok(Item::MeanOf { statistic, entity })
+        Meaning::Statistic {
+            fold: None,
+            statistic,
+        } => match entity {
+            Some(entity) => Ok(Item::MeanOf { statistic, entity }),
+            None => Ok(Item::Mean { statistic }),
+        },
+        _ => {
+            let value = resolved_value(alloc, meaning, entity)?;
+            Ok(Item::Value { value })
         }
-        Meaning::Variable { .. }
-        | Meaning::Count { .. }
-        | Meaning::Attribute { .. }
-        | Meaning::OfSystemSet { .. }
-        | Meaning::OfSet { .. }
-        | Meaning::OfMember { .. }
-        | Meaning::Figure { .. }
-        | Meaning::FigureOf { .. }
-        | Meaning::Clock
-        | Meaning::NoticeTime => named_value(alloc, meaning, subscript),
     }
 }
 
 // ---- items
 
 // What is named, with its subscripts.
-fn resolve_named<S: Scope>(
+fn resolve_named(
     alloc: Global,
-    scope: &S,
+    scope: &Scope,
     designator: Designator,
     subscripts: &[Expression],
 ) -> Result<Item, ResolveError>
-    ensures { Gives view_item result (item (S.context scope.now) (named designator (expression_row (map view_expression subscripts.now)))) }
+    ensures { Gives view_item result (item scope.now (named designator (expression_row (map view_expression subscripts.now)))) }
 {
-    let meaning = scope.meaning(designator)?;
-    let subscript = resolve_subscript(alloc, scope, subscripts)?;
-    resolved_item(alloc, meaning, subscript)
+    let (meaning, entity) = resolve_place(alloc, scope, designator, subscripts)?;
+    resolved_item(alloc, meaning, entity)
 }
 
 // A value.
-fn resolve_value<S: Scope>(
+fn resolve_value(
     alloc: Global,
-    scope: &S,
+    scope: &Scope,
     tree: &Expression,
 ) -> Result<Item, ResolveError>
-    ensures { Gives view_item result (option_map AValue (expression (S.context scope.now) (view_expression tree.now))) }
+    ensures { Gives view_item result (option_map AValue (expression scope.now (view_expression tree.now))) }
 {
     let value = resolve_expression(alloc, scope, tree)?;
     Ok(Item::Value { value })
@@ -89,8 +72,8 @@ fn resolve_value<S: Scope>(
 
 // An item: a mean where that is named alone, through any parentheses, and else a value.
 #[tactic(auto, unfolding(ss_tree::specs::View::view_expression))]
-fn resolve_item<S: Scope>(alloc: Global, scope: &S, tree: &Expression) -> Result<Item, ResolveError>
-    ensures { Gives view_item result (item (S.context scope.now) (view_expression tree.now)) }
+fn resolve_item(alloc: Global, scope: &Scope, tree: &Expression) -> Result<Item, ResolveError>
+    ensures { Gives view_item result (item scope.now (view_expression tree.now)) }
 {
     match tree {
         Expression::Named(named) => {
@@ -107,12 +90,12 @@ fn resolve_item<S: Scope>(alloc: Global, scope: &S, tree: &Expression) -> Result
 }
 
 /// The items of a PRINT.
-pub(crate) fn resolve_items<S: Scope>(
+pub(crate) fn resolve_items(
     alloc: Global,
-    scope: &S,
+    scope: &Scope,
     trees: &[Expression],
 ) -> Result<Vec<Item>, ResolveError>
-    ensures { Gives (λ v. map view_item v.items) result (each (item (S.context scope.now)) (map view_expression trees.now)) }
+    ensures { Gives (λ v. map view_item v.items) result (each (item scope.now) (map view_expression trees.now)) }
 {
     let mut resolved = Vec::new(alloc);
     for tree in trees {

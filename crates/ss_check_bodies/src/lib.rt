@@ -17,4 +17,5 @@ mod statements;
 mod words;
 
 pub use bodies::resolve_body;
-pub use ss_names_meaning::{ClassMeant, Meaning, ResolveError, RoutineMeant, Scope, SetMeant};
+pub use ss_names_meaning::ResolveError;
+pub use ss_names_scopes::Scope;

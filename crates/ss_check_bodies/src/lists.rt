@@ -7,18 +7,19 @@ ghost use Rattle.ss_names_meaning.specs.Answers.{Gives, each};
 ghost use Rattle.ss_names_meaning.specs.Expressions.{expression};
 
 use crate::expressions::resolve_expression;
-use ss_names_meaning::{ResolveError, Scope};
+use ss_names_meaning::ResolveError;
+use ss_names_scopes::Scope;
 use ss_program::expression::Expression as Resolved;
 use ss_tree::expression::Expression;
 use std::alloc::Global;
 
 /// Expressions.
-pub(crate) fn resolve_all<S: Scope>(
+pub(crate) fn resolve_all(
     alloc: Global,
-    scope: &S,
+    scope: &Scope,
     trees: &[Expression],
 ) -> Result<Vec<Resolved>, ResolveError>
-    ensures { Gives (λ v. map view_resolved v.items) result (each (expression (S.context scope.now)) (map view_expression trees.now)) }
+    ensures { Gives (λ v. map view_resolved v.items) result (each (expression scope.now) (map view_expression trees.now)) }
 {
     let mut resolved = Vec::new(alloc);
     for tree in trees {

@@ -10,33 +10,34 @@ ghost use Rattle.ss_check_bodies.specs.Results.{resolved_over, over_seen};
 use crate::heads::{phrases_of, resolve_guards, resolve_head, resolve_phrases};
 use crate::results::beside;
 use ss_base::Line;
-use ss_names_meaning::{ResolveError, Scope};
+use ss_names_meaning::ResolveError;
+use ss_names_scopes::Scope;
 use ss_program::head::{Head as ResolvedHead, Phrase};
 use ss_program::statement::Statement as Resolved;
 use ss_tree::head::{Head, LoopHead};
 use std::alloc::Global;
 
 // What a FOR goes over, and its phrases.
-fn resolve_over<S: Scope>(
+fn resolve_over(
     alloc: Global,
-    scope: &S,
+    scope: &Scope,
     head: &Head,
 ) -> Result<(ResolvedHead, Vec<Phrase>), ResolveError>
-    ensures { Gives over_seen result (resolved_over (S.context scope.now) (view_head head.now)) }
+    ensures { Gives over_seen result (resolved_over scope.now (view_head head.now)) }
 {
     let over = resolve_head(alloc, scope, head)?;
     beside(over, resolve_phrases(alloc, scope, phrases_of(head)))
 }
 
 // A FOR with its body.
-fn resolve_for<S: Scope>(
+fn resolve_for(
     alloc: Global,
-    scope: &S,
+    scope: &Scope,
     line: Line,
     head: &Head,
     body: Vec<Resolved>,
 ) -> Result<Resolved, ResolveError>
-    ensures { Gives view_resolved result (for_over line (S.context scope.now) (view_head head.now) (view_body body.items)) }
+    ensures { Gives view_resolved result (for_over line scope.now (view_head head.now) (view_body body.items)) }
 {
     let (head, phrases) = resolve_over(alloc, scope, head)?;
     Ok(Resolved::For {
@@ -48,14 +49,14 @@ fn resolve_for<S: Scope>(
 }
 
 /// A loop with its body.
-pub(crate) fn resolve_loop<S: Scope>(
+pub(crate) fn resolve_loop(
     alloc: Global,
-    scope: &S,
+    scope: &Scope,
     line: Line,
     head: &LoopHead,
     body: Vec<Resolved>,
 ) -> Result<Resolved, ResolveError>
-    ensures { Gives view_resolved result (resolved_loop line (S.context scope.now) (view_loop_head head.now) (view_body body.items)) }
+    ensures { Gives view_resolved result (resolved_loop line scope.now (view_loop_head head.now) (view_body body.items)) }
 {
     match head {
         LoopHead::For(head) => resolve_for(alloc, scope, line, head, body),
@@ -67,15 +68,15 @@ pub(crate) fn resolve_loop<S: Scope>(
 }
 
 /// FIND THE FIRST CASE, with what follows where one was found and where none was.
-pub(crate) fn resolve_find<S: Scope>(
+pub(crate) fn resolve_find(
     alloc: Global,
-    scope: &S,
+    scope: &Scope,
     line: Line,
     head: &Head,
     found: Vec<Resolved>,
     none: Vec<Resolved>,
 ) -> Result<Resolved, ResolveError>
-    ensures { Gives view_resolved result (find line (S.context scope.now) (view_head head.now) (view_body found.items) (view_body none.items)) }
+    ensures { Gives view_resolved result (find line scope.now (view_head head.now) (view_body found.items) (view_body none.items)) }
 {
     let (head, phrases) = resolve_over(alloc, scope, head)?;
     Ok(Resolved::Find {

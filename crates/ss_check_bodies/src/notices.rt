@@ -7,13 +7,15 @@ ghost use Rattle.ss_program.specs.View.{view_expression as expression_seen, view
 ghost use Rattle.ss_names_meaning.specs.Answers.{Gives};
 ghost use Rattle.ss_names_meaning.specs.Statements.{new_notice, old_notice, statement, when};
 
-use crate::classes::notice_class;
+use crate::classes::{NamedClass, class_named};
 use crate::expressions::resolve_expression;
 use crate::lists::resolve_all;
 use crate::places::{resolve_entity_called, resolve_new_place, resolve_restarts};
 use crate::results::{beside, where_holds};
 use ss_base::{Line, Name};
-use ss_names_meaning::{ClassMeant, ResolveError, Scope};
+use ss_names_meaning::ResolveError;
+use ss_names_scopes::Scope;
+use ss_names_uses::ClassNeed;
 use ss_program::expression::Expression as Value;
 use ss_program::statement::{Place, Statement as Resolved, When as ResolvedWhen};
 use ss_tree::expression::{Expression, Named};
@@ -28,12 +30,12 @@ pub(crate) struct ScheduleTerms<'a> {
 }
 
 // The time for which a notice is scheduled.
-fn resolve_when<S: Scope>(
+fn resolve_when(
     alloc: Global,
-    scope: &S,
+    scope: &Scope,
     tree: &When,
 ) -> Result<ResolvedWhen, ResolveError>
-    ensures { Gives when_seen result (when (S.context scope.now) (view_when tree.now)) }
+    ensures { Gives when_seen result (when scope.now (view_when tree.now)) }
 {
     match tree {
         When::At(time) => {
@@ -52,7 +54,7 @@ fn resolve_when<S: Scope>(
 #[tactic(auto, unfolding(ss_program::specs::View::view_statement), using(crate::proofs::Seen::where_seen))]
 fn new_notice(
     line: Line,
-    class: ClassMeant,
+    class: NamedClass,
     into: Place,
     given: Vec<Value>,
     when: ResolvedWhen,
@@ -76,7 +78,7 @@ fn new_notice(
 #[tactic(auto, unfolding(ss_program::specs::View::view_statement), using(crate::proofs::Seen::where_seen))]
 fn old_notice(
     line: Line,
-    class: ClassMeant,
+    class: NamedClass,
     notice: Value,
     given: Vec<Value>,
     when: ResolvedWhen,
@@ -98,17 +100,17 @@ fn old_notice(
 
 /// SCHEDULE A.
 #[tactic(auto, unfolding(ss_names_meaning::specs::Statements::statement, ss_program::specs::View::view_statement))]
-pub(crate) fn resolve_schedule_new<S: Scope>(
+pub(crate) fn resolve_schedule_new(
     alloc: Global,
-    scope: &S,
+    scope: &Scope,
     line: Line,
     class: Name,
     called: &Option<Named>,
     terms: ScheduleTerms<'_>,
 ) -> Result<Resolved, ResolveError>
-    ensures { Gives view_resolved result (statement (S.context scope.now) (schedule_new line class (view_option view_named called.now) (map view_expression terms.given.now) (view_when terms.when.now))) }
+    ensures { Gives view_resolved result (statement scope.now (schedule_new line class (view_option view_named called.now) (map view_expression terms.given.now) (view_when terms.when.now))) }
 {
-    let class = notice_class(scope, class)?;
+    let class = class_named(scope, ClassNeed::Notice, class)?;
     let into = resolve_new_place(alloc, scope, class.variable, called)?;
     let (into, given) = beside(into, resolve_all(alloc, scope, terms.given))?;
     let ((into, given), when) = beside((into, given), resolve_when(alloc, scope, terms.when))?;
@@ -117,17 +119,17 @@ pub(crate) fn resolve_schedule_new<S: Scope>(
 
 /// SCHEDULE THE.
 #[tactic(auto, unfolding(ss_names_meaning::specs::Statements::statement, ss_program::specs::View::view_statement))]
-pub(crate) fn resolve_schedule<S: Scope>(
+pub(crate) fn resolve_schedule(
     alloc: Global,
-    scope: &S,
+    scope: &Scope,
     line: Line,
     class: Name,
     called: &Option<Expression>,
     terms: ScheduleTerms<'_>,
 ) -> Result<Resolved, ResolveError>
-    ensures { Gives view_resolved result (statement (S.context scope.now) (schedule_statement line class (view_option view_expression called.now) (map view_expression terms.given.now) (view_when terms.when.now))) }
+    ensures { Gives view_resolved result (statement scope.now (schedule_statement line class (view_option view_expression called.now) (map view_expression terms.given.now) (view_when terms.when.now))) }
 {
-    let class = notice_class(scope, class)?;
+    let class = class_named(scope, ClassNeed::Notice, class)?;
     let notice = resolve_entity_called(alloc, scope, class.variable, called)?;
     let (notice, given) = beside(notice, resolve_all(alloc, scope, terms.given))?;
     let ((notice, given), when) = beside((notice, given), resolve_when(alloc, scope, terms.when))?;
@@ -136,16 +138,16 @@ pub(crate) fn resolve_schedule<S: Scope>(
 
 /// CANCEL.
 #[tactic(auto, unfolding(ss_names_meaning::specs::Statements::statement, ss_program::specs::View::view_statement))]
-pub(crate) fn resolve_cancel<S: Scope>(
+pub(crate) fn resolve_cancel(
     alloc: Global,
-    scope: &S,
+    scope: &Scope,
     line: Line,
     class: Name,
     called: &Option<Expression>,
 ) -> Result<Resolved, ResolveError>
-    ensures { Gives view_resolved result (statement (S.context scope.now) (cancel_statement line class (view_option view_expression called.now))) }
+    ensures { Gives view_resolved result (statement scope.now (cancel_statement line class (view_option view_expression called.now))) }
 {
-    let class = notice_class(scope, class)?;
+    let class = class_named(scope, ClassNeed::Notice, class)?;
     let notice = resolve_entity_called(alloc, scope, class.variable, called)?;
     Ok(Resolved::Cancel {
         line,
@@ -156,13 +158,13 @@ pub(crate) fn resolve_cancel<S: Scope>(
 
 /// RESET.
 #[tactic(auto, unfolding(ss_names_meaning::specs::Statements::statement, ss_program::specs::View::view_statement))]
-pub(crate) fn resolve_reset<S: Scope>(
+pub(crate) fn resolve_reset(
     alloc: Global,
-    scope: &S,
+    scope: &Scope,
     line: Line,
     targets: &[Named],
 ) -> Result<Resolved, ResolveError>
-    ensures { Gives view_resolved result (statement (S.context scope.now) (reset_statement line (map view_named targets.now))) }
+    ensures { Gives view_resolved result (statement scope.now (reset_statement line (map view_named targets.now))) }
 {
     let restarts = resolve_restarts(alloc, scope, targets)?;
     Ok(Resolved::Reset { line, restarts })

@@ -7,68 +7,55 @@ ghost use Rattle.ss_names_meaning.specs.Answers.{Gives, each};
 ghost use Rattle.ss_names_meaning.specs.Expressions.{resolved_set, place_of, set_named, target};
 ghost use Rattle.ss_names_meaning.specs.Statements.{entity_called, mode_of_target, new_place, reader, restart, owner_of_statistic};
 
-use crate::expressions::{entity_of, resolve_expression, resolve_subscript, without_subscript};
-use ss_base::Mode;
-use ss_names_meaning::{Meaning, ResolveError, Scope, SetMeant};
+use crate::expressions::{entity_of, resolve_expression, resolve_place, resolve_subscript};
+use crate::results::unresolved;
+use ss_names::Meaning;
+use ss_names_meaning::ResolveError;
+use ss_names_scopes::{Scope, mode_of};
 use ss_program::expression::{Expression as Resolved, SetOwner, Variable};
 use ss_program::statement::{Place, Restart, Target};
-use ss_tree::expression::{Expression, Named};
+use ss_tree::expression::{Designator, Expression, Named};
 use std::alloc::Global;
 
 // ---- targets
 
-// The target that is named, with the subscript if there is one.
+// The target that a name means, of the entity that has it.
 #[tactic(auto, using(crate::proofs::Seen::plain_seen))]
-fn place_of(meaning: Meaning, subscript: Option<Resolved>) -> Result<Place, ResolveError>
-    ensures { Gives view_place result (place_of meaning (option_seen view_resolved subscript)) }
+fn place_of(meaning: Meaning, entity: Option<Resolved>) -> Result<Place, ResolveError>
+    ensures { Gives view_place result (place_of meaning (option_seen view_resolved entity)) }
 {
-    match meaning {
-        Meaning::Variable { variable, .. } => without_subscript(
-            subscript,
-            Place::ToVariable { variable },
-        ),
-        Meaning::Count { count } => without_subscript(subscript, Place::ToCount { count }),
-        Meaning::Attribute {
-            class,
-            field,
-            implied,
-            ..
-        } => {
-            let of = entity_of(implied, subscript);
+    match (meaning, entity) {
+        (Meaning::Variable { variable, .. }, None) => Ok(Place::ToVariable { variable }),
+        (Meaning::Class { variable, .. }, None) => Ok(Place::ToVariable {
+            variable: Variable::Global { number: variable },
+        }),
+        (Meaning::Count { count }, None) => Ok(Place::ToCount { count }),
+        (Meaning::Attribute { class, field, .. }, Some(of)) => {
             Ok(Place::ToAttribute { class, field, of })
         }
-        Meaning::OfSystemSet { .. }
-        | Meaning::OfSet { .. }
-        | Meaning::OfMember { .. }
-        | Meaning::Figure { .. }
-        | Meaning::FigureOf { .. }
-        | Meaning::Mean { .. }
-        | Meaning::MeanOf { .. }
-        | Meaning::Clock
-        | Meaning::NoticeTime => Err(ResolveError::Unresolved),
+        _ => Err(ResolveError::Unresolved),
     }
 }
 
 /// A target.
-pub(crate) fn resolve_target<S: Scope>(
+pub(crate) fn resolve_target(
     alloc: Global,
-    scope: &S,
+    scope: &Scope,
     tree: &Named,
 ) -> Result<Place, ResolveError>
-    ensures { Gives view_place result (target (S.context scope.now) (view_named tree.now)) }
+    ensures { Gives view_place result (target scope.now (view_named tree.now)) }
 {
-    let meaning = scope.meaning(tree.designator)?;
-    let subscript = resolve_subscript(alloc, scope, &tree.subscripts)?;
-    place_of(meaning, subscript)
+    let (meaning, entity) = resolve_place(alloc, scope, tree.designator, &tree.subscripts)?;
+    place_of(meaning, entity)
 }
 
 /// Targets.
-pub(crate) fn resolve_targets<S: Scope>(
+pub(crate) fn resolve_targets(
     alloc: Global,
-    scope: &S,
+    scope: &Scope,
     trees: &[Named],
 ) -> Result<Vec<Place>, ResolveError>
-    ensures { Gives (λ v. map view_place v.items) result (each (target (S.context scope.now)) (map view_named trees.now)) }
+    ensures { Gives (λ v. map view_place v.items) result (each (target scope.now) (map view_named trees.now)) }
 {
     let mut resolved = Vec::new(alloc);
     for tree in trees {
@@ -78,44 +65,25 @@ pub(crate) fn resolve_targets<S: Scope>(
     Ok(resolved)
 }
 
-// The mode of a target.
-fn mode_of(meaning: Meaning) -> Result<Mode, ResolveError>
-    ensures { Gives (λ x. x) result (mode_of_target meaning) }
-{
-    let mode = match meaning {
-        Meaning::Variable { mode, .. } => mode,
-        Meaning::Attribute { mode, .. } => mode,
-        Meaning::Count { .. } => Some(Mode::Integer),
-        Meaning::OfSystemSet { .. }
-        | Meaning::OfSet { .. }
-        | Meaning::OfMember { .. }
-        | Meaning::Figure { .. }
-        | Meaning::FigureOf { .. }
-        | Meaning::Mean { .. }
-        | Meaning::MeanOf { .. }
-        | Meaning::Clock
-        | Meaning::NoticeTime => None,
-    };
-    mode.ok_or(ResolveError::Unresolved)
-}
-
 // A target of READ.
-fn resolve_reader<S: Scope>(alloc: Global, scope: &S, tree: &Named) -> Result<Target, ResolveError>
-    ensures { Gives view_target result (reader (S.context scope.now) (view_named tree.now)) }
+fn resolve_reader(alloc: Global, scope: &Scope, tree: &Named) -> Result<Target, ResolveError>
+    ensures { Gives view_target result (reader scope.now (view_named tree.now)) }
 {
-    let meaning = scope.meaning(tree.designator)?;
-    let mode = mode_of(meaning)?;
-    let place = resolve_target(alloc, scope, tree)?;
-    Ok(Target { place, mode })
+    let (meaning, entity) = resolve_place(alloc, scope, tree.designator, &tree.subscripts)?;
+    let place = place_of(meaning, entity)?;
+    match mode_of(meaning) {
+        Some(mode) => Ok(Target { place, mode }),
+        None => Err(unresolved(place)),
+    }
 }
 
 /// The targets of READ.
-pub(crate) fn resolve_readers<S: Scope>(
+pub(crate) fn resolve_readers(
     alloc: Global,
-    scope: &S,
+    scope: &Scope,
     trees: &[Named],
 ) -> Result<Vec<Target>, ResolveError>
-    ensures { Gives (λ v. map view_target v.items) result (each (reader (S.context scope.now)) (map view_named trees.now)) }
+    ensures { Gives (λ v. map view_target v.items) result (each (reader scope.now) (map view_named trees.now)) }
 {
     let mut resolved = Vec::new(alloc);
     for tree in trees {
@@ -126,13 +94,13 @@ pub(crate) fn resolve_readers<S: Scope>(
 }
 
 /// What takes the number of a new entity: the target after CALLED, or else the variable of the class.
-pub(crate) fn resolve_new_place<S: Scope>(
+pub(crate) fn resolve_new_place(
     alloc: Global,
-    scope: &S,
+    scope: &Scope,
     variable: Variable,
     called: &Option<Named>,
 ) -> Result<Place, ResolveError>
-    ensures { Gives view_place result (new_place (S.context scope.now) variable (view_option view_named called.now)) }
+    ensures { Gives view_place result (new_place scope.now variable (view_option view_named called.now)) }
 {
     match called {
         None => Ok(Place::ToVariable { variable }),
@@ -142,13 +110,13 @@ pub(crate) fn resolve_new_place<S: Scope>(
 
 /// The entity after CALLED, or else the one in the variable of the class.
 #[tactic(auto, unfolding(ss_program::specs::View::view_expression))]
-pub(crate) fn resolve_entity_called<S: Scope>(
+pub(crate) fn resolve_entity_called(
     alloc: Global,
-    scope: &S,
+    scope: &Scope,
     variable: Variable,
     called: &Option<Expression>,
 ) -> Result<Resolved, ResolveError>
-    ensures { Gives view_resolved result (entity_called (S.context scope.now) variable (view_option view_expression called.now)) }
+    ensures { Gives view_resolved result (entity_called scope.now variable (view_option view_expression called.now)) }
 {
     match called {
         None => Ok(Resolved::Fetch { variable }),
@@ -158,87 +126,71 @@ pub(crate) fn resolve_entity_called<S: Scope>(
 
 // ---- sets
 
-// The number of a set, and its owner.
-#[tactic(auto, using(crate::proofs::Seen::plain_seen))]
-fn resolved_set(
-    set: SetMeant,
-    subscript: Option<Resolved>,
-) -> Result<(usize, SetOwner), ResolveError>
-    ensures { Gives (λ p. (p.0, view_owner p.1)) result (resolved_set set (option_seen view_resolved subscript)) }
-{
-    match set {
-        SetMeant::OfSystem { set } => without_subscript(subscript, (set, SetOwner::TheSystem)),
-        SetMeant::OfEntity { set, implied } => {
-            let entity = entity_of(implied, subscript);
-            Ok((set, SetOwner::Entity { entity }))
-        }
+// The owner of a set.
+fn owner_named(entity: Option<Resolved>) -> SetOwner {
+    match entity {
+        Some(entity) => SetOwner::Entity { entity },
+        None => SetOwner::TheSystem,
+    }
+}
+
+// The set of a name, which nothing hides.
+fn set_meaning(scope: &Scope, place: Designator) -> Result<(Meaning, usize), ResolveError> {
+    let Designator::Name(name) = place else {
+        return Err(ResolveError::Unresolved);
+    };
+    match scope.names.meaning(&name) {
+        Some(Meaning::Set { set }) => Ok((Meaning::Set { set }, set)),
+        _ => Err(ResolveError::Unresolved),
     }
 }
 
 /// The number of the set that is named, and its owner.
-pub(crate) fn resolve_set<S: Scope>(
+pub(crate) fn resolve_set(
     alloc: Global,
-    scope: &S,
+    scope: &Scope,
     tree: &Named,
 ) -> Result<(usize, SetOwner), ResolveError>
-    ensures { Gives (λ p. (p.0, view_owner p.1)) result (set_named (S.context scope.now) (view_named tree.now)) }
+    ensures { Gives (λ p. (p.0, view_owner p.1)) result (set_named scope.now (view_named tree.now)) }
 {
-    let set = scope.set(tree.designator)?;
+    let (meaning, set) = set_meaning(scope, tree.designator)?;
     let subscript = resolve_subscript(alloc, scope, &tree.subscripts)?;
-    resolved_set(set, subscript)
+    let owner = owner_named(entity_of(scope, meaning, subscript)?);
+    Ok((set, owner))
 }
 
 // ---- statistics
 
-// The entity whose statistic starts afresh; None where the statistic is of no entity.
-#[tactic(auto, using(crate::proofs::Seen::plain_seen))]
-fn owner_of_statistic(
-    meaning: Meaning,
-    subscript: Option<Resolved>,
-) -> Result<Option<Resolved>, ResolveError>
-    ensures { Gives (option_seen view_resolved) result (owner_of_statistic meaning (option_seen view_resolved subscript)) }
-{
-    match meaning {
-        Meaning::Variable { variable, .. } => match variable {
-            Variable::Global { .. } => without_subscript(subscript, None),
-            Variable::Local { .. } => Err(ResolveError::Unresolved),
-        },
-        Meaning::Attribute { implied, .. } => Ok(Some(entity_of(implied, subscript))),
-        Meaning::OfSystemSet { .. } => without_subscript(subscript, None),
-        Meaning::OfSet { implied, .. } => Ok(Some(entity_of(implied, subscript))),
-        Meaning::Count { .. }
-        | Meaning::OfMember { .. }
-        | Meaning::Figure { .. }
-        | Meaning::FigureOf { .. }
-        | Meaning::Mean { .. }
-        | Meaning::MeanOf { .. }
-        | Meaning::Clock
-        | Meaning::NoticeTime => Err(ResolveError::Unresolved),
+// The number of the history of what is named.
+fn history_of(scope: &Scope, place: Designator) -> Result<usize, ResolveError> {
+    match place {
+        Designator::Name(name) => {
+            scope
+                .names
+                .histories
+                .place(&name)
+                .ok_or(ResolveError::Unresolved)
+        }
+        Designator::TimeV | Designator::TimeA => Err(ResolveError::Unresolved),
     }
 }
 
-// A statistic that starts afresh.
-fn resolve_restart<S: Scope>(
-    alloc: Global,
-    scope: &S,
-    tree: &Named,
-) -> Result<Restart, ResolveError>
-    ensures { Gives view_restart result (restart (S.context scope.now) (view_named tree.now)) }
+// A statistic that starts afresh, and of which entity.
+fn resolve_restart(alloc: Global, scope: &Scope, tree: &Named) -> Result<Restart, ResolveError>
+    ensures { Gives view_restart result (restart scope.now (view_named tree.now)) }
 {
-    let meaning = scope.meaning(tree.designator)?;
-    let statistic = scope.statistic(tree.designator)?;
-    let subscript = resolve_subscript(alloc, scope, &tree.subscripts)?;
-    let of = owner_of_statistic(meaning, subscript)?;
+    let statistic = history_of(scope, tree.designator)?;
+    let (_, of) = resolve_place(alloc, scope, tree.designator, &tree.subscripts)?;
     Ok(Restart { statistic, of })
 }
 
 /// The statistics of a RESET.
-pub(crate) fn resolve_restarts<S: Scope>(
+pub(crate) fn resolve_restarts(
     alloc: Global,
-    scope: &S,
+    scope: &Scope,
     trees: &[Named],
 ) -> Result<Vec<Restart>, ResolveError>
-    ensures { Gives (λ v. map view_restart v.items) result (each (restart (S.context scope.now)) (map view_named trees.now)) }
+    ensures { Gives (λ v. map view_restart v.items) result (each (restart scope.now) (map view_named trees.now)) }
 {
     let mut resolved = Vec::new(alloc);
     for tree in trees {

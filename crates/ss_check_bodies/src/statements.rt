@@ -13,7 +13,9 @@ use crate::lists::resolve_all;
 use crate::places::{resolve_readers, resolve_target, resolve_targets};
 use crate::results::beside;
 use ss_base::{Line, Name, PictureLine};
-use ss_names_meaning::{ResolveError, RoutineMeant, Scope};
+use ss_names::{Meaning, RoutineSection};
+use ss_names_meaning::ResolveError;
+use ss_names_scopes::Scope;
 use ss_program::expression::{Expression as Value, Sign};
 use ss_program::statement::{Place, Statement as Resolved};
 use ss_tree::expression::{Expression, Named};
@@ -21,14 +23,14 @@ use std::alloc::{AllocError, Global};
 
 /// LET.
 #[tactic(auto, unfolding(ss_names_meaning::specs::Statements::statement, ss_program::specs::View::view_statement))]
-pub(crate) fn resolve_let<S: Scope>(
+pub(crate) fn resolve_let(
     alloc: Global,
-    scope: &S,
+    scope: &Scope,
     line: Line,
     target: &Named,
     value: &Expression,
 ) -> Result<Resolved, ResolveError>
-    ensures { Gives view_resolved result (statement (S.context scope.now) (let_statement line (view_named target.now) (view_expression value.now))) }
+    ensures { Gives view_resolved result (statement scope.now (let_statement line (view_named target.now) (view_expression value.now))) }
 {
     let target = resolve_target(alloc, scope, target)?;
     let (target, value) = beside(target, resolve_expression(alloc, scope, value))?;
@@ -41,14 +43,14 @@ pub(crate) fn resolve_let<S: Scope>(
 
 /// ADD.
 #[tactic(auto, unfolding(ss_names_meaning::specs::Statements::statement, ss_program::specs::View::view_statement))]
-pub(crate) fn resolve_add<S: Scope>(
+pub(crate) fn resolve_add(
     alloc: Global,
-    scope: &S,
+    scope: &Scope,
     line: Line,
     amount: &Expression,
     target: &Named,
 ) -> Result<Resolved, ResolveError>
-    ensures { Gives view_resolved result (statement (S.context scope.now) (add_statement line (view_expression amount.now) (view_named target.now))) }
+    ensures { Gives view_resolved result (statement scope.now (add_statement line (view_expression amount.now) (view_named target.now))) }
 {
     let value = resolve_expression(alloc, scope, amount)?;
     let (value, target) = beside(value, resolve_target(alloc, scope, target))?;
@@ -62,14 +64,14 @@ pub(crate) fn resolve_add<S: Scope>(
 
 /// SUBTRACT.
 #[tactic(auto, unfolding(ss_names_meaning::specs::Statements::statement, ss_program::specs::View::view_statement))]
-pub(crate) fn resolve_subtract<S: Scope>(
+pub(crate) fn resolve_subtract(
     alloc: Global,
-    scope: &S,
+    scope: &Scope,
     line: Line,
     amount: &Expression,
     target: &Named,
 ) -> Result<Resolved, ResolveError>
-    ensures { Gives view_resolved result (statement (S.context scope.now) (subtract_statement line (view_expression amount.now) (view_named target.now))) }
+    ensures { Gives view_resolved result (statement scope.now (subtract_statement line (view_expression amount.now) (view_named target.now))) }
 {
     let value = resolve_expression(alloc, scope, amount)?;
     let (value, target) = beside(value, resolve_target(alloc, scope, target))?;
@@ -85,16 +87,17 @@ pub(crate) fn resolve_subtract<S: Scope>(
 #[tactic(auto, unfolding(ss_program::specs::View::view_statement))]
 fn call_of(
     line: Line,
-    routine: RoutineMeant,
+    routine: usize,
+    section: RoutineSection,
     given: Vec<Value>,
     yielding: Vec<Place>,
 ) -> Result<Resolved, ResolveError>
-    ensures { Gives view_resolved result (call_of line routine (map expression_seen given.items) (map view_place yielding.items)) }
+    ensures { Gives view_resolved result (call_of line routine section (map expression_seen given.items) (map view_place yielding.items)) }
 {
-    if given.len() == routine.given && yielding.len() == routine.yielding {
+    if given.len() == section.given && yielding.len() == section.yielding {
         Ok(Resolved::Call {
             line,
-            routine: routine.routine,
+            routine,
             given,
             yielding,
         })
@@ -103,33 +106,46 @@ fn call_of(
     }
 }
 
+// The routine of a name, with its number.
+fn routine_named(scope: &Scope, name: &Name) -> Result<(usize, RoutineSection), ResolveError>
+    ensures { Gives (λ x. x) result (routine_named scope.now name.now) }
+{
+    match scope.names.meaning(name) {
+        Some(Meaning::Routine { routine }) => match scope.names.routines.values().get(routine) {
+            Some(section) => Ok((routine, *section)),
+            None => Err(ResolveError::Unresolved),
+        },
+        _ => Err(ResolveError::Unresolved),
+    }
+}
+
 /// CALL.
 #[tactic(auto, unfolding(ss_names_meaning::specs::Statements::statement, ss_program::specs::View::view_statement))]
-pub(crate) fn resolve_routine_call<S: Scope>(
+pub(crate) fn resolve_routine_call(
     alloc: Global,
-    scope: &S,
+    scope: &Scope,
     line: Line,
     routine: Name,
     given: &[Expression],
     yielding: &[Named],
 ) -> Result<Resolved, ResolveError>
-    ensures { Gives view_resolved result (statement (S.context scope.now) (call_statement line routine (map view_expression given.now) (map view_named yielding.now))) }
+    ensures { Gives view_resolved result (statement scope.now (call_statement line routine (map view_expression given.now) (map view_named yielding.now))) }
 {
-    let routine = scope.routine(routine)?;
+    let (number, section) = routine_named(scope, &routine)?;
     let given = resolve_all(alloc, scope, given)?;
     let yielding = resolve_targets(alloc, scope, yielding)?;
-    call_of(line, routine, given, yielding)
+    call_of(line, number, section, given, yielding)
 }
 
 /// READ.
 #[tactic(auto, unfolding(ss_names_meaning::specs::Statements::statement, ss_program::specs::View::view_statement))]
-pub(crate) fn resolve_read<S: Scope>(
+pub(crate) fn resolve_read(
     alloc: Global,
-    scope: &S,
+    scope: &Scope,
     line: Line,
     targets: &[Named],
 ) -> Result<Resolved, ResolveError>
-    ensures { Gives view_resolved result (statement (S.context scope.now) (read_statement line (map view_named targets.now))) }
+    ensures { Gives view_resolved result (statement scope.now (read_statement line (map view_named targets.now))) }
 {
     let targets = resolve_readers(alloc, scope, targets)?;
     Ok(Resolved::Read { line, targets })
@@ -148,14 +164,14 @@ fn picture_lines(alloc: Global, pictures: &[PictureLine]) -> Result<Vec<Vec<u8>>
 
 /// PRINT.
 #[tactic(auto, unfolding(ss_names_meaning::specs::Statements::statement, ss_program::specs::View::view_statement))]
-pub(crate) fn resolve_print<S: Scope>(
+pub(crate) fn resolve_print(
     alloc: Global,
-    scope: &S,
+    scope: &Scope,
     line: Line,
     items: &[Expression],
     pictures: &[PictureLine],
 ) -> Result<Resolved, ResolveError>
-    ensures { Gives view_resolved result (statement (S.context scope.now) (print_statement line (map view_expression items.now) pictures.now)) }
+    ensures { Gives view_resolved result (statement scope.now (print_statement line (map view_expression items.now) pictures.now)) }
 {
     let items = resolve_items(alloc, scope, items)?;
     let pictures = picture_lines(alloc, pictures)?;
@@ -168,13 +184,13 @@ pub(crate) fn resolve_print<S: Scope>(
 
 /// SKIP.
 #[tactic(auto, unfolding(ss_names_meaning::specs::Statements::statement, ss_program::specs::View::view_statement))]
-pub(crate) fn resolve_skip<S: Scope>(
+pub(crate) fn resolve_skip(
     alloc: Global,
-    scope: &S,
+    scope: &Scope,
     line: Line,
     count: &Expression,
 ) -> Result<Resolved, ResolveError>
-    ensures { Gives view_resolved result (statement (S.context scope.now) (skip_statement line (view_expression count.now))) }
+    ensures { Gives view_resolved result (statement scope.now (skip_statement line (view_expression count.now))) }
 {
     let count = resolve_expression(alloc, scope, count)?;
     Ok(Resolved::Skip { line, count })

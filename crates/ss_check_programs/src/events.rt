@@ -10,22 +10,22 @@ ghost use Rattle.ss_check_programs.specs.View.{view_parts};
 
 use crate::sections::{Parts, parts_at, split};
 use ss_base::{Name, RankKey, RankKeys};
-use ss_check_scopes::LocalModes;
-use ss_names::{GlobalMeaning, Names};
+use ss_names::{Meaning, Names};
 use ss_names_meaning::{ResolveError, resolve_ties};
+use ss_names_scopes::Locals;
 use ss_program::sections::Event;
 use ss_tree::program::Section;
 use std::alloc::{AllocError, Global};
 
 // The global variable that gets the number of the notice, if it is saved.
-fn saved(names: &Names, class: Name, saving: bool) -> Result<Option<usize>, ResolveError>
-    ensures { Gives (λ x. x) result (saved names.now class saving) }
+fn saved(names: &Names, class: &Name, saving: bool) -> Result<Option<usize>, ResolveError>
+    ensures { Gives (λ x. x) result (saved names.now class.now saving) }
 {
     if !saving {
         return Ok(None);
     }
-    match names.meaning(&class) {
-        Some(GlobalMeaning::Class { variable, .. }) => { Ok(Some(variable)) }
+    match names.meaning(class) {
+        Some(Meaning::Class { variable, .. }) => Ok(Some(variable)),
         _ => Err(ResolveError::Unresolved),
     }
 }
@@ -59,58 +59,42 @@ fn event_of_class(
 fn class_event(
     alloc: Global,
     names: &Names,
-    locals: &[LocalModes],
+    locals: &[Locals],
     sections: &[Section],
     class: usize,
     name: Name,
 ) -> Result<Event, ResolveError>
     ensures { Gives view_event result (value_for names.now.events name >>= (λ known. class_event_from names.now (parts_with_locals names.now locals.now (map view_section sections.now)) class name known)) }
 {
-    let Some(known) = names.event(&name) else {
+    let Some(known) = names.events.get(&name).copied() else {
         return Err(ResolveError::Unresolved);
     };
     if names.fields(class).len() < known.given {
         return Err(ResolveError::Unresolved);
     }
     let ties = resolve_ties(alloc, names, class, name)?;
-    let saved = saved(names, name, known.saving)?;
+    let saved = saved(names, &name, known.saving)?;
     let parts = parts_at(alloc, names, locals, sections, known.section)?;
     let event = event_of_class(alloc, class, ties, known.given, saved, parts)?;
     Ok(event)
-}
-
-// The notice class of a place in the order of rank.
-fn resolve_event(
-    alloc: Global,
-    names: &Names,
-    locals: &[LocalModes],
-    sections: &[Section],
-    rank: usize,
-) -> Result<Event, ResolveError>
-    ensures { Gives view_event result (event_from names.now (parts_with_locals names.now locals.now (map view_section sections.now)) rank) }
-{
-    let Some(class) = names.ranked(rank) else {
-        return Err(ResolveError::Unresolved);
-    };
-    let Some(name) = names.class_name(class) else {
-        return Err(ResolveError::Unresolved);
-    };
-    class_event(alloc, names, locals, sections, class, name)
 }
 
 /// The notice classes with their event routines, in the order of rank.
 pub(crate) fn resolve_events(
     alloc: Global,
     names: &Names,
-    locals: &[LocalModes],
+    locals: &[Locals],
     sections: &[Section],
 ) -> Result<Vec<Event>, ResolveError>
-    ensures { Gives (λ v. map view_event v.items) result (each (event_from names.now (parts_with_locals names.now locals.now (map view_section sections.now))) (upto (length names.now.ranks))) }
+    ensures { Gives (λ v. map view_event v.items) result (each (event_from names.now (parts_with_locals names.now locals.now (map view_section sections.now))) names.now.ranks) }
 {
     let mut resolved = Vec::new(alloc);
-    for number in 0..names.ranks() {
-        let one = resolve_event(alloc, names, locals, sections, number)?;
-        resolved.push(one)?;
+    for class in names.ranks.as_slice() {
+        let Some(name) = names.classes.keys().get(*class) else {
+            return Err(ResolveError::Unresolved);
+        };
+        let event = class_event(alloc, names, locals, sections, *class, *name)?;
+        resolved.push(event)?;
     }
     Ok(resolved)
 }

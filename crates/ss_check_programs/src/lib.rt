@@ -7,4 +7,4 @@ mod routines;
 mod sections;
 
 pub use program::resolve;
-pub use ss_names_meaning::{SectionScope, disciplines, layout};
+pub use ss_names_meaning::{disciplines, layout};

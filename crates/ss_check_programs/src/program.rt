@@ -11,19 +11,28 @@ ghost use Rattle.ss_check_programs.specs.View.{view_parts};
 use crate::events::resolve_events;
 use crate::routines::resolve_routines;
 use crate::sections::{Parts, parts_at};
-use ss_check_scopes::LocalModes;
+use ss_base::Name;
 use ss_names::Names;
 use ss_names_meaning::{ResolveError, lay_out};
+use ss_names_scopes::Locals;
 use ss_program::sections::Program as Resolved;
 use ss_tree::program::{Program, Section, SectionKind};
 use std::alloc::{AllocError, Global};
+
+// Whether a name is that of a class of notices.
+fn is_ranked(names: &Names, name: &Name) -> bool {
+    match names.classes.place(name) {
+        Some(class) => names.ranks.contains(&class),
+        None => false,
+    }
+}
 
 // Whether a section, if it is an EVENT section, is one of a notice class.
 fn is_known(names: &Names, section: &Section) -> bool
     ensures { result ≡ is_known names.now (view_section section.now) }
 {
     match &section.kind {
-        SectionKind::Event { name, .. } => names.rank(name).is_some(),
+        SectionKind::Event { name, .. } => is_ranked(names, name),
         SectionKind::Main => true,
         SectionKind::Routine { .. } => true,
     }
@@ -63,7 +72,7 @@ fn main_number(sections: &[Section]) -> Option<usize>
 fn main_parts(
     alloc: Global,
     names: &Names,
-    locals: &[LocalModes],
+    locals: &[Locals],
     sections: &[Section],
 ) -> Result<Parts, ResolveError>
     ensures { Gives view_parts result (main_from (parts_with_locals names.now locals.now (map view_section sections.now)) (map view_section sections.now)) }
@@ -79,7 +88,7 @@ fn main_parts(
 fn resolved(
     alloc: Global,
     names: &Names,
-    locals: &[LocalModes],
+    locals: &[Locals],
     sections: &[Section],
 ) -> Result<Resolved, ResolveError>
     ensures { Gives view_program result (resolved_with_locals names.now locals.now (map view_section sections.now)) }
@@ -114,7 +123,7 @@ pub fn resolve(
     alloc: Global,
     program: &Program,
     names: &Names,
-    locals: &[LocalModes],
+    locals: &[Locals],
 ) -> Result<Option<Resolved>, AllocError>
     ensures { IfOk result (λ p. view_option view_program p ≡ resolved_with_locals names.now locals.now (map view_section program.now.sections.items)) }
 {

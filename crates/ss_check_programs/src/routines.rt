@@ -8,9 +8,9 @@ ghost use Rattle.ss_names_meaning.specs.Resolved.{parts_with_locals, routine_fro
 ghost use Rattle.ss_check_programs.specs.View.{view_parts};
 
 use crate::sections::{Parts, parts_at, split};
-use ss_check_scopes::LocalModes;
 use ss_names::Names;
 use ss_names_meaning::ResolveError;
+use ss_names_scopes::Locals;
 use ss_program::sections::Routine;
 use ss_tree::program::Section;
 use std::alloc::{AllocError, Global};
@@ -37,37 +37,20 @@ fn routine_of(
     })
 }
 
-// The routine of a number.
-fn resolve_routine(
-    alloc: Global,
-    names: &Names,
-    locals: &[LocalModes],
-    sections: &[Section],
-    number: usize,
-) -> Result<Routine, ResolveError>
-    ensures { Gives view_routine result (routine_from names.now (parts_with_locals names.now locals.now (map view_section sections.now)) number) }
-{
-    let Some(known) = names.routine(number) else {
-        return Err(ResolveError::Unresolved);
-    };
-    let parts = parts_at(alloc, names, locals, sections, known.section)?;
-    let routine = routine_of(alloc, known.given, known.yielding, parts)?;
-    Ok(routine)
-}
-
 /// The routines, by their numbers.
 pub(crate) fn resolve_routines(
     alloc: Global,
     names: &Names,
-    locals: &[LocalModes],
+    locals: &[Locals],
     sections: &[Section],
 ) -> Result<Vec<Routine>, ResolveError>
-    ensures { Gives (λ v. map view_routine v.items) result (each (routine_from names.now (parts_with_locals names.now locals.now (map view_section sections.now))) (upto (length names.now.routines))) }
+    ensures { Gives (λ v. map view_routine v.items) result (each (routine_from (parts_with_locals names.now locals.now (map view_section sections.now))) (values_of names.now.routines)) }
 {
     let mut resolved = Vec::new(alloc);
-    for number in 0..names.routines() {
-        let one = resolve_routine(alloc, names, locals, sections, number)?;
-        resolved.push(one)?;
+    for known in names.routines.values() {
+        let parts = parts_at(alloc, names, locals, sections, known.section)?;
+        let routine = routine_of(alloc, known.given, known.yielding, parts)?;
+        resolved.push(routine)?;
     }
     Ok(resolved)
 }

@@ -9,9 +9,9 @@ ghost use Rattle.ss_check_programs.specs.View.{view_parts};
 
 use ss_base::{Line, Mode};
 use ss_check_bodies::resolve_body;
-use ss_check_scopes::LocalModes;
 use ss_names::Names;
-use ss_names_meaning::{ResolveError, SectionScope, mode_given};
+use ss_names_meaning::ResolveError;
+use ss_names_scopes::{Locals, Scope};
 use ss_program::statement::Statement;
 use ss_tree::program::Section;
 use std::alloc::Global;
@@ -24,82 +24,48 @@ pub(crate) struct Parts {
     pub(crate) body: Vec<Statement>,
 }
 
-// The mode of the local variable of a number.
-fn local_mode(locals: &LocalModes, number: usize) -> Result<Mode, ResolveError>
-    ensures { Gives (λ x. x) result (local_mode locals.now number) }
-{
-    let Some(name) = locals.name(number) else {
-        return Err(ResolveError::Unresolved);
-    };
-    let Some(mode) = locals.mode(name) else {
-        return Err(ResolveError::Unresolved);
-    };
-    match mode_given(mode) {
-        Some(mode) => Ok(mode),
-        None => Err(ResolveError::Unresolved),
-    }
-}
-
 // The modes of the local variables, in the order of their numbers.
-fn local_modes(alloc: Global, locals: &LocalModes) -> Result<Vec<Mode>, ResolveError>
+fn local_modes(alloc: Global, locals: &Locals) -> Result<Vec<Mode>, ResolveError>
     ensures { Gives (λ v. v.items) result (local_modes locals.now) }
 {
     let mut resolved = Vec::new(alloc);
     for number in 0..locals.len() {
-        let one = local_mode(locals, number)?;
-        resolved.push(one)?;
+        match locals.mode_at(number) {
+            Some(Some(mode)) => resolved.push(mode)?,
+            Some(None) | None => return Err(ResolveError::Unresolved),
+        }
     }
     Ok(resolved)
-}
-
-// The statements of a section with these local variables.
-fn resolve_statements(
-    alloc: Global,
-    names: &Names,
-    locals: &LocalModes,
-    section: &Section,
-) -> Result<Vec<Statement>, ResolveError>
-    ensures { Gives (λ v. view_body v.items) result (body names.now locals.now (view_section section.now)) }
-{
-    let scope = SectionScope { names, locals };
-    resolve_body(alloc, &scope, &section.body)
-}
-
-// A section with these local variables.
-fn parts_with(
-    alloc: Global,
-    names: &Names,
-    locals: &LocalModes,
-    section: &Section,
-) -> Result<Parts, ResolveError>
-    ensures { Gives view_parts result (parts_with names.now locals.now (view_section section.now)) }
-{
-    let modes = local_modes(alloc, locals)?;
-    let body = resolve_statements(alloc, names, locals, section)?;
-    Ok(Parts {
-        line: section.line,
-        modes,
-        body,
-    })
 }
 
 /// The section of a number, by the local variables of each.
 pub(crate) fn parts_at(
     alloc: Global,
     names: &Names,
-    locals: &[LocalModes],
+    all: &[Locals],
     sections: &[Section],
     number: usize,
 ) -> Result<Parts, ResolveError>
-    ensures { Gives view_parts result (parts_with_locals names.now locals.now (map view_section sections.now) number) }
+    ensures { Gives view_parts result (parts_with_locals names.now all.now (map view_section sections.now) number) }
 {
     let Some(section) = sections.get(number) else {
         return Err(ResolveError::Unresolved);
     };
-    let Some(locals) = locals.get(number) else {
+    let Some(locals) = all.get(number) else {
         return Err(ResolveError::Unresolved);
     };
-    parts_with(alloc, names, locals, section)
+    let modes = local_modes(alloc, locals)?;
+    let scope = Scope {
+        names,
+        locals,
+        sections: all,
+    };
+    let body = resolve_body(alloc, &scope, &section.body)?;
+    Ok(Parts {
+        line: section.line,
+        modes,
+        body,
+    })
 }
 
 /// The first of some modes, as many as these, and the others.

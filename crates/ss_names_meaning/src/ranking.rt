@@ -1,47 +1,33 @@
 //! The disciplines of sets, and the keys that break the ties of notices.
 
-ghost use Rattle.std.specs.Prelude.{◌≡◌, length, IfOk};
-ghost use Rattle.std.specs.List.{filter};
-ghost use Rattle.ss_program.specs.View.{view_option};
-ghost use Rattle.ss_names_meaning.specs.Answers.{Gives, each, upto};
-ghost use Rattle.ss_names_meaning.specs.Layouts.{discipline, discipline_ordered, discipline_ruled, disciplines, key_of, rank_keys, ranked_by, tie_keys, tied_by};
+ghost use Rattle.std.specs.Prelude.{◌≡◌, IfOk};
+ghost use Rattle.ss_tree.specs.View.{view_option};
+ghost use Rattle.ss_names_meaning.specs.Answers.{Gives};
+ghost use Rattle.ss_names_meaning.specs.Layouts.{discipline, disciplines, key_of, rank_keys, tie_keys};
 
 use crate::error::ResolveError;
-use crate::layouts::attribute_named;
 use ss_base::{Discipline, Name, RankKey, RankKeys};
-use ss_names::{Names, Ordering, RankedBy, TiedBy};
+use ss_names::{Names, Set};
 use ss_names_declarations::SetRule;
 use std::alloc::{AllocError, Global};
 
 // An attribute of a class as a key.
-fn key_of(names: &Names, class: usize, high: bool, name: Name) -> Result<RankKey, ResolveError>
-    ensures { Gives (λ x. x) result (key_of names.now class high name) }
+fn key_of(names: &Names, class: usize, high: bool, name: &Name) -> Result<RankKey, ResolveError>
+    ensures { Gives (λ x. x) result (key_of names.now class high name.now) }
 {
-    let Some(known) = attribute_named(names, name) else {
-        return Err(ResolveError::Unresolved);
-    };
-    if known.class == class {
-        Ok(RankKey {
-            field: known.field,
-            high,
-        })
-    } else {
-        Err(ResolveError::Unresolved)
+    match names.attributes.get(name) {
+        Some(attribute) => {
+            if attribute.class == class {
+                Ok(RankKey {
+                    field: attribute.field,
+                    high,
+                })
+            } else {
+                Err(ResolveError::Unresolved)
+            }
+        }
+        None => Err(ResolveError::Unresolved),
     }
-}
-
-// A key of a ranked set, by the class of its members.
-fn ranked_by(names: &Names, class: usize, key: RankedBy) -> Result<RankKey, ResolveError>
-    ensures { Gives (λ x. x) result (ranked_by names.now class key) }
-{
-    key_of(names, class, key.high, key.attribute)
-}
-
-// A key that breaks the ties of a class.
-fn tied_by(names: &Names, class: usize, tie: TiedBy) -> Result<RankKey, ResolveError>
-    ensures { Gives (λ x. x) result (tied_by names.now class tie) }
-{
-    key_of(names, class, tie.high, tie.attribute)
 }
 
 // The keys of a DEFINE, by its number, for a class of members.
@@ -53,14 +39,13 @@ fn rank_keys(
 ) -> Result<Vec<RankKey>, ResolveError>
     ensures { Gives (λ v. v.items) result (rank_keys names.now class statement) }
 {
-    let mut resolved = Vec::new(alloc);
-    for key in names.rank_keys() {
+    let mut keys = Vec::new(alloc);
+    for key in &names.rank_keys {
         if key.statement == statement {
-            let one = ranked_by(names, class, *key)?;
-            resolved.push(one)?;
+            keys.push(key_of(names, class, key.high, &key.attribute)?)?;
         }
     }
-    Ok(resolved)
+    Ok(keys)
 }
 
 /// The keys that break the ties of a class, by its number and its name.
@@ -72,48 +57,32 @@ pub fn resolve_ties(
 ) -> Result<Vec<RankKey>, ResolveError>
     ensures { Gives (λ v. v.items) result (tie_keys names.now class name) }
 {
-    let mut resolved = Vec::new(alloc);
-    for tie in names.tie_keys() {
-        if tie.class == name {
-            let one = tied_by(names, class, *tie)?;
-            resolved.push(one)?;
+    let mut keys = Vec::new(alloc);
+    for key in &names.tie_keys {
+        if key.class == name {
+            keys.push(key_of(names, class, key.high, &key.attribute)?)?;
         }
     }
-    Ok(resolved)
+    Ok(keys)
 }
 
-// The discipline of a set, by its DEFINE and by the class of its members, if it has one.
-fn discipline_ordered(
-    alloc: Global,
-    names: &Names,
-    member: Option<usize>,
-    ordering: Option<Ordering>,
-) -> Result<Discipline, ResolveError>
-    ensures { Gives (λ x. x) result (discipline_ordered names.now member ordering) }
+// The discipline of a set: FIFO without a DEFINE.
+fn discipline(alloc: Global, names: &Names, set: Set) -> Result<Discipline, ResolveError>
+    ensures { Gives (λ x. x) result (discipline names.now set) }
 {
-    let Some(ordering) = ordering else {
+    let Some(order) = set.order else {
         return Ok(Discipline::Fifo);
     };
-    match ordering.rule {
+    match order.rule {
         SetRule::Fifo => Ok(Discipline::Fifo),
         SetRule::Lifo => Ok(Discipline::Lifo),
-        SetRule::Ranked => match member {
+        SetRule::Ranked => match set.member {
             Some(class) => {
-                let keys = rank_keys(alloc, names, class, ordering.statement)?;
+                let keys = rank_keys(alloc, names, class, order.statement)?;
                 Ok(Discipline::Ranked(RankKeys::new(keys)))
             }
             None => Err(ResolveError::Unresolved),
         },
-    }
-}
-
-// The discipline of the set of this number.
-fn discipline(alloc: Global, names: &Names, number: usize) -> Result<Discipline, ResolveError>
-    ensures { Gives (λ x. x) result (discipline names.now number) }
-{
-    match names.set(number) {
-        Some(set) => discipline_ordered(alloc, names, set.member, set.ordering),
-        None => Err(ResolveError::Unresolved),
     }
 }
 
@@ -125,9 +94,8 @@ pub(crate) fn resolve_disciplines(
     ensures { Gives (λ v. v.items) result (disciplines names.now) }
 {
     let mut resolved = Vec::new(alloc);
-    for number in 0..names.sets() {
-        let one = discipline(alloc, names, number)?;
-        resolved.push(one)?;
+    for set in &names.sets {
+        resolved.push(discipline(alloc, names, *set)?)?;
     }
     Ok(resolved)
 }
