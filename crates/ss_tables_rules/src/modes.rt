@@ -2,7 +2,7 @@
 
 ghost use Rattle.std.specs.Prelude.{◌≡◌, map, IfOk};
 ghost use Rattle.ss_tree.specs.View.{view_section};
-ghost use Rattle.ss_tables_rules.specs.Rules.{unmoded};
+ghost use Rattle.ss_tables_rules.specs.Rules.{unmoded_in};
 
 use crate::error::TableError;
 use ss_names::Names;

@@ -1,0 +1,4 @@
+pub mod Kinds
+pub mod Modes
+pub mod Counts
+pub mod Refusal

@@ -1,0 +1,143 @@
+-- The first of the rules 71 to 79 that a program breaks, and the first line of the text where it does.
+use Rattle.std.specs.Prelude.{ℕ, Bool, true, false, not, ◌&&◌, ◌||◌, ◌==◌, List, [], ◌∷◌, ◌++◌, map, Option, Some, None, is_some, if◌then◌else◌, nat_lt}
+use Rattle.std.specs.List.{flat_map, list_any}
+use Rattle.ss_base.specs.declared.line.Line.{Line}
+use Rattle.ss_tree.specs.Names.{NameBytes}
+use Rattle.ss_tree.specs.Tree.{PreambleTree, event_notices, every, statistics, SectionKindTree, main, SectionTree, ProgramTree}
+use Rattle.ss_tree.specs.declared.expression.Designator.{Designator}
+use Rattle.ss_tree.specs.declared.preamble.ClassKind.{ClassKind}
+use Rattle.ss_tree.specs.declared.preamble.ClassKind.TheVariants.{EventNotice}
+use Rattle.ss_names_declarations.specs.Earliest.{earliest}
+use Rattle.ss_names_declarations.specs.Firsts.{value_for}
+use Rattle.ss_names_uses.specs.declared.used.Role.{Role}
+use Rattle.ss_names_uses.specs.declared.used.ClassNeed.{ClassNeed}
+use Rattle.ss_names_uses.specs.declared.used.Used.{Used}
+use Rattle.ss_names_uses.specs.declared.used.Used.TheVariants.{Parameter, Local, Place, Class, Routine, Start, Same, Count, Mean, Unfit}
+use Rattle.ss_names_uses.specs.declared.used.Use.{Use}
+use Rattle.ss_names_uses.specs.Uses.{uses}
+use Rattle.ss_names.specs.declared.meaning.Meaning.{Meaning}
+use Rattle.ss_names.specs.Table.{Table, table}
+use Rattle.ss_names_scopes.specs.Locals.{as_list}
+use Rattle.ss_names_scopes.specs.Scopes.{Scope, meaning, meaning_of_name, scope_of}
+use Rattle.ss_check_rules.specs.Counts.{suits_count}
+use Rattle.ss_check_rules.specs.Kinds.{if_means, is_mean, is_routine, is_target, may_be_watched, meaning_in_role, suits, suits_class, suits_subscripts, takes_values}
+use Rattle.ss_check_rules.specs.Modes.{differ, is_text, mixes_modes, mode_said}
+use Rattle.ss_check_rules.specs.declared.error.CheckError.{CheckError}
+use Rattle.ss_check_rules.specs.declared.error.CheckError.TheVariants as e
+
+-- ---- the order of breaches
+
+-- the rules in the order in which they are looked at: 71, 72, 78, 79, 75, 76, 74, 73, 77
+abbrev pub rank_of : CheckError → ℕ
+rank_of (e.NoMain line) = 1
+rank_of (e.NoEventRoutine line) = 2
+rank_of (e.StartPlace line) = 3
+rank_of (e.Unknown line) = 4
+rank_of (e.Subscript line) = 5
+rank_of (e.NotAssignable line) = 6
+rank_of (e.Arguments line) = 7
+rank_of (e.Mode line) = 8
+rank_of (e.Fields line) = 9
+rank_of e.Memory = 10
+
+abbrev pub line_of : CheckError → ℕ
+line_of (e.NoMain line) = line.0
+line_of (e.NoEventRoutine line) = line.0
+line_of (e.StartPlace line) = line.0
+line_of (e.Unknown line) = line.0
+line_of (e.Subscript line) = line.0
+line_of (e.NotAssignable line) = line.0
+line_of (e.Arguments line) = line.0
+line_of (e.Mode line) = line.0
+line_of (e.Fields line) = line.0
+line_of e.Memory = 0
+
+-- by the rule, and then by the line
+abbrev pub comes_before : CheckError → CheckError → Bool
+comes_before a b = nat_lt (rank_of a) (rank_of b) || (rank_of a == rank_of b && nat_lt (line_of a) (line_of b))
+
+-- ---- uses
+
+abbrev pub unless : Bool → CheckError → Option CheckError
+unless true breach = None
+unless false breach = Some breach
+
+-- a place that means something: its subscripts, 75; as a target, 76; its mode, 73
+abbrev pub meant_breaks : Scope → Line → Role → ℕ → Bool → Option Meaning → Option CheckError
+meant_breaks s line role subscripts is_number None = None
+meant_breaks s line role subscripts is_number (Some meaning) =
+    if not (suits_subscripts s.table meaning subscripts) then Some (e.Subscript line)
+    else if is_target role && not (takes_values meaning) then Some (e.NotAssignable line)
+    else unless (not (mixes_modes s role meaning subscripts is_number)) (e.Mode line)
+
+-- its kind, 79, comes first
+abbrev pub place_breaks : Scope → Line → Role → Designator → ℕ → Bool → Option CheckError
+place_breaks s line role place subscripts is_number =
+    if suits s role place then meant_breaks s line role subscripts is_number (meaning_in_role s role place)
+    else Some (e.Unknown line)
+
+-- a class of another kind, 79; or its entity is in a variable of texts because none is named, 73
+abbrev pub class_breaks : Scope → Line → ClassNeed → NameBytes → Bool → Option CheckError
+class_breaks s line need class called =
+    if suits_class (value_for s.table.meanings class) need
+    then unless (called || not (is_text (meaning_of_name s class))) (e.Mode line)
+    else Some (e.Unknown line)
+
+-- the first of the rules that a use breaks, in MAIN or in another section
+abbrev pub used_breaks : Scope → Bool → Line → Used → Option CheckError
+used_breaks s in_main line (Parameter name) = None
+used_breaks s in_main line (Local name mode) = None
+used_breaks s in_main line (Place role place subscripts is_number) = place_breaks s line role place subscripts is_number
+used_breaks s in_main line (Class need class called) = class_breaks s line need class called
+used_breaks s in_main line (Routine routine) =
+    unless (if_means is_routine (value_for s.table.meanings routine)) (e.Unknown line)
+used_breaks s in_main line Start = unless in_main (e.StartPlace line)
+used_breaks s in_main line (Same found wanted) = unless (not (differ (mode_said s found) (mode_said s wanted))) (e.Mode line)
+used_breaks s in_main line (Count found wanted) = unless (suits_count s.table found wanted) (e.Arguments line)
+used_breaks s in_main line (Mean place) = unless (if_means is_mean (meaning s place)) (e.Fields line)
+used_breaks s in_main line Unfit = Some (e.Fields line)
+
+abbrev pub use_breaks : Scope → Bool → Use → Option CheckError
+use_breaks s in_main u = used_breaks s in_main u.line u.what
+
+abbrev pub is_main : SectionKindTree → Bool
+is_main main = true
+is_main _ = false
+
+abbrev pub is_main_section : SectionTree → Bool
+is_main_section s = is_main s.kind
+
+abbrev pub in_section : Table → List SectionTree → SectionTree → List CheckError
+in_section t sections s = flat_map (λ u. as_list (use_breaks (scope_of t sections s) (is_main s.kind) u)) (uses s)
+
+-- ---- the preamble and the program
+
+-- a class of notices without an EVENT section, 72
+abbrev pub eventless : Table → Line → NameBytes → List CheckError
+eventless t line class = as_list (unless (is_some (value_for t.events class)) (e.NoEventRoutine line))
+
+abbrev pub eventless_of : Table → Line → ClassKind → NameBytes → List CheckError
+eventless_of t line EventNotice class = eventless t line class
+eventless_of t line _ class = []
+
+-- a TALLY or an ACCUMULATE of what has no history, 79, or of texts, 73
+abbrev pub subject_breaks : Line → Option Meaning → Option CheckError
+subject_breaks line meaning =
+    if if_means may_be_watched meaning then unless (not (is_text meaning)) (e.Mode line) else Some (e.Unknown line)
+
+abbrev pub in_preamble : Table → PreambleTree → List CheckError
+in_preamble t (event_notices line names) = flat_map (eventless t line) names
+in_preamble t (every line kind class clauses) = eventless_of t line kind class
+in_preamble t (statistics line weighting found subject) = as_list (subject_breaks line (value_for t.meanings subject))
+in_preamble t _ = []
+
+-- a program without MAIN, 71
+abbrev pub in_program : List SectionTree → List CheckError
+in_program sections = if list_any is_main_section sections then [] else e.NoMain (record { 0 = 0 }) ∷ []
+
+abbrev pub breaches : Table → ProgramTree → List CheckError
+breaches t p = flat_map (in_preamble t) p.preamble ++ in_program p.sections ++ flat_map (in_section t p.sections) p.sections
+
+-- the first rule that a program breaks, at the first line where it does; none where it breaks none
+abbrev pub refusal_of_uses : ProgramTree → Option CheckError
+refusal_of_uses p = earliest comes_before (breaches (table p) p)

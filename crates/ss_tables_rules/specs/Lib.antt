@@ -1,0 +1,4 @@
+pub mod Rules
+pub mod Once
+pub mod Keys
+pub mod Broken
