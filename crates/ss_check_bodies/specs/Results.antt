@@ -10,7 +10,7 @@ use Rattle.ss_program.specs.View.{view_body, view_head, view_phrase}
 use Rattle.ss_check_bodies.specs.declared.bodies.Bodies.{Bodies}
 use Rattle.ss_names_meaning.specs.declared.error.ResolveError.{ResolveError}
 use Rattle.ss_names_meaning.specs.Answers.{◌>>=◌, each}
-use Rattle.ss_names_meaning.specs.Contexts.{Context}
+use Rattle.ss_names_scopes.specs.Scopes.{Scope}
 use Rattle.ss_names_meaning.specs.Expressions.{two}
 use Rattle.ss_names_meaning.specs.Heads.{head, resolved_phrase, phrases_of}
 
@@ -20,7 +20,7 @@ MadeBeside first next (Ok p) = (p.0 ≡ first) × (next ≡ Ok p.1)
 MadeBeside first next (Err e) = next ≡ Err e
 
 -- what a FOR goes over, and its phrases
-abbrev pub resolved_over : Context → HeadTree → Option (Head × List Phrase)
+abbrev pub resolved_over : Scope → HeadTree → Option (Head × List Phrase)
 resolved_over c t = do
   h ← head c t
   phrases ← each (resolved_phrase c) (phrases_of t)
@@ -30,7 +30,7 @@ abbrev pub over_seen : HeadMade × Vec PhraseMade → Head × List Phrase
 over_seen p = (view_head p.0, map view_phrase p.1.items)
 
 -- a function of two numbers
-abbrev pub operation : Context → Operator → ExpressionRow → Option Expression
+abbrev pub operation : Scope → Operator → ExpressionRow → Option Expression
 operation c operator arguments = do
   p ← two c arguments
   Some (Calculate operator p.0 p.1)

@@ -63,7 +63,7 @@ fn no_bodies(alloc: Global) -> Bodies
 #[tactic(auto, unfolding(ss_program::specs::View::view_statement))]
 fn resolve_if(
     alloc: Global,
-    scope: &Scope,
+    scope: &Scope<'_>,
     line: Line,
     condition: &Condition,
     then: Vec<Resolved>,
@@ -83,7 +83,7 @@ fn resolve_if(
 // FIND THE FIRST CASE, where the body for this outcome comes first.
 fn resolve_find_by(
     alloc: Global,
-    scope: &Scope,
+    scope: &Scope<'_>,
     line: Line,
     head: &Head,
     outcome: FindOutcome,
@@ -102,7 +102,7 @@ fn resolve_find_by(
 #[tactic(auto, unfolding(ss_names_meaning::specs::Statements::statement, ss_tree::specs::View::view_statement, ss_program::specs::View::view_statement))]
 fn resolve_around(
     alloc: Global,
-    scope: &Scope,
+    scope: &Scope<'_>,
     tree: &Statement,
     bodies: Bodies,
 ) -> Result<Resolved, ResolveError>
@@ -220,7 +220,7 @@ fn resolve_around(
 #[tactic(auto, unfolding(ss_tree::specs::View::view_statement))]
 fn resolve_inner(
     alloc: Global,
-    scope: &Scope,
+    scope: &Scope<'_>,
     tree: &Statement,
 ) -> Result<Bodies, ResolveError>
     ensures { Gives bodies_seen result (inner scope.now (view_statement tree.now)) }
@@ -256,7 +256,7 @@ fn resolve_inner(
 #[cycle(nesting)]
 pub fn resolve_body(
     alloc: Global,
-    scope: &Scope,
+    scope: &Scope<'_>,
     trees: &[Statement],
 ) -> Result<Vec<Resolved>, ResolveError>
     ensures { Gives (λ v. view_body v.items) result (statements scope.now (statement_row (map view_statement trees.now))) }

@@ -32,7 +32,7 @@ fn suits(kind: ClassKind, need: ClassNeed) -> bool {
 }
 
 // The variable of a class, which may be hidden by a local one.
-fn variable_named(scope: &Scope, name: &Name) -> Result<Variable, ResolveError> {
+fn variable_named(scope: &Scope<'_>, name: &Name) -> Result<Variable, ResolveError> {
     match scope.meaning_of_name(name) {
         Some(meaning) => variable_of(meaning).ok_or(ResolveError::Unresolved),
         None => Err(ResolveError::Unresolved),
@@ -41,7 +41,7 @@ fn variable_named(scope: &Scope, name: &Name) -> Result<Variable, ResolveError> 
 
 /// The class of a name, where it is of the kind that its place needs.
 pub(crate) fn class_named(
-    scope: &Scope,
+    scope: &Scope<'_>,
     need: ClassNeed,
     name: Name,
 ) -> Result<NamedClass, ResolveError>
@@ -51,7 +51,7 @@ pub(crate) fn class_named(
         Some(Meaning::Class { class, kind, .. }) => {
             if suits(kind, need) {
                 let variable = variable_named(scope, &name)?;
-                let attributes = scope.names.fields(class).len();
+                let attributes = scope.names.attributes_of(class).len();
                 Ok(NamedClass {
                     class,
                     attributes,
@@ -66,7 +66,7 @@ pub(crate) fn class_named(
 }
 
 // A permanent class with its N.
-fn counted(scope: &Scope, name: &Name) -> Result<CountedClass, ResolveError>
+fn counted(scope: &Scope<'_>, name: &Name) -> Result<CountedClass, ResolveError>
     ensures { Gives (λ x. x) result (counted scope.now name.now) }
 {
     match scope.names.meanings.get(&Spelling::derived(b'N', name)) {
@@ -78,7 +78,7 @@ fn counted(scope: &Scope, name: &Name) -> Result<CountedClass, ResolveError>
 /// The classes of a CREATE EVERY.
 pub(crate) fn all_counted(
     alloc: Global,
-    scope: &Scope,
+    scope: &Scope<'_>,
     names: &[Name],
 ) -> Result<Vec<CountedClass>, ResolveError>
     ensures { Gives (λ v. v.items) result (each (counted scope.now) names.now) }

@@ -22,7 +22,7 @@ use std::alloc::Global;
 #[tactic(auto, unfolding(ss_names_meaning::specs::Conditions::one_test))]
 fn resolve_test(
     alloc: Global,
-    scope: &Scope,
+    scope: &Scope<'_>,
     tree: &Test,
 ) -> Result<ResolvedTest, ResolveError>
     ensures { Gives test_seen result (one_test scope.now (view_test tree.now)) }
@@ -70,7 +70,7 @@ fn resolve_test(
 // Tests joined by AND.
 fn resolve_tests(
     alloc: Global,
-    scope: &Scope,
+    scope: &Scope<'_>,
     trees: &[Test],
 ) -> Result<Vec<ResolvedTest>, ResolveError>
     ensures { Gives (λ v. map test_seen v.items) result (conjunction scope.now (map view_test trees.now)) }
@@ -86,7 +86,7 @@ fn resolve_tests(
 // A conjunction.
 fn resolve_conjunction(
     alloc: Global,
-    scope: &Scope,
+    scope: &Scope<'_>,
     tree: &Conjunction,
 ) -> Result<ResolvedConjunction, ResolveError>
     ensures { Gives conjunction_seen result (conjunction scope.now (view_conjunction tree.now)) }
@@ -98,7 +98,7 @@ fn resolve_conjunction(
 // Conjunctions joined by OR.
 fn resolve_alternatives(
     alloc: Global,
-    scope: &Scope,
+    scope: &Scope<'_>,
     trees: &[Conjunction],
 ) -> Result<Vec<ResolvedConjunction>, ResolveError>
     ensures { Gives (λ v. map conjunction_seen v.items) result (condition scope.now (map view_conjunction trees.now)) }
@@ -114,7 +114,7 @@ fn resolve_alternatives(
 /// A condition.
 pub(crate) fn resolve_condition(
     alloc: Global,
-    scope: &Scope,
+    scope: &Scope<'_>,
     tree: &Condition,
 ) -> Result<ResolvedCondition, ResolveError>
     ensures { Gives condition_seen result (condition scope.now (view_condition tree.now)) }

@@ -25,7 +25,7 @@ use std::alloc::Global;
 #[tactic(auto, unfolding(ss_names_meaning::specs::Statements::statement, ss_program::specs::View::view_statement))]
 pub(crate) fn resolve_create(
     alloc: Global,
-    scope: &Scope,
+    scope: &Scope<'_>,
     line: Line,
     class: Name,
     called: &Option<Named>,
@@ -45,7 +45,7 @@ pub(crate) fn resolve_create(
 #[tactic(auto, unfolding(ss_names_meaning::specs::Statements::statement, ss_program::specs::View::view_statement))]
 pub(crate) fn resolve_create_every(
     alloc: Global,
-    scope: &Scope,
+    scope: &Scope<'_>,
     line: Line,
     classes: &[Name],
 ) -> Result<Resolved, ResolveError>
@@ -59,7 +59,7 @@ pub(crate) fn resolve_create_every(
 #[tactic(auto, unfolding(ss_names_meaning::specs::Statements::statement, ss_program::specs::View::view_statement))]
 pub(crate) fn resolve_destroy(
     alloc: Global,
-    scope: &Scope,
+    scope: &Scope<'_>,
     line: Line,
     class: Name,
     called: &Option<Expression>,
@@ -78,7 +78,7 @@ pub(crate) fn resolve_destroy(
 // Where a member is filed.
 fn resolve_position(
     alloc: Global,
-    scope: &Scope,
+    scope: &Scope<'_>,
     tree: &Position,
 ) -> Result<ResolvedPosition, ResolveError>
     ensures { Gives position_seen result (position scope.now (view_position tree.now)) }
@@ -102,7 +102,7 @@ fn resolve_position(
 #[tactic(auto, unfolding(ss_names_meaning::specs::Statements::statement, ss_program::specs::View::view_statement))]
 pub(crate) fn resolve_file(
     alloc: Global,
-    scope: &Scope,
+    scope: &Scope<'_>,
     line: Line,
     member: &Expression,
     position: &Position,
@@ -126,7 +126,7 @@ pub(crate) fn resolve_file(
 #[tactic(auto, unfolding(ss_names_meaning::specs::Statements::statement, ss_program::specs::View::view_statement))]
 pub(crate) fn resolve_remove_end(
     alloc: Global,
-    scope: &Scope,
+    scope: &Scope<'_>,
     line: Line,
     end: SetEnd,
     target: &Named,
@@ -149,7 +149,7 @@ pub(crate) fn resolve_remove_end(
 #[tactic(auto, unfolding(ss_names_meaning::specs::Statements::statement, ss_program::specs::View::view_statement))]
 pub(crate) fn resolve_remove(
     alloc: Global,
-    scope: &Scope,
+    scope: &Scope<'_>,
     line: Line,
     member: &Expression,
     set: &Named,

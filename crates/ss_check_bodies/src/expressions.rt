@@ -25,7 +25,7 @@ use std::alloc::Global;
 
 // The entity in the variable of a class.
 #[tactic(auto, unfolding(ss_program::specs::View::view_expression))]
-fn entity_implied(scope: &Scope, class: usize) -> Result<Resolved, ResolveError>
+fn entity_implied(scope: &Scope<'_>, class: usize) -> Result<Resolved, ResolveError>
     ensures { Gives view_resolved result (entity_implied scope.now class) }
 {
     let Some(meaning) = scope.meaning_of_class(class) else {
@@ -40,7 +40,7 @@ fn entity_implied(scope: &Scope, class: usize) -> Result<Resolved, ResolveError>
 /// The entity that has what a name means: that of the subscript, or else the one in the variable of its class. None for what no
 /// entity has, which takes no subscript.
 pub(crate) fn entity_of(
-    scope: &Scope,
+    scope: &Scope<'_>,
     meaning: Meaning,
     subscript: Option<Resolved>,
 ) -> Result<Option<Resolved>, ResolveError>
@@ -139,7 +139,7 @@ pub(crate) fn resolved_value(
 #[cycle(resolving)]
 pub(crate) fn resolve_place(
     alloc: Global,
-    scope: &Scope,
+    scope: &Scope<'_>,
     place: Designator,
     subscripts: &[Expression],
 ) -> Result<(Meaning, Option<Resolved>), ResolveError>
@@ -160,7 +160,7 @@ pub(crate) fn resolve_place(
 #[tactic(auto, unfolding(ss_tree::specs::View::view_expression, ss_program::specs::View::view_expression, ss_names_meaning::specs::Expressions::expression))]
 pub(crate) fn resolve_expression(
     alloc: Global,
-    scope: &Scope,
+    scope: &Scope<'_>,
     tree: &Expression,
 ) -> Result<Resolved, ResolveError>
     ensures { Gives view_resolved result (expression scope.now (view_expression tree.now)) }
@@ -208,7 +208,7 @@ pub(crate) fn resolve_expression(
 #[tactic(auto, unfolding(ss_names_meaning::specs::Expressions::expression))]
 fn resolve_named(
     alloc: Global,
-    scope: &Scope,
+    scope: &Scope<'_>,
     designator: Designator,
     subscripts: &[Expression],
 ) -> Result<Resolved, ResolveError>
@@ -223,7 +223,7 @@ fn resolve_named(
 #[tactic(auto, unfolding(ss_names_meaning::specs::Expressions::subscript))]
 pub(crate) fn resolve_subscript(
     alloc: Global,
-    scope: &Scope,
+    scope: &Scope<'_>,
     subscripts: &[Expression],
 ) -> Result<Option<Resolved>, ResolveError>
     ensures { Gives (view_option view_resolved) result (subscript scope.now (expression_row (map view_expression subscripts.now))) }
@@ -243,7 +243,7 @@ pub(crate) fn resolve_subscript(
 #[tactic(auto, unfolding(ss_names_meaning::specs::Expressions::expression, ss_program::specs::View::view_expression))]
 fn resolve_call(
     alloc: Global,
-    scope: &Scope,
+    scope: &Scope<'_>,
     function: Function,
     arguments: &[Expression],
 ) -> Result<Resolved, ResolveError>
@@ -266,7 +266,7 @@ fn resolve_call(
 #[cycle(resolving)]
 fn resolve_operation(
     alloc: Global,
-    scope: &Scope,
+    scope: &Scope<'_>,
     operator: Operator,
     arguments: &[Expression],
 ) -> Result<Resolved, ResolveError>
@@ -281,7 +281,7 @@ fn resolve_operation(
 #[tactic(auto, unfolding(ss_names_meaning::specs::Expressions::one))]
 fn resolve_one(
     alloc: Global,
-    scope: &Scope,
+    scope: &Scope<'_>,
     arguments: &[Expression],
 ) -> Result<Resolved, ResolveError>
     ensures { Gives view_resolved result (one scope.now (expression_row (map view_expression arguments.now))) }
@@ -298,7 +298,7 @@ fn resolve_one(
 #[tactic(auto, unfolding(ss_names_meaning::specs::Expressions::two))]
 fn resolve_two(
     alloc: Global,
-    scope: &Scope,
+    scope: &Scope<'_>,
     arguments: &[Expression],
 ) -> Result<(Box<Resolved>, Resolved), ResolveError>
     ensures { Gives (λ p. (view_resolved p.0.value, view_resolved p.1)) result (two scope.now (expression_row (map view_expression arguments.now))) }
@@ -320,7 +320,7 @@ fn resolve_two(
 #[cycle(resolving)]
 fn resolve_factors(
     alloc: Global,
-    scope: &Scope,
+    scope: &Scope<'_>,
     trees: &[Expression],
 ) -> Result<Vec<Operation>, ResolveError>
     ensures { (left : _) → Gives (λ v. fold with_operation left v.items) result (factors scope.now left (expression_row (map view_expression trees.now))) }
@@ -340,7 +340,7 @@ fn resolve_factors(
 #[cycle(resolving)]
 fn resolve_terms(
     alloc: Global,
-    scope: &Scope,
+    scope: &Scope<'_>,
     trees: &[Term],
 ) -> Result<Vec<Operation>, ResolveError>
     ensures { (left : _) → Gives (λ v. fold with_operation left v.items) result (terms scope.now left (term_row (map view_term trees.now))) }

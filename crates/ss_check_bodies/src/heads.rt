@@ -31,7 +31,7 @@ use std::alloc::Global;
 // A phrase.
 fn resolve_phrase(
     alloc: Global,
-    scope: &Scope,
+    scope: &Scope<'_>,
     tree: &Phrase,
 ) -> Result<ResolvedPhrase, ResolveError>
     ensures { Gives phrase_seen result (resolved_phrase scope.now (view_phrase tree.now)) }
@@ -46,7 +46,7 @@ fn resolve_phrase(
 /// Phrases.
 pub(crate) fn resolve_phrases(
     alloc: Global,
-    scope: &Scope,
+    scope: &Scope<'_>,
     trees: &[Phrase],
 ) -> Result<Vec<ResolvedPhrase>, ResolveError>
     ensures { Gives (λ v. map phrase_seen v.items) result (each (resolved_phrase scope.now) (map view_phrase trees.now)) }
@@ -62,7 +62,7 @@ pub(crate) fn resolve_phrases(
 // A condition of a loop that begins with WHILE or UNTIL.
 fn resolve_guard(
     alloc: Global,
-    scope: &Scope,
+    scope: &Scope<'_>,
     tree: &Guard,
 ) -> Result<ResolvedGuard, ResolveError>
     ensures { Gives guard_seen result (guard scope.now (view_guard tree.now)) }
@@ -77,7 +77,7 @@ fn resolve_guard(
 /// The conditions of a loop that begins with WHILE or UNTIL.
 pub(crate) fn resolve_guards(
     alloc: Global,
-    scope: &Scope,
+    scope: &Scope<'_>,
     trees: &[Guard],
 ) -> Result<Vec<ResolvedGuard>, ResolveError>
     ensures { Gives (λ v. map guard_seen v.items) result (each (guard scope.now) (map view_guard trees.now)) }
@@ -103,7 +103,7 @@ pub(crate) fn phrases_of(head: &Head) -> &[Phrase]
 // ---- what a FOR goes over
 
 // The variable that takes the items of a loop.
-fn loop_variable(scope: &Scope, name: Name) -> Result<Variable, ResolveError>
+fn loop_variable(scope: &Scope<'_>, name: Name) -> Result<Variable, ResolveError>
     ensures { Gives (λ x. x) result (loop_variable scope.now name) }
 {
     match scope.meaning_of_name(&name) {
@@ -114,7 +114,7 @@ fn loop_variable(scope: &Scope, name: Name) -> Result<Variable, ResolveError>
 
 // The variable after CALLED, or else that of the class.
 fn called_variable(
-    scope: &Scope,
+    scope: &Scope<'_>,
     implied: Variable,
     called: &Option<Name>,
 ) -> Result<Variable, ResolveError>
@@ -129,7 +129,7 @@ fn called_variable(
 // The member with which a FOR over a set begins.
 fn resolve_start(
     alloc: Global,
-    scope: &Scope,
+    scope: &Scope<'_>,
     tree: &MemberStart,
 ) -> Result<Start, ResolveError>
     ensures { Gives start_seen result (resolved_start scope.now (view_start tree.now)) }
@@ -150,7 +150,7 @@ fn resolve_start(
 // The step of a FOR, where one is written.
 fn resolve_step(
     alloc: Global,
-    scope: &Scope,
+    scope: &Scope<'_>,
     tree: &Option<Expression>,
 ) -> Result<Option<Resolved>, ResolveError>
     ensures { Gives (option_seen view_resolved) result (if_there (expression scope.now) (view_option view_expression tree.now)) }
@@ -168,7 +168,7 @@ fn resolve_step(
 #[tactic(auto, unfolding(ss_names_meaning::specs::Heads::head))]
 pub(crate) fn resolve_head(
     alloc: Global,
-    scope: &Scope,
+    scope: &Scope<'_>,
     tree: &Head,
 ) -> Result<ResolvedHead, ResolveError>
     ensures { Gives head_seen result (head scope.now (view_head tree.now)) }

@@ -48,7 +48,7 @@ fn resolved_item(
 // What is named, with its subscripts.
 fn resolve_named(
     alloc: Global,
-    scope: &Scope,
+    scope: &Scope<'_>,
     designator: Designator,
     subscripts: &[Expression],
 ) -> Result<Item, ResolveError>
@@ -61,7 +61,7 @@ fn resolve_named(
 // A value.
 fn resolve_value(
     alloc: Global,
-    scope: &Scope,
+    scope: &Scope<'_>,
     tree: &Expression,
 ) -> Result<Item, ResolveError>
     ensures { Gives view_item result (option_map AValue (expression scope.now (view_expression tree.now))) }
@@ -72,7 +72,7 @@ fn resolve_value(
 
 // An item: a mean where that is named alone, through any parentheses, and else a value.
 #[tactic(auto, unfolding(ss_tree::specs::View::view_expression))]
-fn resolve_item(alloc: Global, scope: &Scope, tree: &Expression) -> Result<Item, ResolveError>
+fn resolve_item(alloc: Global, scope: &Scope<'_>, tree: &Expression) -> Result<Item, ResolveError>
     ensures { Gives view_item result (item scope.now (view_expression tree.now)) }
 {
     match tree {
@@ -92,7 +92,7 @@ fn resolve_item(alloc: Global, scope: &Scope, tree: &Expression) -> Result<Item,
 /// The items of a PRINT.
 pub(crate) fn resolve_items(
     alloc: Global,
-    scope: &Scope,
+    scope: &Scope<'_>,
     trees: &[Expression],
 ) -> Result<Vec<Item>, ResolveError>
     ensures { Gives (λ v. map view_item v.items) result (each (item scope.now) (map view_expression trees.now)) }

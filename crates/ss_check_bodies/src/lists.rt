@@ -16,7 +16,7 @@ use std::alloc::Global;
 /// Expressions.
 pub(crate) fn resolve_all(
     alloc: Global,
-    scope: &Scope,
+    scope: &Scope<'_>,
     trees: &[Expression],
 ) -> Result<Vec<Resolved>, ResolveError>
     ensures { Gives (λ v. map view_resolved v.items) result (each (expression scope.now) (map view_expression trees.now)) }

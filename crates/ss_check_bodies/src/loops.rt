@@ -20,7 +20,7 @@ use std::alloc::Global;
 // What a FOR goes over, and its phrases.
 fn resolve_over(
     alloc: Global,
-    scope: &Scope,
+    scope: &Scope<'_>,
     head: &Head,
 ) -> Result<(ResolvedHead, Vec<Phrase>), ResolveError>
     ensures { Gives over_seen result (resolved_over scope.now (view_head head.now)) }
@@ -32,7 +32,7 @@ fn resolve_over(
 // A FOR with its body.
 fn resolve_for(
     alloc: Global,
-    scope: &Scope,
+    scope: &Scope<'_>,
     line: Line,
     head: &Head,
     body: Vec<Resolved>,
@@ -51,7 +51,7 @@ fn resolve_for(
 /// A loop with its body.
 pub(crate) fn resolve_loop(
     alloc: Global,
-    scope: &Scope,
+    scope: &Scope<'_>,
     line: Line,
     head: &LoopHead,
     body: Vec<Resolved>,
@@ -70,7 +70,7 @@ pub(crate) fn resolve_loop(
 /// FIND THE FIRST CASE, with what follows where one was found and where none was.
 pub(crate) fn resolve_find(
     alloc: Global,
-    scope: &Scope,
+    scope: &Scope<'_>,
     line: Line,
     head: &Head,
     found: Vec<Resolved>,

@@ -32,7 +32,7 @@ pub(crate) struct ScheduleTerms<'a> {
 // The time for which a notice is scheduled.
 fn resolve_when(
     alloc: Global,
-    scope: &Scope,
+    scope: &Scope<'_>,
     tree: &When,
 ) -> Result<ResolvedWhen, ResolveError>
     ensures { Gives when_seen result (when scope.now (view_when tree.now)) }
@@ -102,7 +102,7 @@ fn old_notice(
 #[tactic(auto, unfolding(ss_names_meaning::specs::Statements::statement, ss_program::specs::View::view_statement))]
 pub(crate) fn resolve_schedule_new(
     alloc: Global,
-    scope: &Scope,
+    scope: &Scope<'_>,
     line: Line,
     class: Name,
     called: &Option<Named>,
@@ -121,7 +121,7 @@ pub(crate) fn resolve_schedule_new(
 #[tactic(auto, unfolding(ss_names_meaning::specs::Statements::statement, ss_program::specs::View::view_statement))]
 pub(crate) fn resolve_schedule(
     alloc: Global,
-    scope: &Scope,
+    scope: &Scope<'_>,
     line: Line,
     class: Name,
     called: &Option<Expression>,
@@ -140,7 +140,7 @@ pub(crate) fn resolve_schedule(
 #[tactic(auto, unfolding(ss_names_meaning::specs::Statements::statement, ss_program::specs::View::view_statement))]
 pub(crate) fn resolve_cancel(
     alloc: Global,
-    scope: &Scope,
+    scope: &Scope<'_>,
     line: Line,
     class: Name,
     called: &Option<Expression>,
@@ -160,7 +160,7 @@ pub(crate) fn resolve_cancel(
 #[tactic(auto, unfolding(ss_names_meaning::specs::Statements::statement, ss_program::specs::View::view_statement))]
 pub(crate) fn resolve_reset(
     alloc: Global,
-    scope: &Scope,
+    scope: &Scope<'_>,
     line: Line,
     targets: &[Named],
 ) -> Result<Resolved, ResolveError>

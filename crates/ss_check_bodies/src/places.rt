@@ -40,7 +40,7 @@ fn place_of(meaning: Meaning, entity: Option<Resolved>) -> Result<Place, Resolve
 /// A target.
 pub(crate) fn resolve_target(
     alloc: Global,
-    scope: &Scope,
+    scope: &Scope<'_>,
     tree: &Named,
 ) -> Result<Place, ResolveError>
     ensures { Gives view_place result (target scope.now (view_named tree.now)) }
@@ -52,7 +52,7 @@ pub(crate) fn resolve_target(
 /// Targets.
 pub(crate) fn resolve_targets(
     alloc: Global,
-    scope: &Scope,
+    scope: &Scope<'_>,
     trees: &[Named],
 ) -> Result<Vec<Place>, ResolveError>
     ensures { Gives (λ v. map view_place v.items) result (each (target scope.now) (map view_named trees.now)) }
@@ -66,7 +66,7 @@ pub(crate) fn resolve_targets(
 }
 
 // A target of READ.
-fn resolve_reader(alloc: Global, scope: &Scope, tree: &Named) -> Result<Target, ResolveError>
+fn resolve_reader(alloc: Global, scope: &Scope<'_>, tree: &Named) -> Result<Target, ResolveError>
     ensures { Gives view_target result (reader scope.now (view_named tree.now)) }
 {
     let (meaning, entity) = resolve_place(alloc, scope, tree.designator, &tree.subscripts)?;
@@ -80,7 +80,7 @@ fn resolve_reader(alloc: Global, scope: &Scope, tree: &Named) -> Result<Target, 
 /// The targets of READ.
 pub(crate) fn resolve_readers(
     alloc: Global,
-    scope: &Scope,
+    scope: &Scope<'_>,
     trees: &[Named],
 ) -> Result<Vec<Target>, ResolveError>
     ensures { Gives (λ v. map view_target v.items) result (each (reader scope.now) (map view_named trees.now)) }
@@ -96,7 +96,7 @@ pub(crate) fn resolve_readers(
 /// What takes the number of a new entity: the target after CALLED, or else the variable of the class.
 pub(crate) fn resolve_new_place(
     alloc: Global,
-    scope: &Scope,
+    scope: &Scope<'_>,
     variable: Variable,
     called: &Option<Named>,
 ) -> Result<Place, ResolveError>
@@ -112,7 +112,7 @@ pub(crate) fn resolve_new_place(
 #[tactic(auto, unfolding(ss_program::specs::View::view_expression))]
 pub(crate) fn resolve_entity_called(
     alloc: Global,
-    scope: &Scope,
+    scope: &Scope<'_>,
     variable: Variable,
     called: &Option<Expression>,
 ) -> Result<Resolved, ResolveError>
@@ -135,7 +135,7 @@ fn owner_named(entity: Option<Resolved>) -> SetOwner {
 }
 
 // The set of a name, which nothing hides.
-fn set_meaning(scope: &Scope, place: Designator) -> Result<(Meaning, usize), ResolveError> {
+fn set_meaning(scope: &Scope<'_>, place: Designator) -> Result<(Meaning, usize), ResolveError> {
     let Designator::Name(name) = place else {
         return Err(ResolveError::Unresolved);
     };
@@ -148,7 +148,7 @@ fn set_meaning(scope: &Scope, place: Designator) -> Result<(Meaning, usize), Res
 /// The number of the set that is named, and its owner.
 pub(crate) fn resolve_set(
     alloc: Global,
-    scope: &Scope,
+    scope: &Scope<'_>,
     tree: &Named,
 ) -> Result<(usize, SetOwner), ResolveError>
     ensures { Gives (λ p. (p.0, view_owner p.1)) result (set_named scope.now (view_named tree.now)) }
@@ -162,7 +162,7 @@ pub(crate) fn resolve_set(
 // ---- statistics
 
 // The number of the history of what is named.
-fn history_of(scope: &Scope, place: Designator) -> Result<usize, ResolveError> {
+fn history_of(scope: &Scope<'_>, place: Designator) -> Result<usize, ResolveError> {
     match place {
         Designator::Name(name) => {
             scope
@@ -176,7 +176,7 @@ fn history_of(scope: &Scope, place: Designator) -> Result<usize, ResolveError> {
 }
 
 // A statistic that starts afresh, and of which entity.
-fn resolve_restart(alloc: Global, scope: &Scope, tree: &Named) -> Result<Restart, ResolveError>
+fn resolve_restart(alloc: Global, scope: &Scope<'_>, tree: &Named) -> Result<Restart, ResolveError>
     ensures { Gives view_restart result (restart scope.now (view_named tree.now)) }
 {
     let statistic = history_of(scope, tree.designator)?;
@@ -187,7 +187,7 @@ fn resolve_restart(alloc: Global, scope: &Scope, tree: &Named) -> Result<Restart
 /// The statistics of a RESET.
 pub(crate) fn resolve_restarts(
     alloc: Global,
-    scope: &Scope,
+    scope: &Scope<'_>,
     trees: &[Named],
 ) -> Result<Vec<Restart>, ResolveError>
     ensures { Gives (λ v. map view_restart v.items) result (each (restart scope.now) (map view_named trees.now)) }

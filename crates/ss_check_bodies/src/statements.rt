@@ -25,7 +25,7 @@ use std::alloc::{AllocError, Global};
 #[tactic(auto, unfolding(ss_names_meaning::specs::Statements::statement, ss_program::specs::View::view_statement))]
 pub(crate) fn resolve_let(
     alloc: Global,
-    scope: &Scope,
+    scope: &Scope<'_>,
     line: Line,
     target: &Named,
     value: &Expression,
@@ -45,7 +45,7 @@ pub(crate) fn resolve_let(
 #[tactic(auto, unfolding(ss_names_meaning::specs::Statements::statement, ss_program::specs::View::view_statement))]
 pub(crate) fn resolve_add(
     alloc: Global,
-    scope: &Scope,
+    scope: &Scope<'_>,
     line: Line,
     amount: &Expression,
     target: &Named,
@@ -66,7 +66,7 @@ pub(crate) fn resolve_add(
 #[tactic(auto, unfolding(ss_names_meaning::specs::Statements::statement, ss_program::specs::View::view_statement))]
 pub(crate) fn resolve_subtract(
     alloc: Global,
-    scope: &Scope,
+    scope: &Scope<'_>,
     line: Line,
     amount: &Expression,
     target: &Named,
@@ -107,7 +107,7 @@ fn call_of(
 }
 
 // The routine of a name, with its number.
-fn routine_named(scope: &Scope, name: &Name) -> Result<(usize, RoutineSection), ResolveError>
+fn routine_named(scope: &Scope<'_>, name: &Name) -> Result<(usize, RoutineSection), ResolveError>
     ensures { Gives (λ x. x) result (routine_named scope.now name.now) }
 {
     match scope.names.meaning(name) {
@@ -123,7 +123,7 @@ fn routine_named(scope: &Scope, name: &Name) -> Result<(usize, RoutineSection), 
 #[tactic(auto, unfolding(ss_names_meaning::specs::Statements::statement, ss_program::specs::View::view_statement))]
 pub(crate) fn resolve_routine_call(
     alloc: Global,
-    scope: &Scope,
+    scope: &Scope<'_>,
     line: Line,
     routine: Name,
     given: &[Expression],
@@ -141,7 +141,7 @@ pub(crate) fn resolve_routine_call(
 #[tactic(auto, unfolding(ss_names_meaning::specs::Statements::statement, ss_program::specs::View::view_statement))]
 pub(crate) fn resolve_read(
     alloc: Global,
-    scope: &Scope,
+    scope: &Scope<'_>,
     line: Line,
     targets: &[Named],
 ) -> Result<Resolved, ResolveError>
@@ -166,7 +166,7 @@ fn picture_lines(alloc: Global, pictures: &[PictureLine]) -> Result<Vec<Vec<u8>>
 #[tactic(auto, unfolding(ss_names_meaning::specs::Statements::statement, ss_program::specs::View::view_statement))]
 pub(crate) fn resolve_print(
     alloc: Global,
-    scope: &Scope,
+    scope: &Scope<'_>,
     line: Line,
     items: &[Expression],
     pictures: &[PictureLine],
@@ -186,7 +186,7 @@ pub(crate) fn resolve_print(
 #[tactic(auto, unfolding(ss_names_meaning::specs::Statements::statement, ss_program::specs::View::view_statement))]
 pub(crate) fn resolve_skip(
     alloc: Global,
-    scope: &Scope,
+    scope: &Scope<'_>,
     line: Line,
     count: &Expression,
 ) -> Result<Resolved, ResolveError>

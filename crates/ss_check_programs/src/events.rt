@@ -69,7 +69,7 @@ fn class_event(
     let Some(known) = names.events.get(&name).copied() else {
         return Err(ResolveError::Unresolved);
     };
-    if names.fields(class).len() < known.given {
+    if names.attributes_of(class).len() < known.given {
         return Err(ResolveError::Unresolved);
     }
     let ties = resolve_ties(alloc, names, class, name)?;

@@ -1,3 +1,4 @@
+pub mod Order
 pub mod Kinds
 pub mod Modes
 pub mod Counts

@@ -22,39 +22,9 @@ use Rattle.ss_names_scopes.specs.Scopes.{Scope, meaning, meaning_of_name, scope_
 use Rattle.ss_check_rules.specs.Counts.{suits_count}
 use Rattle.ss_check_rules.specs.Kinds.{if_means, is_mean, is_routine, is_target, may_be_watched, meaning_in_role, suits, suits_class, suits_subscripts, takes_values}
 use Rattle.ss_check_rules.specs.Modes.{differ, is_text, mixes_modes, mode_said}
+use Rattle.ss_check_rules.specs.Order.{order_of}
 use Rattle.ss_check_rules.specs.declared.error.CheckError.{CheckError}
 use Rattle.ss_check_rules.specs.declared.error.CheckError.TheVariants as e
-
--- ---- the order of breaches
-
--- the rules in the order in which they are looked at: 71, 72, 78, 79, 75, 76, 74, 73, 77
-abbrev pub rank_of : CheckError → ℕ
-rank_of (e.NoMain line) = 1
-rank_of (e.NoEventRoutine line) = 2
-rank_of (e.StartPlace line) = 3
-rank_of (e.Unknown line) = 4
-rank_of (e.Subscript line) = 5
-rank_of (e.NotAssignable line) = 6
-rank_of (e.Arguments line) = 7
-rank_of (e.Mode line) = 8
-rank_of (e.Fields line) = 9
-rank_of e.Memory = 10
-
-abbrev pub line_of : CheckError → ℕ
-line_of (e.NoMain line) = line.0
-line_of (e.NoEventRoutine line) = line.0
-line_of (e.StartPlace line) = line.0
-line_of (e.Unknown line) = line.0
-line_of (e.Subscript line) = line.0
-line_of (e.NotAssignable line) = line.0
-line_of (e.Arguments line) = line.0
-line_of (e.Mode line) = line.0
-line_of (e.Fields line) = line.0
-line_of e.Memory = 0
-
--- by the rule, and then by the line
-abbrev pub comes_before : CheckError → CheckError → Bool
-comes_before a b = nat_lt (rank_of a) (rank_of b) || (rank_of a == rank_of b && nat_lt (line_of a) (line_of b))
 
 -- ---- uses
 
@@ -140,4 +110,4 @@ breaches t p = flat_map (in_preamble t) p.preamble ++ in_program p.sections ++ f
 
 -- the first rule that a program breaks, at the first line where it does; none where it breaks none
 abbrev pub refusal_of_uses : ProgramTree → Option CheckError
-refusal_of_uses p = earliest comes_before (breaches (table p) p)
+refusal_of_uses p = earliest order_of (breaches (table p) p)

@@ -35,7 +35,7 @@ fn is_yielded(routine: Option<&RoutineSection>, found: usize) -> bool {
 // Whether a class has so many attributes at least, where the name is that of a class.
 fn has_attributes(names: &Names, class: &Name, found: usize) -> bool {
     match names.classes.place(class) {
-        Some(class) => found <= names.fields(class).len(),
+        Some(class) => found <= names.attributes_of(class).len(),
         None => true,
     }
 }

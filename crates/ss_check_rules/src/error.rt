@@ -1,15 +1,17 @@
 //! Why a program is refused for what it does with its names.
 
 ghost use Rattle.std.specs.Prelude.{◌≡◌};
+ghost use Rattle.ss_check_rules.specs.Order.{order_of};
 ghost use Rattle.ss_check_rules.specs.declared.error.CheckError.TheVariants.{Memory};
 
 use ss_base::Line;
+use ss_names_declarations::Breach;
 use std::alloc::AllocError;
 use thiserror::Error;
 
 /// Why a program is refused for what it does with its names and values, with the line of the first place
 /// where it breaks the rule; 0 for `NoMain`. The rules are in the order in which they are looked at.
-#[derive(Clone, Copy, Debug, PartialEq, Eq, PartialOrd, Ord, Error)]
+#[derive(Clone, Copy, Debug, PartialEq, Eq, Error)]
 pub enum CheckError {
     /// There is no MAIN.
     #[error("line {}: no MAIN", .0.0)]
@@ -48,5 +50,24 @@ impl From<AllocError> for CheckError {
 
     fn from(_error: AllocError) -> CheckError {
         CheckError::Memory
+    }
+}
+
+impl Breach for CheckError {
+    ghost order = { order_of };
+
+    fn order_of(&self) -> (u32, u32) {
+        match self {
+            CheckError::NoMain(line) => (1, line.0),
+            CheckError::NoEventRoutine(line) => (2, line.0),
+            CheckError::StartPlace(line) => (3, line.0),
+            CheckError::Unknown(line) => (4, line.0),
+            CheckError::Subscript(line) => (5, line.0),
+            CheckError::NotAssignable(line) => (6, line.0),
+            CheckError::Arguments(line) => (7, line.0),
+            CheckError::Mode(line) => (8, line.0),
+            CheckError::Fields(line) => (9, line.0),
+            CheckError::Memory => (10, 0),
+        }
     }
 }

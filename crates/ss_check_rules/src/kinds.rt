@@ -24,7 +24,7 @@ pub fn is_mean(meaning: Meaning) -> bool
 }
 
 // Whether a TALLY or an ACCUMULATE is of what is named here: a local variable that hides it has none.
-fn is_watched_here(scope: &Scope, place: Designator) -> bool {
+fn is_watched_here(scope: &Scope<'_>, place: Designator) -> bool {
     match place {
         Designator::Name(name) => {
             scope.names.histories.get(&name).is_some() && scope.locals.number(&name).is_none()
@@ -34,7 +34,7 @@ fn is_watched_here(scope: &Scope, place: Designator) -> bool {
 }
 
 /// Whether what is named is of the kind that its role needs. No local variable hides a set.
-pub fn suits(scope: &Scope, role: Role, place: Designator) -> bool {
+pub fn suits(scope: &Scope<'_>, role: Role, place: Designator) -> bool {
     match role {
         Role::Reset => is_watched_here(scope, place),
         Role::Set => match place {

@@ -11,7 +11,7 @@ use ss_names_uses::{ClassNeed, ModeOf, Role};
 use ss_tree::expression::Designator;
 
 // The routine of a name.
-fn routine_section(scope: &Scope, routine: &Name) -> Option<(usize, usize)> {
+fn routine_section(scope: &Scope<'_>, routine: &Name) -> Option<(usize, usize)> {
     match scope.names.routines.get(routine) {
         Some(routine) => Some((routine.section, routine.given)),
         None => None,
@@ -19,9 +19,9 @@ fn routine_section(scope: &Scope, routine: &Name) -> Option<(usize, usize)> {
 }
 
 // The mode of the attribute of a class in a place.
-fn attribute_mode(scope: &Scope, class: &Name, place: usize) -> Option<Mode> {
+fn attribute_mode(scope: &Scope<'_>, class: &Name, place: usize) -> Option<Mode> {
     let number = scope.names.classes.place(class)?;
-    let name = scope.names.fields(number).get(place)?;
+    let name = scope.names.attributes_of(number).get(place)?;
     match scope.names.attributes.get(name) {
         Some(attribute) => Some(attribute.mode),
         None => None,
@@ -29,7 +29,7 @@ fn attribute_mode(scope: &Scope, class: &Name, place: usize) -> Option<Mode> {
 }
 
 // The mode that a use says, if there is one.
-fn mode_said(scope: &Scope, mode: ModeOf) -> Option<Mode> {
+fn mode_said(scope: &Scope<'_>, mode: ModeOf) -> Option<Mode> {
     match mode {
         ModeOf::Integer => Some(Mode::Integer),
         ModeOf::Alpha => Some(Mode::Alpha),
@@ -55,7 +55,7 @@ fn are_joined(a: Option<Mode>, b: Option<Mode>) -> bool {
 }
 
 /// The breach of two modes that have to be the same.
-pub fn same_breaks(scope: &Scope, line: Line, found: ModeOf, wanted: ModeOf) -> Option<CheckError> {
+pub fn same_breaks(scope: &Scope<'_>, line: Line, found: ModeOf, wanted: ModeOf) -> Option<CheckError> {
     if are_joined(mode_said(scope, found), mode_said(scope, wanted)) {
         Some(CheckError::Mode(line))
     } else {
@@ -74,7 +74,7 @@ fn is_text(meaning: Option<Meaning>) -> bool {
 // Whether a place breaks the rule on modes: a text where a number has to be, a MEAN where a value has to be, or an entity that
 // is in a variable of texts.
 fn breaks_mode(
-    scope: &Scope,
+    scope: &Scope<'_>,
     role: Role,
     meaning: Meaning,
     subscripts: usize,
@@ -86,7 +86,7 @@ fn breaks_mode(
 }
 
 // What a place means in a role.
-fn meaning_in_role(scope: &Scope, role: Role, place: Designator) -> Option<Meaning> {
+fn meaning_in_role(scope: &Scope<'_>, role: Role, place: Designator) -> Option<Meaning> {
     match (role, place) {
         (Role::Set, Designator::Name(name)) => scope.names.meaning(&name),
         _ => scope.meaning(place),
@@ -95,7 +95,7 @@ fn meaning_in_role(scope: &Scope, role: Role, place: Designator) -> Option<Meani
 
 /// The first of the rules that a place in a role breaks.
 pub fn place_breaks(
-    scope: &Scope,
+    scope: &Scope<'_>,
     line: Line,
     role: Role,
     place: Designator,
@@ -120,7 +120,7 @@ pub fn place_breaks(
 
 /// The first of the rules that a class breaks: it is of another kind, or its entity is in a variable of texts.
 pub fn class_breaks(
-    scope: &Scope,
+    scope: &Scope<'_>,
     line: Line,
     need: ClassNeed,
     class: &Name,
@@ -136,7 +136,7 @@ pub fn class_breaks(
 }
 
 /// The breach of an item that has to be a MEAN.
-pub fn mean_breaks(scope: &Scope, line: Line, place: Designator) -> Option<CheckError> {
+pub fn mean_breaks(scope: &Scope<'_>, line: Line, place: Designator) -> Option<CheckError> {
     match scope.meaning(place) {
         Some(meaning) => {
             if is_mean(meaning) {

@@ -20,7 +20,7 @@ fn routine_breaks(names: &Names, line: Line, routine: &Name) -> Option<CheckErro
 }
 
 /// The first of the rules that a use breaks, in MAIN or in another section.
-pub fn use_breaks(scope: &Scope, in_main: bool, one: &Use) -> Option<CheckError> {
+pub fn use_breaks(scope: &Scope<'_>, in_main: bool, one: &Use) -> Option<CheckError> {
     let line = one.line;
     match &one.what {
         Used::Parameter { .. } | Used::Local { .. } => None,
@@ -52,7 +52,7 @@ pub fn use_breaks(scope: &Scope, in_main: bool, one: &Use) -> Option<CheckError>
 
 /// What was found so far, or the first rule that the uses of a section break.
 pub fn section_breaks(
-    scope: &Scope,
+    scope: &Scope<'_>,
     in_main: bool,
     uses: &[Use],
     found: Option<CheckError>,

@@ -1,6 +1,5 @@
 -- What a text is a program of, and why one is refused.
 use Rattle.std.specs.Prelude.{◌≡◌, ℕ, ◌<◌, List, length, Some, None}
-use Rattle.ss_base.specs.declared.line.Line.{Line}
 use Rattle.ss_lex.specs.declared.token.Token.{Token}
 use Rattle.ss_lex.specs.declared.error.LexError.TheVariants as lexical
 use Rattle.ss_lex.specs.Tokens.{AreTokens}
@@ -12,11 +11,11 @@ use Rattle.ss_parse.specs.declared.error.ParseError.TheVariants as parsing
 use Rattle.ss_parse.specs.Openers.{nesting_limit}
 use Rattle.ss_parse.specs.Promise.{Is_refused, Has_line}
 use Rattle.ss_parse.specs.SpelledPrograms.{Spell}
-use Rattle.ss_tables_rules.specs.declared.rule.DeclarationRule.{DeclarationRule}
-use Rattle.ss_tables_rules.specs.declared.rule.DeclarationRule.TheVariants as declaring
+use Rattle.ss_tables_rules.specs.declared.error.TableError.{TableError}
+use Rattle.ss_tables_rules.specs.declared.error.TableError.TheVariants as declaring
 use Rattle.ss_tables_rules.specs.Broken.{refusal_of_declarations as declaration_refusal}
-use Rattle.ss_check_rules.specs.declared.rule.Rule.{Rule as UseRule}
-use Rattle.ss_check_rules.specs.declared.rule.Rule.TheVariants as using
+use Rattle.ss_check_rules.specs.declared.error.CheckError.{CheckError}
+use Rattle.ss_check_rules.specs.declared.error.CheckError.TheVariants as using
 use Rattle.ss_check.specs.Checking.{program_of, refusal_of as use_refusal}
 use Rattle.ss_program.specs.Program.{Program}
 use Rattle.ss_code_instructions.specs.Machine.{Code}
@@ -65,17 +64,17 @@ pub record IsNoProgram (text : List ℕ) (e : ParseError) : Type 0 where
   pub line : Has_line tokens e
 
 -- the text has a tree whose declarations break this rule first, in the line of the first place
-pub record IsMisdeclared (text : List ℕ) (rule : DeclarationRule) (line : Line) : Type 0 where
+pub record IsMisdeclared (text : List ℕ) (e : TableError) : Type 0 where
   pub tree : ProgramTree
   pub read : IsTreeOf text tree
-  pub broken : declaration_refusal tree ≡ Some (record { rule = rule; line = line })
+  pub broken : declaration_refusal tree ≡ Some e
 
 -- the text has a tree whose declarations break no rule, and whose statements break this rule first, in the line of the first place
-pub record IsIllFormed (text : List ℕ) (rule : UseRule) (line : Line) : Type 0 where
+pub record IsIllFormed (text : List ℕ) (e : CheckError) : Type 0 where
   pub tree : ProgramTree
   pub read : IsTreeOf text tree
   pub declared : declaration_refusal tree ≡ None
-  pub broken : use_refusal tree ≡ Some (record { rule = rule; line = line })
+  pub broken : use_refusal tree ≡ Some e
 
 -- the text is well formed, but its tree has more than 16,384 nodes, and the code of its program more than 1,048,576
 -- instructions
@@ -96,24 +95,24 @@ IsRefusedWith text (PictureCut line) = IsRefused text (lexical.PictureCut line)
 IsRefusedWith text (NameTooLong line) = IsRefused text (lexical.NameTooLong line)
 IsRefusedWith text (Syntax line) = IsNoProgram text (parsing.Syntax line)
 IsRefusedWith text (TooDeep line) = IsNoProgram text (parsing.TooDeep line)
-IsRefusedWith text (Twice line) = IsMisdeclared text declaring.Twice line
-IsRefusedWith text (RealMode line) = IsMisdeclared text declaring.RealMode line
-IsRefusedWith text (UnknownClass line) = IsMisdeclared text declaring.UnknownClass line
-IsRefusedWith text (UnknownSet line) = IsMisdeclared text declaring.UnknownSet line
-IsRefusedWith text (NoOwner line) = IsMisdeclared text declaring.NoOwner line
-IsRefusedWith text (NoMember line) = IsMisdeclared text declaring.NoMember line
-IsRefusedWith text (RankKey line) = IsMisdeclared text declaring.RankKey line
-IsRefusedWith text (TallyTwice line) = IsMisdeclared text declaring.TallyTwice line
-IsRefusedWith text (TooMany line) = IsMisdeclared text declaring.TooMany line
-IsRefusedWith text (TieKey line) = IsMisdeclared text declaring.TieKey line
-IsRefusedWith text (NoMain line) = IsIllFormed text using.NoMain line
-IsRefusedWith text (NoEventRoutine line) = IsIllFormed text using.NoEventRoutine line
-IsRefusedWith text (Mode line) = IsIllFormed text using.Mode line
-IsRefusedWith text (Arguments line) = IsIllFormed text using.Arguments line
-IsRefusedWith text (Subscript line) = IsIllFormed text using.Subscript line
-IsRefusedWith text (NotAssignable line) = IsIllFormed text using.NotAssignable line
-IsRefusedWith text (Fields line) = IsIllFormed text using.Fields line
-IsRefusedWith text (StartPlace line) = IsIllFormed text using.StartPlace line
-IsRefusedWith text (Unknown line) = IsIllFormed text using.Unknown line
+IsRefusedWith text (Twice line) = IsMisdeclared text (declaring.Twice line)
+IsRefusedWith text (RealMode line) = IsMisdeclared text (declaring.RealMode line)
+IsRefusedWith text (UnknownClass line) = IsMisdeclared text (declaring.UnknownClass line)
+IsRefusedWith text (UnknownSet line) = IsMisdeclared text (declaring.UnknownSet line)
+IsRefusedWith text (NoOwner line) = IsMisdeclared text (declaring.NoOwner line)
+IsRefusedWith text (NoMember line) = IsMisdeclared text (declaring.NoMember line)
+IsRefusedWith text (RankKey line) = IsMisdeclared text (declaring.RankKey line)
+IsRefusedWith text (TallyTwice line) = IsMisdeclared text (declaring.TallyTwice line)
+IsRefusedWith text (TooMany line) = IsMisdeclared text (declaring.TooMany line)
+IsRefusedWith text (TieKey line) = IsMisdeclared text (declaring.TieKey line)
+IsRefusedWith text (NoMain line) = IsIllFormed text (using.NoMain line)
+IsRefusedWith text (NoEventRoutine line) = IsIllFormed text (using.NoEventRoutine line)
+IsRefusedWith text (Mode line) = IsIllFormed text (using.Mode line)
+IsRefusedWith text (Arguments line) = IsIllFormed text (using.Arguments line)
+IsRefusedWith text (Subscript line) = IsIllFormed text (using.Subscript line)
+IsRefusedWith text (NotAssignable line) = IsIllFormed text (using.NotAssignable line)
+IsRefusedWith text (Fields line) = IsIllFormed text (using.Fields line)
+IsRefusedWith text (StartPlace line) = IsIllFormed text (using.StartPlace line)
+IsRefusedWith text (Unknown line) = IsIllFormed text (using.Unknown line)
 IsRefusedWith text CodeTooLong = IsLarge text
 IsRefusedWith text Memory = Unit {0}

@@ -4,10 +4,10 @@ use Rattle.ss_lex.specs.declared.error.LexError.{LexError}
 use Rattle.ss_lex.specs.declared.error.LexError.TheVariants as lexical
 use Rattle.ss_parse.specs.declared.error.ParseError.{ParseError}
 use Rattle.ss_parse.specs.declared.error.ParseError.TheVariants as parsing
-use Rattle.ss_tables.specs.declared.error.TableError.{TableError}
-use Rattle.ss_tables.specs.declared.error.TableError.TheVariants as declaring
-use Rattle.ss_check.specs.declared.error.CheckError.{CheckError}
-use Rattle.ss_check.specs.declared.error.CheckError.TheVariants as checking
+use Rattle.ss_tables_rules.specs.declared.error.TableError.{TableError}
+use Rattle.ss_tables_rules.specs.declared.error.TableError.TheVariants as declaring
+use Rattle.ss_check_rules.specs.declared.error.CheckError.{CheckError}
+use Rattle.ss_check_rules.specs.declared.error.CheckError.TheVariants as checking
 use Rattle.ss_code.specs.declared.error.CodeError.{CodeError}
 use Rattle.ss_code.specs.declared.error.CodeError.TheVariants as generating
 use Rattle.ss_engine.specs.declared.refusal.Refusal.{Refusal}

@@ -1,6 +1,6 @@
 -- One table of what a program declares. Each thing is numbered by its place in a list.
 use Rattle.std.specs.Prelude.{ℕ, ◌+◌, ◌++◌, ◌==◌, ◌&&◌, Bool, true, false, not, List, [], ◌∷◌, map, length, Option, Some, None, is_some, if◌then◌else◌, slice_get, nat_lt}
-use Rattle.std.specs.List.{flat_map}
+use Rattle.std.specs.List.{flat_map, fold}
 use Rattle.std.specs.Map.{keys_of, values_of}
 use Rattle.std.specs.Option.{option_map}
 use Rattle.ss_base.specs.declared.line.Line.{Line}
@@ -23,7 +23,6 @@ use Rattle.ss_tree.specs.declared.preamble.StatisticKind.{StatisticKind}
 use Rattle.ss_tree.specs.declared.preamble.StatisticKind.TheVariants as kinds
 use Rattle.ss_tree.specs.declared.preamble.Weighting.{Weighting}
 use Rattle.ss_names_declarations.specs.Declarations.{declarations}
-use Rattle.ss_names_declarations.specs.Earliest.{earliest}
 use Rattle.ss_names_declarations.specs.Firsts.{entry_if, firsts, place_among, place_in, value_for}
 use Rattle.ss_names_declarations.specs.declared.declaration.Declared.{Declared}
 use Rattle.ss_names_declarations.specs.declared.declaration.Declared.TheVariants as d
@@ -164,9 +163,13 @@ clashes_after before (e ∷ es) =
 abbrev pub clashes : List Declaration → List Line
 clashes ds = clashes_after [] (flat_map (entered_by ds) ds)
 
--- whether a line comes before another
-abbrev pub is_above : Line → Line → Bool
-is_above a b = nat_lt a.0 b.0
+-- the first in the text of what was found so far and a line
+abbrev pub sooner : Option Line → Line → Option Line
+sooner None line = Some line
+sooner (Some found) line = if nat_lt line.0 found.0 then Some line else Some found
+
+abbrev pub first_line : List Line → Option Line
+first_line lines = fold sooner None lines
 
 -- ---- subjects of statistics
 
@@ -182,7 +185,7 @@ subject_of _ = None
 abbrev pub declared : List Declaration → Table
 declared ds = record {
   meanings = meanings ds;
-  clash = earliest is_above (clashes ds);
+  clash = first_line (clashes ds);
   usual = usual_mode ds;
   modes = modes ds;
   classes = classes ds;

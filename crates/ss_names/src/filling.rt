@@ -1,13 +1,15 @@
 //! The filling of the table.
 
-ghost use Rattle.std.specs.Prelude.{◌≡◌, OnOk, IfOk};
+ghost use Rattle.std.specs.Prelude.{◌≡◌};
+ghost use Rattle.ss_names.specs.Table.{fold_of, sooner, subject_of};
+ghost use Rattle.ss_names.specs.Modes.{class_kind};
 
 use crate::entry::{Attribute, EventSection, Order, RankedBy, RoutineSection, Set, TiedBy};
 use crate::meaning::Meaning;
 use crate::names::{Names, value_mode};
 use ss_base::{ClassKind, Line, Mode, Name, Owner, Spelling};
 use ss_names_declarations::{
-    Declaration, Declared, Keys, Seed, Table, earlier, insert_first, insert_if, insert_spelled,
+    Declaration, Declared, Keys, Seed, Table, insert_first, insert_if, insert_spelled,
 };
 use ss_program::expression::{Fold, MemberQuery, SetQuery, Variable};
 use ss_program::sections::Subject;
@@ -40,7 +42,10 @@ pub fn empty(alloc: Global, seed: Seed) -> Names {
 
 // ---- what needs no other entry
 
-fn class_kind(kind: KindWord) -> ClassKind {
+// The kind of a class.
+fn class_kind(kind: KindWord) -> ClassKind
+    ensures { result ≡ class_kind kind }
+{
     match kind {
         KindWord::Permanent => ClassKind::Permanent,
         KindWord::Temporary => ClassKind::Temporary,
@@ -109,20 +114,26 @@ pub fn fill_names(names: &mut Names, declaration: &Declaration) -> Result<(), Al
             attribute,
             high,
             statement,
-        } => names.rank_keys.push(RankedBy {
-            statement,
-            attribute,
-            high,
-        }),
+        } => {
+            names.rank_keys.push(RankedBy {
+                statement,
+                attribute,
+                high,
+            })?;
+            Ok(())
+        }
         Declared::TieKey {
             class,
             attribute,
             high,
-        } => names.tie_keys.push(TiedBy {
-            class,
-            attribute,
-            high,
-        }),
+        } => {
+            names.tie_keys.push(TiedBy {
+                class,
+                attribute,
+                high,
+            })?;
+            Ok(())
+        }
         _ => Ok(()),
     }
 }
@@ -166,8 +177,9 @@ fn owner_named(names: &Names, class: &Option<Name>) -> Option<Owner> {
 fn add_owner(names: &mut Names, set: &Name, class: &Option<Name>) {
     if let Some(number) = names.set_names.place(set) {
         let owner = owner_named(names, class);
-        let entry = &mut names.sets[number];
+        let mut entry = names.sets[number];
         entry.owner = entry.owner.or(owner);
+        names.sets[number] = entry;
     }
 }
 
@@ -175,22 +187,24 @@ fn add_owner(names: &mut Names, set: &Name, class: &Option<Name>) {
 fn add_member(names: &mut Names, set: &Name, class: &Name) {
     if let Some(number) = names.set_names.place(set) {
         let member = names.classes.place(class);
-        let entry = &mut names.sets[number];
+        let mut entry = names.sets[number];
         entry.member = entry.member.or(member);
+        names.sets[number] = entry;
     }
 }
 
 // Enters the order of a set, if it has none.
 fn add_order(names: &mut Names, set: &Name, order: Order) {
     if let Some(number) = names.set_names.place(set) {
-        let entry = &mut names.sets[number];
+        let mut entry = names.sets[number];
         entry.order = entry.order.or(Some(order));
+        names.sets[number] = entry;
     }
 }
 
 // Enters a class of notices that PRIORITY ORDER names.
 fn add_priority(names: &mut Names, class: &Name) -> Result<(), AllocError> {
-    match names.classes.get(class) {
+    match names.classes.get(class).copied() {
         Some(ClassKind::Notice) => add_rank(names, class),
         _ => Ok(()),
     }
@@ -235,10 +249,10 @@ pub fn fill_entities(
     names: &mut Names,
     declarations: &[Declaration],
 ) -> Result<(), AllocError> {
-    for _ in 0..names.classes.len() {
+    for number in 0..names.classes.len() {
         names.fields.push(Vec::new(alloc))?;
     }
-    for _ in 0..names.set_names.as_slice().len() {
+    for number in 0..names.set_names.as_slice().len() {
         names.sets.push(Set {
             owner: None,
             member: None,
@@ -291,6 +305,22 @@ fn is_same(old: Meaning, new: Meaning) -> bool {
     }
 }
 
+// The first in the text of what was found so far and a line.
+fn sooner(found: Option<Line>, line: Line) -> Option<Line>
+    ensures { result ≡ sooner found line }
+{
+    match found {
+        None => Some(line),
+        Some(first) => {
+            if line.0 < first.0 {
+                Some(line)
+            } else {
+                Some(first)
+            }
+        }
+    }
+}
+
 // Enters what a name means, or notes that it is declared as another thing.
 fn enter(
     names: &mut Names,
@@ -298,10 +328,10 @@ fn enter(
     spelling: Spelling,
     meaning: Meaning,
 ) -> Result<(), AllocError> {
-    match names.meanings.get(&spelling) {
+    match names.meanings.get(&spelling).copied() {
         Some(old) => {
-            if !is_same(*old, meaning) {
-                names.clash = earlier(names.clash, line);
+            if !is_same(old, meaning) {
+                names.clash = sooner(names.clash, line);
             }
             Ok(())
         }
@@ -347,24 +377,52 @@ fn enter_class(names: &mut Names, line: Line, name: &Name) -> Result<(), AllocEr
     }
 }
 
+// Enters F., L. or N. of a set.
+fn enter_of_set(
+    names: &mut Names,
+    line: Line,
+    name: &Name,
+    query: SetQuery,
+    set: usize,
+) -> Result<(), AllocError> {
+    let letter = match query {
+        SetQuery::FirstMember => b'F',
+        SetQuery::LastMember => b'L',
+        SetQuery::MemberCount => b'N',
+    };
+    let spelling = Spelling::derived(letter, name);
+    enter(names, line, spelling, Meaning::OfSet { query, set })
+}
+
+// Enters P., S. or M. of a set.
+fn enter_of_member(
+    names: &mut Names,
+    line: Line,
+    name: &Name,
+    query: MemberQuery,
+    set: usize,
+) -> Result<(), AllocError> {
+    let letter = match query {
+        MemberQuery::Predecessor => b'P',
+        MemberQuery::Successor => b'S',
+        MemberQuery::Membership => b'M',
+    };
+    let spelling = Spelling::derived(letter, name);
+    enter(names, line, spelling, Meaning::OfMember { query, set })
+}
+
 // Enters a set and its derived names.
 fn enter_set(names: &mut Names, line: Line, name: &Name) -> Result<(), AllocError> {
     let Some(set) = names.set_names.place(name) else {
         return Ok(());
     };
     enter(names, line, Spelling::of_name(name), Meaning::Set { set })?;
-    let derived = [
-        (b'F', Meaning::OfSet { query: SetQuery::FirstMember, set }),
-        (b'L', Meaning::OfSet { query: SetQuery::LastMember, set }),
-        (b'N', Meaning::OfSet { query: SetQuery::MemberCount, set }),
-        (b'P', Meaning::OfMember { query: MemberQuery::Predecessor, set }),
-        (b'S', Meaning::OfMember { query: MemberQuery::Successor, set }),
-        (b'M', Meaning::OfMember { query: MemberQuery::Membership, set }),
-    ];
-    for (letter, meaning) in derived {
-        enter(names, line, Spelling::derived(letter, name), meaning)?;
-    }
-    Ok(())
+    enter_of_set(names, line, name, SetQuery::FirstMember, set)?;
+    enter_of_set(names, line, name, SetQuery::LastMember, set)?;
+    enter_of_set(names, line, name, SetQuery::MemberCount, set)?;
+    enter_of_member(names, line, name, MemberQuery::Predecessor, set)?;
+    enter_of_member(names, line, name, MemberQuery::Successor, set)?;
+    enter_of_member(names, line, name, MemberQuery::Membership, set)
 }
 
 // What an attribute means.
@@ -394,7 +452,9 @@ fn variable_meaning(names: &Names, variable: &Name, mode: Mode) -> Option<Meanin
 }
 
 // The fold of a statistic; a MEAN has none.
-fn fold_of(kind: StatisticKind) -> Option<Fold> {
+fn fold_of(kind: StatisticKind) -> Option<Fold>
+    ensures { result ≡ fold_of kind }
+{
     match kind {
         StatisticKind::Number => Some(Fold::Number),
         StatisticKind::Sum => Some(Fold::Sum),
@@ -444,7 +504,9 @@ pub fn fill_meanings(names: &mut Names, declaration: &Declaration) -> Result<(),
 // ---- subjects of statistics
 
 // The subject that a name means: a variable of a DEFINE, an attribute, or N. of a set.
-fn subject_of(meaning: Option<Meaning>) -> Option<Subject> {
+fn subject_of(meaning: Option<Meaning>) -> Option<Subject>
+    ensures { result ≡ subject_of meaning }
+{
     match meaning {
         Some(Meaning::Variable {
             variable: Variable::Global { number },
@@ -464,7 +526,8 @@ fn subject_of(meaning: Option<Meaning>) -> Option<Subject> {
 /// Enters the subjects of statistics.
 pub fn fill_subjects(names: &mut Names) -> Result<(), AllocError> {
     for number in 0..names.histories.len() {
-        let meaning = names.meaning(&names.histories.keys()[number]);
+        let subject = names.histories.keys()[number];
+        let meaning = names.meaning(&subject);
         names.subjects.push(subject_of(meaning))?;
     }
     Ok(())

@@ -142,7 +142,7 @@ impl Names {
     }
 
     /// The attributes of a class, in the order of the text.
-    pub fn fields(&self, class: usize) -> &[Name]
+    pub fn attributes_of(&self, class: usize) -> &[Name]
         ensures { result.now ≡ get_or self.now.fields class [] }
     {
         match self.fields.get(class) {
@@ -153,7 +153,7 @@ impl Names {
 
     // The owner of a set.
     fn owner_of_set(&self, set: usize) -> Owner {
-        match self.sets.get(set) {
+        match self.sets.get(set).copied() {
             Some(set) => set.owner.unwrap_or(Owner::System),
             None => Owner::System,
         }
@@ -161,9 +161,9 @@ impl Names {
 
     // Who has a subject.
     fn owner_of_subject(&self, statistic: usize) -> Owner {
-        match self.subjects.get(statistic) {
-            Some(Some(Subject::OfAttribute { class, .. })) => Owner::Class(*class),
-            Some(Some(Subject::OfCount { set })) => self.owner_of_set(*set),
+        match self.subjects.get(statistic).copied() {
+            Some(Some(Subject::OfAttribute { class, .. })) => Owner::Class(class),
+            Some(Some(Subject::OfCount { set })) => self.owner_of_set(set),
             Some(Some(Subject::OfVariable { .. })) | Some(None) | None => Owner::System,
         }
     }
@@ -175,7 +175,7 @@ impl Names {
         match meaning {
             Meaning::Attribute { class, .. } => Owner::Class(class),
             Meaning::Set { set } | Meaning::OfSet { set, .. } => self.owner_of_set(set),
-            Meaning::OfMember { set, .. } => match self.sets.get(set) {
+            Meaning::OfMember { set, .. } => match self.sets.get(set).copied() {
                 Some(set) => match set.member {
                     Some(class) => Owner::Class(class),
                     None => Owner::System,

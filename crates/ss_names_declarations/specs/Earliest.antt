@@ -1,12 +1,20 @@
--- The first breach of rules that a program is refused for.
-use Rattle.std.specs.Prelude.{Bool, List, Option, Some, None, if◌then◌else◌}
+-- The first breach of rules that a program is refused for. A breach has a place: the number of its rule in the order of the
+-- rules, and then its line.
+use Rattle.std.specs.Prelude.{ℕ, Bool, ◌||◌, ◌&&◌, ◌==◌, nat_lt, List, Option, Some, None, if◌then◌else◌}
 use Rattle.std.specs.List.{fold}
 
+abbrev pub comes_before : ℕ × ℕ → ℕ × ℕ → Bool
+comes_before a b = nat_lt a.0 b.0 || ((a.0 == b.0) && nat_lt a.1 b.1)
+
 -- what was found so far or, if it comes before that, one more
-abbrev pub earlier : {E : Type 0} → (E → E → Bool) → Option E → E → Option E
-earlier comes_before None e = Some e
-earlier comes_before (Some found) e = if comes_before e found then Some e else Some found
+abbrev pub earlier : {E : Type 0} → (E → ℕ × ℕ) → Option E → E → Option E
+earlier order None e = Some e
+earlier order (Some found) e = if comes_before (order e) (order found) then Some e else Some found
+
+abbrev pub earlier_of : {E : Type 0} → (E → ℕ × ℕ) → Option E → Option E → Option E
+earlier_of order found None = found
+earlier_of order found (Some e) = earlier order found e
 
 -- of some breaches the one that comes before all others; of equals the first
-abbrev pub earliest : {E : Type 0} → (E → E → Bool) → List E → Option E
-earliest comes_before breaches = fold (earlier comes_before) None breaches
+abbrev pub earliest : {E : Type 0} → (E → ℕ × ℕ) → List E → Option E
+earliest order breaches = fold (earlier order) None breaches

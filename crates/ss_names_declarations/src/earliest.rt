@@ -1,17 +1,46 @@
 //! The first breach of a rule.
 
-use std::cmp::Ord;
+ghost use Rattle.std.specs.Prelude.{◌≡◌, ℕ};
+ghost use Rattle.ss_names_declarations.specs.Earliest.{comes_before, earlier, earlier_of};
 
-/// What was found so far or, if it comes before that, one more. The order is that of the rules, and then that of the lines.
-pub fn earlier<E: Copy + Ord>(found: Option<E>, breach: E) -> Option<E> {
+/// A breach of a rule in a line.
+pub trait Breach: Copy {
+    ghost order: { Self → ℕ × ℕ };
+
+    /// The number of the rule in the order of the rules, and then the line.
+    fn order_of(&self) -> (u32, u32)
+        ensures { (result.0, result.1) ≡ order self.now };
+}
+
+// Whether a breach comes before another: by the rule, and then by the line.
+fn comes_before<E: Breach>(a: &E, b: &E) -> bool
+    ensures { result ≡ comes_before (E.order a.now) (E.order b.now) }
+{
+    let (rule, line) = a.order_of();
+    let (other_rule, other_line) = b.order_of();
+    rule < other_rule || (rule == other_rule && line < other_line)
+}
+
+/// What was found so far or, if it comes before that, one more.
+pub fn earlier<E: Breach>(found: Option<E>, breach: E) -> Option<E>
+    ensures { result ≡ earlier E.order found breach }
+{
     match found {
         None => Some(breach),
-        Some(first) => Some(if breach < first { breach } else { first }),
+        Some(first) => {
+            if comes_before(&breach, &first) {
+                Some(breach)
+            } else {
+                Some(first)
+            }
+        }
     }
 }
 
 /// The earlier of two, where there are any.
-pub fn earlier_of<E: Copy + Ord>(found: Option<E>, breach: Option<E>) -> Option<E> {
+pub fn earlier_of<E: Breach>(found: Option<E>, breach: Option<E>) -> Option<E>
+    ensures { result ≡ earlier_of E.order found breach }
+{
     match breach {
         None => found,
         Some(breach) => earlier(found, breach),

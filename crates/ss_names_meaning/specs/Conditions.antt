@@ -7,7 +7,7 @@ use Rattle.ss_program.specs.declared.condition.Relation.{Relation}
 use Rattle.ss_program.specs.declared.condition.Relation.TheVariants.{Equal, NotEqual, Less, Greater, LessOrEqual, GreaterOrEqual}
 use Rattle.ss_program.specs.Program.{Test, Compare, DataEnded, Empty, Member, Condition}
 use Rattle.ss_names_meaning.specs.Answers.{◌>>=◌, each}
-use Rattle.ss_names_meaning.specs.Contexts.{Context}
+use Rattle.ss_names_scopes.specs.Scopes.{Scope}
 use Rattle.ss_names_meaning.specs.Expressions.{expression, set_named}
 
 abbrev pub resolved_relation : RelationWord → Relation
@@ -18,7 +18,7 @@ resolved_relation words.Greater = Greater
 resolved_relation words.LessOrEqual = LessOrEqual
 resolved_relation words.GreaterOrEqual = GreaterOrEqual
 
-unfoldable pub one_test : Context → TestTree → Option Test
+unfoldable pub one_test : Scope → TestTree → Option Test
 one_test c (compare left relation right) = do
   x ← expression c left
   y ← expression c right
@@ -33,9 +33,9 @@ one_test c (member e set negated) = do
 one_test c (data_ended negated) = Some (DataEnded negated)
 
 -- tests joined by AND
-abbrev pub conjunction : Context → List TestTree → Option (List Test)
+abbrev pub conjunction : Scope → List TestTree → Option (List Test)
 conjunction c tests = each (one_test c) tests
 
 -- conjunctions joined by OR
-abbrev pub condition : Context → ConditionTree → Option Condition
+abbrev pub condition : Scope → ConditionTree → Option Condition
 condition c alternatives = each (conjunction c) alternatives

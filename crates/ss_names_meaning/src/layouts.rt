@@ -42,7 +42,7 @@ pub(crate) fn resolve_layout(alloc: Global, names: &Names) -> Result<Layout, Res
 {
     let mut classes = Vec::new(alloc);
     for (number, kind) in names.classes.values().iter().enumerate() {
-        let class = class_laid(alloc, names, *kind, names.fields(number))?;
+        let class = class_laid(alloc, names, *kind, names.attributes_of(number))?;
         classes.push(class)?;
     }
     let mut sets = Vec::new(alloc);

@@ -3,16 +3,14 @@
 ghost use Rattle.std.specs.Prelude.{◌≡◌, ◌==◌, map, length, slice_get, IfOk};
 ghost use Rattle.std.specs.List.{position};
 ghost use Rattle.std.specs.Map.{keys_of, values_of, lookup};
-ghost use Rattle.ss_tree.specs.View.{view_section};
 ghost use Rattle.ss_names_declarations.specs.Firsts.{same_name};
-ghost use Rattle.ss_names_scopes.specs.Locals.{local_of, locals, locals_of};
+ghost use Rattle.ss_names_scopes.specs.Locals.{local_of, locals};
 
 use ss_base::{Mode, Name};
 use ss_names::{Names, value_mode};
 use ss_names_declarations::{Seed, Table, insert_first, value_at};
-use ss_names_uses::{Role, Use, Used, uses_of};
+use ss_names_uses::{Role, Use, Used};
 use ss_tree::expression::Designator;
-use ss_tree::program::Section;
 use std::alloc::{AllocError, Global};
 use std::hash::{DefaultHasher, Hash};
 use std::marker::Model;

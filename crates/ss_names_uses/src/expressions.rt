@@ -50,7 +50,8 @@ pub fn mode_of(expression: &Expression) -> ModeOf
 pub fn add(into: &mut Vec<Use>, line: Line, what: Used) -> Result<(), AllocError>
     ensures { IfOk result (λ _. into.new.items ≡ into.old.items ++ at_line line what ∷ []) }
 {
-    into.push(Use { line, what })
+    into.push(Use { line, what })?;
+    Ok(())
 }
 
 /// Adds the use of two modes that have to be the same.

@@ -22,7 +22,7 @@ fn is_too_many(number: Option<usize>) -> bool {
 
 // Whether a name is that of a class of notices.
 fn is_notice(names: &Names, class: &Name) -> bool {
-    matches!(names.classes.get(class), Some(ClassKind::Notice))
+    matches!(names.classes.get(class).copied(), Some(ClassKind::Notice))
 }
 
 // Whether a parameter or a local variable may have this name: it hides a variable, that of a class, or nothing.

@@ -1,15 +1,17 @@
 //! Why a program has no tables.
 
 ghost use Rattle.std.specs.Prelude.{◌≡◌};
+ghost use Rattle.ss_tables_rules.specs.Order.{order_of};
 ghost use Rattle.ss_tables_rules.specs.declared.error.TableError.TheVariants.{Memory};
 
 use ss_base::Line;
+use ss_names_declarations::Breach;
 use std::alloc::AllocError;
 use thiserror::Error;
 
 /// Why a program is refused for what it declares, with the line of the first place where it breaks the rule. The rules
 /// are in the order in which they are looked at.
-#[derive(Clone, Copy, Debug, PartialEq, Eq, PartialOrd, Ord, Error)]
+#[derive(Clone, Copy, Debug, PartialEq, Eq, Error)]
 pub enum TableError {
     /// Something is declared or said twice, or a local name hides what may not be hidden.
     #[error("line {}: declared twice", .0.0)]
@@ -51,5 +53,25 @@ impl From<AllocError> for TableError {
 
     fn from(_error: AllocError) -> TableError {
         TableError::Memory
+    }
+}
+
+impl Breach for TableError {
+    ghost order = { order_of };
+
+    fn order_of(&self) -> (u32, u32) {
+        match self {
+            TableError::Twice(line) => (51, line.0),
+            TableError::RealMode(line) => (52, line.0),
+            TableError::UnknownClass(line) => (53, line.0),
+            TableError::UnknownSet(line) => (54, line.0),
+            TableError::NoOwner(line) => (55, line.0),
+            TableError::NoMember(line) => (56, line.0),
+            TableError::RankKey(line) => (57, line.0),
+            TableError::TallyTwice(line) => (58, line.0),
+            TableError::TooMany(line) => (59, line.0),
+            TableError::TieKey(line) => (60, line.0),
+            TableError::Memory => (61, 0),
+        }
     }
 }
