@@ -1,5 +1,6 @@
 //! Statements with their names resolved.
 
+ghost use Rattle.ss_names_scopes.specs.Seen.{scope_seen};
 ghost use Rattle.std.specs.Prelude.{◌≡◌, map, Some};
 ghost use Rattle.ss_tree.specs.View.{view_condition, view_head, view_statement};
 ghost use Rattle.ss_tree.specs.Tree.{statement_row};
@@ -69,7 +70,7 @@ fn resolve_if(
     then: Vec<Resolved>,
     otherwise: Vec<Resolved>,
 ) -> Result<Resolved, ResolveError>
-    ensures { Gives view_resolved result (if_over line scope.now (view_condition condition.now) (view_body then.items) (view_body otherwise.items)) }
+    ensures { Gives view_resolved result (if_over line (scope_seen scope.now) (view_condition condition.now) (view_body then.items) (view_body otherwise.items)) }
 {
     let condition = resolve_condition(alloc, scope, condition)?;
     Ok(Resolved::If {
@@ -89,7 +90,7 @@ fn resolve_find_by(
     outcome: FindOutcome,
     bodies: Bodies,
 ) -> Result<Resolved, ResolveError>
-    ensures { Gives view_resolved result (find_by outcome line scope.now (view_head head.now) (view_body bodies.first.items) (view_body bodies.second.items)) }
+    ensures { Gives view_resolved result (find_by outcome line (scope_seen scope.now) (view_head head.now) (view_body bodies.first.items) (view_body bodies.second.items)) }
 {
     let Bodies { first, second } = bodies;
     match outcome {
@@ -106,7 +107,7 @@ fn resolve_around(
     tree: &Statement,
     bodies: Bodies,
 ) -> Result<Resolved, ResolveError>
-    ensures { inner scope.now (view_statement tree.now) ≡ Some (bodies_seen bodies) → Gives view_resolved result (statement scope.now (view_statement tree.now)) }
+    ensures { inner (scope_seen scope.now) (view_statement tree.now) ≡ Some (bodies_seen bodies) → Gives view_resolved result (statement (scope_seen scope.now) (view_statement tree.now)) }
 {
     match tree {
         Statement::Let {
@@ -223,7 +224,7 @@ fn resolve_inner(
     scope: &Scope<'_>,
     tree: &Statement,
 ) -> Result<Bodies, ResolveError>
-    ensures { Gives bodies_seen result (inner scope.now (view_statement tree.now)) }
+    ensures { Gives bodies_seen result (inner (scope_seen scope.now) (view_statement tree.now)) }
 {
     match tree {
         Statement::If {
@@ -259,7 +260,7 @@ pub fn resolve_body(
     scope: &Scope<'_>,
     trees: &[Statement],
 ) -> Result<Vec<Resolved>, ResolveError>
-    ensures { Gives (λ v. view_body v.items) result (statements scope.now (statement_row (map view_statement trees.now))) }
+    ensures { Gives (λ v. view_body v.items) result (statements (scope_seen scope.now) (statement_row (map view_statement trees.now))) }
 {
     let mut resolved = Vec::new(alloc);
     for tree in trees {

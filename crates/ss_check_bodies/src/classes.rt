@@ -1,5 +1,6 @@
 //! Classes by the kind that their place needs.
 
+ghost use Rattle.ss_names_scopes.specs.Seen.{scope_seen};
 ghost use Rattle.std.specs.Prelude.{◌≡◌};
 ghost use Rattle.ss_names_meaning.specs.Answers.{Gives, each};
 ghost use Rattle.ss_names_meaning.specs.Classes.{class_named, counted};
@@ -45,7 +46,7 @@ pub(crate) fn class_named(
     need: ClassNeed,
     name: Name,
 ) -> Result<NamedClass, ResolveError>
-    ensures { Gives (λ x. x) result (class_named scope.now need name) }
+    ensures { Gives (λ x. x) result (class_named (scope_seen scope.now) need name) }
 {
     match scope.names.meaning(&name) {
         Some(Meaning::Class { class, kind, .. }) => {
@@ -67,7 +68,7 @@ pub(crate) fn class_named(
 
 // A permanent class with its N.
 fn counted(scope: &Scope<'_>, name: &Name) -> Result<CountedClass, ResolveError>
-    ensures { Gives (λ x. x) result (counted scope.now name.now) }
+    ensures { Gives (λ x. x) result (counted (scope_seen scope.now) name.now) }
 {
     match scope.names.meanings.get(&Spelling::derived(b'N', name)) {
         Some(Meaning::Count { count }) => Ok(*count),
@@ -81,7 +82,7 @@ pub(crate) fn all_counted(
     scope: &Scope<'_>,
     names: &[Name],
 ) -> Result<Vec<CountedClass>, ResolveError>
-    ensures { Gives (λ v. v.items) result (each (counted scope.now) names.now) }
+    ensures { Gives (λ v. v.items) result (each (counted (scope_seen scope.now)) names.now) }
 {
     let mut resolved = Vec::new(alloc);
     for name in names {

@@ -1,5 +1,6 @@
 //! Conditions with their names resolved.
 
+ghost use Rattle.ss_names_scopes.specs.Seen.{scope_seen};
 ghost use Rattle.std.specs.Prelude.{◌≡◌, map};
 ghost use Rattle.ss_tree.specs.View.{view_condition, view_conjunction, view_test};
 ghost use Rattle.ss_program.specs.View.{view_condition as condition_seen, view_conjunction as conjunction_seen, view_test as test_seen};
@@ -25,7 +26,7 @@ fn resolve_test(
     scope: &Scope<'_>,
     tree: &Test,
 ) -> Result<ResolvedTest, ResolveError>
-    ensures { Gives test_seen result (one_test scope.now (view_test tree.now)) }
+    ensures { Gives test_seen result (one_test (scope_seen scope.now) (view_test tree.now)) }
 {
     match tree {
         Test::Compare {
@@ -73,7 +74,7 @@ fn resolve_tests(
     scope: &Scope<'_>,
     trees: &[Test],
 ) -> Result<Vec<ResolvedTest>, ResolveError>
-    ensures { Gives (λ v. map test_seen v.items) result (conjunction scope.now (map view_test trees.now)) }
+    ensures { Gives (λ v. map test_seen v.items) result (conjunction (scope_seen scope.now) (map view_test trees.now)) }
 {
     let mut resolved = Vec::new(alloc);
     for tree in trees {
@@ -89,7 +90,7 @@ fn resolve_conjunction(
     scope: &Scope<'_>,
     tree: &Conjunction,
 ) -> Result<ResolvedConjunction, ResolveError>
-    ensures { Gives conjunction_seen result (conjunction scope.now (view_conjunction tree.now)) }
+    ensures { Gives conjunction_seen result (conjunction (scope_seen scope.now) (view_conjunction tree.now)) }
 {
     let tests = resolve_tests(alloc, scope, &tree.tests)?;
     Ok(ResolvedConjunction { tests })
@@ -101,7 +102,7 @@ fn resolve_alternatives(
     scope: &Scope<'_>,
     trees: &[Conjunction],
 ) -> Result<Vec<ResolvedConjunction>, ResolveError>
-    ensures { Gives (λ v. map conjunction_seen v.items) result (condition scope.now (map view_conjunction trees.now)) }
+    ensures { Gives (λ v. map conjunction_seen v.items) result (condition (scope_seen scope.now) (map view_conjunction trees.now)) }
 {
     let mut resolved = Vec::new(alloc);
     for tree in trees {
@@ -117,7 +118,7 @@ pub(crate) fn resolve_condition(
     scope: &Scope<'_>,
     tree: &Condition,
 ) -> Result<ResolvedCondition, ResolveError>
-    ensures { Gives condition_seen result (condition scope.now (view_condition tree.now)) }
+    ensures { Gives condition_seen result (condition (scope_seen scope.now) (view_condition tree.now)) }
 {
     let alternatives = resolve_alternatives(alloc, scope, &tree.alternatives)?;
     Ok(ResolvedCondition { alternatives })

@@ -1,5 +1,6 @@
 //! Statements on entities and sets with their names resolved.
 
+ghost use Rattle.ss_names_scopes.specs.Seen.{scope_seen};
 ghost use Rattle.std.specs.Prelude.{◌≡◌, map};
 ghost use Rattle.ss_tree.specs.View.{view_expression, view_named, view_option, view_position};
 ghost use Rattle.ss_tree.specs.Tree.{create_every, create_statement, destroy_statement, file_statement, remove_end, remove_statement};
@@ -30,7 +31,7 @@ pub(crate) fn resolve_create(
     class: Name,
     called: &Option<Named>,
 ) -> Result<Resolved, ResolveError>
-    ensures { Gives view_resolved result (statement scope.now (create_statement line class (view_option view_named called.now))) }
+    ensures { Gives view_resolved result (statement (scope_seen scope.now) (create_statement line class (view_option view_named called.now))) }
 {
     let class = class_named(scope, ClassNeed::Single, class)?;
     let into = resolve_new_place(alloc, scope, class.variable, called)?;
@@ -49,7 +50,7 @@ pub(crate) fn resolve_create_every(
     line: Line,
     classes: &[Name],
 ) -> Result<Resolved, ResolveError>
-    ensures { Gives view_resolved result (statement scope.now (create_every line classes.now)) }
+    ensures { Gives view_resolved result (statement (scope_seen scope.now) (create_every line classes.now)) }
 {
     let classes = all_counted(alloc, scope, classes)?;
     Ok(Resolved::CreateEvery { line, classes })
@@ -64,7 +65,7 @@ pub(crate) fn resolve_destroy(
     class: Name,
     called: &Option<Expression>,
 ) -> Result<Resolved, ResolveError>
-    ensures { Gives view_resolved result (statement scope.now (destroy_statement line class (view_option view_expression called.now))) }
+    ensures { Gives view_resolved result (statement (scope_seen scope.now) (destroy_statement line class (view_option view_expression called.now))) }
 {
     let class = class_named(scope, ClassNeed::Single, class)?;
     let entity = resolve_entity_called(alloc, scope, class.variable, called)?;
@@ -81,7 +82,7 @@ fn resolve_position(
     scope: &Scope<'_>,
     tree: &Position,
 ) -> Result<ResolvedPosition, ResolveError>
-    ensures { Gives position_seen result (position scope.now (view_position tree.now)) }
+    ensures { Gives position_seen result (position (scope_seen scope.now) (view_position tree.now)) }
 {
     match tree {
         Position::Discipline => Ok(ResolvedPosition::ByDiscipline),
@@ -108,7 +109,7 @@ pub(crate) fn resolve_file(
     position: &Position,
     set: &Named,
 ) -> Result<Resolved, ResolveError>
-    ensures { Gives view_resolved result (statement scope.now (file_statement line (view_expression member.now) (view_position position.now) (view_named set.now))) }
+    ensures { Gives view_resolved result (statement (scope_seen scope.now) (file_statement line (view_expression member.now) (view_position position.now) (view_named set.now))) }
 {
     let member = resolve_expression(alloc, scope, member)?;
     let filed = beside(member, resolve_position(alloc, scope, position))?;
@@ -132,7 +133,7 @@ pub(crate) fn resolve_remove_end(
     target: &Named,
     set: &Named,
 ) -> Result<Resolved, ResolveError>
-    ensures { Gives view_resolved result (statement scope.now (remove_end line end (view_named target.now) (view_named set.now))) }
+    ensures { Gives view_resolved result (statement (scope_seen scope.now) (remove_end line end (view_named target.now) (view_named set.now))) }
 {
     let into = resolve_target(alloc, scope, target)?;
     let (into, (set, owner)) = beside(into, resolve_set(alloc, scope, set))?;
@@ -154,7 +155,7 @@ pub(crate) fn resolve_remove(
     member: &Expression,
     set: &Named,
 ) -> Result<Resolved, ResolveError>
-    ensures { Gives view_resolved result (statement scope.now (remove_statement line (view_expression member.now) (view_named set.now))) }
+    ensures { Gives view_resolved result (statement (scope_seen scope.now) (remove_statement line (view_expression member.now) (view_named set.now))) }
 {
     let member = resolve_expression(alloc, scope, member)?;
     let (member, (set, owner)) = beside(member, resolve_set(alloc, scope, set))?;

@@ -1,5 +1,6 @@
 //! Expressions with their names resolved.
 
+ghost use Rattle.ss_names_scopes.specs.Seen.{scope_seen};
 ghost use Rattle.std.specs.Prelude.{◌≡◌, map, Some, None};
 ghost use Rattle.std.specs.List.{fold};
 ghost use Rattle.ss_tree.specs.View.{view_expression, view_term};
@@ -26,7 +27,7 @@ use std::alloc::Global;
 // The entity in the variable of a class.
 #[tactic(auto, unfolding(ss_program::specs::View::view_expression))]
 fn entity_implied(scope: &Scope<'_>, class: usize) -> Result<Resolved, ResolveError>
-    ensures { Gives view_resolved result (entity_implied scope.now class) }
+    ensures { Gives view_resolved result (entity_implied (scope_seen scope.now) class) }
 {
     let Some(meaning) = scope.meaning_of_class(class) else {
         return Err(ResolveError::Unresolved);
@@ -44,7 +45,7 @@ pub(crate) fn entity_of(
     meaning: Meaning,
     subscript: Option<Resolved>,
 ) -> Result<Option<Resolved>, ResolveError>
-    ensures { Gives (view_option view_resolved) result (entity_of scope.now meaning (view_option view_resolved subscript)) }
+    ensures { Gives (view_option view_resolved) result (entity_of (scope_seen scope.now) meaning (view_option view_resolved subscript)) }
 {
     if matches!(meaning, Meaning::NoticeTime) {
         return Ok(subscript);
@@ -143,7 +144,7 @@ pub(crate) fn resolve_place(
     place: Designator,
     subscripts: &[Expression],
 ) -> Result<(Meaning, Option<Resolved>), ResolveError>
-    ensures { Gives (λ p. (p.0, view_option view_resolved p.1)) result (place_named scope.now place (expression_row (map view_expression subscripts.now))) }
+    ensures { Gives (λ p. (p.0, view_option view_resolved p.1)) result (place_named (scope_seen scope.now) place (expression_row (map view_expression subscripts.now))) }
 {
     let Some(meaning) = scope.meaning(place) else {
         return Err(ResolveError::Unresolved);
@@ -163,7 +164,7 @@ pub(crate) fn resolve_expression(
     scope: &Scope<'_>,
     tree: &Expression,
 ) -> Result<Resolved, ResolveError>
-    ensures { Gives view_resolved result (expression scope.now (view_expression tree.now)) }
+    ensures { Gives view_resolved result (expression (scope_seen scope.now) (view_expression tree.now)) }
 {
     match tree {
         Expression::Number(number) => Ok(Resolved::Constant {
@@ -212,7 +213,7 @@ fn resolve_named(
     designator: Designator,
     subscripts: &[Expression],
 ) -> Result<Resolved, ResolveError>
-    ensures { Gives view_resolved result (expression scope.now (named designator (expression_row (map view_expression subscripts.now)))) }
+    ensures { Gives view_resolved result (expression (scope_seen scope.now) (named designator (expression_row (map view_expression subscripts.now)))) }
 {
     let (meaning, entity) = resolve_place(alloc, scope, designator, subscripts)?;
     resolved_value(alloc, meaning, entity)
@@ -226,7 +227,7 @@ pub(crate) fn resolve_subscript(
     scope: &Scope<'_>,
     subscripts: &[Expression],
 ) -> Result<Option<Resolved>, ResolveError>
-    ensures { Gives (view_option view_resolved) result (subscript scope.now (expression_row (map view_expression subscripts.now))) }
+    ensures { Gives (view_option view_resolved) result (subscript (scope_seen scope.now) (expression_row (map view_expression subscripts.now))) }
 {
     match subscripts {
         [] => Ok(None),
@@ -247,7 +248,7 @@ fn resolve_call(
     function: Function,
     arguments: &[Expression],
 ) -> Result<Resolved, ResolveError>
-    ensures { Gives view_resolved result (expression scope.now (call function (expression_row (map view_expression arguments.now)))) }
+    ensures { Gives view_resolved result (expression (scope_seen scope.now) (call function (expression_row (map view_expression arguments.now)))) }
 {
     match function {
         Function::Abs => {
@@ -270,7 +271,7 @@ fn resolve_operation(
     operator: Operator,
     arguments: &[Expression],
 ) -> Result<Resolved, ResolveError>
-    ensures { Gives view_resolved result (operation scope.now operator (expression_row (map view_expression arguments.now))) }
+    ensures { Gives view_resolved result (operation (scope_seen scope.now) operator (expression_row (map view_expression arguments.now))) }
 {
     let (left, right) = resolve_two(alloc, scope, arguments)?;
     calculate(alloc, left, operator, right)
@@ -284,7 +285,7 @@ fn resolve_one(
     scope: &Scope<'_>,
     arguments: &[Expression],
 ) -> Result<Resolved, ResolveError>
-    ensures { Gives view_resolved result (one scope.now (expression_row (map view_expression arguments.now))) }
+    ensures { Gives view_resolved result (one (scope_seen scope.now) (expression_row (map view_expression arguments.now))) }
 {
     match arguments {
         [only] => resolve_expression(alloc, scope, only),
@@ -301,7 +302,7 @@ fn resolve_two(
     scope: &Scope<'_>,
     arguments: &[Expression],
 ) -> Result<(Box<Resolved>, Resolved), ResolveError>
-    ensures { Gives (λ p. (view_resolved p.0.value, view_resolved p.1)) result (two scope.now (expression_row (map view_expression arguments.now))) }
+    ensures { Gives (λ p. (view_resolved p.0.value, view_resolved p.1)) result (two (scope_seen scope.now) (expression_row (map view_expression arguments.now))) }
 {
     match arguments {
         [left, right] => {
@@ -323,7 +324,7 @@ fn resolve_factors(
     scope: &Scope<'_>,
     trees: &[Expression],
 ) -> Result<Vec<Operation>, ResolveError>
-    ensures { (left : _) → Gives (λ v. fold with_operation left v.items) result (factors scope.now left (expression_row (map view_expression trees.now))) }
+    ensures { (left : _) → Gives (λ v. fold with_operation left v.items) result (factors (scope_seen scope.now) left (expression_row (map view_expression trees.now))) }
 {
     let mut operations = Vec::new(alloc);
     for tree in trees {
@@ -343,7 +344,7 @@ fn resolve_terms(
     scope: &Scope<'_>,
     trees: &[Term],
 ) -> Result<Vec<Operation>, ResolveError>
-    ensures { (left : _) → Gives (λ v. fold with_operation left v.items) result (terms scope.now left (term_row (map view_term trees.now))) }
+    ensures { (left : _) → Gives (λ v. fold with_operation left v.items) result (terms (scope_seen scope.now) left (term_row (map view_term trees.now))) }
 {
     let mut operations = Vec::new(alloc);
     for tree in trees {

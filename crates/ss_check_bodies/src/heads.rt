@@ -1,5 +1,6 @@
 //! Heads of loops with their names resolved.
 
+ghost use Rattle.ss_names_scopes.specs.Seen.{scope_seen};
 ghost use Rattle.std.specs.Prelude.{◌≡◌, map};
 ghost use Rattle.ss_tree.specs.View.{view_expression, view_guard, view_head, view_option, view_phrase, view_start};
 ghost use Rattle.ss_program.specs.View.{view_expression as view_resolved, view_guard as guard_seen, view_head as head_seen, view_option as option_seen, view_phrase as phrase_seen, view_start as start_seen};
@@ -34,7 +35,7 @@ fn resolve_phrase(
     scope: &Scope<'_>,
     tree: &Phrase,
 ) -> Result<ResolvedPhrase, ResolveError>
-    ensures { Gives phrase_seen result (resolved_phrase scope.now (view_phrase tree.now)) }
+    ensures { Gives phrase_seen result (resolved_phrase (scope_seen scope.now) (view_phrase tree.now)) }
 {
     let condition = resolve_condition(alloc, scope, &tree.condition)?;
     Ok(ResolvedPhrase {
@@ -49,7 +50,7 @@ pub(crate) fn resolve_phrases(
     scope: &Scope<'_>,
     trees: &[Phrase],
 ) -> Result<Vec<ResolvedPhrase>, ResolveError>
-    ensures { Gives (λ v. map phrase_seen v.items) result (each (resolved_phrase scope.now) (map view_phrase trees.now)) }
+    ensures { Gives (λ v. map phrase_seen v.items) result (each (resolved_phrase (scope_seen scope.now)) (map view_phrase trees.now)) }
 {
     let mut resolved = Vec::new(alloc);
     for tree in trees {
@@ -65,7 +66,7 @@ fn resolve_guard(
     scope: &Scope<'_>,
     tree: &Guard,
 ) -> Result<ResolvedGuard, ResolveError>
-    ensures { Gives guard_seen result (guard scope.now (view_guard tree.now)) }
+    ensures { Gives guard_seen result (guard (scope_seen scope.now) (view_guard tree.now)) }
 {
     let condition = resolve_condition(alloc, scope, &tree.condition)?;
     Ok(ResolvedGuard {
@@ -80,7 +81,7 @@ pub(crate) fn resolve_guards(
     scope: &Scope<'_>,
     trees: &[Guard],
 ) -> Result<Vec<ResolvedGuard>, ResolveError>
-    ensures { Gives (λ v. map guard_seen v.items) result (each (guard scope.now) (map view_guard trees.now)) }
+    ensures { Gives (λ v. map guard_seen v.items) result (each (guard (scope_seen scope.now)) (map view_guard trees.now)) }
 {
     let mut resolved = Vec::new(alloc);
     for tree in trees {
@@ -104,7 +105,7 @@ pub(crate) fn phrases_of(head: &Head) -> &[Phrase]
 
 // The variable that takes the items of a loop.
 fn loop_variable(scope: &Scope<'_>, name: Name) -> Result<Variable, ResolveError>
-    ensures { Gives (λ x. x) result (loop_variable scope.now name) }
+    ensures { Gives (λ x. x) result (loop_variable (scope_seen scope.now) name) }
 {
     match scope.meaning_of_name(&name) {
         Some(meaning) => variable_of(meaning).ok_or(ResolveError::Unresolved),
@@ -118,7 +119,7 @@ fn called_variable(
     implied: Variable,
     called: &Option<Name>,
 ) -> Result<Variable, ResolveError>
-    ensures { Gives (λ x. x) result (called_variable scope.now implied called.now) }
+    ensures { Gives (λ x. x) result (called_variable (scope_seen scope.now) implied called.now) }
 {
     match called {
         None => Ok(implied),
@@ -132,7 +133,7 @@ fn resolve_start(
     scope: &Scope<'_>,
     tree: &MemberStart,
 ) -> Result<Start, ResolveError>
-    ensures { Gives start_seen result (resolved_start scope.now (view_start tree.now)) }
+    ensures { Gives start_seen result (resolved_start (scope_seen scope.now) (view_start tree.now)) }
 {
     match tree {
         MemberStart::End => Ok(Start::AtEnd),
@@ -153,7 +154,7 @@ fn resolve_step(
     scope: &Scope<'_>,
     tree: &Option<Expression>,
 ) -> Result<Option<Resolved>, ResolveError>
-    ensures { Gives (option_seen view_resolved) result (if_there (expression scope.now) (view_option view_expression tree.now)) }
+    ensures { Gives (option_seen view_resolved) result (if_there (expression (scope_seen scope.now)) (view_option view_expression tree.now)) }
 {
     match tree {
         None => Ok(None),
@@ -171,7 +172,7 @@ pub(crate) fn resolve_head(
     scope: &Scope<'_>,
     tree: &Head,
 ) -> Result<ResolvedHead, ResolveError>
-    ensures { Gives head_seen result (head scope.now (view_head tree.now)) }
+    ensures { Gives head_seen result (head (scope_seen scope.now) (view_head tree.now)) }
 {
     match tree {
         Head::Range {

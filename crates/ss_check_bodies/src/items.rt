@@ -1,5 +1,6 @@
 //! Items of PRINT with their names resolved.
 
+ghost use Rattle.ss_names_scopes.specs.Seen.{scope_seen};
 ghost use Rattle.std.specs.Prelude.{◌≡◌, map, option_map};
 ghost use Rattle.ss_tree.specs.Tree.{expression_row, named};
 ghost use Rattle.ss_tree.specs.View.{view_expression};
@@ -52,7 +53,7 @@ fn resolve_named(
     designator: Designator,
     subscripts: &[Expression],
 ) -> Result<Item, ResolveError>
-    ensures { Gives view_item result (item scope.now (named designator (expression_row (map view_expression subscripts.now)))) }
+    ensures { Gives view_item result (item (scope_seen scope.now) (named designator (expression_row (map view_expression subscripts.now)))) }
 {
     let (meaning, entity) = resolve_place(alloc, scope, designator, subscripts)?;
     resolved_item(alloc, meaning, entity)
@@ -64,7 +65,7 @@ fn resolve_value(
     scope: &Scope<'_>,
     tree: &Expression,
 ) -> Result<Item, ResolveError>
-    ensures { Gives view_item result (option_map AValue (expression scope.now (view_expression tree.now))) }
+    ensures { Gives view_item result (option_map AValue (expression (scope_seen scope.now) (view_expression tree.now))) }
 {
     let value = resolve_expression(alloc, scope, tree)?;
     Ok(Item::Value { value })
@@ -73,7 +74,7 @@ fn resolve_value(
 // An item: a mean where that is named alone, through any parentheses, and else a value.
 #[tactic(auto, unfolding(ss_tree::specs::View::view_expression))]
 fn resolve_item(alloc: Global, scope: &Scope<'_>, tree: &Expression) -> Result<Item, ResolveError>
-    ensures { Gives view_item result (item scope.now (view_expression tree.now)) }
+    ensures { Gives view_item result (item (scope_seen scope.now) (view_expression tree.now)) }
 {
     match tree {
         Expression::Named(named) => {
@@ -95,7 +96,7 @@ pub(crate) fn resolve_items(
     scope: &Scope<'_>,
     trees: &[Expression],
 ) -> Result<Vec<Item>, ResolveError>
-    ensures { Gives (λ v. map view_item v.items) result (each (item scope.now) (map view_expression trees.now)) }
+    ensures { Gives (λ v. map view_item v.items) result (each (item (scope_seen scope.now)) (map view_expression trees.now)) }
 {
     let mut resolved = Vec::new(alloc);
     for tree in trees {

@@ -1,5 +1,6 @@
 //! Lists of expressions with their names resolved.
 
+ghost use Rattle.ss_names_scopes.specs.Seen.{scope_seen};
 ghost use Rattle.std.specs.Prelude.{◌≡◌, map};
 ghost use Rattle.ss_tree.specs.View.{view_expression};
 ghost use Rattle.ss_program.specs.View.{view_expression as view_resolved};
@@ -19,7 +20,7 @@ pub(crate) fn resolve_all(
     scope: &Scope<'_>,
     trees: &[Expression],
 ) -> Result<Vec<Resolved>, ResolveError>
-    ensures { Gives (λ v. map view_resolved v.items) result (each (expression scope.now) (map view_expression trees.now)) }
+    ensures { Gives (λ v. map view_resolved v.items) result (each (expression (scope_seen scope.now)) (map view_expression trees.now)) }
 {
     let mut resolved = Vec::new(alloc);
     for tree in trees {

@@ -1,5 +1,6 @@
 //! Loops around resolved statements.
 
+ghost use Rattle.ss_names_scopes.specs.Seen.{scope_seen};
 ghost use Rattle.std.specs.Prelude.{◌≡◌};
 ghost use Rattle.ss_tree.specs.View.{view_head, view_loop_head};
 ghost use Rattle.ss_program.specs.View.{view_body, view_statement as view_resolved};
@@ -23,7 +24,7 @@ fn resolve_over(
     scope: &Scope<'_>,
     head: &Head,
 ) -> Result<(ResolvedHead, Vec<Phrase>), ResolveError>
-    ensures { Gives over_seen result (resolved_over scope.now (view_head head.now)) }
+    ensures { Gives over_seen result (resolved_over (scope_seen scope.now) (view_head head.now)) }
 {
     let over = resolve_head(alloc, scope, head)?;
     beside(over, resolve_phrases(alloc, scope, phrases_of(head)))
@@ -37,7 +38,7 @@ fn resolve_for(
     head: &Head,
     body: Vec<Resolved>,
 ) -> Result<Resolved, ResolveError>
-    ensures { Gives view_resolved result (for_over line scope.now (view_head head.now) (view_body body.items)) }
+    ensures { Gives view_resolved result (for_over line (scope_seen scope.now) (view_head head.now) (view_body body.items)) }
 {
     let (head, phrases) = resolve_over(alloc, scope, head)?;
     Ok(Resolved::For {
@@ -56,7 +57,7 @@ pub(crate) fn resolve_loop(
     head: &LoopHead,
     body: Vec<Resolved>,
 ) -> Result<Resolved, ResolveError>
-    ensures { Gives view_resolved result (resolved_loop line scope.now (view_loop_head head.now) (view_body body.items)) }
+    ensures { Gives view_resolved result (resolved_loop line (scope_seen scope.now) (view_loop_head head.now) (view_body body.items)) }
 {
     match head {
         LoopHead::For(head) => resolve_for(alloc, scope, line, head, body),
@@ -76,7 +77,7 @@ pub(crate) fn resolve_find(
     found: Vec<Resolved>,
     none: Vec<Resolved>,
 ) -> Result<Resolved, ResolveError>
-    ensures { Gives view_resolved result (find line scope.now (view_head head.now) (view_body found.items) (view_body none.items)) }
+    ensures { Gives view_resolved result (find line (scope_seen scope.now) (view_head head.now) (view_body found.items) (view_body none.items)) }
 {
     let (head, phrases) = resolve_over(alloc, scope, head)?;
     Ok(Resolved::Find {

@@ -1,5 +1,6 @@
 //! Statements on notices and statistics with their names resolved.
 
+ghost use Rattle.ss_names_scopes.specs.Seen.{scope_seen};
 ghost use Rattle.std.specs.Prelude.{◌≡◌, map};
 ghost use Rattle.ss_tree.specs.View.{view_expression, view_named, view_option, view_when};
 ghost use Rattle.ss_tree.specs.Tree.{cancel_statement, reset_statement, schedule_new, schedule_statement};
@@ -35,7 +36,7 @@ fn resolve_when(
     scope: &Scope<'_>,
     tree: &When,
 ) -> Result<ResolvedWhen, ResolveError>
-    ensures { Gives when_seen result (when scope.now (view_when tree.now)) }
+    ensures { Gives when_seen result (when (scope_seen scope.now) (view_when tree.now)) }
 {
     match tree {
         When::At(time) => {
@@ -108,7 +109,7 @@ pub(crate) fn resolve_schedule_new(
     called: &Option<Named>,
     terms: ScheduleTerms<'_>,
 ) -> Result<Resolved, ResolveError>
-    ensures { Gives view_resolved result (statement scope.now (schedule_new line class (view_option view_named called.now) (map view_expression terms.given.now) (view_when terms.when.now))) }
+    ensures { Gives view_resolved result (statement (scope_seen scope.now) (schedule_new line class (view_option view_named called.now) (map view_expression terms.given.now) (view_when terms.when.now))) }
 {
     let class = class_named(scope, ClassNeed::Notice, class)?;
     let into = resolve_new_place(alloc, scope, class.variable, called)?;
@@ -127,7 +128,7 @@ pub(crate) fn resolve_schedule(
     called: &Option<Expression>,
     terms: ScheduleTerms<'_>,
 ) -> Result<Resolved, ResolveError>
-    ensures { Gives view_resolved result (statement scope.now (schedule_statement line class (view_option view_expression called.now) (map view_expression terms.given.now) (view_when terms.when.now))) }
+    ensures { Gives view_resolved result (statement (scope_seen scope.now) (schedule_statement line class (view_option view_expression called.now) (map view_expression terms.given.now) (view_when terms.when.now))) }
 {
     let class = class_named(scope, ClassNeed::Notice, class)?;
     let notice = resolve_entity_called(alloc, scope, class.variable, called)?;
@@ -145,7 +146,7 @@ pub(crate) fn resolve_cancel(
     class: Name,
     called: &Option<Expression>,
 ) -> Result<Resolved, ResolveError>
-    ensures { Gives view_resolved result (statement scope.now (cancel_statement line class (view_option view_expression called.now))) }
+    ensures { Gives view_resolved result (statement (scope_seen scope.now) (cancel_statement line class (view_option view_expression called.now))) }
 {
     let class = class_named(scope, ClassNeed::Notice, class)?;
     let notice = resolve_entity_called(alloc, scope, class.variable, called)?;
@@ -164,7 +165,7 @@ pub(crate) fn resolve_reset(
     line: Line,
     targets: &[Named],
 ) -> Result<Resolved, ResolveError>
-    ensures { Gives view_resolved result (statement scope.now (reset_statement line (map view_named targets.now))) }
+    ensures { Gives view_resolved result (statement (scope_seen scope.now) (reset_statement line (map view_named targets.now))) }
 {
     let restarts = resolve_restarts(alloc, scope, targets)?;
     Ok(Resolved::Reset { line, restarts })

@@ -1,5 +1,6 @@
 //! Targets and sets with their names resolved.
 
+ghost use Rattle.ss_names_scopes.specs.Seen.{scope_seen};
 ghost use Rattle.std.specs.Prelude.{◌≡◌, map, Some, None};
 ghost use Rattle.ss_tree.specs.View.{view_expression, view_named, view_option};
 ghost use Rattle.ss_program.specs.View.{view_expression as view_resolved, view_option as option_seen, view_owner, view_place, view_restart, view_target};
@@ -43,7 +44,7 @@ pub(crate) fn resolve_target(
     scope: &Scope<'_>,
     tree: &Named,
 ) -> Result<Place, ResolveError>
-    ensures { Gives view_place result (target scope.now (view_named tree.now)) }
+    ensures { Gives view_place result (target (scope_seen scope.now) (view_named tree.now)) }
 {
     let (meaning, entity) = resolve_place(alloc, scope, tree.designator, &tree.subscripts)?;
     place_of(meaning, entity)
@@ -55,7 +56,7 @@ pub(crate) fn resolve_targets(
     scope: &Scope<'_>,
     trees: &[Named],
 ) -> Result<Vec<Place>, ResolveError>
-    ensures { Gives (λ v. map view_place v.items) result (each (target scope.now) (map view_named trees.now)) }
+    ensures { Gives (λ v. map view_place v.items) result (each (target (scope_seen scope.now)) (map view_named trees.now)) }
 {
     let mut resolved = Vec::new(alloc);
     for tree in trees {
@@ -67,7 +68,7 @@ pub(crate) fn resolve_targets(
 
 // A target of READ.
 fn resolve_reader(alloc: Global, scope: &Scope<'_>, tree: &Named) -> Result<Target, ResolveError>
-    ensures { Gives view_target result (reader scope.now (view_named tree.now)) }
+    ensures { Gives view_target result (reader (scope_seen scope.now) (view_named tree.now)) }
 {
     let (meaning, entity) = resolve_place(alloc, scope, tree.designator, &tree.subscripts)?;
     let place = place_of(meaning, entity)?;
@@ -83,7 +84,7 @@ pub(crate) fn resolve_readers(
     scope: &Scope<'_>,
     trees: &[Named],
 ) -> Result<Vec<Target>, ResolveError>
-    ensures { Gives (λ v. map view_target v.items) result (each (reader scope.now) (map view_named trees.now)) }
+    ensures { Gives (λ v. map view_target v.items) result (each (reader (scope_seen scope.now)) (map view_named trees.now)) }
 {
     let mut resolved = Vec::new(alloc);
     for tree in trees {
@@ -100,7 +101,7 @@ pub(crate) fn resolve_new_place(
     variable: Variable,
     called: &Option<Named>,
 ) -> Result<Place, ResolveError>
-    ensures { Gives view_place result (new_place scope.now variable (view_option view_named called.now)) }
+    ensures { Gives view_place result (new_place (scope_seen scope.now) variable (view_option view_named called.now)) }
 {
     match called {
         None => Ok(Place::ToVariable { variable }),
@@ -116,7 +117,7 @@ pub(crate) fn resolve_entity_called(
     variable: Variable,
     called: &Option<Expression>,
 ) -> Result<Resolved, ResolveError>
-    ensures { Gives view_resolved result (entity_called scope.now variable (view_option view_expression called.now)) }
+    ensures { Gives view_resolved result (entity_called (scope_seen scope.now) variable (view_option view_expression called.now)) }
 {
     match called {
         None => Ok(Resolved::Fetch { variable }),
@@ -151,7 +152,7 @@ pub(crate) fn resolve_set(
     scope: &Scope<'_>,
     tree: &Named,
 ) -> Result<(usize, SetOwner), ResolveError>
-    ensures { Gives (λ p. (p.0, view_owner p.1)) result (set_named scope.now (view_named tree.now)) }
+    ensures { Gives (λ p. (p.0, view_owner p.1)) result (set_named (scope_seen scope.now) (view_named tree.now)) }
 {
     let (meaning, set) = set_meaning(scope, tree.designator)?;
     let subscript = resolve_subscript(alloc, scope, &tree.subscripts)?;
@@ -177,7 +178,7 @@ fn history_of(scope: &Scope<'_>, place: Designator) -> Result<usize, ResolveErro
 
 // A statistic that starts afresh, and of which entity.
 fn resolve_restart(alloc: Global, scope: &Scope<'_>, tree: &Named) -> Result<Restart, ResolveError>
-    ensures { Gives view_restart result (restart scope.now (view_named tree.now)) }
+    ensures { Gives view_restart result (restart (scope_seen scope.now) (view_named tree.now)) }
 {
     let statistic = history_of(scope, tree.designator)?;
     let (_, of) = resolve_place(alloc, scope, tree.designator, &tree.subscripts)?;
@@ -190,7 +191,7 @@ pub(crate) fn resolve_restarts(
     scope: &Scope<'_>,
     trees: &[Named],
 ) -> Result<Vec<Restart>, ResolveError>
-    ensures { Gives (λ v. map view_restart v.items) result (each (restart scope.now) (map view_named trees.now)) }
+    ensures { Gives (λ v. map view_restart v.items) result (each (restart (scope_seen scope.now)) (map view_named trees.now)) }
 {
     let mut resolved = Vec::new(alloc);
     for tree in trees {

@@ -1,5 +1,6 @@
 //! LET, ADD, SUBTRACT, CALL, READ, PRINT and SKIP with their names resolved.
 
+ghost use Rattle.ss_names_scopes.specs.Seen.{scope_seen};
 ghost use Rattle.std.specs.Prelude.{◌≡◌, map, IfOk};
 ghost use Rattle.ss_tree.specs.View.{view_expression, view_named};
 ghost use Rattle.ss_tree.specs.Tree.{add_statement, call_statement, let_statement, print_statement, read_statement, skip_statement, subtract_statement};
@@ -30,7 +31,7 @@ pub(crate) fn resolve_let(
     target: &Named,
     value: &Expression,
 ) -> Result<Resolved, ResolveError>
-    ensures { Gives view_resolved result (statement scope.now (let_statement line (view_named target.now) (view_expression value.now))) }
+    ensures { Gives view_resolved result (statement (scope_seen scope.now) (let_statement line (view_named target.now) (view_expression value.now))) }
 {
     let target = resolve_target(alloc, scope, target)?;
     let (target, value) = beside(target, resolve_expression(alloc, scope, value))?;
@@ -50,7 +51,7 @@ pub(crate) fn resolve_add(
     amount: &Expression,
     target: &Named,
 ) -> Result<Resolved, ResolveError>
-    ensures { Gives view_resolved result (statement scope.now (add_statement line (view_expression amount.now) (view_named target.now))) }
+    ensures { Gives view_resolved result (statement (scope_seen scope.now) (add_statement line (view_expression amount.now) (view_named target.now))) }
 {
     let value = resolve_expression(alloc, scope, amount)?;
     let (value, target) = beside(value, resolve_target(alloc, scope, target))?;
@@ -71,7 +72,7 @@ pub(crate) fn resolve_subtract(
     amount: &Expression,
     target: &Named,
 ) -> Result<Resolved, ResolveError>
-    ensures { Gives view_resolved result (statement scope.now (subtract_statement line (view_expression amount.now) (view_named target.now))) }
+    ensures { Gives view_resolved result (statement (scope_seen scope.now) (subtract_statement line (view_expression amount.now) (view_named target.now))) }
 {
     let value = resolve_expression(alloc, scope, amount)?;
     let (value, target) = beside(value, resolve_target(alloc, scope, target))?;
@@ -108,7 +109,7 @@ fn call_of(
 
 // The routine of a name, with its number.
 fn routine_named(scope: &Scope<'_>, name: &Name) -> Result<(usize, RoutineSection), ResolveError>
-    ensures { Gives (λ x. x) result (routine_named scope.now name.now) }
+    ensures { Gives (λ x. x) result (routine_named (scope_seen scope.now) name.now) }
 {
     match scope.names.meaning(name) {
         Some(Meaning::Routine { routine }) => match scope.names.routines.values().get(routine) {
@@ -129,7 +130,7 @@ pub(crate) fn resolve_routine_call(
     given: &[Expression],
     yielding: &[Named],
 ) -> Result<Resolved, ResolveError>
-    ensures { Gives view_resolved result (statement scope.now (call_statement line routine (map view_expression given.now) (map view_named yielding.now))) }
+    ensures { Gives view_resolved result (statement (scope_seen scope.now) (call_statement line routine (map view_expression given.now) (map view_named yielding.now))) }
 {
     let (number, section) = routine_named(scope, &routine)?;
     let given = resolve_all(alloc, scope, given)?;
@@ -145,7 +146,7 @@ pub(crate) fn resolve_read(
     line: Line,
     targets: &[Named],
 ) -> Result<Resolved, ResolveError>
-    ensures { Gives view_resolved result (statement scope.now (read_statement line (map view_named targets.now))) }
+    ensures { Gives view_resolved result (statement (scope_seen scope.now) (read_statement line (map view_named targets.now))) }
 {
     let targets = resolve_readers(alloc, scope, targets)?;
     Ok(Resolved::Read { line, targets })
@@ -171,7 +172,7 @@ pub(crate) fn resolve_print(
     items: &[Expression],
     pictures: &[PictureLine],
 ) -> Result<Resolved, ResolveError>
-    ensures { Gives view_resolved result (statement scope.now (print_statement line (map view_expression items.now) pictures.now)) }
+    ensures { Gives view_resolved result (statement (scope_seen scope.now) (print_statement line (map view_expression items.now) pictures.now)) }
 {
     let items = resolve_items(alloc, scope, items)?;
     let pictures = picture_lines(alloc, pictures)?;
@@ -190,7 +191,7 @@ pub(crate) fn resolve_skip(
     line: Line,
     count: &Expression,
 ) -> Result<Resolved, ResolveError>
-    ensures { Gives view_resolved result (statement scope.now (skip_statement line (view_expression count.now))) }
+    ensures { Gives view_resolved result (statement (scope_seen scope.now) (skip_statement line (view_expression count.now))) }
 {
     let count = resolve_expression(alloc, scope, count)?;
     Ok(Resolved::Skip { line, count })

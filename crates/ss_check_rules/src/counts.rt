@@ -1,5 +1,8 @@
 //! The rule on counts of arguments.
 
+ghost use Rattle.ss_check_rules.specs.declared.error.CheckError.TheVariants as e;
+ghost use Rattle.ss_check_rules.specs.Refusal.{unless};
+ghost use Rattle.ss_check_rules.specs.Counts.{argument_count, suits_count};
 ghost use Rattle.std.specs.Prelude.{◌≡◌};
 
 use crate::error::CheckError;
@@ -9,7 +12,9 @@ use ss_names_uses::CountNeed;
 use ss_tree::expression::Function;
 
 // How many arguments a function takes.
-fn argument_count(function: Function) -> usize {
+fn argument_count(function: Function) -> usize
+    ensures { result ≡ argument_count function }
+{
     match function {
         Function::Abs => 1,
         Function::Div | Function::Mod | Function::Min | Function::Max => 2,
@@ -41,7 +46,9 @@ fn has_attributes(names: &Names, class: &Name, found: usize) -> bool {
 }
 
 /// The breach of another count of arguments than is wanted.
-pub fn count_breaks(names: &Names, line: Line, found: usize, wanted: &CountNeed) -> Option<CheckError> {
+pub fn count_breaks(names: &Names, line: Line, found: usize, wanted: &CountNeed) -> Option<CheckError>
+    ensures { result ≡ unless (suits_count names.now found wanted.now) (e.Arguments line) }
+{
     let suits = match wanted {
         CountNeed::Arguments(function) => found == argument_count(*function),
         CountNeed::Given(routine) => is_given(names.routines.get(routine), found),

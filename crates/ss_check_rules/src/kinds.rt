@@ -1,5 +1,6 @@
 //! The kinds of names that places need, their subscripts, and what takes values.
 
+ghost use Rattle.ss_names_scopes.specs.Seen.{scope_seen};
 ghost use Rattle.std.specs.Prelude.{◌≡◌};
 ghost use Rattle.ss_check_rules.specs.Kinds.{has_value, is_mean, is_watched_here, suits, suits_class, suits_subscripts, takes_values};
 
@@ -24,7 +25,9 @@ pub fn is_mean(meaning: Meaning) -> bool
 }
 
 // Whether a TALLY or an ACCUMULATE is of what is named here: a local variable that hides it has none.
-fn is_watched_here(scope: &Scope<'_>, place: Designator) -> bool {
+fn is_watched_here(scope: &Scope<'_>, place: Designator) -> bool
+    ensures { result ≡ is_watched_here (scope_seen scope.now) place }
+{
     match place {
         Designator::Name(name) => {
             scope.names.histories.get(&name).is_some() && scope.locals.number(&name).is_none()
@@ -34,7 +37,9 @@ fn is_watched_here(scope: &Scope<'_>, place: Designator) -> bool {
 }
 
 /// Whether what is named is of the kind that its role needs. No local variable hides a set.
-pub fn suits(scope: &Scope<'_>, role: Role, place: Designator) -> bool {
+pub fn suits(scope: &Scope<'_>, role: Role, place: Designator) -> bool
+    ensures { result ≡ suits (scope_seen scope.now) role place }
+{
     match role {
         Role::Reset => is_watched_here(scope, place),
         Role::Set => match place {

@@ -1,5 +1,12 @@
 //! The rules on named places and on modes.
 
+ghost use Rattle.std.specs.Prelude.{not};
+ghost use Rattle.ss_check_rules.specs.Refusal.{class_breaks, place_breaks, unless};
+ghost use Rattle.ss_check_rules.specs.declared.error.CheckError.TheVariants as e;
+ghost use Rattle.ss_names_declarations.specs.Firsts.{place_in};
+ghost use Rattle.ss_check_rules.specs.Modes.{attribute_mode, differ, is_text, mixes_modes, mode_said};
+ghost use Rattle.ss_check_rules.specs.Kinds.{meaning_in_role};
+ghost use Rattle.ss_names_scopes.specs.Seen.{scope_seen};
 ghost use Rattle.std.specs.Prelude.{◌≡◌};
 
 use crate::error::CheckError;
@@ -19,7 +26,9 @@ fn routine_section(scope: &Scope<'_>, routine: &Name) -> Option<(usize, usize)> 
 }
 
 // The mode of the attribute of a class in a place.
-fn attribute_mode(scope: &Scope<'_>, class: &Name, place: usize) -> Option<Mode> {
+fn attribute_mode(scope: &Scope<'_>, class: &Name, place: usize) -> Option<Mode>
+    ensures { result ≡ attribute_mode (scope_seen scope.now).table (place_in (scope_seen scope.now).table.classes class.now) place }
+{
     let number = scope.names.classes.place(class)?;
     let name = scope.names.attributes_of(number).get(place)?;
     match scope.names.attributes.get(name) {
@@ -29,7 +38,9 @@ fn attribute_mode(scope: &Scope<'_>, class: &Name, place: usize) -> Option<Mode>
 }
 
 // The mode that a use says, if there is one.
-fn mode_said(scope: &Scope<'_>, mode: ModeOf) -> Option<Mode> {
+fn mode_said(scope: &Scope<'_>, mode: ModeOf) -> Option<Mode>
+    ensures { result ≡ mode_said (scope_seen scope.now) mode }
+{
     match mode {
         ModeOf::Integer => Some(Mode::Integer),
         ModeOf::Alpha => Some(Mode::Alpha),
@@ -47,7 +58,9 @@ fn mode_said(scope: &Scope<'_>, mode: ModeOf) -> Option<Mode> {
 }
 
 // Whether two modes are joined, where there are two.
-fn are_joined(a: Option<Mode>, b: Option<Mode>) -> bool {
+fn are_joined(a: Option<Mode>, b: Option<Mode>) -> bool
+    ensures { result ≡ differ a b }
+{
     match (a, b) {
         (Some(a), Some(b)) => a != b,
         _ => false,
@@ -55,7 +68,9 @@ fn are_joined(a: Option<Mode>, b: Option<Mode>) -> bool {
 }
 
 /// The breach of two modes that have to be the same.
-pub fn same_breaks(scope: &Scope<'_>, line: Line, found: ModeOf, wanted: ModeOf) -> Option<CheckError> {
+pub fn same_breaks(scope: &Scope<'_>, line: Line, found: ModeOf, wanted: ModeOf) -> Option<CheckError>
+    ensures { result ≡ unless (not (differ (mode_said (scope_seen scope.now) found) (mode_said (scope_seen scope.now) wanted))) (e.Mode line) }
+{
     if are_joined(mode_said(scope, found), mode_said(scope, wanted)) {
         Some(CheckError::Mode(line))
     } else {
@@ -64,7 +79,9 @@ pub fn same_breaks(scope: &Scope<'_>, line: Line, found: ModeOf, wanted: ModeOf)
 }
 
 // Whether what a name means is a text.
-fn is_text(meaning: Option<Meaning>) -> bool {
+fn is_text(meaning: Option<Meaning>) -> bool
+    ensures { result ≡ is_text meaning }
+{
     match meaning {
         Some(meaning) => matches!(mode_of(meaning), Some(Mode::Alpha)),
         None => false,
@@ -79,14 +96,18 @@ fn breaks_mode(
     meaning: Meaning,
     subscripts: usize,
     number: bool,
-) -> bool {
+) -> bool
+    ensures { result ≡ mixes_modes (scope_seen scope.now) role meaning subscripts number }
+{
     number && is_text(Some(meaning))
         || matches!(role, Role::Value) && is_mean(meaning)
         || subscripts == 0 && is_text(scope.implied(meaning))
 }
 
 // What a place means in a role.
-fn meaning_in_role(scope: &Scope<'_>, role: Role, place: Designator) -> Option<Meaning> {
+fn meaning_in_role(scope: &Scope<'_>, role: Role, place: Designator) -> Option<Meaning>
+    ensures { result ≡ meaning_in_role (scope_seen scope.now) role place }
+{
     match (role, place) {
         (Role::Set, Designator::Name(name)) => scope.names.meaning(&name),
         _ => scope.meaning(place),
@@ -101,7 +122,9 @@ pub fn place_breaks(
     place: Designator,
     subscripts: usize,
     number: bool,
-) -> Option<CheckError> {
+) -> Option<CheckError>
+    ensures { result ≡ place_breaks (scope_seen scope.now) line role place subscripts number }
+{
     if !suits(scope, role, place) {
         return Some(CheckError::Unknown(line));
     }
@@ -125,7 +148,9 @@ pub fn class_breaks(
     need: ClassNeed,
     class: &Name,
     called: bool,
-) -> Option<CheckError> {
+) -> Option<CheckError>
+    ensures { result ≡ class_breaks (scope_seen scope.now) line need class.now called }
+{
     if !suits_class(scope.names.meaning(class), need) {
         Some(CheckError::Unknown(line))
     } else if !called && is_text(scope.meaning_of_name(class)) {

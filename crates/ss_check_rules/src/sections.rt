@@ -1,5 +1,10 @@
 //! The rules on the uses of a section.
 
+ghost use Rattle.std.specs.List.{fold};
+ghost use Rattle.ss_names_declarations.specs.Earliest.{earlier_of};
+ghost use Rattle.ss_check_rules.specs.Order.{order_of};
+ghost use Rattle.ss_check_rules.specs.Refusal.{use_breaks};
+ghost use Rattle.ss_names_scopes.specs.Seen.{scope_seen};
 ghost use Rattle.std.specs.Prelude.{◌≡◌};
 
 use crate::counts::count_breaks;
@@ -20,7 +25,9 @@ fn routine_breaks(names: &Names, line: Line, routine: &Name) -> Option<CheckErro
 }
 
 /// The first of the rules that a use breaks, in MAIN or in another section.
-pub fn use_breaks(scope: &Scope<'_>, in_main: bool, one: &Use) -> Option<CheckError> {
+pub fn use_breaks(scope: &Scope<'_>, in_main: bool, one: &Use) -> Option<CheckError>
+    ensures { result ≡ use_breaks (scope_seen scope.now) in_main one.now }
+{
     let line = one.line;
     match &one.what {
         Used::Parameter { .. } | Used::Local { .. } => None,
@@ -56,7 +63,9 @@ pub fn section_breaks(
     in_main: bool,
     uses: &[Use],
     found: Option<CheckError>,
-) -> Option<CheckError> {
+) -> Option<CheckError>
+    ensures { result ≡ fold (λ so_far u. earlier_of order_of so_far (use_breaks (scope_seen scope.now) in_main u)) found uses.now }
+{
     let mut found = found;
     for one in uses {
         found = earlier_of(found, use_breaks(scope, in_main, one));

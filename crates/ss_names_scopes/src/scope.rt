@@ -1,14 +1,14 @@
 //! What a name means in a section.
 
+ghost use Rattle.ss_names_scopes.specs.Seen.{scope_seen};
 ghost use Rattle.std.specs.Prelude.{◌≡◌};
-ghost use Rattle.ss_names_scopes.specs.Scopes.{mode_of, variable_of};
+ghost use Rattle.ss_names_scopes.specs.Scopes.{implied, meaning, meaning_of_class, meaning_of_name, mode_of, parameter_mode, variable_of};
 
 use crate::locals::Locals;
 use ss_base::{Mode, Name, Owner};
 use ss_names::{Meaning, Names};
 use ss_program::expression::Variable;
 use ss_tree::expression::Designator;
-use std::marker::Model;
 
 /// A section of a program: the table, the local variables of the section, and those of all sections.
 #[derive(Clone, Copy)]
@@ -48,7 +48,9 @@ pub fn variable_of(meaning: Meaning) -> Option<Variable>
 
 impl<'a> Scope<'a> {
     /// What a name means in the section: a local variable hides what it means in the whole program.
-    pub fn meaning_of_name(&self, name: &Name) -> Option<Meaning> {
+    pub fn meaning_of_name(&self, name: &Name) -> Option<Meaning>
+        ensures { result ≡ meaning_of_name (scope_seen self.now) name.now }
+    {
         match self.locals.number(name) {
             Some(number) => {
                 let mode = match self.locals.mode_at(number) {
@@ -65,7 +67,9 @@ impl<'a> Scope<'a> {
     }
 
     /// What is named.
-    pub fn meaning(&self, place: Designator) -> Option<Meaning> {
+    pub fn meaning(&self, place: Designator) -> Option<Meaning>
+        ensures { result ≡ meaning (scope_seen self.now) place }
+    {
         match place {
             Designator::Name(name) => self.meaning_of_name(&name),
             Designator::TimeV => Some(Meaning::Clock),
@@ -74,7 +78,9 @@ impl<'a> Scope<'a> {
     }
 
     /// What the name of a class means in the section: the variable that has an entity of the class where none is named.
-    pub fn meaning_of_class(&self, class: usize) -> Option<Meaning> {
+    pub fn meaning_of_class(&self, class: usize) -> Option<Meaning>
+        ensures { result ≡ meaning_of_class (scope_seen self.now) class }
+    {
         match self.names.classes.keys().get(class) {
             Some(name) => self.meaning_of_name(name),
             None => None,
@@ -82,7 +88,9 @@ impl<'a> Scope<'a> {
     }
 
     /// The variable that has the entity of what a name means, where no subscript is written. None where it is of no entity.
-    pub fn implied(&self, meaning: Meaning) -> Option<Meaning> {
+    pub fn implied(&self, meaning: Meaning) -> Option<Meaning>
+        ensures { result ≡ implied (scope_seen self.now) meaning }
+    {
         match self.names.owner_of(meaning) {
             Owner::Class(class) => self.meaning_of_class(class),
             Owner::System => None,
@@ -90,7 +98,9 @@ impl<'a> Scope<'a> {
     }
 
     /// The mode of the parameter of a routine of this number, the given ones before those that it yields.
-    pub fn parameter_mode(&self, section: usize, number: usize) -> Option<Mode> {
+    pub fn parameter_mode(&self, section: usize, number: usize) -> Option<Mode>
+        ensures { result ≡ parameter_mode (scope_seen self.now) section number }
+    {
         match self.sections.get(section) {
             Some(locals) => match locals.mode_at(number) {
                 Some(Some(mode)) => Some(mode),
