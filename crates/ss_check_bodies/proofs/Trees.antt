@@ -4,7 +4,7 @@ use Rattle.std.specs.List.{fold}
 use Rattle.std.proofs.lemmas.List.{take_more, map-append}
 use Rattle.std.proofs.lemmas.List.Sums.{fold-append}
 use Rattle.std.specs.Global.{Vec, Box}
-use Rattle.ss_tree.specs.declared.expression.Sign.{Sign as SignWord}
+use Rattle.ss_base.specs.declared.words.Sign.{Sign as SignWord}
 use Rattle.ss_tree.specs.declared.expression.Function.{Function}
 use Rattle.ss_tree.specs.declared.expression.Named.{Named}
 use Rattle.ss_tree.specs.declared.expression.Expression.{Expression as Parsed}

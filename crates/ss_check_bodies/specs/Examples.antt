@@ -10,7 +10,7 @@ use Rattle.ss_base.specs.declared.value.Value.TheVariants.{Whole}
 use Rattle.ss_tree.specs.declared.expression.Designator.{Designator}
 use Rattle.ss_tree.specs.declared.expression.Designator.TheVariants.{Name, TimeV, TimeA}
 use Rattle.ss_tree.specs.declared.expression.Function.TheVariants.{Div}
-use Rattle.ss_tree.specs.declared.expression.Sign.TheVariants as signs
+use Rattle.ss_base.specs.declared.words.Sign.TheVariants as signs
 use Rattle.ss_tree.specs.declared.statement.FindOutcome.TheVariants as outcomes
 use Rattle.ss_tree.specs.Tree.{ExpressionTree, number, named, call, parenthesised, sum, product, no_expression, and_expression, no_term, and_term, NamedTree, over_class, by_discipline, at_time, StatementTree, call_statement, read_statement, stop_statement, find_if_statement, create_statement, create_every, file_statement, schedule_new, reset_statement, print_statement, no_statement, and_statement}
 use Rattle.ss_tree.specs.Names.{NameBytes}

@@ -10,7 +10,6 @@ ghost use Rattle.ss_names_meaning.specs.Conditions.{condition, conjunction, one_
 use crate::expressions::resolve_expression;
 use crate::places::resolve_set;
 use crate::results::beside;
-use crate::words::resolved_relation;
 use ss_names_meaning::ResolveError;
 use ss_names_scopes::Scope;
 use ss_program::condition::{
@@ -38,7 +37,7 @@ fn resolve_test(
             let (left, right) = beside(left, resolve_expression(alloc, scope, right))?;
             Ok(ResolvedTest::Compare {
                 left,
-                relation: resolved_relation(*relation),
+                relation: *relation,
                 right,
             })
         }

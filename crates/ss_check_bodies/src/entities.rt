@@ -12,14 +12,13 @@ use crate::classes::{all_counted, class_named};
 use crate::expressions::resolve_expression;
 use crate::places::{resolve_entity_called, resolve_new_place, resolve_set, resolve_target};
 use crate::results::beside;
-use crate::words::resolved_end;
 use ss_base::{Line, Name};
 use ss_names_meaning::ResolveError;
 use ss_names_scopes::Scope;
 use ss_names_uses::ClassNeed;
 use ss_program::statement::{Position as ResolvedPosition, Statement as Resolved};
 use ss_tree::expression::{Expression, Named};
-use ss_tree::statement::{Position, SetEnd};
+use ss_tree::statement::{Position, End};
 use std::alloc::Global;
 
 /// CREATE A.
@@ -129,7 +128,7 @@ pub(crate) fn resolve_remove_end(
     alloc: Global,
     scope: &Scope<'_>,
     line: Line,
-    end: SetEnd,
+    end: End,
     target: &Named,
     set: &Named,
 ) -> Result<Resolved, ResolveError>
@@ -139,7 +138,7 @@ pub(crate) fn resolve_remove_end(
     let (into, (set, owner)) = beside(into, resolve_set(alloc, scope, set))?;
     Ok(Resolved::RemoveEnd {
         line,
-        end: resolved_end(end),
+        end,
         set,
         into,
         owner,

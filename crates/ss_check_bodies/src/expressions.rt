@@ -13,7 +13,7 @@ ghost use Rattle.ss_names_meaning.specs.Expressions.{entity_implied, entity_of, 
 ghost use Rattle.ss_check_bodies.specs.Results.{operation};
 
 use crate::results::unresolved;
-use crate::words::{resolved_operator, resolved_sign};
+use crate::words::resolved_operator;
 use ss_base::{Owner, Value};
 use ss_names::Meaning;
 use ss_names_meaning::ResolveError;
@@ -191,7 +191,7 @@ pub(crate) fn resolve_expression(
             let term = resolve_expression(alloc, scope, term)?;
             let term = Box::new(alloc, term)?;
             Ok(Resolved::Signed {
-                sign: resolved_sign(*sign),
+                sign: *sign,
                 term,
             })
         }

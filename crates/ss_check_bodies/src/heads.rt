@@ -14,7 +14,6 @@ use crate::conditions::resolve_condition;
 use crate::expressions::resolve_expression;
 use crate::places::resolve_set;
 use crate::results::beside;
-use crate::words::{guard_kind_of, phrase_kind_of};
 use ss_base::Name;
 use ss_names_meaning::ResolveError;
 use ss_names_scopes::{Scope, variable_of};
@@ -39,7 +38,7 @@ fn resolve_phrase(
 {
     let condition = resolve_condition(alloc, scope, &tree.condition)?;
     Ok(ResolvedPhrase {
-        kind: phrase_kind_of(tree.kind),
+        kind: tree.kind,
         condition,
     })
 }
@@ -70,7 +69,7 @@ fn resolve_guard(
 {
     let condition = resolve_condition(alloc, scope, &tree.condition)?;
     Ok(ResolvedGuard {
-        kind: guard_kind_of(tree.kind),
+        kind: tree.kind,
         condition,
     })
 }

@@ -5,11 +5,11 @@ use Rattle.ss_base.specs.declared.value.Value.TheVariants.{Whole}
 use Rattle.ss_tree.specs.declared.expression.Designator.{Designator}
 use Rattle.ss_tree.specs.declared.expression.Designator.TheVariants.{Name, TimeA}
 use Rattle.ss_tree.specs.declared.expression.Function.TheVariants.{Div}
-use Rattle.ss_tree.specs.declared.expression.Sign.TheVariants as signs
-use Rattle.ss_tree.specs.declared.preamble.ClassKind.TheVariants.{Permanent, Temporary, EventNotice}
+use Rattle.ss_base.specs.declared.words.Sign.TheVariants as signs
+use Rattle.ss_base.specs.declared.layout.ClassKind.TheVariants.{Permanent, Temporary, Notice}
 use Rattle.ss_tree.specs.declared.preamble.Mode.TheVariants.{Integer}
 use Rattle.ss_tree.specs.declared.preamble.StatisticKind.TheVariants as folds_said
-use Rattle.ss_tree.specs.declared.preamble.Weighting.TheVariants.{Tally, Accumulate}
+use Rattle.ss_base.specs.declared.words.Weighting.TheVariants.{Tally, Accumulate}
 use Rattle.ss_tree.specs.Tree.{ExpressionTree, number, named, call, sum, product, no_expression, and_expression, no_term, and_term, NamedTree, over_class, for_head, by_discipline, at_time, loop_statement, create_statement, create_every, file_statement, schedule_new, reset_statement, no_statement, has, owns, belongs_to, permanent_entities, temporary_entities, event_notices, every, normally, system_owns, statistics, ProgramTree}
 use Rattle.ss_tree.specs.Names.{NameBytes}
 use Rattle.ss_names.specs.Table.{table}
@@ -50,7 +50,7 @@ shop = record {
       ∷ temporary_entities (line 5)
       ∷ every (line 6) Temporary (codes "JOB") (has (codes "RANK" ∷ []) ∷ belongs_to (codes "QUEUE" ∷ codes "POOL" ∷ []) ∷ [])
       ∷ event_notices (line 7) []
-      ∷ every (line 8) EventNotice (codes "BELL") (has (codes "TONE" ∷ []) ∷ [])
+      ∷ every (line 8) Notice (codes "BELL") (has (codes "TONE" ∷ []) ∷ [])
       ∷ system_owns (line 9) (codes "POOL" ∷ [])
       ∷ statistics (line 10) Accumulate (record { name = codes "LOAD"; kind = folds_said.Sum } ∷ record { name = codes "LEVEL"; kind = folds_said.Mean } ∷ []) (codes "N.POOL")
       ∷ statistics (line 11) Tally (record { name = codes "GRADE"; kind = folds_said.Mean } ∷ []) (codes "RANK")

@@ -9,11 +9,11 @@ use Rattle.ss_base.specs.declared.line.Line.{Line}
 use Rattle.ss_base.specs.declared.value.Value.TheVariants.{Whole as WholeNumber}
 use Rattle.ss_base.specs.Plain.{PlainLayout}
 use Rattle.ss_tree.specs.declared.expression.Designator.TheVariants.{Name}
-use Rattle.ss_tree.specs.declared.preamble.ClassKind.TheVariants as class_words
+use Rattle.ss_base.specs.declared.layout.ClassKind.TheVariants as class_words
 use Rattle.ss_tree.specs.declared.preamble.Key.{Key}
 use Rattle.ss_tree.specs.declared.preamble.Mode.TheVariants as mode_words
 use Rattle.ss_tree.specs.declared.preamble.StatisticKind.TheVariants as folds
-use Rattle.ss_tree.specs.declared.preamble.Weighting.TheVariants as weighting_words
+use Rattle.ss_base.specs.declared.words.Weighting.TheVariants as weighting_words
 use Rattle.ss_tree.specs.Tree.{ExpressionTree, number, named, no_expression, StatementTree, let_statement, has, owns, belongs_to, lifo, ranked, permanent_entities, temporary_entities, event_notices, every, normally, system_owns, define_variables, define_sets, priority_order, break_ties, statistics, main, routine, event, ProgramTree, SectionTree}
 use Rattle.ss_tree.specs.Names.{NameBytes}
 use Rattle.ss_names_declarations.specs.Firsts.{value_for}
@@ -22,7 +22,7 @@ use Rattle.ss_check_scopes.specs.declared.known.Known.TheVariants as meanings
 use Rattle.ss_check_scopes.specs.Whole.{Whole}
 use Rattle.ss_program.specs.declared.expression.Variable.TheVariants.{Local}
 use Rattle.ss_program.specs.declared.sections.Subject.TheVariants.{OfAttribute, OfCount}
-use Rattle.ss_program.specs.declared.sections.Weighting.TheVariants.{Tally, Accumulate}
+use Rattle.ss_base.specs.declared.words.Weighting.TheVariants.{Tally, Accumulate}
 use Rattle.ss_program.specs.Program.{Constant, Fetch, ToVariable, Let, Done, Then, Routine, Event, Program}
 use Rattle.ss_names_meaning.specs.Answers.{each, upto}
 use Rattle.ss_names_meaning.specs.Expressions.{expression, subscript}
@@ -85,8 +85,8 @@ yard = record {
       ∷ temporary_entities (line 6)
       ∷ every (line 7) class_words.Temporary (codes "WAGON") (has (codes "LOAD" ∷ codes "LABEL" ∷ []) ∷ belongs_to (codes "QUEUE" ∷ codes "POOL" ∷ []) ∷ [])
       ∷ event_notices (line 8) []
-      ∷ every (line 9) class_words.EventNotice (codes "ARRIVAL") (has (codes "WEIGHT" ∷ codes "GATE" ∷ []) ∷ [])
-      ∷ every (line 10) class_words.EventNotice (codes "CHECK") []
+      ∷ every (line 9) class_words.Notice (codes "ARRIVAL") (has (codes "WEIGHT" ∷ codes "GATE" ∷ []) ∷ [])
+      ∷ every (line 10) class_words.Notice (codes "CHECK") []
       ∷ system_owns (line 11) (codes "POOL" ∷ [])
       ∷ define_variables (line 12) (codes "LABEL" ∷ []) mode_words.Alpha
       ∷ define_sets (line 13) (codes "QUEUE" ∷ []) (ranked (key true (codes "LOAD") ∷ key false (codes "LABEL") ∷ []))

@@ -3,11 +3,11 @@ use Rattle.std.specs.Prelude.{◌≡◌, ℕ, pos, false, List, [], ◌∷◌, �
 use Rattle.ss_base.specs.declared.line.Line.{Line}
 use Rattle.ss_tree.specs.declared.expression.Designator.TheVariants as designators
 use Rattle.ss_tree.specs.declared.expression.Function.TheVariants.{Abs}
-use Rattle.ss_tree.specs.declared.expression.Sign.TheVariants.{Plus}
-use Rattle.ss_tree.specs.declared.preamble.ClassKind.TheVariants.{Permanent, Temporary, EventNotice}
+use Rattle.ss_base.specs.declared.words.Sign.TheVariants.{Plus}
+use Rattle.ss_base.specs.declared.layout.ClassKind.TheVariants.{Permanent, Temporary, Notice}
 use Rattle.ss_tree.specs.declared.preamble.Mode.TheVariants as said
 use Rattle.ss_tree.specs.declared.preamble.StatisticKind.TheVariants.{Sum, Mean}
-use Rattle.ss_tree.specs.declared.preamble.Weighting.TheVariants.{Tally}
+use Rattle.ss_base.specs.declared.words.Weighting.TheVariants.{Tally}
 use Rattle.ss_tree.specs.Tree.{ExpressionTree, number, text, named, call, parenthesised, sum, no_expression, and_expression, no_term, and_term, NamedTree, by_discipline, now, StatementTree, let_statement, call_statement, start_simulation, create_statement, file_statement, schedule_new, reset_statement, print_statement, event_notices, every, normally, system_owns, define_variables, statistics, has, owns, belongs_to, PreambleTree, SectionKindTree, main, routine, event, SectionTree, ProgramTree}
 use Rattle.ss_picture.specs.Pictures.{picture_fields}
 use Rattle.ss_tree.specs.Names.{NameBytes}
@@ -32,7 +32,7 @@ preamble =
     normally (line 1) said.Integer
     ∷ every (line 2) Permanent (codes "MACHINE") (owns (codes "QUEUE" ∷ []) ∷ [])
     ∷ every (line 3) Temporary (codes "JOB") (has (codes "RANK" ∷ []) ∷ belongs_to (codes "QUEUE" ∷ codes "POOL" ∷ []) ∷ [])
-    ∷ every (line 4) EventNotice (codes "BELL") (has (codes "TONE" ∷ []) ∷ [])
+    ∷ every (line 4) Notice (codes "BELL") (has (codes "TONE" ∷ []) ∷ [])
     ∷ system_owns (line 5) (codes "POOL" ∷ [])
     ∷ define_variables (line 6) (codes "W" ∷ []) said.Alpha
     ∷ define_variables (line 7) (codes "X" ∷ []) said.Integer
@@ -78,10 +78,10 @@ pub no_main : refusal_of_uses (record { preamble = []; sections = [] }) ≡ brok
 no_main = refl
 
 -- EVERY BELL .. (in line 9) and no EVENT BELL; with one it is right
-pub no_event : refusal_of_uses (record { preamble = every (line 9) EventNotice (codes "BELL") [] ∷ []; sections = a_section 15 main [] ∷ [] }) ≡ broken rules.NoEventRoutine 9
+pub no_event : refusal_of_uses (record { preamble = every (line 9) Notice (codes "BELL") [] ∷ []; sections = a_section 15 main [] ∷ [] }) ≡ broken rules.NoEventRoutine 9
 no_event = refl
 
-pub an_event : refusal_of_uses (record { preamble = every (line 9) EventNotice (codes "BELL") [] ∷ []; sections = a_section 13 (event (codes "BELL") [] false) [] ∷ a_section 15 main [] ∷ [] }) ≡ None
+pub an_event : refusal_of_uses (record { preamble = every (line 9) Notice (codes "BELL") [] ∷ []; sections = a_section 13 (event (codes "BELL") [] false) [] ∷ a_section 15 main [] ∷ [] }) ≡ None
 an_event = refl
 
 -- EVENT NOTICES INCLUDE BELL, ALARM: each has one or breaks the rule

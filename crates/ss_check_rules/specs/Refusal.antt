@@ -5,8 +5,8 @@ use Rattle.ss_base.specs.declared.line.Line.{Line}
 use Rattle.ss_tree.specs.Names.{NameBytes}
 use Rattle.ss_tree.specs.Tree.{PreambleTree, event_notices, every, statistics, SectionKindTree, main, SectionTree, ProgramTree}
 use Rattle.ss_tree.specs.declared.expression.Designator.{Designator}
-use Rattle.ss_tree.specs.declared.preamble.ClassKind.{ClassKind}
-use Rattle.ss_tree.specs.declared.preamble.ClassKind.TheVariants.{EventNotice}
+use Rattle.ss_base.specs.declared.layout.ClassKind.{ClassKind}
+use Rattle.ss_base.specs.declared.layout.ClassKind.TheVariants.{Notice}
 use Rattle.ss_names_declarations.specs.Earliest.{earliest}
 use Rattle.ss_names_declarations.specs.Firsts.{value_for}
 use Rattle.ss_names_uses.specs.declared.used.Role.{Role}
@@ -87,7 +87,7 @@ abbrev pub eventless : Table → Line → NameBytes → List CheckError
 eventless t line class = as_list (unless (is_some (value_for t.events class)) (e.NoEventRoutine line))
 
 abbrev pub eventless_of : Table → Line → ClassKind → NameBytes → List CheckError
-eventless_of t line EventNotice class = eventless t line class
+eventless_of t line Notice class = eventless t line class
 eventless_of t line _ class = []
 
 -- a TALLY or an ACCUMULATE of what has no history, 79, or of texts, 73

@@ -70,7 +70,7 @@ pub fn preamble_breaks(names: &Names, preamble: &[PreambleStatement]) -> Option<
             }
             PreambleStatement::Every {
                 line,
-                kind: ClassKind::EventNotice,
+                kind: ClassKind::Notice,
                 class,
                 ..
             } => found = earlier_of(found, class_breaks(names, *line, class)),

@@ -4,18 +4,18 @@ use Rattle.ss_base.specs.declared.layout.Mode.{Mode}
 use Rattle.ss_base.specs.declared.layout.Mode.TheVariants as modes
 use Rattle.ss_program.specs.declared.expression.Operator.{Operator}
 use Rattle.ss_program.specs.declared.expression.Operator.TheVariants as operators
-use Rattle.ss_program.specs.declared.expression.Sign.{Sign}
-use Rattle.ss_program.specs.declared.expression.Sign.TheVariants as signs
+use Rattle.ss_base.specs.declared.words.Sign.{Sign}
+use Rattle.ss_base.specs.declared.words.Sign.TheVariants as signs
 use Rattle.ss_program.specs.declared.expression.SetQuery.{SetQuery}
 use Rattle.ss_program.specs.declared.expression.SetQuery.TheVariants as sets
 use Rattle.ss_program.specs.declared.expression.MemberQuery.{MemberQuery}
 use Rattle.ss_program.specs.declared.expression.MemberQuery.TheVariants as members
 use Rattle.ss_program.specs.declared.expression.Fold.{Fold}
 use Rattle.ss_program.specs.declared.expression.Fold.TheVariants as folds
-use Rattle.ss_program.specs.declared.condition.Relation.{Relation}
-use Rattle.ss_program.specs.declared.condition.Relation.TheVariants as relations
-use Rattle.ss_program.specs.declared.statement.End.{End}
-use Rattle.ss_program.specs.declared.statement.End.TheVariants as ends
+use Rattle.ss_base.specs.declared.words.Relation.{Relation}
+use Rattle.ss_base.specs.declared.words.Relation.TheVariants as relations
+use Rattle.ss_base.specs.declared.words.End.{End}
+use Rattle.ss_base.specs.declared.words.End.TheVariants as ends
 use Rattle.ss_code_instructions.specs.declared.instruction.Filing.{Filing}
 use Rattle.ss_code_instructions.specs.declared.instruction.Filing.TheVariants as filings
 use Rattle.ss_code_listing.specs.declared.words.Word.{Word}

@@ -2,7 +2,7 @@
 use Rattle.std.specs.Prelude.{◌≡◌, Bool, List, ◌∷◌, Some, Ok}
 use Rattle.ss_base.specs.declared.value.Value.{Value}
 use Rattle.ss_program.specs.declared.expression.Operator.{Operator}
-use Rattle.ss_program.specs.declared.condition.Relation.{Relation}
+use Rattle.ss_base.specs.declared.words.Relation.{Relation}
 use Rattle.ss_meaning.specs.Values.{calculated, related}
 
 -- what an operator makes of the topmost two comes in their place

@@ -16,7 +16,7 @@ use Rattle.ss_program.specs.declared.sections.Statistic.{Statistic}
 use Rattle.ss_program.specs.declared.sections.Subject.{Subject}
 use Rattle.ss_program.specs.declared.sections.Subject.TheVariants.{OfCount}
 use Rattle.ss_program.specs.declared.expression.SetQuery.TheVariants.{MemberCount}
-use Rattle.ss_program.specs.declared.statement.End.{End}
+use Rattle.ss_base.specs.declared.words.End.{End}
 use Rattle.ss_world.specs.State.{State, and_then, number_in, entity_of_kind, kind_of}
 use Rattle.ss_world.specs.Sets.{joiner, member_class, count_in, filed_last}
 use Rattle.ss_world.specs.Disciplines.{member_test, filed}

@@ -11,8 +11,8 @@ use Rattle.ss_base.specs.declared.value.Value.TheVariants.{Whole}
 use Rattle.ss_program.specs.declared.sections.Statistic.{Statistic}
 use Rattle.ss_program.specs.declared.sections.Subject.{Subject}
 use Rattle.ss_program.specs.declared.sections.Subject.TheVariants.{OfCount}
-use Rattle.ss_program.specs.declared.statement.End.{End}
-use Rattle.ss_program.specs.declared.statement.End.TheVariants as ends
+use Rattle.ss_base.specs.declared.words.End.{End}
+use Rattle.ss_base.specs.declared.words.End.TheVariants as ends
 use Rattle.ss_world.specs.State.{State}
 use Rattle.ss_world.specs.Sets.{count_in, filed_first, filed_last, filed_before, filed_after, removed}
 use Rattle.ss_world.specs.Disciplines.{filed}

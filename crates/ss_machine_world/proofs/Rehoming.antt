@@ -2,7 +2,7 @@
 use Rattle.std.proofs.Common.{◌≡◌, ℕ, ℤ, true, Option, Ok, Err, ap, ◌∙◌, subst}
 use Rattle.std.specs.Prelude.{is_some, Result as OkOr}
 use Rattle.ss_base.specs.declared.value.Value.{Value}
-use Rattle.ss_program.specs.declared.statement.End.{End}
+use Rattle.ss_base.specs.declared.words.End.{End}
 use Rattle.ss_world.specs.State.{State}
 use Rattle.ss_world.specs.Sets.{joiner}
 use Rattle.ss_meaning.specs.Values.{Trouble as Meant, if_ok, turned, due, where_fit, number_of}

@@ -7,7 +7,7 @@ use Rattle.ss_world.specs.State.{State}
 use Rattle.ss_world.specs.Sets.{joiner, count_in, removed}
 use Rattle.ss_world.specs.Disciplines.{member_test}
 use Rattle.ss_program.specs.declared.sections.Subject.TheVariants.{OfCount}
-use Rattle.ss_program.specs.declared.statement.End.{End}
+use Rattle.ss_base.specs.declared.words.End.{End}
 use Rattle.ss_machine_time.specs.Records.{IsOnly, Takes, columns_of}
 use Rattle.ss_meaning.specs.Histories.{noted}
 use Rattle.ss_meaning.specs.Values.{Trouble as Meant, if_ok, turned, due, where_fit, unless_fault}

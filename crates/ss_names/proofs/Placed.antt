@@ -10,8 +10,8 @@ use Rattle.std.proofs.lemmas.List.FromFn.{get_or-map-range_with_len}
 use Rattle.std.proofs.lemmas.Option.{slice_get-map}
 use Rattle.ss_base.specs.declared.layout.Owner.TheVariants as owners
 use Rattle.ss_tree.specs.declared.preamble.Mode.{Mode}
-use Rattle.ss_tree.specs.declared.preamble.ClassKind.{ClassKind}
-use Rattle.ss_tree.specs.declared.preamble.ClassKind.TheVariants as class_kinds
+use Rattle.ss_base.specs.declared.layout.ClassKind.{ClassKind}
+use Rattle.ss_base.specs.declared.layout.ClassKind.TheVariants as class_kinds
 use Rattle.ss_tree.specs.declared.preamble.StatisticKind.{StatisticKind}
 use Rattle.ss_names_declarations.specs.declared.saying.Said.{Said}
 use Rattle.ss_names_declarations.specs.declared.saying.Said.TheVariants as said
@@ -110,7 +110,7 @@ class_placed says class_kinds.Permanent name =
     (all_entry (IsPlaced (declared says)) name (class_name_meaning (numbered_names says) name) (name_placed says name))
     (all_entry (IsPlaced (declared says)) (count_name name) (count_meaning (numbered_names says) name) (count_placed says name))
 class_placed says class_kinds.Temporary name = all_entry (IsPlaced (declared says)) name (class_name_meaning (numbered_names says) name) (name_placed says name)
-class_placed says class_kinds.EventNotice name = all_entry (IsPlaced (declared says)) name (class_name_meaning (numbered_names says) name) (name_placed says name)
+class_placed says class_kinds.Notice name = all_entry (IsPlaced (declared says)) name (class_name_meaning (numbered_names says) name) (name_placed says name)
 
 set_placed : (says : List Saying) (name : NameBytes) (set : Option ℕ) → IfSome set (λ i. i < length (declared says).set_names) → AllValues (IsPlaced (declared says)) (set_meanings name set)
 set_placed says name None h = tt

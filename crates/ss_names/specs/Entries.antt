@@ -12,9 +12,7 @@ use Rattle.ss_base.specs.declared.layout.Owner.{Owner}
 use Rattle.ss_base.specs.declared.layout.Owner.TheVariants as owners
 use Rattle.ss_tree.specs.Names.{NameBytes}
 use Rattle.ss_tree.specs.declared.preamble.Mode.TheVariants as words
-use Rattle.ss_tree.specs.declared.preamble.ClassKind.{ClassKind as KindWord}
-use Rattle.ss_tree.specs.declared.preamble.ClassKind.TheVariants.{Permanent}
-use Rattle.ss_tree.specs.declared.preamble.Weighting.{Weighting}
+use Rattle.ss_base.specs.declared.words.Weighting.{Weighting}
 use Rattle.ss_names_declarations.specs.Firsts.{each_once, entry_if, firsts, place_in, value_for}
 use Rattle.ss_names_declarations.specs.declared.declaration.Declared.{Declared}
 use Rattle.ss_names_declarations.specs.declared.declaration.Declared.TheVariants as d
@@ -26,7 +24,7 @@ use Rattle.ss_names.specs.declared.entry.RoutineSection.{RoutineSection}
 use Rattle.ss_names.specs.declared.entry.EventSection.{EventSection}
 use Rattle.ss_names.specs.declared.entry.RankedBy.{RankedBy}
 use Rattle.ss_names.specs.declared.entry.TiedBy.{TiedBy}
-use Rattle.ss_names.specs.Modes.{class_kind, value_mode}
+use Rattle.ss_names.specs.Modes.{value_mode}
 
 -- what each of some declarations gives, one after the other
 abbrev pub given_by : {A : Type 0} → (Declared → List A) → List Declaration → List A
@@ -70,7 +68,7 @@ mode_of_name ds name = mode_or_integer (option_or (value_for (modes ds) name) (u
 -- ---- classes and their attributes
 
 abbrev pub class_by : Declared → List (NameBytes × ClassKind)
-class_by (d.Class name kind) = (name, class_kind kind) ∷ []
+class_by (d.Class name kind) = (name, kind) ∷ []
 class_by _ = []
 
 abbrev pub classes : List Declaration → List (NameBytes × ClassKind)
@@ -145,8 +143,8 @@ abbrev pub count_name : NameBytes → NameBytes
 count_name class = 78 ∷ 46 ∷ class
 
 -- the variable of a class, and N. of it where it is permanent
-abbrev pub class_variables : KindWord → NameBytes → List (NameBytes × Mode)
-class_variables Permanent class = (class, Integer) ∷ (count_name class, Integer) ∷ []
+abbrev pub class_variables : ClassKind → NameBytes → List (NameBytes × Mode)
+class_variables kinds.Permanent class = (class, Integer) ∷ (count_name class, Integer) ∷ []
 class_variables _ class = (class, Integer) ∷ []
 
 -- a DEFINE of an attribute gives its mode and declares no variable

@@ -21,7 +21,7 @@ use Rattle.ss_tree.specs.Names.{NameBytes}
 use Rattle.ss_tree.specs.Tree.{ProgramTree}
 use Rattle.ss_tree.specs.declared.preamble.StatisticKind.{StatisticKind}
 use Rattle.ss_tree.specs.declared.preamble.StatisticKind.TheVariants as kinds
-use Rattle.ss_tree.specs.declared.preamble.Weighting.{Weighting}
+use Rattle.ss_base.specs.declared.words.Weighting.{Weighting}
 use Rattle.ss_names_declarations.specs.Declarations.{declarations}
 use Rattle.ss_names_declarations.specs.Firsts.{entry_if, firsts, place_among, place_in, value_for}
 use Rattle.ss_names_declarations.specs.declared.declaration.Declared.{Declared}

@@ -2,7 +2,6 @@
 
 ghost use Rattle.std.specs.Prelude.{◌≡◌};
 ghost use Rattle.ss_names.specs.Table.{fold_of, sooner, subject_of};
-ghost use Rattle.ss_names.specs.Modes.{class_kind};
 
 use crate::entry::{Attribute, EventSection, Order, RankedBy, RoutineSection, Set, TiedBy};
 use crate::meaning::Meaning;
@@ -14,7 +13,7 @@ use ss_names_declarations::{
 use ss_program::expression::{Fold, MemberQuery, SetQuery, Variable};
 use ss_program::sections::Subject;
 use ss_program::statement::CountedClass;
-use ss_tree::preamble::{ClassKind as KindWord, Mode as ModeWord, StatisticKind};
+use ss_tree::preamble::{Mode as ModeWord, StatisticKind};
 use std::alloc::{AllocError, Global};
 
 /// The table of no declarations.
@@ -42,17 +41,6 @@ pub fn empty(alloc: Global, seed: Seed) -> Names {
 
 // ---- what needs no other entry
 
-// The kind of a class.
-fn class_kind(kind: KindWord) -> ClassKind
-    ensures { result ≡ class_kind kind }
-{
-    match kind {
-        KindWord::Permanent => ClassKind::Permanent,
-        KindWord::Temporary => ClassKind::Temporary,
-        KindWord::EventNotice => ClassKind::Notice,
-    }
-}
-
 // The mode that NORMALLY gives; REAL gives none.
 fn add_usual(names: &mut Names, mode: ModeWord) {
     if names.usual.is_none() {
@@ -76,7 +64,7 @@ pub fn fill_names(names: &mut Names, declaration: &Declaration) -> Result<(), Al
             value_mode(mode),
         ),
         Declared::Class { class, kind } => {
-            insert_first(&mut names.classes, class, class_kind(kind))
+            insert_first(&mut names.classes, class, kind)
         }
         Declared::Owner { set, .. } | Declared::Member { set, .. } => {
             names.set_names.insert_new(set)
@@ -281,13 +269,13 @@ pub fn fill_variables(names: &mut Names, declaration: &Declaration) -> Result<()
             let spelling = Spelling::of_name(&class);
             insert_spelled(&mut names.variables, spelling, Mode::Integer)?;
             match kind {
-                KindWord::Permanent => insert_spelled(
+                ClassKind::Permanent => insert_spelled(
                     &mut names.variables,
                     Spelling::derived(b'N', &class),
                     Mode::Integer,
                 ),
-                KindWord::EventNotice => add_rank(names, &class),
-                KindWord::Temporary => Ok(()),
+                ClassKind::Notice => add_rank(names, &class),
+                ClassKind::Temporary => Ok(()),
             }
         }
         _ => Ok(()),

@@ -5,7 +5,7 @@ use Rattle.ss_base.specs.declared.line.Line.{Line}
 use Rattle.ss_tree.specs.Names.{NameBytes}
 use Rattle.ss_tree.specs.declared.preamble.Key.{Key}
 use Rattle.ss_tree.specs.declared.preamble.Statistic.{Statistic as StatisticTree}
-use Rattle.ss_tree.specs.declared.preamble.ClassKind.TheVariants.{EventNotice}
+use Rattle.ss_base.specs.declared.layout.ClassKind.TheVariants.{Notice}
 use Rattle.ss_tree.specs.Tree.{ClauseTree, has, owns, belongs_to, OrderTree, fifo, lifo, ranked, PreambleTree, permanent_entities, temporary_entities, event_notices, every, normally, system_owns, define_variables, define_sets, priority_order, break_ties, statistics, DefinitionTree, SectionKindTree, main, routine, event, SectionTree, ProgramTree}
 use Rattle.ss_names_declarations.specs.declared.declaration.SetRule.{SetRule}
 use Rattle.ss_names_declarations.specs.declared.declaration.SetRule.TheVariants.{Fifo, Lifo, Ranked}
@@ -45,7 +45,7 @@ statistic_of subject s = Statistic s.name s.kind subject
 abbrev pub statement_declares : ℕ → PreambleTree → List Declared
 statement_declares number (permanent_entities line) = []
 statement_declares number (temporary_entities line) = []
-statement_declares number (event_notices line names) = map (λ name. Class name EventNotice) names
+statement_declares number (event_notices line names) = map (λ name. Class name Notice) names
 statement_declares number (every line kind class clauses) = Class class kind ∷ flat_map (clause_declares class) clauses
 statement_declares number (normally line mode) = Normally mode ∷ []
 statement_declares number (system_owns line sets) = map (λ set. Owner set None) sets

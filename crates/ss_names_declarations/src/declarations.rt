@@ -177,7 +177,7 @@ fn add_statement(
         PreambleStatement::TemporaryEntities { .. } => {}
         PreambleStatement::EventNotices { line, included } => {
             for class in included {
-                add_every(out, *line, ClassKind::EventNotice, *class, &[])?;
+                add_every(out, *line, ClassKind::Notice, *class, &[])?;
             }
         }
         PreambleStatement::Every {

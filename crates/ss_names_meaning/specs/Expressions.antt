@@ -1,14 +1,12 @@
 -- Resolved expressions, targets and sets: each name is replaced by what it means.
 use Rattle.std.specs.Prelude.{ℕ, List, [], ◌∷◌, option_map, Option, Some, None}
 use Rattle.ss_base.specs.declared.value.Value.TheVariants.{Whole, Text}
-use Rattle.ss_tree.specs.declared.expression.Sign.{Sign as SignWord}
-use Rattle.ss_tree.specs.declared.expression.Sign.TheVariants as signs
 use Rattle.ss_tree.specs.declared.expression.Function.TheVariants.{Div, Mod, Abs, Min, Max}
 use Rattle.ss_tree.specs.Tree.{ExpressionTree, number, text, named, call, parenthesised, product, signed, sum, ExpressionRow, no_expression, and_expression, TermRow, no_term, and_term, NamedTree}
 use Rattle.ss_program.specs.declared.expression.Variable.{Variable}
 use Rattle.ss_program.specs.declared.expression.Variable.TheVariants.{Global}
-use Rattle.ss_program.specs.declared.expression.Sign.{Sign}
-use Rattle.ss_program.specs.declared.expression.Sign.TheVariants.{Plus, Minus}
+use Rattle.ss_base.specs.declared.words.Sign.{Sign}
+use Rattle.ss_base.specs.declared.words.Sign.TheVariants.{Plus, Minus}
 use Rattle.ss_program.specs.declared.expression.Operator.{Operator}
 use Rattle.ss_program.specs.declared.expression.Operator.TheVariants.{Add, Subtract, Multiply, Quotient, Remainder, Least, Greatest}
 use Rattle.ss_program.specs.Program.{Expression, Constant, Fetch, Attribute, OfSystemSet, OfSet, OfMember, Clock, TimeOf, Figure, FigureOf, Signed, Absolute, Calculate, Item, AValue, AMean, AMeanOf, SetOwner, TheSystem, Entity, Place, ToVariable, ToAttribute, ToCount, Target, Restart}
@@ -25,14 +23,10 @@ use Rattle.ss_names_meaning.specs.Answers.{◌>>=◌}
 
 -- ---- words
 
-abbrev pub resolved_sign : SignWord → Sign
-resolved_sign signs.Plus = Plus
-resolved_sign signs.Minus = Minus
-
 -- the operator before a further term of a sum
-abbrev pub resolved_operator : SignWord → Operator
-resolved_operator signs.Plus = Add
-resolved_operator signs.Minus = Subtract
+abbrev pub resolved_operator : Sign → Operator
+resolved_operator Plus = Add
+resolved_operator Minus = Subtract
 
 -- ---- names by what they mean
 
@@ -152,7 +146,7 @@ module _ (s : Scope) where
       factors left further
     expression (signed sign term) = do
       e ← expression term
-      Some (Signed (resolved_sign sign) e)
+      Some (Signed sign e)
     expression (sum first further) = do
       left ← expression first
       terms left further

@@ -1,16 +1,8 @@
 -- Resolved heads of loops: each name is replaced by what it means.
 use Rattle.std.specs.Prelude.{List, Option, Some, None}
-use Rattle.ss_tree.specs.declared.head.PhraseKind.{PhraseKind as PhraseWord}
-use Rattle.ss_tree.specs.declared.head.PhraseKind.TheVariants as phrase_words
-use Rattle.ss_tree.specs.declared.head.GuardKind.{GuardKind as GuardWord}
-use Rattle.ss_tree.specs.declared.head.GuardKind.TheVariants as guard_words
 use Rattle.ss_tree.specs.Tree.{PhraseTree, GuardTree, StartTree, from_end, from_member, after_member, HeadTree, over_range, over_members, over_class}
 use Rattle.ss_tree.specs.Names.{NameBytes}
 use Rattle.ss_program.specs.declared.expression.Variable.{Variable}
-use Rattle.ss_program.specs.declared.head.PhraseKind.{PhraseKind}
-use Rattle.ss_program.specs.declared.head.PhraseKind.TheVariants as phrase_kinds
-use Rattle.ss_program.specs.declared.head.GuardKind.{GuardKind}
-use Rattle.ss_program.specs.declared.head.GuardKind.TheVariants as guard_kinds
 use Rattle.ss_program.specs.Program.{Start, AtEnd, From, After, Head, Numbers, Members, Each, Phrase, Guard}
 use Rattle.ss_names_uses.specs.declared.used.ClassNeed.TheVariants as needs
 use Rattle.ss_names_scopes.specs.Scopes.{Scope}
@@ -19,29 +11,17 @@ use Rattle.ss_names_meaning.specs.Answers.{◌>>=◌, each, if_there}
 use Rattle.ss_names_meaning.specs.Expressions.{expression, set_named}
 use Rattle.ss_names_meaning.specs.Conditions.{condition}
 
--- ---- words
-
-abbrev pub phrase_kind_of : PhraseWord → PhraseKind
-phrase_kind_of phrase_words.With = phrase_kinds.With
-phrase_kind_of phrase_words.Unless = phrase_kinds.Unless
-phrase_kind_of phrase_words.While = phrase_kinds.While
-phrase_kind_of phrase_words.Until = phrase_kinds.Until
-
-abbrev pub guard_kind_of : GuardWord → GuardKind
-guard_kind_of guard_words.While = guard_kinds.While
-guard_kind_of guard_words.Until = guard_kinds.Until
-
 -- ---- conditions of loops
 
 abbrev pub resolved_phrase : Scope → PhraseTree → Option Phrase
 resolved_phrase c p = do
   tests ← condition c p.condition
-  Some (record { kind = phrase_kind_of p.kind; condition = tests })
+  Some (record { kind = p.kind; condition = tests })
 
 abbrev pub guard : Scope → GuardTree → Option Guard
 guard c g = do
   tests ← condition c g.condition
-  Some (record { kind = guard_kind_of g.kind; condition = tests })
+  Some (record { kind = g.kind; condition = tests })
 
 -- the phrases of a FOR
 abbrev pub phrases_of : HeadTree → List PhraseTree

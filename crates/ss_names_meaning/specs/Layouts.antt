@@ -11,8 +11,7 @@ use Rattle.ss_base.specs.declared.layout.SetLayout.{SetLayout}
 use Rattle.ss_base.specs.Layout.{layout_of}
 use Rattle.ss_base.specs.Plain.{PlainClass, PlainLayout}
 use Rattle.ss_tree.specs.Names.{NameBytes}
-use Rattle.ss_tree.specs.declared.preamble.Weighting.{Weighting as WeightingWord}
-use Rattle.ss_tree.specs.declared.preamble.Weighting.TheVariants as words
+use Rattle.ss_base.specs.declared.words.Weighting.{Weighting}
 use Rattle.ss_names_declarations.specs.declared.declaration.SetRule.{SetRule}
 use Rattle.ss_names_declarations.specs.declared.declaration.SetRule.TheVariants as rules
 use Rattle.ss_names_declarations.specs.Firsts.{same_name, value_for}
@@ -26,8 +25,6 @@ use Rattle.ss_names.specs.declared.meaning.Meaning.TheVariants as meanings
 use Rattle.ss_names.specs.Table.{Table}
 use Rattle.ss_program.specs.declared.sections.Statistic.{Statistic}
 use Rattle.ss_program.specs.declared.sections.Subject.{Subject}
-use Rattle.ss_program.specs.declared.sections.Weighting.{Weighting}
-use Rattle.ss_program.specs.declared.sections.Weighting.TheVariants.{Tally, Accumulate}
 use Rattle.ss_program.specs.declared.statement.CountedClass.{CountedClass}
 use Rattle.ss_names_meaning.specs.Answers.{◌>>=◌, each, where_holds}
 
@@ -114,16 +111,11 @@ count_by _ = []
 abbrev pub counts : Table → Option (List CountedClass)
 counts t = Some (flat_map count_by (values_of t.meanings))
 
--- whether each value counts once, or by how long it lasts
-abbrev pub weighting_of : WeightingWord → Weighting
-weighting_of words.Tally = Tally
-weighting_of words.Accumulate = Accumulate
-
-abbrev pub statistic_kept : Table → ℕ × WeightingWord → Option Statistic
+abbrev pub statistic_kept : Table → ℕ × Weighting → Option Statistic
 statistic_kept t h = do
   known ← slice_get t.subjects h.0
   subject ← known
-  Some (record { subject = subject; weighting = weighting_of h.1 })
+  Some (record { subject = subject; weighting = h.1 })
 
 -- a statistic for each history
 abbrev pub statistics : Table → Option (List Statistic)

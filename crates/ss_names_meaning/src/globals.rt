@@ -7,9 +7,8 @@ ghost use Rattle.ss_names_meaning.specs.Layouts.{counts, statistics};
 
 use crate::error::ResolveError;
 use ss_names::{Meaning, Names};
-use ss_program::sections::{Statistic, Weighting};
+use ss_program::sections::Statistic;
 use ss_program::statement::CountedClass;
-use ss_tree::preamble::Weighting as WeightingWord;
 use std::alloc::Global;
 
 /// N. of each permanent class, in the order of the text.
@@ -28,14 +27,6 @@ pub(crate) fn resolve_counts(
     Ok(counted)
 }
 
-// Whether each value counts once, or by how long it lasts.
-fn weighting_of(weighting: WeightingWord) -> Weighting {
-    match weighting {
-        WeightingWord::Tally => Weighting::Tally,
-        WeightingWord::Accumulate => Weighting::Accumulate,
-    }
-}
-
 /// The statistics, one for each subject.
 pub(crate) fn resolve_statistics(
     alloc: Global,
@@ -48,7 +39,7 @@ pub(crate) fn resolve_statistics(
         match names.subjects.get(number) {
             Some(Some(subject)) => kept.push(Statistic {
                 subject: *subject,
-                weighting: weighting_of(*weighting),
+                weighting: *weighting,
             })?,
             Some(None) | None => return Err(ResolveError::Unresolved),
         }

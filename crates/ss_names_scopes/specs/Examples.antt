@@ -10,10 +10,10 @@ use Rattle.ss_program.specs.declared.expression.SetQuery.TheVariants as set_quer
 use Rattle.ss_program.specs.declared.expression.MemberQuery.TheVariants as member_queries
 use Rattle.ss_program.specs.declared.expression.Variable.TheVariants as variables
 use Rattle.ss_tree.specs.declared.expression.Designator.TheVariants as designators
-use Rattle.ss_tree.specs.declared.preamble.ClassKind.TheVariants.{Permanent, Temporary, EventNotice}
+use Rattle.ss_base.specs.declared.layout.ClassKind.TheVariants.{Permanent, Temporary, Notice}
 use Rattle.ss_tree.specs.declared.preamble.Mode.TheVariants.{Integer, Alpha}
 use Rattle.ss_tree.specs.declared.preamble.StatisticKind.TheVariants.{Sum, Mean}
-use Rattle.ss_tree.specs.declared.preamble.Weighting.TheVariants.{Tally}
+use Rattle.ss_base.specs.declared.words.Weighting.TheVariants.{Tally}
 use Rattle.ss_tree.specs.Names.{NameBytes}
 use Rattle.ss_tree.specs.Tree.{PreambleTree, every, normally, system_owns, define_variables, statistics, has, owns, belongs_to, main, routine, SectionTree, ProgramTree}
 use Rattle.ss_names.specs.declared.meaning.Meaning.{Meaning}
@@ -31,7 +31,7 @@ preamble =
     normally (line 1) Integer
     ∷ every (line 2) Permanent (codes "MACHINE") (owns (codes "QUEUE" ∷ []) ∷ [])
     ∷ every (line 3) Temporary (codes "JOB") (has (codes "SIZE" ∷ codes "RANK" ∷ []) ∷ belongs_to (codes "QUEUE" ∷ codes "POOL" ∷ []) ∷ [])
-    ∷ every (line 4) EventNotice (codes "BELL") []
+    ∷ every (line 4) Notice (codes "BELL") []
     ∷ system_owns (line 5) (codes "POOL" ∷ [])
     ∷ define_variables (line 6) (codes "W" ∷ []) Alpha
     ∷ statistics (line 7) Tally (record { name = codes "S1"; kind = Sum } ∷ []) (codes "N.POOL")

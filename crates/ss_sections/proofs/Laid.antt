@@ -11,8 +11,8 @@ use Rattle.ss_base.specs.declared.value.Value.{Value}
 use Rattle.ss_world.specs.State.{State, Record, and_then, entity_in, notice, number_in, kind_of, with_value, with_time, with_entity_of_kind, assigned, timed, with_created, created, LAST_NUMBER, MOST_ENTITIES, is_made, with_made, made_many, created_all, in_a_set, owns_members, let_go, destroyed, members_of, contains, is_filed}
 use Rattle.ss_world.specs.Sets.{joiner, owner, member_class, first_in, last_in, less, with_list_of, put_in, put_beside, put_before, put_after, taken_out, filed_first, filed_last, filed_before, filed_after, removed}
 use Rattle.ss_world.specs.Disciplines.{take, put_ranked, filed}
-use Rattle.ss_program.specs.declared.statement.End.{End}
-use Rattle.ss_program.specs.declared.statement.End.TheVariants as ends
+use Rattle.ss_base.specs.declared.words.End.{End}
+use Rattle.ss_base.specs.declared.words.End.TheVariants as ends
 use Rattle.ss_meaning.specs.Values.{due, sure, where_fit}
 use Rattle.ss_meaning.specs.Store.{Store}
 use Rattle.ss_meaning.specs.Sets.{Filing, ByRule, Foremost, Hindmost, JustBefore, JustAfter, is_fit, member, filed_by, end_removed}

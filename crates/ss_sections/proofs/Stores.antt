@@ -11,13 +11,13 @@ use Rattle.ss_input.specs.Words.{value_given}
 use Rattle.ss_world.specs.State.{State, notice, created, created_all, destroyed, assigned, is_made, timed}
 use Rattle.ss_world.specs.Sets.{count_in, removed}
 use Rattle.ss_world.specs.PendingList.{is_pending, scheduled, cancelled, next}
-use Rattle.ss_program.specs.declared.expression.Sign.{Sign}
+use Rattle.ss_base.specs.declared.words.Sign.{Sign}
 use Rattle.ss_program.specs.declared.expression.Variable.{Variable}
 use Rattle.ss_program.specs.declared.expression.Variable.TheVariants.{Global, Local}
 use Rattle.ss_program.specs.declared.sections.Subject.{Subject}
 use Rattle.ss_program.specs.declared.sections.Subject.TheVariants.{OfVariable, OfAttribute, OfCount}
 use Rattle.ss_program.specs.declared.statement.CountedClass.{CountedClass}
-use Rattle.ss_program.specs.declared.statement.End.{End}
+use Rattle.ss_base.specs.declared.words.End.{End}
 use Rattle.ss_meaning.specs.Values.{Trouble, Misfit, if_ok, turned, due, sure, where_fit, unless_fault, number_of, same_mode, calculated, operator_of}
 use Rattle.ss_meaning.specs.Store.{Store, with_heap, with_pending, with_histories, fetched, put_at, put}
 use Rattle.ss_meaning.specs.Histories.{all_noting, noted, renewed}

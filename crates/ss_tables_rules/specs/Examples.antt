@@ -2,13 +2,13 @@
 use Rattle.std.specs.Prelude.{◌≡◌, ℕ, suc, zero, ◌+◌, ◌/◌, ◌%◌, pos, true, false, List, [], ◌∷◌, ◌++◌, Option, Some, None, codes, refl}
 use Rattle.ss_base.specs.declared.line.Line.{Line}
 use Rattle.ss_tree.specs.declared.expression.Designator.TheVariants.{Name}
-use Rattle.ss_tree.specs.declared.preamble.ClassKind.TheVariants.{Permanent, Temporary, EventNotice}
+use Rattle.ss_base.specs.declared.layout.ClassKind.TheVariants.{Permanent, Temporary, Notice}
 use Rattle.ss_tree.specs.declared.preamble.Key.{Key}
 use Rattle.ss_tree.specs.declared.preamble.Mode.{Mode}
 use Rattle.ss_tree.specs.declared.preamble.Mode.TheVariants.{Integer, Alpha, Real}
 use Rattle.ss_tree.specs.declared.preamble.Statistic.{Statistic}
 use Rattle.ss_tree.specs.declared.preamble.StatisticKind.TheVariants.{Sum}
-use Rattle.ss_tree.specs.declared.preamble.Weighting.TheVariants.{Tally, Accumulate}
+use Rattle.ss_base.specs.declared.words.Weighting.TheVariants.{Tally, Accumulate}
 use Rattle.ss_tree.specs.Tree.{ClauseTree, has, owns, belongs_to, fifo, lifo, ranked, PreambleTree, temporary_entities, event_notices, every, normally, system_owns, define_variables, define_sets, priority_order, break_ties, statistics, DefinitionTree, SectionKindTree, main, routine, event, SectionTree, ProgramTree, ExpressionTree, ExpressionRow, no_expression, and_expression, number, NamedTree, over_range, over_class, for_head, StatementTree, let_statement, reset_statement, loop_statement, no_statement}
 use Rattle.ss_tree.specs.Names.{NameBytes}
 use Rattle.ss_tables_rules.specs.Broken.{refusal_of_declarations}
@@ -65,7 +65,7 @@ abbrev class : ℕ → NameBytes → List ClauseTree → PreambleTree
 class n name clauses = every (line n) Temporary name clauses
 
 abbrev notice : ℕ → NameBytes → List ClauseTree → PreambleTree
-notice n name clauses = every (line n) EventNotice name clauses
+notice n name clauses = every (line n) Notice name clauses
 
 abbrev system_pool : ℕ → PreambleTree
 system_pool n = system_owns (line n) (names1 pool)
