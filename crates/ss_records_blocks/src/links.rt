@@ -16,6 +16,23 @@ pub struct Entry {
     pub number: u64,
 }
 
+/// Where an entity is linked in, or is linked: between two neighbours in a set of an owner, each of which may be the end.
+#[derive(Clone, Copy)]
+pub struct LinkPosition {
+    /// The owner of the set.
+    pub owner: Address,
+    /// The member before.
+    pub before: Address,
+    /// Whether there is none before.
+    pub is_first: bool,
+    /// The member after.
+    pub after: Address,
+    /// Whether there is none after.
+    pub is_last: bool,
+    /// How many members the set has.
+    pub count: u64,
+}
+
 impl Blocks {
     /// The entity that a link leads to: a touch.
     pub fn follow(&mut self, place: Address, k: usize) -> Entry
@@ -87,28 +104,25 @@ impl Blocks {
 
     /// Links x in between two neighbours, of which each may be the end: six touches. The words of the set
     /// begin at `member` in a member's block and at `set` in the owner's.
-    pub fn link_between(
-        &mut self,
-        member: usize,
-        set: usize,
-        owner: Address,
-        before: Address,
-        is_first: bool,
-        x: Address,
-        after: Address,
-        is_last: bool,
-        count: u64,
-    )
+    pub fn link_between(&mut self, member: usize, set: usize, x: Address, position: &LinkPosition)
         requires member { IsLink (word_at self.old.cells x.at member) × IsLink (word_at self.old.cells x.at (member + 1)) × IsLink (word_at self.old.cells x.at (member + 2)) }
-        requires owner { IsLink (word_at self.old.cells owner.at set) × IsLink (word_at self.old.cells owner.at (set + 1)) × IsCounter (word_at self.old.cells owner.at (set + 2)) }
-        requires before { is_first ≡ false → IsLink (word_at self.old.cells before.at member) }
-        requires after { is_last ≡ false → IsLink (word_at self.old.cells after.at (member + 1)) }
+        requires owner { IsLink (word_at self.old.cells position.now.owner.at set) × IsLink (word_at self.old.cells position.now.owner.at (set + 1)) × IsCounter (word_at self.old.cells position.now.owner.at (set + 2)) }
+        requires before { position.now.is_first ≡ false → IsLink (word_at self.old.cells position.now.before.at member) }
+        requires after { position.now.is_last ≡ false → IsLink (word_at self.old.cells position.now.after.at (member + 1)) }
         requires words { (member + 2 < 2 ^ 64) × (set + 2 < 2 ^ 64) }
-        requires counts { count + 1 < 2 ^ 64 }
+        requires counts { position.now.count + 1 < 2 ^ 64 }
         requires room { self.old.touches + 6 < 2 ^ 64 }
-        ensures cells { self.new.cells ≡ linked_in (slots_at member set) self.old.cells owner.at before.at is_first x.at after.at is_last count }
+        ensures cells { self.new.cells ≡ linked_in (slots_at member set) self.old.cells position.now.owner.at position.now.before.at position.now.is_first x.at position.now.after.at position.now.is_last position.now.count }
         ensures touches { (self.new.touches ≡ self.old.touches + 6) × (self.new.total ≡ self.old.total + 6) }
     {
+        let LinkPosition {
+            owner,
+            before,
+            is_first,
+            after,
+            is_last,
+            count,
+        } = *position;
         self.expect(6);
         self.relink(x, member, after);
         self.relink(x, member + 1, before);
@@ -120,28 +134,25 @@ impl Blocks {
 
     /// Unlinks x from between its neighbours, of which each may be the end: six touches. Then its links
     /// lead to itself.
-    pub fn unlink(
-        &mut self,
-        member: usize,
-        set: usize,
-        owner: Address,
-        before: Address,
-        is_first: bool,
-        x: Address,
-        after: Address,
-        is_last: bool,
-        count: u64,
-    )
+    pub fn unlink(&mut self, member: usize, set: usize, x: Address, position: &LinkPosition)
         requires member { IsLink (word_at self.old.cells x.at member) × IsLink (word_at self.old.cells x.at (member + 1)) × IsLink (word_at self.old.cells x.at (member + 2)) }
-        requires owner { IsLink (word_at self.old.cells owner.at set) × IsLink (word_at self.old.cells owner.at (set + 1)) × IsCounter (word_at self.old.cells owner.at (set + 2)) }
-        requires before { is_first ≡ false → IsLink (word_at self.old.cells before.at member) }
-        requires after { is_last ≡ false → IsLink (word_at self.old.cells after.at (member + 1)) }
+        requires owner { IsLink (word_at self.old.cells position.now.owner.at set) × IsLink (word_at self.old.cells position.now.owner.at (set + 1)) × IsCounter (word_at self.old.cells position.now.owner.at (set + 2)) }
+        requires before { position.now.is_first ≡ false → IsLink (word_at self.old.cells position.now.before.at member) }
+        requires after { position.now.is_last ≡ false → IsLink (word_at self.old.cells position.now.after.at (member + 1)) }
         requires words { (member + 2 < 2 ^ 64) × (set + 2 < 2 ^ 64) }
-        requires counts { 0 < count }
+        requires counts { 0 < position.now.count }
         requires room { self.old.touches + 6 < 2 ^ 64 }
-        ensures cells { self.new.cells ≡ unlinked_in (slots_at member set) self.old.cells owner.at before.at is_first x.at after.at is_last count }
+        ensures cells { self.new.cells ≡ unlinked_in (slots_at member set) self.old.cells position.now.owner.at position.now.before.at position.now.is_first x.at position.now.after.at position.now.is_last position.now.count }
         ensures touches { (self.new.touches ≡ self.old.touches + 6) × (self.new.total ≡ self.old.total + 6) }
     {
+        let LinkPosition {
+            owner,
+            before,
+            is_first,
+            after,
+            is_last,
+            count,
+        } = *position;
         self.expect(6);
         self.hook(is_first, owner, set, before, member, after);
         self.hook(is_last, owner, set + 1, after, member + 1, before);

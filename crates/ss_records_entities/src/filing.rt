@@ -8,7 +8,7 @@ ghost use Rattle.ss_records_entities.specs.Parts.{IsKept, state, uncounted, Owns
 use crate::records::Records;
 use crate::sets;
 use ss_base::FaultKind;
-use ss_records_blocks::Entry;
+use ss_records_blocks::{Entry, LinkPosition};
 
 // An owner of a set, and one that may be in the set.
 #[derive(Clone, Copy)]
@@ -143,19 +143,15 @@ impl Records {
         let member = self.layout.member_base(s);
         let set = self.layout.owner_base(s);
         let count = self.blocks.count(owner.place, set + 2);
-        let is_first = before.number == 0;
-        let is_last = after.number == 0;
-        self.blocks.link_between(
-            member,
-            set,
-            owner.place,
-            before.place,
-            is_first,
-            x.place,
-            after.place,
-            is_last,
+        let position = LinkPosition {
+            owner: owner.place,
+            before: before.place,
+            is_first: before.number == 0,
+            after: after.place,
+            is_last: after.number == 0,
             count,
-        );
+        };
+        self.blocks.link_between(member, set, x.place, &position);
         self.notes
             .put_before(s, owner.number, x.number, after.number);
     }
@@ -175,19 +171,15 @@ impl Records {
         let member = self.layout.member_base(s);
         let set = self.layout.owner_base(s);
         let count = self.blocks.count(owner.place, set + 2);
-        let is_first = before.number == 0;
-        let is_last = after.number == 0;
-        self.blocks.unlink(
-            member,
-            set,
-            owner.place,
-            before.place,
-            is_first,
-            x.place,
-            after.place,
-            is_last,
+        let position = LinkPosition {
+            owner: owner.place,
+            before: before.place,
+            is_first: before.number == 0,
+            after: after.place,
+            is_last: after.number == 0,
             count,
-        );
+        };
+        self.blocks.unlink(member, set, x.place, &position);
         self.notes.take_out(s, owner.number, x.number);
     }
 
@@ -443,19 +435,16 @@ impl Records {
         }
         let last = self.blocks.look(owner.place, set + 1);
         let count = self.blocks.peek_count(owner.place, set + 2);
-        let is_first = last.number == 0;
-        self.blocks.start_at(3);
-        self.blocks.link_between(
-            member,
-            set,
-            owner.place,
-            last.place,
-            is_first,
-            x.place,
-            self.system,
-            true,
+        let position = LinkPosition {
+            owner: owner.place,
+            before: last.place,
+            is_first: last.number == 0,
+            after: self.system,
+            is_last: true,
             count,
-        );
+        };
+        self.blocks.start_at(3);
+        self.blocks.link_between(member, set, x.place, &position);
         self.notes.put_before(s, owner.number, x.number, 0);
         true
     }
@@ -500,19 +489,16 @@ impl Records {
         sets::keep(&mut self.directory, &self.layout, s, first);
         let after = self.blocks.look(first.place, member);
         let count = self.blocks.peek_count(home.place, set + 2);
-        let is_last = after.number == 0;
-        self.blocks.start_at(3);
-        self.blocks.unlink(
-            member,
-            set,
-            home.place,
-            self.system,
-            true,
-            first.place,
-            after.place,
-            is_last,
+        let position = LinkPosition {
+            owner: home.place,
+            before: self.system,
+            is_first: true,
+            after: after.place,
+            is_last: after.number == 0,
             count,
-        );
+        };
+        self.blocks.start_at(3);
+        self.blocks.unlink(member, set, first.place, &position);
         self.notes.take_out(s, home.number, first.number);
         Some(first.number as i64)
     }
