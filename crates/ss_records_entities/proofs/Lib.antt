@@ -24,6 +24,7 @@ pub mod NamesCreated
 pub mod NamesGone
 pub mod NamesKept
 pub mod Onward
+pub mod OwnLinks
 pub mod Owning
 pub mod Passing
 pub mod ReadKind

@@ -1,8 +1,9 @@
 // The records, and what the block of each says.
-ghost use Rattle.std.specs.Prelude.{◌≡◌, ℕ, ◌+◌, ◌-◌, ◌*◌, ◌^◌, ◌<◌, ◌≤◌, length, MatchResult, IfOk, IfSome, Ok, Err, Some, None, slice_get, true, false, ⊤, suc};
-ghost use Rattle.ss_world.specs.State.{kind_of, modes_of, is_notice, first_state, living_numbers, living_records, value_in, time_in, in_a_set, owns_members, destroyed, created, created_all, is_made, with_made, assigned, timed, no_value, RefusedFor};
+ghost use Rattle.std.specs.Prelude.{◌≡◌, ℕ, List, ◌+◌, ◌-◌, ◌*◌, ◌/◌, ◌^◌, ◌<◌, ◌≤◌, length, MatchResult, IfOk, IfSome, Ok, Err, Some, None, slice_get, true, false, ⊤, suc};
+ghost use Rattle.ss_world.specs.State.{Members, kind_of, modes_of, is_notice, first_state, living_numbers, living_records, value_in, time_in, in_a_set, owns_members, destroyed, created, created_all, is_made, with_made, assigned, timed, no_value, RefusedFor};
 ghost use Rattle.ss_world.specs.Sets.{owner_kind};
 ghost use Rattle.ss_records_blocks.specs.Cells.{words_at};
+ghost use Rattle.ss_records_blocks.specs.Pages.{in_page};
 ghost use Rattle.ss_base.specs.Layout.{mode_of};
 ghost use Rattle.ss_records_words.specs.Shape.{values_end};
 ghost use Rattle.ss_records_words.specs.Kept.{Kept, Small, IsPermanent, RowsHeld};
@@ -10,7 +11,6 @@ ghost use Rattle.ss_records_words.specs.Places.{class_at_place, lying};
 ghost use Rattle.ss_records_entities.specs.Parts.{IsKept, state};
 ghost use Rattle.ss_records_entities.specs.Added.{Added};
 
-use crate::ties;
 use ss_base::{FaultKind, Layout, Mode, Owner, Refused, Value, plus};
 use ss_records_blocks::placing::{give_places_back, place_all};
 use ss_records_blocks::row::{self, Row};
@@ -97,20 +97,12 @@ impl Records {
         let Records {
             layout,
             mut blocks,
-            notes,
+            notes: _,
             system,
             directory,
             permanents,
         } = self;
-        give_all_back(
-            &mut blocks,
-            alloc,
-            &layout,
-            &directory,
-            &permanents,
-            &notes,
-            system,
-        );
+        give_all_back(&mut blocks, alloc, &layout, &directory, &permanents, system);
         let words = layout.block_words(Owner::System);
         blocks.give_back(alloc, system, words);
         blocks.close();
@@ -463,17 +455,16 @@ impl Records {
         ensures cells { self.new.blocks.cells ≡ self.old.blocks.cells }
         ensures touches { (self.new.blocks.touches ≤ self.old.blocks.touches + 1048576) × (self.new.blocks.total + self.old.blocks.touches ≡ self.old.blocks.total + self.new.blocks.touches) }
     {
-        ties::in_a_set(
-            &mut self.blocks,
-            &self.layout,
-            &self.directory,
-            &self.permanents,
-            &self.notes,
-            self.system,
-            class,
-            place,
-            number,
-        )
+        let end = self.layout.owned_start(Owner::Class(class));
+        let mut k = self.layout.links_start(class);
+        'links: while k < end {
+            let next = self.blocks.follow(place, k);
+            if next.number != number {
+                return true;
+            }
+            k += 3;
+        }
+        false
     }
 
     // Whether an entity has members in a set.
@@ -488,17 +479,22 @@ impl Records {
         ensures cells { self.new.blocks.cells ≡ self.old.blocks.cells }
         ensures touches { (self.new.blocks.touches ≤ self.old.blocks.touches + 1048576) × (self.new.blocks.total + self.old.blocks.touches ≡ self.old.blocks.total + self.new.blocks.touches) }
     {
-        ties::owns_members(
-            &mut self.blocks,
-            &self.layout,
-            &self.directory,
-            &self.permanents,
-            &self.notes,
-            self.system,
-            class,
-            place,
-            number,
-        )
+        let mut left = self.layout.owned_count(Owner::Class(class));
+        if left == 0 {
+            return false;
+        }
+        for s in 0..self.layout.names() {
+            if self.layout.is_owner(s, class) {
+                if self.owns_in(s, place, number) {
+                    return true;
+                }
+                left -= 1;
+                if left == 0 {
+                    return false;
+                }
+            }
+        }
+        false
     }
 
     /// Gives the block of an entity back.
@@ -538,29 +534,37 @@ fn give_all_back(
     layout: &LayoutPlan,
     directory: &Directory,
     permanents: &[Row],
-    notes: &Notes,
     system: Address,
 )
-    requires kept { Kept layout.now blocks.old.cells system.at (lying directory.now.places permanents.now) notes.now.lists }
+    requires kept { (ms : List Members) × Kept layout.now blocks.old.cells system.at (lying directory.now.places permanents.now) ms }
     ensures system { words_at blocks.new.cells system.at ≡ words_at blocks.old.cells system.at }
     ensures count { length blocks.new.cells ≡ 1 }
 {
     for stretch in 0..directory.stretches() {
-        if directory.holds(stretch) {
-            let first = stretch * PAGE;
-            for i in first..first + PAGE {
-                match directory.place_of(i) {
-                    Some(place) => {
-                        let class = blocks.number(place, CLASS) as usize;
-                        let words = layout.block_words(Owner::Class(class));
-                        blocks.give_back(alloc, place, words);
-                    }
-                    None => {}
+        let first = stretch * PAGE;
+        for i in first..first + numbers_in(directory, stretch) {
+            match directory.place_of(i) {
+                Some(place) => {
+                    let class = blocks.number(place, CLASS) as usize;
+                    let words = layout.block_words(Owner::Class(class));
+                    blocks.give_back(alloc, place, words);
                 }
+                None => {}
             }
         }
     }
     give_rows_back(blocks, alloc, layout, permanents, system);
+}
+
+// How many numbers of a stretch are to be looked at: none where its page is not held.
+fn numbers_in(directory: &Directory, stretch: usize) -> usize
+    ensures few { result ≤ 256 }
+    ensures others { (i : ℕ) → i / 256 ≡ stretch → stretch * 256 + result ≤ i → in_page (slice_get directory.now.places i) ≡ None }
+{
+    if directory.holds(stretch) {
+        return PAGE;
+    }
+    0
 }
 
 // Gives back the blocks of the permanent entities.
