@@ -12,6 +12,13 @@ use ss_base::{Alpha, Discipline, FaultKind, Mode, RankKey, Value};
 use ss_records::Heap;
 use std::cmp::Ordering;
 
+// The keys by which a set ranks: the one that counts most, and the others in their order.
+#[derive(Clone, Copy)]
+struct Ranking<'a> {
+    key: RankKey,
+    others: &'a [RankKey],
+}
+
 /// Files x in the set of an owner: last for FIFO, first for LIFO, and for RANKED directly before the first member
 /// that ranks strictly after it by the values that they have now, last where there is none. Values that change later
 /// move nothing. Faults: those of x (1 to 5), then those of the owner, then 6 where x is in some set of this name;
@@ -89,7 +96,10 @@ fn first_after(
     ensures touches { (heap.old.total ≤ heap.new.total) × (heap.new.total ≤ heap.old.total + 2 + members_passed heap.old.state (member_class heap.old.state.layout set) keys.now x (owned heap.old.state set o)) }
 {
     match keys.split_first() {
-        Some((key, others)) => first_after_by(heap, *key, others, set, o, x),
+        Some((key, others)) => {
+            let ranking = Ranking { key: *key, others };
+            first_after_by(heap, ranking, set, o, x)
+        }
         None => match first_member(heap, set, o) {
             Ok(_) => Ok(None),
             Err(fault) => Err(fault),
@@ -100,25 +110,24 @@ fn first_after(
 // The first member that ranks after x, by a key that counts most and the others.
 fn first_after_by(
     heap: &mut Heap,
-    key: RankKey,
-    others: &[RankKey],
+    ranking: Ranking<'_>,
     set: usize,
     o: i64,
     x: i64,
 ) -> Result<Option<i64>, FaultKind>
     requires set { set < length heap.old.state.layout.sets }
-    requires keys { AreFields heap.old.state.layout (member_class heap.old.state.layout set) (key ∷ others.now) }
-    ensures found { MatchResult result (λ y. IsOk (owner heap.old.state set o) × (y ≡ first_after heap.old.state (member_class heap.old.state.layout set) (key ∷ others.now) x (owned heap.old.state set o))) (λ e. owner heap.old.state set o ≡ Err e) }
+    requires keys { AreFields heap.old.state.layout (member_class heap.old.state.layout set) (ranking.key ∷ ranking.others.now) }
+    ensures found { MatchResult result (λ y. IsOk (owner heap.old.state set o) × (y ≡ first_after heap.old.state (member_class heap.old.state.layout set) (ranking.key ∷ ranking.others.now) x (owned heap.old.state set o))) (λ e. owner heap.old.state set o ≡ Err e) }
     ensures same { heap.new.state ≡ heap.old.state }
-    ensures touches { (heap.old.total ≤ heap.new.total) × (heap.new.total ≤ heap.old.total + 2 + members_passed heap.old.state (member_class heap.old.state.layout set) (key ∷ others.now) x (owned heap.old.state set o)) }
+    ensures touches { (heap.old.total ≤ heap.new.total) × (heap.new.total ≤ heap.old.total + 2 + members_passed heap.old.state (member_class heap.old.state.layout set) (ranking.key ∷ ranking.others.now) x (owned heap.old.state set o)) }
 {
     let class = class_of(heap, set);
-    match whole_of(heap, class, key.field, x) {
-        Some(own) => match others {
-            [] => first_after_number(heap, key, set, o, x, own),
-            _ => first_after_whole(heap, key, others, set, o, x, own),
+    match whole_of(heap, class, ranking.key.field, x) {
+        Some(own) => match ranking.others {
+            [] => first_after_number(heap, ranking.key, set, o, x, own),
+            _ => first_after_whole(heap, ranking, set, o, x, own),
         },
-        None => first_after_value(heap, key, others, set, o, x),
+        None => first_after_value(heap, ranking, set, o, x),
     }
 }
 
@@ -149,20 +158,19 @@ fn first_after_number(
 // each member is read together with the next member.
 fn first_after_whole(
     heap: &mut Heap,
-    key: RankKey,
-    others: &[RankKey],
+    ranking: Ranking<'_>,
     set: usize,
     o: i64,
     x: i64,
     own: i64,
 ) -> Result<Option<i64>, FaultKind>
     requires set { set < length heap.old.state.layout.sets }
-    requires keys { AreFields heap.old.state.layout (member_class heap.old.state.layout set) (key ∷ others.now) }
-    requires mode { slice_get (modes_of heap.old.state.layout (member_class heap.old.state.layout set)) key.field ≡ Some Mode.Integer }
-    requires own { value_of heap.old.state (member_class heap.old.state.layout set) key.field x ≡ Value.Whole own }
-    ensures found { MatchResult result (λ y. IsOk (owner heap.old.state set o) × (y ≡ first_after heap.old.state (member_class heap.old.state.layout set) (key ∷ others.now) x (owned heap.old.state set o))) (λ e. owner heap.old.state set o ≡ Err e) }
+    requires keys { AreFields heap.old.state.layout (member_class heap.old.state.layout set) (ranking.key ∷ ranking.others.now) }
+    requires mode { slice_get (modes_of heap.old.state.layout (member_class heap.old.state.layout set)) ranking.key.field ≡ Some Mode.Integer }
+    requires own { value_of heap.old.state (member_class heap.old.state.layout set) ranking.key.field x ≡ Value.Whole own }
+    ensures found { MatchResult result (λ y. IsOk (owner heap.old.state set o) × (y ≡ first_after heap.old.state (member_class heap.old.state.layout set) (ranking.key ∷ ranking.others.now) x (owned heap.old.state set o))) (λ e. owner heap.old.state set o ≡ Err e) }
     ensures same { heap.new.state ≡ heap.old.state }
-    ensures touches { (heap.old.total ≤ heap.new.total) × (heap.new.total ≤ heap.old.total + 2 + members_passed heap.old.state (member_class heap.old.state.layout set) (key ∷ others.now) x (owned heap.old.state set o)) }
+    ensures touches { (heap.old.total ≤ heap.new.total) × (heap.new.total ≤ heap.old.total + 2 + members_passed heap.old.state (member_class heap.old.state.layout set) (ranking.key ∷ ranking.others.now) x (owned heap.old.state set o)) }
 {
     heap.sets_are_apart();
     let class = class_of(heap, set);
@@ -171,11 +179,12 @@ fn first_after_whole(
         Err(fault) => return Err(fault),
     };
     while let Some(y) = member {
-        let its = match heap.whole_member(set, key.field, y) {
+        let its = match heap.whole_member(set, ranking.key.field, y) {
             Ok(its) => its,
             Err(fault) => return Err(fault),
         };
-        if ranks_after_whole(heap, its.value, own, key.high, others, class, y, x) {
+        let order = order_of_numbers(its.value, own);
+        if ranks_after_by(heap, order, ranking, class, y, x) {
             return Ok(Some(y));
         }
         member = as_member(its.next);
@@ -187,32 +196,31 @@ fn first_after_whole(
 // the next member.
 fn first_after_value(
     heap: &mut Heap,
-    key: RankKey,
-    others: &[RankKey],
+    ranking: Ranking<'_>,
     set: usize,
     o: i64,
     x: i64,
 ) -> Result<Option<i64>, FaultKind>
     requires set { set < length heap.old.state.layout.sets }
-    requires keys { AreFields heap.old.state.layout (member_class heap.old.state.layout set) (key ∷ others.now) }
-    ensures found { MatchResult result (λ y. IsOk (owner heap.old.state set o) × (y ≡ first_after heap.old.state (member_class heap.old.state.layout set) (key ∷ others.now) x (owned heap.old.state set o))) (λ e. owner heap.old.state set o ≡ Err e) }
+    requires keys { AreFields heap.old.state.layout (member_class heap.old.state.layout set) (ranking.key ∷ ranking.others.now) }
+    ensures found { MatchResult result (λ y. IsOk (owner heap.old.state set o) × (y ≡ first_after heap.old.state (member_class heap.old.state.layout set) (ranking.key ∷ ranking.others.now) x (owned heap.old.state set o))) (λ e. owner heap.old.state set o ≡ Err e) }
     ensures same { heap.new.state ≡ heap.old.state }
-    ensures touches { (heap.old.total ≤ heap.new.total) × (heap.new.total ≤ heap.old.total + 2 + members_passed heap.old.state (member_class heap.old.state.layout set) (key ∷ others.now) x (owned heap.old.state set o)) }
+    ensures touches { (heap.old.total ≤ heap.new.total) × (heap.new.total ≤ heap.old.total + 2 + members_passed heap.old.state (member_class heap.old.state.layout set) (ranking.key ∷ ranking.others.now) x (owned heap.old.state set o)) }
 {
     heap.sets_are_apart();
     let class = class_of(heap, set);
-    let own = value(heap, class, key.field, x);
+    let own = value(heap, class, ranking.key.field, x);
     let mut member = match first_member(heap, set, o) {
         Ok(first) => first,
         Err(fault) => return Err(fault),
     };
     while let Some(y) = member {
-        let its = match heap.member(set, key.field, y) {
+        let its = match heap.member(set, ranking.key.field, y) {
             Ok(its) => its,
             Err(fault) => return Err(fault),
         };
         let order = order_of(&its.value, &own);
-        if ranks_after_by(heap, order, key.high, others, class, y, x) {
+        if ranks_after_by(heap, order, ranking, class, y, x) {
             return Ok(Some(y));
         }
         member = as_member(its.next);
@@ -284,55 +292,27 @@ fn order_of_texts(s: Alpha, t: Alpha) -> Ordering
     s.cmp(&t)
 }
 
-// Whether y ranks strictly after x: by the order of the two in a key, high or low, and where they tie in it by the first
-// of the others in which they differ.
+// Whether y ranks strictly after x: by the order of the two in the key that counts most, and where they tie in it by the
+// first of the others in which they differ.
 #[inline(always)]
 fn ranks_after_by(
     heap: &Heap,
     order: Ordering,
-    high: bool,
-    others: &[RankKey],
+    ranking: Ranking<'_>,
     class: usize,
     y: i64,
     x: i64,
 ) -> bool
-    requires keys { AreFields heap.now.state.layout class others.now }
-    ensures { result ≡ match_ordering order high (ranks_after heap.now.state class others.now y x) (not high) }
+    requires keys { AreFields heap.now.state.layout class ranking.others.now }
+    ensures { result ≡ match_ordering order ranking.key.high (ranks_after heap.now.state class ranking.others.now y x) (not ranking.key.high) }
 {
     match order {
-        Ordering::Less => high,
-        Ordering::Greater => !high,
-        Ordering::Equal => match others {
+        Ordering::Less => ranking.key.high,
+        Ordering::Greater => !ranking.key.high,
+        Ordering::Equal => match ranking.others {
             [] => false,
-            _ => ranks_after(heap, others, class, y, x),
+            others => ranks_after(heap, others, class, y, x),
         },
-    }
-}
-
-// Whether one entity ranks after another, by a key of whole numbers that comes first, and then by the other keys.
-#[inline(always)]
-fn ranks_after_whole(
-    heap: &Heap,
-    its: i64,
-    own: i64,
-    high: bool,
-    others: &[RankKey],
-    class: usize,
-    y: i64,
-    x: i64,
-) -> bool
-    requires keys { AreFields heap.now.state.layout class others.now }
-    ensures { result ≡ match_ordering (int_cmp its own) high (ranks_after heap.now.state class others.now y x) (not high) }
-{
-    if its < own {
-        return high;
-    }
-    if own < its {
-        return !high;
-    }
-    match others {
-        [] => false,
-        _ => ranks_after(heap, others, class, y, x),
     }
 }
 

@@ -11,7 +11,7 @@ use Rattle.ss_sets.proofs.Walking.{onward, leader, onward_all, first_leads, reac
 use Rattle.ss_sets.proofs.ranking.first_after_value.Goals as goal
 
 pub value-own-requires : goal.value-own-requires
-value-own-requires c = record { field = first_field c.args.heap.now.state.layout c.args.set c.class_of-class.result c.args.key c.args.others.now c.class_of-class.ensures c.requires.keys }
+value-own-requires c = record { field = first_field c.args.heap.now.state.layout c.args.set c.class_of-class.result c.args.ranking.key c.args.ranking.others.now c.class_of-class.ensures c.requires.keys }
 
 pub returns-in-Err-clause-found : goal.returns-in-Err-clause-found
 returns-in-Err-clause-found c =
@@ -21,7 +21,7 @@ returns-in-Err-clause-found c =
 pub loop-member-init : goal.loop-member-init
 loop-member-init c =
     let st = c.args.heap.now.state in let o : ℤ = to_z w64 (of_z w64 c.args.o) in let x : ℤ = to_z w64 (of_z w64 c.args.x) in
-    let all : List ℕ = owned st c.args.set o in let class = member_class st.layout c.args.set in let ks : List RankKey = c.args.key ∷ c.args.others.now in
+    let all : List ℕ = owned st c.args.set o in let class = member_class st.layout c.args.set in let ks : List RankKey = c.args.ranking.key ∷ c.args.ranking.others.now in
     let leads : c.in-Ok.first ≡ leader all = (found_first st c.args.set c.in-Ok.first o c.in-Ok.ensures.first).1 ∙ first_leads st c.sets_are_apart.ensures c.args.set c.requires.set o in
     let whole : onward c.in-Ok.first all ≡ all = ap (λ m. onward m all) leads ∙ onward_all all in
     let same = ap (members_passed st class ks x) whole in
@@ -37,21 +37,21 @@ member-requires-clause-set c = subst (λ (s : State). c.args.set < length s.layo
 
 pub member-requires-clause-field : goal.member-requires-clause-field
 member-requires-clause-field c =
-    subst (λ (s : State). c.args.key.field < length (modes_of s.layout (member_class s.layout c.args.set))) (sym c.loop-member.invariant.same)
-    (first_field c.args.heap.now.state.layout c.args.set (member_class c.args.heap.now.state.layout c.args.set) c.args.key c.args.others.now refl c.requires.keys)
+    subst (λ (s : State). c.args.ranking.key.field < length (modes_of s.layout (member_class s.layout c.args.set))) (sym c.loop-member.invariant.same)
+    (first_field c.args.heap.now.state.layout c.args.set (member_class c.args.heap.now.state.layout c.args.set) c.args.ranking.key c.args.ranking.others.now refl c.requires.keys)
 
 pub ranks_after_by-requires : goal.ranks_after_by-requires
 ranks_after_by-requires c = record {
-  keys = subst (λ (l : Layout). AreFields l c.class_of-class.result c.args.others.now) (ap (λ (t : State). t.layout) (sym (c.in-Ok-member.ensures.same ∙ c.loop-member.invariant.same)))
-      (other_fields c.args.heap.now.state.layout c.args.set c.class_of-class.result c.args.key c.args.others.now c.class_of-class.ensures c.requires.keys);
+  keys = subst (λ (l : Layout). AreFields l c.class_of-class.result c.args.ranking.others.now) (ap (λ (t : State). t.layout) (sym (c.in-Ok-member.ensures.same ∙ c.loop-member.invariant.same)))
+      (other_fields c.args.heap.now.state.layout c.args.set c.class_of-class.result c.args.ranking.key c.args.ranking.others.now c.class_of-class.ensures c.requires.keys);
 }
 
 pub returns-then-ranks_after_by-clause-found : goal.returns-then-ranks_after_by-clause-found
 returns-then-ranks_after_by-clause-found c =
     let st = c.args.heap.now.state in let o : ℤ = to_z w64 (of_z w64 c.args.o) in let x : ℤ = to_z w64 (of_z w64 c.args.x) in let y : ℤ = to_z w64 (of_z w64 c.in-Some.y) in
     let own : o ≡ c.args.o = search rules in let its : x ≡ c.args.x = search rules in let hand : y ≡ c.in-Some.y = search rules in
-    let all : List ℕ = owned st c.args.set o in let class = member_class st.layout c.args.set in let ks : List RankKey = c.args.key ∷ c.args.others.now in let h = c.loop-member.invariant in
-    let p = looked st c.sets_are_apart.ensures c.args.set c.requires.set o x c.args.key c.args.others.now c.loop-member.member c.in-Some.y y c.in-Some.is h.here hand c.loop-member.heap.state c.member.new.self.state h.same c.in-Ok-member.ensures.same c.class_of-class.result c.class_of-class.ensures c.in-Ok-member.its.value c.value-own.result c.in-Ok-member.its.next c.in-Ok-member.ensures.found.0 c.in-Ok-member.ensures.found.1 c.value-own.ensures c.order_of-order.result true c.order_of-order.ensures c.if-ranks_after_by.ensures in (
+    let all : List ℕ = owned st c.args.set o in let class = member_class st.layout c.args.set in let ks : List RankKey = c.args.ranking.key ∷ c.args.ranking.others.now in let h = c.loop-member.invariant in
+    let p = looked st c.sets_are_apart.ensures c.args.set c.requires.set o x c.args.ranking.key c.args.ranking.others.now c.loop-member.member c.in-Some.y y c.in-Some.is h.here hand c.loop-member.heap.state c.member.new.self.state h.same c.in-Ok-member.ensures.same c.class_of-class.result c.class_of-class.ensures c.in-Ok-member.its.value c.value-own.result c.in-Ok-member.its.next c.in-Ok-member.ensures.found.0 c.in-Ok-member.ensures.found.1 c.value-own.ensures c.order_of-order.result true c.order_of-order.ensures c.if-ranks_after_by.ensures in (
       subst (λ (n : ℤ). IsOk (owner st c.args.set n)) own (found_first st c.args.set c.in-Ok.first o c.in-Ok.ensures.first).0,
       ap Some (hand ∙ p.is) ∙ sym (stops st class ks x p.z p.zs p.ranks).0 ∙ sym (ap (first_after st class ks x) p.rest) ∙ h.found
           ∙ ap (λ (n : ℤ). first_after st class ks n all) its ∙ ap (λ (n : ℤ). first_after st class ks c.args.x (owned st c.args.set n)) own,
@@ -74,11 +74,11 @@ pub returns-in-Err-member-clause-touches : goal.returns-in-Err-member-clause-tou
 returns-in-Err-member-clause-touches c = absurd (impossible c)
 
 -- x passes this member
-passed_one : (c : goal.After-as_member-member) → Looked c.args.heap.now.state c.args.set (to_z w64 (of_z w64 c.args.o)) (to_z w64 (of_z w64 c.args.x)) (c.args.key ∷ c.args.others.now) c.loop-member.member c.in-Some.y c.in-Ok-member.its.next false
+passed_one : (c : goal.After-as_member-member) → Looked c.args.heap.now.state c.args.set (to_z w64 (of_z w64 c.args.o)) (to_z w64 (of_z w64 c.args.x)) (c.args.ranking.key ∷ c.args.ranking.others.now) c.loop-member.member c.in-Some.y c.in-Ok-member.its.next false
 passed_one c =
     let st = c.args.heap.now.state in let o : ℤ = to_z w64 (of_z w64 c.args.o) in let x : ℤ = to_z w64 (of_z w64 c.args.x) in let y : ℤ = to_z w64 (of_z w64 c.in-Some.y) in
     let hand : y ≡ c.in-Some.y = search rules in let h = c.loop-member.invariant in
-    looked st c.sets_are_apart.ensures c.args.set c.requires.set o x c.args.key c.args.others.now c.loop-member.member c.in-Some.y y c.in-Some.is h.here hand c.loop-member.heap.state c.member.new.self.state h.same c.in-Ok-member.ensures.same c.class_of-class.result c.class_of-class.ensures c.in-Ok-member.its.value c.value-own.result c.in-Ok-member.its.next c.in-Ok-member.ensures.found.0 c.in-Ok-member.ensures.found.1 c.value-own.ensures c.order_of-order.result false c.order_of-order.ensures c.if-ranks_after_by.ensures
+    looked st c.sets_are_apart.ensures c.args.set c.requires.set o x c.args.ranking.key c.args.ranking.others.now c.loop-member.member c.in-Some.y y c.in-Some.is h.here hand c.loop-member.heap.state c.member.new.self.state h.same c.in-Ok-member.ensures.same c.class_of-class.result c.class_of-class.ensures c.in-Ok-member.its.value c.value-own.result c.in-Ok-member.its.next c.in-Ok-member.ensures.found.0 c.in-Ok-member.ensures.found.1 c.value-own.ensures c.order_of-order.result false c.order_of-order.ensures c.if-ranks_after_by.ensures
 
 -- the member that is next
 next_one : (c : goal.After-as_member-member) → c.as_member-member.result ≡ as_member c.in-Ok-member.its.next
@@ -91,7 +91,7 @@ loop-member-smaller c =
 
 pub loop-member-preserved : goal.loop-member-preserved
 loop-member-preserved c =
-    let st = c.args.heap.now.state in let o : ℤ = to_z w64 (of_z w64 c.args.o) in let x : ℤ = to_z w64 (of_z w64 c.args.x) in let class = member_class st.layout c.args.set in let ks : List RankKey = c.args.key ∷ c.args.others.now in
+    let st = c.args.heap.now.state in let o : ℤ = to_z w64 (of_z w64 c.args.o) in let x : ℤ = to_z w64 (of_z w64 c.args.x) in let class = member_class st.layout c.args.set in let ks : List RankKey = c.args.ranking.key ∷ c.args.ranking.others.now in
     let p = passed_one c in let h = c.loop-member.invariant in let q = passes st class ks x p.z p.zs p.ranks in
     let rest = ap (λ m. onward m (owned st c.args.set o)) (next_one c) ∙ p.following in
     record {
