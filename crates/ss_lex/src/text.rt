@@ -18,26 +18,32 @@ use std::alloc::Global;
 /// The most bytes of a text.
 pub const SOURCE_LIMIT: usize = 1_048_576;
 
+/// Where a line lies in a text: the place of its first byte, and its number.
+#[derive(Clone, Copy)]
+struct LinePlace {
+    start: usize,
+    line: Line,
+}
+
 /// Adds the tokens of a line, where `due` lines from this one on are pictures, and returns how many of those
 /// after it are. `left` lines are after it.
 fn read_line(
     alloc: Global,
     tokens: &mut Collected,
     bytes: &[u8],
-    start: usize,
-    line: Line,
+    position: LinePlace,
     left: u64,
     due: u64,
 ) -> Result<u64, LexError>
-    requires place { start + length bytes.now < 2 ^ 64 }
+    requires place { position.start + length bytes.now < 2 ^ 64 }
     requires within { due ≤ left + 1 }
-    ensures ok { IfOk result (IsLineRead bytes.now start line.0 left due tokens.old tokens.new) }
-    ensures err { IfErr result (λ e. e ≢ LexError.Memory → IsLineRefused bytes.now start line.0 left due tokens.old e) }
+    ensures ok { IfOk result (IsLineRead bytes.now position.start position.line.0 left due tokens.old tokens.new) }
+    ensures err { IfErr result (λ e. e ≢ LexError.Memory → IsLineRefused bytes.now position.start position.line.0 left due tokens.old e) }
 {
     if due == 0 {
-        return code_line(tokens, bytes, start, line, left);
+        return code_line(tokens, bytes, position.start, position.line, left);
     }
-    tokens.add_picture(alloc, bytes, start, line)?;
+    tokens.add_picture(alloc, bytes, position.start, position.line)?;
     Ok(due - 1)
 }
 
@@ -56,7 +62,11 @@ fn read_lines(alloc: Global, text: &[u8], count: u32) -> Result<Collected, LexEr
     'lines: while !rest.is_empty() {
         let (bytes, after) = first_line(rest);
         let left = u64::from(count - line);
-        due = read_line(alloc, &mut tokens, bytes, start, Line(line), left, due)?;
+        let position = LinePlace {
+            start,
+            line: Line(line),
+        };
+        due = read_line(alloc, &mut tokens, bytes, position, left, due)?;
         start += bytes.len() + 1;
         line += 1;
         rest = after;
