@@ -1,12 +1,12 @@
 //! Statements with their names resolved.
 
 ghost use Rattle.std.specs.Prelude.{◌≡◌, map, Some};
-ghost use Rattle.ss_tree.specs.View.{view_condition, view_statement};
+ghost use Rattle.ss_tree.specs.View.{view_condition, view_head, view_statement};
 ghost use Rattle.ss_tree.specs.Tree.{statement_row};
 ghost use Rattle.ss_program.specs.Program.{Done};
 ghost use Rattle.ss_program.specs.View.{view_body, view_statement as view_resolved};
 ghost use Rattle.ss_names_meaning.specs.Answers.{Gives};
-ghost use Rattle.ss_names_meaning.specs.Statements.{if_over, inner, statement, statements};
+ghost use Rattle.ss_names_meaning.specs.Statements.{find_by, if_over, inner, statement, statements};
 ghost use Rattle.ss_check_bodies.specs.Results.{bodies_seen};
 
 use crate::conditions::resolve_condition;
@@ -14,8 +14,10 @@ use crate::entities::{
     resolve_create, resolve_create_every, resolve_destroy, resolve_file, resolve_remove,
     resolve_remove_end,
 };
-use crate::loops::{resolve_find, resolve_find_by, resolve_loop};
-use crate::notices::{resolve_cancel, resolve_reset, resolve_schedule, resolve_schedule_new};
+use crate::loops::{resolve_find, resolve_loop};
+use crate::notices::{
+    ScheduleTerms, resolve_cancel, resolve_reset, resolve_schedule, resolve_schedule_new,
+};
 use crate::statements::{
     resolve_add, resolve_let, resolve_print, resolve_read, resolve_routine_call, resolve_skip,
     resolve_subtract,
@@ -24,7 +26,8 @@ use ss_base::Line;
 use ss_names_meaning::{ResolveError, Scope};
 use ss_program::statement::Statement as Resolved;
 use ss_tree::condition::Condition;
-use ss_tree::statement::Statement;
+use ss_tree::head::Head;
+use ss_tree::statement::{FindOutcome, Statement};
 use std::alloc::Global;
 
 // The resolved bodies in a statement: of a loop one, of an IF and of the IF after a FIND two, and none of
@@ -74,6 +77,24 @@ fn resolve_if<S: Scope>(
         then,
         otherwise,
     })
+}
+
+// FIND THE FIRST CASE, where the body for this outcome comes first.
+fn resolve_find_by<S: Scope>(
+    alloc: Global,
+    scope: &S,
+    line: Line,
+    head: &Head,
+    outcome: FindOutcome,
+    bodies: Bodies,
+) -> Result<Resolved, ResolveError>
+    ensures { Gives view_resolved result (find_by outcome line (S.context scope.now) (view_head head.now) (view_body bodies.first.items) (view_body bodies.second.items)) }
+{
+    let Bodies { first, second } = bodies;
+    match outcome {
+        FindOutcome::Found => resolve_find(alloc, scope, line, head, first, second),
+        FindOutcome::None => resolve_find(alloc, scope, line, head, second, first),
+    }
 }
 
 // A statement around its resolved bodies.
@@ -141,14 +162,20 @@ fn resolve_around<S: Scope>(
             called,
             given,
             when,
-        } => resolve_schedule_new(alloc, scope, *line, *class, called, given, when),
+        } => {
+            let terms = ScheduleTerms { given, when };
+            resolve_schedule_new(alloc, scope, *line, *class, called, terms)
+        }
         Statement::Schedule {
             line,
             class,
             called,
             given,
             when,
-        } => resolve_schedule(alloc, scope, *line, *class, called, given, when),
+        } => {
+            let terms = ScheduleTerms { given, when };
+            resolve_schedule(alloc, scope, *line, *class, called, terms)
+        }
         Statement::Cancel {
             line,
             class,
@@ -183,15 +210,7 @@ fn resolve_around<S: Scope>(
             head,
             outcome,
             ..
-        } => resolve_find_by(
-            alloc,
-            scope,
-            *line,
-            head,
-            *outcome,
-            bodies.first,
-            bodies.second,
-        ),
+        } => resolve_find_by(alloc, scope, *line, head, *outcome, bodies),
     }
 }
 

@@ -4,7 +4,7 @@ ghost use Rattle.std.specs.Prelude.{◌≡◌};
 ghost use Rattle.ss_tree.specs.View.{view_head, view_loop_head};
 ghost use Rattle.ss_program.specs.View.{view_body, view_statement as view_resolved};
 ghost use Rattle.ss_names_meaning.specs.Answers.{Gives};
-ghost use Rattle.ss_names_meaning.specs.Statements.{find, find_by, for_over, resolved_loop};
+ghost use Rattle.ss_names_meaning.specs.Statements.{find, for_over, resolved_loop};
 ghost use Rattle.ss_check_bodies.specs.Results.{resolved_over, over_seen};
 
 use crate::heads::{phrases_of, resolve_guards, resolve_head, resolve_phrases};
@@ -14,7 +14,6 @@ use ss_names_meaning::{ResolveError, Scope};
 use ss_program::head::{Head as ResolvedHead, Phrase};
 use ss_program::statement::Statement as Resolved;
 use ss_tree::head::{Head, LoopHead};
-use ss_tree::statement::FindOutcome;
 use std::alloc::Global;
 
 // What a FOR goes over, and its phrases.
@@ -86,22 +85,4 @@ pub(crate) fn resolve_find<S: Scope>(
         found,
         none,
     })
-}
-
-/// FIND THE FIRST CASE, with what follows for this outcome first.
-pub(crate) fn resolve_find_by<S: Scope>(
-    alloc: Global,
-    scope: &S,
-    line: Line,
-    head: &Head,
-    outcome: FindOutcome,
-    first: Vec<Resolved>,
-    second: Vec<Resolved>,
-) -> Result<Resolved, ResolveError>
-    ensures { Gives view_resolved result (find_by outcome line (S.context scope.now) (view_head head.now) (view_body first.items) (view_body second.items)) }
-{
-    match outcome {
-        FindOutcome::Found => resolve_find(alloc, scope, line, head, first, second),
-        FindOutcome::None => resolve_find(alloc, scope, line, head, second, first),
-    }
 }

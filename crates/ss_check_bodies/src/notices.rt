@@ -20,6 +20,13 @@ use ss_tree::expression::{Expression, Named};
 use ss_tree::statement::When;
 use std::alloc::Global;
 
+/// What any SCHEDULE says: the values that the notice is given, and when it is due.
+#[derive(Clone, Copy)]
+pub(crate) struct ScheduleTerms<'a> {
+    pub(crate) given: &'a [Expression],
+    pub(crate) when: &'a When,
+}
+
 // The time for which a notice is scheduled.
 fn resolve_when<S: Scope>(
     alloc: Global,
@@ -97,15 +104,14 @@ pub(crate) fn resolve_schedule_new<S: Scope>(
     line: Line,
     class: Name,
     called: &Option<Named>,
-    given: &[Expression],
-    when: &When,
+    terms: ScheduleTerms<'_>,
 ) -> Result<Resolved, ResolveError>
-    ensures { Gives view_resolved result (statement (S.context scope.now) (schedule_new line class (view_option view_named called.now) (map view_expression given.now) (view_when when.now))) }
+    ensures { Gives view_resolved result (statement (S.context scope.now) (schedule_new line class (view_option view_named called.now) (map view_expression terms.given.now) (view_when terms.when.now))) }
 {
     let class = notice_class(scope, class)?;
     let into = resolve_new_place(alloc, scope, class.variable, called)?;
-    let (into, given) = beside(into, resolve_all(alloc, scope, given))?;
-    let ((into, given), when) = beside((into, given), resolve_when(alloc, scope, when))?;
+    let (into, given) = beside(into, resolve_all(alloc, scope, terms.given))?;
+    let ((into, given), when) = beside((into, given), resolve_when(alloc, scope, terms.when))?;
     new_notice(line, class, into, given, when)
 }
 
@@ -117,15 +123,14 @@ pub(crate) fn resolve_schedule<S: Scope>(
     line: Line,
     class: Name,
     called: &Option<Expression>,
-    given: &[Expression],
-    when: &When,
+    terms: ScheduleTerms<'_>,
 ) -> Result<Resolved, ResolveError>
-    ensures { Gives view_resolved result (statement (S.context scope.now) (schedule_statement line class (view_option view_expression called.now) (map view_expression given.now) (view_when when.now))) }
+    ensures { Gives view_resolved result (statement (S.context scope.now) (schedule_statement line class (view_option view_expression called.now) (map view_expression terms.given.now) (view_when terms.when.now))) }
 {
     let class = notice_class(scope, class)?;
     let notice = resolve_entity_called(alloc, scope, class.variable, called)?;
-    let (notice, given) = beside(notice, resolve_all(alloc, scope, given))?;
-    let ((notice, given), when) = beside((notice, given), resolve_when(alloc, scope, when))?;
+    let (notice, given) = beside(notice, resolve_all(alloc, scope, terms.given))?;
+    let ((notice, given), when) = beside((notice, given), resolve_when(alloc, scope, terms.when))?;
     old_notice(line, class, notice, given, when)
 }
 
