@@ -2,15 +2,16 @@
 
 ghost use Rattle.std.specs.Prelude.{◌≡◌, length, map, IfOk};
 ghost use Rattle.ss_tree.specs.View.{view_section};
+ghost use Rattle.ss_names_declarations.specs.Firsts.{value_for};
 ghost use Rattle.ss_program.specs.View.{view_event};
-ghost use Rattle.ss_names_meaning.specs.Answers.{Gives, each, upto};
+ghost use Rattle.ss_names_meaning.specs.Answers.{◌>>=◌, Gives, each, upto};
 ghost use Rattle.ss_names_meaning.specs.Resolved.{class_event_from, class_variable, event_from, event_of_class, parts_with_locals, saved};
 ghost use Rattle.ss_check_programs.specs.View.{view_parts};
 
 use crate::sections::{Parts, parts_at, split};
 use ss_base::{Name, RankKey, RankKeys};
 use ss_check_scopes::LocalModes;
-use ss_names::{EventSection, GlobalMeaning, Names};
+use ss_names::{GlobalMeaning, Names};
 use ss_names_meaning::{ResolveError, resolve_ties};
 use ss_program::sections::Event;
 use ss_tree::program::Section;
@@ -54,7 +55,7 @@ fn event_of_class(
     })
 }
 
-// A notice class with its EVENT section.
+// A notice class of this name with its EVENT section.
 fn class_event(
     alloc: Global,
     names: &Names,
@@ -62,10 +63,12 @@ fn class_event(
     sections: &[Section],
     class: usize,
     name: Name,
-    known: EventSection,
 ) -> Result<Event, ResolveError>
-    ensures { Gives view_event result (class_event_from names.now (parts_with_locals names.now locals.now (map view_section sections.now)) class name known) }
+    ensures { Gives view_event result (value_for names.now.events name >>= (λ known. class_event_from names.now (parts_with_locals names.now locals.now (map view_section sections.now)) class name known)) }
 {
+    let Some(known) = names.event(&name) else {
+        return Err(ResolveError::Unresolved);
+    };
     if names.fields(class).len() < known.given {
         return Err(ResolveError::Unresolved);
     }
@@ -92,10 +95,7 @@ fn resolve_event(
     let Some(name) = names.class_name(class) else {
         return Err(ResolveError::Unresolved);
     };
-    let Some(known) = names.event(&name) else {
-        return Err(ResolveError::Unresolved);
-    };
-    class_event(alloc, names, locals, sections, class, name, known)
+    class_event(alloc, names, locals, sections, class, name)
 }
 
 /// The notice classes with their event routines, in the order of rank.
