@@ -129,27 +129,8 @@ pub(crate) fn note_here(
     kept[place].note_or_refuse(entity, now, number)
 }
 
-// Does the work of `note_here`, out of line.
+// Does the work of `note_all` for one place, out of line.
 #[inline(never)]
-fn note_at_place(
-    kept: &mut [Kept],
-    place: usize,
-    entity: i64,
-    now: i64,
-    number: i64,
-) -> Option<Unnoted>
-    requires within { place < length kept.old }
-    requires until { All (KeptUntil now) kept.old }
-    ensures refused { result ≡ refused_at entity (map shown kept.old) place }
-    ensures same { IfSome result (λ _. kept.new ≡ kept.old) }
-    ensures shown { map shown kept.new ≡ changed_at (noted_one entity now number) (map shown kept.old) place }
-    ensures until { All (KeptUntil now) kept.new }
-{
-    note_here(kept, place, entity, now, number)
-}
-
-// Does the work of `note_all` for one place.
-#[inline(always)]
 fn note_one(
     kept: &mut [Kept],
     place: usize,
@@ -162,7 +143,7 @@ fn note_one(
     ensures noted { MatchResult result (λ _. (refused_at entity (map shown kept.old) place ≡ None) × (map shown kept.new ≡ changed_at (noted_one entity now number) (map shown kept.old) place)) (λ e. (refused_at entity (map shown kept.old) place ≡ Some e) × (kept.new ≡ kept.old)) }
     ensures until { All (KeptUntil now) kept.new }
 {
-    match note_at_place(kept, place, entity, now, number) {
+    match note_here(kept, place, entity, now, number) {
         None => Ok(()),
         Some(unnoted) => Err(unnoted),
     }
