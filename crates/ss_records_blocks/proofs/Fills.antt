@@ -1,8 +1,9 @@
 -- Filling the words of a block.
-use Rattle.std.proofs.Common.{◌≡◌, ℕ, zero, suc, ◌+◌, ◌-◌, ◌*◌, ◌<◌, ◌≤◌, length, refl, sym, ap, subst, ◌∙◌, arith}
+use Rattle.std.proofs.Common.{◌≡◌, ℕ, zero, suc, inl, inr, ◌+◌, ◌-◌, ◌*◌, ◌<◌, ◌≤◌, length, refl, sym, ap, subst, ◌∙◌, arith}
+use Rattle.std.proofs.lemmas.Bool.{cases_lt}
 use denote.RawPtr.{Ptr}
 use Rattle.ss_records_blocks.specs.Cells.{Word, blank, number, counter, link, Cells, MayBeNumber, MayBeLink, MayBeCounter, words_at, word_of, word_at, with_word, put_word}
-use Rattle.ss_records_blocks.specs.Writes.{Filled, head_word, links_to, owned_word, owned_from}
+use Rattle.ss_records_blocks.specs.Writes.{Filled, zeros, head_word, links_to, owned_word, owned_from}
 use Rattle.ss_records_blocks.proofs.Same.{by_same}
 use Rattle.ss_records_blocks.proofs.Puts.{word_other, word_here, words_written, written_put, written_twice, length_put}
 
@@ -93,24 +94,32 @@ pub head_filled : (cs : Cells) (p : Ptr) (c n : ℕ) → 2 ≤ length (words_at 
 head_filled cs p c n room =
     filled_put cs (put_word cs p 0 (number c)) p 0 1 2 (head_word c n) (number n) (filled_put cs cs p 0 0 1 (head_word c n) (number c) (filled_none cs p 0 (head_word c n)) (omega arith) (omega (arith, room)) refl (omega arith)) (omega arith) (omega (arith, room)) refl (omega arith)
 
--- one word first, and then those after it
-module _ (cs : Cells) (p : Ptr) (from to : ℕ) (w : Word) where
-  pub first_room : to ≤ length (words_at cs p) → to ≤ length (words_at (put_word cs p from w) p)
-  first_room room = omega (arith, room, length_put cs p from w p)
+-- zeros up to a word, and then one more
+module _ (cs ds : Cells) (p : Ptr) (from next to : ℕ) (h : Filled cs ds p from next zeros) (room : to ≤ length (words_at cs p)) (low : from ≤ next) where
+  pub rest_room : to ≤ length (words_at ds p)
+  rest_room = omega (arith, room, h.written.size)
 
-  pub first_blank : ((k : ℕ) → from ≤ k → k < to → word_at cs p k ≡ blank) → (k : ℕ) → from + 1 ≤ k → k < to → word_at (put_word cs p from w) p k ≡ blank
-  first_blank b k x y = word_put cs p from w k ∙ word_other (words_at cs p) from w k (λ e. absurd (omega (arith, e, x))) ∙ b k (omega (arith, x)) y
+  module _ (blanks : (k : ℕ) → from ≤ k → k < to → word_at cs p k ≡ blank) where
+    pub rest_blank : (k : ℕ) → next ≤ k → k < to → word_at ds p k ≡ blank
+    rest_blank k x y = h.above k x ∙ blanks k (omega (arith, low, x)) y
 
-  pub filled_first : (ds : Cells) (f : ℕ → Word) → w ≡ f from → from < to → to ≤ length (words_at cs p) → Filled (put_word cs p from w) ds p (from + 1) to f → Filled cs ds p from to f
-  filled_first ds f e low room h =
-      let one = filled_put cs cs p from from (from + 1) f w (filled_none cs p from f) (omega arith) (omega (arith, low, room)) e refl in
-      record {
-        written = written_twice cs (put_word cs p from w) ds p one.written h.written;
-        inside = λ j a b. by_same from j
-            (λ z q. h.below j (omega (arith, q)) ∙ one.inside j a (omega (arith, q)))
-            (λ z q. h.inside j (below_next from j a q) b);
-        below = λ j a. h.below j (omega (arith, a)) ∙ one.below j a;
-        above = λ j a. h.above j a ∙ one.above j (omega (arith, a, low));
-      } where
-        below_next : (m n : ℕ) → m ≤ n → (m ≡ n → ⊥) → m + 1 ≤ n
-        below_next m n a q = omega (arith, a, q)
+    pub may_zero : next < to → (next < length (words_at ds p)) × MayBeNumber (word_at ds p next)
+    may_zero inside = (omega (arith, inside, rest_room), subst MayBeNumber (sym (rest_blank next (omega arith) inside)) tt)
+
+  pub zero_next : (es : Cells) (after : ℕ) → es ≡ put_word ds p next (number 0) → next < to → after ≡ next + 1 → Filled cs es p from after zeros
+  zero_next es after e inside n = rw e (filled_put cs ds p from next after zeros (number 0) h low (omega (arith, inside, room)) refl n)
+
+  -- the rest is zeros too
+  pub zeros_on : (es : Cells) → next ≤ to → Filled ds es p next to zeros → Filled cs es p from to zeros
+  zeros_on es high g = record {
+    written = written_twice cs ds es p h.written g.written;
+    inside = λ k x y. elim (cases_lt k next) as (λ _. word_at es p k ≡ number 0) [
+      | inl less ↦ g.below k less ∙ h.inside k x less
+      | inr more ↦ g.inside k more y
+    ];
+    below = λ k x. g.below k (omega (arith, x, low)) ∙ h.below k x;
+    above = λ k x. g.above k x ∙ h.above k (omega (arith, x, high));
+  }
+
+  pub zeros_end : next ≡ to → Filled cs ds p from to zeros
+  zeros_end end = subst (λ k. Filled cs ds p from k zeros) end h

@@ -15,68 +15,28 @@ pub fn fill_numbers(blocks: &mut Blocks, place: Address, from: usize, to: usize)
     ensures filled { Filled blocks.old.cells blocks.new.cells place.at from to zeros }
     ensures touches { (blocks.new.touches ≡ blocks.old.touches) × (blocks.new.total ≡ blocks.old.total) }
 {
-    if from < to {
-        blocks.set_number(place, from, 0);
-        fill_second(blocks, place, from + 1, to);
+    if from >= to {
+        return;
     }
-}
-
-// Writes the words from the second on.
-#[inline(always)]
-fn fill_second(blocks: &mut Blocks, place: Address, from: usize, to: usize)
-    requires order { from ≤ to }
-    requires room { to ≤ length (words_at blocks.old.cells place.at) }
-    requires blank { (k : ℕ) → from ≤ k → k < to → word_at blocks.old.cells place.at k ≡ blank }
-    ensures filled { Filled blocks.old.cells blocks.new.cells place.at from to zeros }
-    ensures touches { (blocks.new.touches ≡ blocks.old.touches) × (blocks.new.total ≡ blocks.old.total) }
-{
-    if from < to {
-        blocks.set_number(place, from, 0);
-        fill_third(blocks, place, from + 1, to);
+    blocks.set_number(place, from, 0);
+    let second = from + 1;
+    if second >= to {
+        return;
     }
-}
-
-// Writes the words from the third on.
-#[inline(always)]
-fn fill_third(blocks: &mut Blocks, place: Address, from: usize, to: usize)
-    requires order { from ≤ to }
-    requires room { to ≤ length (words_at blocks.old.cells place.at) }
-    requires blank { (k : ℕ) → from ≤ k → k < to → word_at blocks.old.cells place.at k ≡ blank }
-    ensures filled { Filled blocks.old.cells blocks.new.cells place.at from to zeros }
-    ensures touches { (blocks.new.touches ≡ blocks.old.touches) × (blocks.new.total ≡ blocks.old.total) }
-{
-    if from < to {
-        blocks.set_number(place, from, 0);
-        fill_fourth(blocks, place, from + 1, to);
+    blocks.set_number(place, second, 0);
+    let third = second + 1;
+    if third >= to {
+        return;
     }
-}
-
-// Writes the words from the fourth on.
-#[inline(always)]
-fn fill_fourth(blocks: &mut Blocks, place: Address, from: usize, to: usize)
-    requires order { from ≤ to }
-    requires room { to ≤ length (words_at blocks.old.cells place.at) }
-    requires blank { (k : ℕ) → from ≤ k → k < to → word_at blocks.old.cells place.at k ≡ blank }
-    ensures filled { Filled blocks.old.cells blocks.new.cells place.at from to zeros }
-    ensures touches { (blocks.new.touches ≡ blocks.old.touches) × (blocks.new.total ≡ blocks.old.total) }
-{
-    if from < to {
-        blocks.set_number(place, from, 0);
-        fill_on(blocks, place, from + 1, to);
+    blocks.set_number(place, third, 0);
+    let fourth = third + 1;
+    if fourth >= to {
+        return;
     }
-}
-
-// Writes the words from the fifth on.
-#[inline(always)]
-fn fill_on(blocks: &mut Blocks, place: Address, from: usize, to: usize)
-    requires order { from ≤ to }
-    requires room { to ≤ length (words_at blocks.old.cells place.at) }
-    requires blank { (k : ℕ) → from ≤ k → k < to → word_at blocks.old.cells place.at k ≡ blank }
-    ensures filled { Filled blocks.old.cells blocks.new.cells place.at from to zeros }
-    ensures touches { (blocks.new.touches ≡ blocks.old.touches) × (blocks.new.total ≡ blocks.old.total) }
-{
-    if from < to {
-        fill_rest(blocks, place, from, to);
+    blocks.set_number(place, fourth, 0);
+    let fifth = fourth + 1;
+    if fifth < to {
+        fill_rest(blocks, place, fifth, to);
     }
 }
 
