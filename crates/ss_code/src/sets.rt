@@ -1,152 +1,232 @@
-//! The instructions that work on sets.
+//! The code that works on sets.
 
-ghost use Rattle.std.specs.Prelude.{◌≡◌, ◌∷◌, ◌++◌, [], OnOk};
-ghost use Rattle.ss_program.specs.View.{view_expression, view_owner, view_position, view_start};
-ghost use Rattle.ss_code_instructions.specs.declared.instruction.Instruction.TheVariants.{LookOwner, BeginAt, Remove};
-ghost use Rattle.ss_code_instructions.specs.Translation.{owner_code, is_the_system, member_code, filing_of, beside_code, file_code, outset_code};
-
-use crate::emit::{emit_member, emit_owner, put, system_owns};
-use ss_base::Line;
-use ss_code_instructions::instruction::{Filing, Instruction};
+use crate::piece::{Piece, as_index};
+use crate::error::CodeError;
+use crate::expressions::{Operand, is_plain_owner};
+use crate::facts::{Ordering, is_count_watched, ordering_of};
+use crate::generator::{Generator, Site};
+use ss_code_instructions::address::Address;
+use ss_code_instructions::instruction::Instruction;
 use ss_program::expression::{Expression, SetOwner};
-use ss_program::head::Start;
-use ss_program::statement::Position;
-use std::alloc::AllocError;
+use ss_program::statement::{End, Place, Position};
 
-// What an instruction calls a position.
-fn filing(position: &Position) -> Filing
-    ensures { result ≡ filing_of (view_position position.now) }
-{
-    match position {
-        Position::ByDiscipline => Filing::ByDiscipline,
-        Position::AsFirst => Filing::First,
-        Position::AsLast => Filing::Last,
-        Position::BeforeMember { .. } => Filing::Before,
-        Position::AfterMember { .. } => Filing::After,
-    }
+// The one beside which a member is filed.
+#[derive(Clone, Copy)]
+enum Beside {
+    Nothing,
+    Before(Operand),
+    After(Operand),
 }
 
-// The member beside which another one is filed.
-fn emit_beside(
-    code: &mut Vec<Instruction>,
-    line: Line,
-    set: usize,
-    position: &Position,
-) -> Result<(), AllocError>
-    ensures { OnOk result (code.new.items ≡ code.old.items ++ beside_code line set (view_position position.now)) }
-{
-    match position {
-        Position::ByDiscipline | Position::AsFirst | Position::AsLast => Ok(()),
-        Position::BeforeMember { member } => emit_member(code, line, set, member),
-        Position::AfterMember { member } => emit_member(code, line, set, member),
-    }
-}
-
-/// FILE.
-pub fn emit_file(
-    code: &mut Vec<Instruction>,
-    line: Line,
-    set: usize,
-    member: &Expression,
-    position: &Position,
-    owner: &SetOwner,
-) -> Result<(), AllocError>
-    ensures { OnOk result (code.new.items ≡ code.old.items ++ file_code line set (view_expression member.now) (view_position position.now) (view_owner owner.now)) }
-{
-    emit_member(code, line, set, member)?;
-    emit_beside(code, line, set, position)?;
-    emit_owner(code, line, owner)?;
-    put(
-        code,
-        Instruction::File {
-            filing: filing(position),
-            set,
-            system: system_owns(owner),
-            line,
-        },
-    )
-}
-
-/// REMOVE.
-pub fn emit_remove(
-    code: &mut Vec<Instruction>,
-    line: Line,
-    set: usize,
-    member: &Expression,
-    owner: &SetOwner,
-) -> Result<(), AllocError>
-    ensures { OnOk result (code.new.items ≡ code.old.items ++ (member_code line set (view_expression member.now) ++ (owner_code line (view_owner owner.now) ++ Remove set (is_the_system (view_owner owner.now)) line ∷ []))) }
-{
-    emit_member(code, line, set, member)?;
-    emit_owner(code, line, owner)?;
-    put(
-        code,
-        Instruction::Remove {
-            set,
-            system: system_owns(owner),
-            line,
-        },
-    )
-}
-
-// The member with which a FOR over members begins, or after which; its owner lies below.
-fn emit_begin_at(
-    code: &mut Vec<Instruction>,
-    line: Line,
-    skip: usize,
-    reverse: bool,
-    after: bool,
-    set: usize,
-    member: &Expression,
-    system: bool,
-) -> Result<(), AllocError>
-    ensures { OnOk result (code.new.items ≡ code.old.items ++ LookOwner set system line ∷ (member_code line set (view_expression member.now) ++ BeginAt reverse after set system skip line ∷ [])) }
-{
-    put(code, Instruction::LookOwner { set, system, line })?;
-    emit_member(code, line, set, member)?;
-    put(
-        code,
-        Instruction::BeginAt {
-            reverse,
-            after,
-            set,
-            system,
-            skip,
-            line,
-        },
-    )
-}
-
-/// The owner of a FOR over members, and the first of them; past so many instructions where there is none.
-pub fn emit_outset(
-    code: &mut Vec<Instruction>,
-    line: Line,
-    skip: usize,
-    set: usize,
-    owner: &SetOwner,
-    start: &Start,
-    reverse: bool,
-) -> Result<(), AllocError>
-    ensures { OnOk result (code.new.items ≡ code.old.items ++ outset_code line skip set (view_owner owner.now) (view_start start.now) reverse) }
-{
-    let system = system_owns(owner);
-    emit_owner(code, line, owner)?;
-    match start {
-        Start::AtEnd => put(
-            code,
-            Instruction::BeginSet {
-                reverse,
-                set,
-                system,
-                skip,
-                line,
-            },
-        ),
-        Start::From { member } => {
-            emit_begin_at(code, line, skip, reverse, false, set, member, system)
+impl Beside {
+    // How many cells it takes.
+    fn cells(self) -> usize {
+        match self {
+            Beside::Nothing => 0,
+            Beside::Before(operand) | Beside::After(operand) => operand.cells,
         }
-        Start::After { member } => {
-            emit_begin_at(code, line, skip, reverse, true, set, member, system)
+    }
+}
+
+// A member is filed where the discipline says.
+fn file_by(ordering: Ordering, set: u32, member: Address, owner: Address) -> Instruction {
+    match ordering {
+        Ordering::First => Instruction::FileFirst { set, member, owner },
+        Ordering::Last => Instruction::FileLast { set, member, owner },
+        Ordering::Ranked => Instruction::FileRanked { set, member, owner },
+    }
+}
+
+impl Generator<'_> {
+    /// A reference to an entity that may be a member of a set. It is looked at where something that may fault comes between.
+    pub(crate) fn member(
+        &mut self,
+        code: &mut Piece,
+        site: Site,
+        set: usize,
+        e: &Expression,
+        is_looked: bool,
+    ) -> Result<Operand, CodeError> {
+        let member = self.operand(code, site, e)?;
+        if is_looked {
+            code.put(
+                site.line,
+                Instruction::LookMember {
+                    set: as_index(set)?,
+                    member: member.address,
+                },
+            )?;
+        }
+        Ok(member)
+    }
+
+    // The one beside which a member is filed.
+    fn beside(
+        &mut self,
+        code: &mut Piece,
+        site: Site,
+        set: usize,
+        position: &Position,
+        is_looked: bool,
+    ) -> Result<Beside, CodeError> {
+        match position {
+            Position::ByDiscipline | Position::AsFirst | Position::AsLast => Ok(Beside::Nothing),
+            Position::BeforeMember { member } => Ok(Beside::Before(
+                self.member(code, site, set, member, is_looked)?,
+            )),
+            Position::AfterMember { member } => Ok(Beside::After(
+                self.member(code, site, set, member, is_looked)?,
+            )),
+        }
+    }
+
+    // The instruction that files.
+    fn filing(
+        &self,
+        set: usize,
+        position: &Position,
+        member: Address,
+        beside: Beside,
+        owner: Address,
+    ) -> Result<Instruction, CodeError> {
+        let index = as_index(set)?;
+        Ok(match beside {
+            Beside::Before(operand) => Instruction::FileBefore {
+                set: index,
+                member,
+                beside: operand.address,
+                owner,
+            },
+            Beside::After(operand) => Instruction::FileAfter {
+                set: index,
+                member,
+                beside: operand.address,
+                owner,
+            },
+            Beside::Nothing => match position {
+                Position::AsFirst => file_by(Ordering::First, index, member, owner),
+                Position::AsLast => file_by(Ordering::Last, index, member, owner),
+                _ => file_by(ordering_of(self.program, set), index, member, owner),
+            },
+        })
+    }
+
+    // The number of members of a set has changed: a statistic that watches it notes that. So many cells stayed for it.
+    fn noted_count(
+        &mut self,
+        code: &mut Piece,
+        site: Site,
+        set: usize,
+        owner: Address,
+        cells: usize,
+    ) -> Result<(), CodeError> {
+        if !is_count_watched(self.program, set) {
+            return Ok(());
+        }
+        code.put(
+            site.line,
+            Instruction::NoteCount {
+                set: as_index(set)?,
+                owner,
+            },
+        )?;
+        self.forget(code, site, cells)
+    }
+
+    /// FILE.
+    pub(crate) fn file(
+        &mut self,
+        code: &mut Piece,
+        site: Site,
+        set: usize,
+        member: &Expression,
+        position: &Position,
+        owner: &SetOwner,
+    ) -> Result<(), CodeError> {
+        let owner_may_fault = !is_plain_owner(owner);
+        let is_looked = owner_may_fault || !is_plain_position(position);
+        let member = self.member(code, site, set, member, is_looked)?;
+        let beside_here = site.above(member.cells);
+        let beside = self.beside(code, beside_here, set, position, owner_may_fault)?;
+        let below = member.cells + beside.cells();
+        let owner = self.owner(code, site.above(below), owner)?;
+        let filing = self.filing(set, position, member.address, beside, owner.address)?;
+        code.put(site.line, filing)?;
+        self.noted_count(code, site, set, owner.address, below + owner.cells)
+    }
+
+    /// REMOVE.
+    pub(crate) fn remove(
+        &mut self,
+        code: &mut Piece,
+        site: Site,
+        set: usize,
+        member: &Expression,
+        owner: &SetOwner,
+    ) -> Result<(), CodeError> {
+        let member = self.member(code, site, set, member, !is_plain_owner(owner))?;
+        let owner = self.owner(code, site.above(member.cells), owner)?;
+        code.put(
+            site.line,
+            Instruction::Remove {
+                set: as_index(set)?,
+                member: member.address,
+                owner: owner.address,
+            },
+        )?;
+        let cells = member.cells + owner.cells;
+        self.noted_count(code, site, set, owner.address, cells)
+    }
+
+    // The member at an end is removed, and goes to a place.
+    fn put_remove_end(
+        &mut self,
+        code: &mut Piece,
+        site: Site,
+        end: End,
+        set: usize,
+        owner: Address,
+        to: Address,
+    ) -> Result<(), CodeError> {
+        let set = as_index(set)?;
+        let instruction = match end {
+            End::First => Instruction::RemoveFirst { set, owner, to },
+            End::Last => Instruction::RemoveLast { set, owner, to },
+        };
+        code.put(site.line, instruction)?;
+        Ok(())
+    }
+
+    /// REMOVE FIRST and REMOVE LAST.
+    pub(crate) fn remove_end(
+        &mut self,
+        code: &mut Piece,
+        site: Site,
+        end: End,
+        set: usize,
+        place: &Place,
+        owner: &SetOwner,
+    ) -> Result<(), CodeError> {
+        let spot = self.looked_spot(code, site, place)?;
+        let above = site.above(spot.cells());
+        let owner = self.owner(code, above, owner)?;
+        // what a watched set is noted by must stay, so that the member goes above it
+        let is_kept = is_count_watched(self.program, set);
+        let kept = if is_kept { owner.cells } else { 0 };
+        let to = self.landing(site.above(kept), spot)?;
+        self.put_remove_end(code, site, end, set, owner.address, to)?;
+        self.noted_count(code, site, set, owner.address, 0)?;
+        self.assign(code, site, spot, to)?;
+        self.forget(code, site, kept)
+    }
+}
+
+// Whether a position takes no code.
+fn is_plain_position(position: &Position) -> bool {
+    match position {
+        Position::ByDiscipline | Position::AsFirst | Position::AsLast => true,
+        Position::BeforeMember { member } | Position::AfterMember { member } => {
+            crate::expressions::is_plain(member)
         }
     }
 }

@@ -1,45 +1,65 @@
 //! What the machine reads of its input.
 
-ghost use Rattle.std.specs.Prelude.{◌≡◌, ℤ, Ok, Err, None};
-ghost use Rattle.ss_base.specs.declared.fault.FaultKind.{FaultKind as FaultSeen};
-ghost use Rattle.ss_base.specs.declared.layout.Mode.TheVariants.{Integer, Alpha as AlphaMode};
-ghost use Rattle.ss_base.specs.declared.value.Value.{Value as ValueSeen};
-ghost use Rattle.ss_base.specs.declared.value.Value.TheVariants.{Whole};
-ghost use Rattle.ss_base.specs.Failures.{HasRisen, HasRisenBy};
-ghost use Rattle.ss_input.specs.Blocks.{KnowsEnd};
-ghost use Rattle.ss_input.specs.Inputs.{source_block, source_missed, source_reader, Reads, Finds, missed_of};
-ghost use Rattle.ss_input.specs.Words.{value_given};
-
-use ss_base::{FaultyRead, Value};
+use ss_base::FaultyRead;
+use ss_code_instructions::address::Address;
 use ss_input::{Missed, Source};
+use ss_machine_instructions::flow::{Flow, Here, Went};
+use ss_machine_instructions::jumps::branch;
+use ss_machine_instructions::state::State;
 
-// The whole number that the next word is.
-pub(crate) fn next_number<R: FaultyRead>(source: &mut Source<R>) -> Result<i64, Missed>
-    requires { source_missed source.old ≡ None }
-    ensures read { (number : ℤ) → result ≡ Ok number → Reads R.remaining source.old source.new (λ input rest. value_given Integer input ≡ Ok (record { value = Whole number; rest = rest })) }
-    ensures fault { (kind : FaultSeen) → result ≡ Err (Missed.Fault kind) → Finds R.remaining source.old source.new (λ input. value_given Integer input ≡ Err kind) }
-    ensures lost { result ≡ Err Missed.Input → Finds R.remaining source.old source.new (λ input. Unit {0}) }
-    ensures input { result ≡ Err Missed.Input → HasRisen (R.faults (source_reader source.old)) (R.faults (source_reader source.new)) }
-    ensures missed { source_missed source.new ≡ missed_of result }
-    ensures never_falls { HasRisenBy 0 (R.faults (source_reader source.old)) (R.faults (source_reader source.new)) }
-    ensures end { KnowsEnd R.remaining (source_block source.old) → KnowsEnd R.remaining (source_block source.new) }
-{
-    source.integer()
+// Where no word was read.
+#[inline(always)]
+fn unread(here: Here, missed: Missed) -> Went {
+    match missed {
+        Missed::Fault(kind) => here.fault(kind),
+        Missed::Input => here.stop(Flow::NoInput),
+    }
 }
 
-// The text that the next word is.
-pub(crate) fn next_alpha<R: FaultyRead>(source: &mut Source<R>) -> Result<Value, Missed>
-    requires { source_missed source.old ≡ None }
-    ensures read { (value : ValueSeen) → result ≡ Ok value → Reads R.remaining source.old source.new (λ input rest. value_given AlphaMode input ≡ Ok (record { value = value; rest = rest })) }
-    ensures fault { (kind : FaultSeen) → result ≡ Err (Missed.Fault kind) → Finds R.remaining source.old source.new (λ input. value_given AlphaMode input ≡ Err kind) }
-    ensures lost { result ≡ Err Missed.Input → Finds R.remaining source.old source.new (λ input. Unit {0}) }
-    ensures input { result ≡ Err Missed.Input → HasRisen (R.faults (source_reader source.old)) (R.faults (source_reader source.new)) }
-    ensures missed { source_missed source.new ≡ missed_of result }
-    ensures never_falls { HasRisenBy 0 (R.faults (source_reader source.old)) (R.faults (source_reader source.new)) }
-    ensures end { KnowsEnd R.remaining (source_block source.old) → KnowsEnd R.remaining (source_block source.new) }
-{
+/// Read.
+#[inline(always)]
+pub(crate) fn read_number<R: FaultyRead>(
+    state: &mut State,
+    here: Here,
+    to: &Address,
+    source: &mut Source<R>,
+) -> Went {
+    match source.integer() {
+        Err(missed) => unread(here, missed),
+        Ok(number) => {
+            state.set_number(here, to, number);
+            here.on()
+        }
+    }
+}
+
+/// ReadText.
+#[inline(always)]
+pub(crate) fn read_text<R: FaultyRead>(
+    state: &mut State,
+    here: Here,
+    to: &Address,
+    source: &mut Source<R>,
+) -> Went {
     match source.alpha() {
-        Ok(text) => Ok(Value::Text(text)),
-        Err(missed) => Err(missed),
+        Err(missed) => unread(here, missed),
+        Ok(text) => {
+            state.set_text(here, to, text);
+            here.on()
+        }
+    }
+}
+
+/// UnlessEnded.
+#[inline(always)]
+pub(crate) fn unless_ended<R: FaultyRead>(
+    here: Here,
+    skip: u32,
+    negated: bool,
+    source: &mut Source<R>,
+) -> Went {
+    match source.ended() {
+        Err(missed) => unread(here, missed),
+        Ok(ended) => branch(here, Ok(ended), negated, skip),
     }
 }

@@ -7,6 +7,7 @@ pub mod entities;
 pub mod filing;
 mod members;
 mod pending;
+mod ranking;
 mod removing;
 pub mod scene;
 mod sets;

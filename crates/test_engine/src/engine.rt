@@ -2,7 +2,6 @@
 
 use ss_base::{FaultKind, Line, MemoryRead, MemoryWrite, Plan, WriteFailure};
 use ss_engine::{Model, Outcome, Refusal, Stop, compile, outcome_line, outcome_status, simulate};
-use ss_sections::sections::Sections;
 use std::alloc::Global;
 use std::test::Fail;
 

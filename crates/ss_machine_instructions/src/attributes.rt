@@ -1,0 +1,139 @@
+//! Attributes of entities, and times.
+
+use crate::flow::{Here, Went};
+use crate::state::State;
+use crate::world;
+use ss_base::Value;
+use ss_code_instructions::address::Address;
+
+impl State {
+    /// Attribute.
+    #[inline(always)]
+    pub fn attribute(
+        &mut self,
+        here: Here,
+        class: u32,
+        field: u32,
+        entity: &Address,
+        to: &Address,
+    ) -> Went {
+        let entity = self.number(here, entity);
+        let answer = world::attribute(&self.scene, class as usize, field as usize, entity);
+        self.put(here, to, answer)
+    }
+
+    /// TextAttribute.
+    #[inline(always)]
+    pub fn text_attribute(
+        &mut self,
+        here: Here,
+        class: u32,
+        field: u32,
+        entity: &Address,
+        to: &Address,
+    ) -> Went {
+        let entity = self.number(here, entity);
+        match world::text_attribute(&self.scene, class as usize, field as usize, entity) {
+            Ok(text) => {
+                self.set_text(here, to, text);
+                here.on()
+            }
+            Err(kind) => here.fault(kind),
+        }
+    }
+
+    /// SetAttribute.
+    #[inline(always)]
+    pub fn set_attribute(
+        &mut self,
+        here: Here,
+        class: u32,
+        field: u32,
+        entity: &Address,
+        from: &Address,
+    ) -> Went {
+        let (entity, number) = (self.number(here, entity), self.number(here, from));
+        here.done(world::set_attribute(
+            &mut self.scene,
+            class as usize,
+            field as usize,
+            entity,
+            number,
+        ))
+    }
+
+    /// SetTextAttribute.
+    #[inline(always)]
+    pub fn set_text_attribute(
+        &mut self,
+        here: Here,
+        class: u32,
+        field: u32,
+        entity: &Address,
+        from: &Address,
+    ) -> Went {
+        let (entity, text) = (self.number(here, entity), self.text(here, from));
+        here.done(world::set_value(
+            &mut self.scene,
+            class as usize,
+            field as usize,
+            entity,
+            Value::Text(text),
+        ))
+    }
+
+    /// AddToAttribute.
+    #[inline(always)]
+    pub fn add_to_attribute(
+        &mut self,
+        here: Here,
+        class: u32,
+        field: u32,
+        entity: &Address,
+        by: &Address,
+    ) -> Went {
+        let (entity, by) = (self.number(here, entity), self.number(here, by));
+        here.done(world::add_to_attribute(
+            &mut self.scene,
+            class as usize,
+            field as usize,
+            entity,
+            by,
+        ))
+    }
+
+    /// SubtractFromAttribute.
+    #[inline(always)]
+    pub fn subtract_from_attribute(
+        &mut self,
+        here: Here,
+        class: u32,
+        field: u32,
+        entity: &Address,
+        by: &Address,
+    ) -> Went {
+        let (entity, by) = (self.number(here, entity), self.number(here, by));
+        here.done(world::subtract_from_attribute(
+            &mut self.scene,
+            class as usize,
+            field as usize,
+            entity,
+            by,
+        ))
+    }
+
+    /// Clock.
+    #[inline(always)]
+    pub fn clock(&mut self, here: Here, to: &Address) -> Went {
+        let time = self.scene.timeline.time();
+        self.set_number(here, to, time);
+        here.on()
+    }
+
+    /// TimeOf.
+    #[inline(always)]
+    pub fn time_of(&mut self, here: Here, notice: &Address, to: &Address) -> Went {
+        let answer = self.scene.population.time_a(self.number(here, notice));
+        self.put(here, to, answer)
+    }
+}

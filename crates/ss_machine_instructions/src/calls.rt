@@ -1,0 +1,67 @@
+//! Calls.
+
+use crate::flow::{Flow, Here, Went};
+use crate::state::State;
+use ss_code_instructions::entry::Entry;
+use ss_machine_frames::frames::Frame;
+use std::alloc::AllocError;
+
+impl State {
+    /// A section begins, whose frame begins at a cell: what it is given lies there already, its other variables hold their
+    /// first values, and there is room for its cells. It answers where the frame begins.
+    #[inline(always)]
+    pub fn enter(&mut self, here: Here, entry: &Entry, cell: u32) -> Result<u32, AllocError> {
+        let frame = self.cell(here, cell);
+        let room = frame + entry.room;
+        if self.rows.len() < room {
+            self.rows.lengthen(room)?;
+        }
+        self.rows.clear(frame + entry.given.len(), &entry.others);
+        self.frames.push(Frame {
+            back: here.place + 1,
+            caller: here.frame,
+            given: entry.given.len() as u32,
+            yielding: entry.yielding as u32,
+        })?;
+        Ok(frame as u32)
+    }
+
+    /// Call.
+    #[inline(always)]
+    pub fn call(&mut self, here: Here, entry: &Entry, cell: u32) -> Went {
+        match here.with_tick() {
+            None => here.pause(),
+            Some(after) => match self.enter(after, entry, cell) {
+                Err(_) => here.stop(Flow::NoMemory),
+                Ok(frame) => after.to(entry.place, frame),
+            },
+        }
+    }
+
+    /// Leave.
+    #[inline(always)]
+    pub fn leave(&mut self, here: Here) -> Went {
+        match self.frames.pop() {
+            None => here.stop(Flow::Ends),
+            Some(frame) => {
+                if frame.yielding > 0 {
+                    self.yield_values(here.frame as usize, frame);
+                }
+                here.to(frame.back, frame.caller)
+            }
+        }
+    }
+
+    /// Halt.
+    #[inline(always)]
+    pub fn halt(&self, here: Here) -> Went {
+        here.stop(Flow::Ends)
+    }
+
+    // What is yielded goes where the frame begins, the first on top.
+    #[inline(never)]
+    fn yield_values(&mut self, to: usize, frame: Frame) {
+        let from = to + frame.given as usize;
+        self.rows.yield_down(from, to, frame.yielding as usize);
+    }
+}

@@ -1,0 +1,147 @@
+//! Where instructions lead.
+
+use ss_base::{FaultKind, Line, Refused};
+
+/// How a run goes on after an instruction.
+#[derive(Clone, Copy, Debug, PartialEq, Eq)]
+pub enum Flow {
+    /// It goes on.
+    Goes,
+    /// The program has come to its end.
+    Ends,
+    /// A tick is due, and none is left: nothing was done.
+    Pauses,
+    /// A fault, at the line of the instruction.
+    Faults(FaultKind),
+    /// A fault, at the line of an event's routine.
+    EventFaults(FaultKind, Line),
+    /// Memory was refused.
+    NoMemory,
+    /// The writer failed.
+    NoOutput,
+    /// The reader failed.
+    NoInput,
+}
+
+/// Where an instruction has led: the place, where the frame of the section begins, the ticks that are left, and how it goes on.
+#[derive(Clone, Copy, Debug, PartialEq, Eq)]
+pub struct Went {
+    pub place: usize,
+    pub frame: u32,
+    pub ticks: u64,
+    pub flow: Flow,
+}
+
+/// Where a run is: the place of the instruction, where the frame of the section begins, and the ticks that are left.
+#[derive(Clone, Copy, Debug, PartialEq, Eq)]
+pub struct Here {
+    pub place: usize,
+    pub frame: u32,
+    pub ticks: u64,
+}
+
+impl Here {
+    // How it goes on, at a place.
+    #[inline(always)]
+    fn with(self, place: usize, flow: Flow) -> Went {
+        Went {
+            place,
+            frame: self.frame,
+            ticks: self.ticks,
+            flow,
+        }
+    }
+
+    /// On to the next instruction.
+    #[inline(always)]
+    pub fn on(self) -> Went {
+        self.with(self.place + 1, Flow::Goes)
+    }
+
+    /// Past so many instructions after this.
+    #[inline(always)]
+    pub fn past(self, skip: u32) -> Went {
+        self.with(self.place + 1 + skip as usize, Flow::Goes)
+    }
+
+    /// On where something holds, and else past so many instructions.
+    #[inline(always)]
+    pub fn on_if(self, holds: bool, skip: u32) -> Went {
+        if holds { self.on() } else { self.past(skip) }
+    }
+
+    /// Back by so many instructions.
+    #[inline(always)]
+    pub fn back(self, back: u32) -> Went {
+        self.with(self.place - back as usize, Flow::Goes)
+    }
+
+    /// To a place in another frame.
+    #[inline(always)]
+    pub fn to(self, place: usize, frame: u32) -> Went {
+        Went {
+            place,
+            frame,
+            ticks: self.ticks,
+            flow: Flow::Goes,
+        }
+    }
+
+    /// It does not go on.
+    #[inline(always)]
+    pub fn stop(self, flow: Flow) -> Went {
+        self.with(self.place, flow)
+    }
+
+    /// On to the next instruction where it goes on, and else a stop.
+    #[inline(always)]
+    pub fn on_or_stop(self, flow: Flow) -> Went {
+        match flow {
+            Flow::Goes => self.on(),
+            other => self.stop(other),
+        }
+    }
+
+    /// A fault.
+    #[inline(always)]
+    pub fn fault(self, kind: FaultKind) -> Went {
+        self.stop(Flow::Faults(kind))
+    }
+
+    /// On to the next instruction, unless there was a fault.
+    #[inline(always)]
+    pub fn done(self, answer: Result<(), FaultKind>) -> Went {
+        match answer {
+            Ok(()) => self.on(),
+            Err(kind) => self.fault(kind),
+        }
+    }
+
+    /// Where memory was refused, or there was a fault.
+    #[inline(always)]
+    pub fn refused(self, refused: Refused) -> Went {
+        match refused {
+            Refused::Fault(kind) => self.fault(kind),
+            Refused::Memory => self.stop(Flow::NoMemory),
+        }
+    }
+
+    /// The same with a tick fewer; None where none is left.
+    #[inline(always)]
+    pub fn with_tick(self) -> Option<Here> {
+        if self.ticks == 0 {
+            return None;
+        }
+        Some(Here {
+            place: self.place,
+            frame: self.frame,
+            ticks: self.ticks - 1,
+        })
+    }
+
+    /// A tick is due, and none is left.
+    #[inline(always)]
+    pub fn pause(self) -> Went {
+        self.stop(Flow::Pauses)
+    }
+}

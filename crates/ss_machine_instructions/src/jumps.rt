@@ -1,0 +1,147 @@
+//! Tests and jumps.
+
+use crate::flow::{Here, Went};
+use crate::state::State;
+use crate::world;
+use ss_base::{Alpha, FaultKind};
+use ss_code_instructions::address::Address;
+use ss_program::condition::Relation;
+use std::cmp::Ordering;
+
+// Whether an order is one of those that a relation allows.
+fn allows(relation: Relation, order: Ordering) -> bool {
+    match relation {
+        Relation::Equal => order.is_eq(),
+        Relation::NotEqual => order.is_ne(),
+        Relation::Less => order.is_lt(),
+        Relation::Greater => order.is_gt(),
+        Relation::LessOrEqual => order.is_le(),
+        Relation::GreaterOrEqual => order.is_ge(),
+    }
+}
+
+// Whether two texts stand in a relation.
+#[inline(never)]
+fn are_related(relation: Relation, left: Alpha, right: Alpha) -> bool {
+    allows(relation, left.cmp(&right))
+}
+
+/// On where a test holds, or does not if negated, and else past so many instructions.
+#[inline(always)]
+pub fn branch(here: Here, answer: Result<bool, FaultKind>, negated: bool, skip: u32) -> Went {
+    match answer {
+        Ok(holds) => here.on_if(holds != negated, skip),
+        Err(kind) => here.fault(kind),
+    }
+}
+
+impl State {
+    /// UnlessEqual.
+    #[inline(always)]
+    pub fn unless_equal(&self, here: Here, left: &Address, right: &Address, skip: u32) -> Went {
+        here.on_if(self.number(here, left) == self.number(here, right), skip)
+    }
+
+    /// UnlessNotEqual.
+    #[inline(always)]
+    pub fn unless_not_equal(&self, here: Here, left: &Address, right: &Address, skip: u32) -> Went {
+        here.on_if(self.number(here, left) != self.number(here, right), skip)
+    }
+
+    /// UnlessLess.
+    #[inline(always)]
+    pub fn unless_less(&self, here: Here, left: &Address, right: &Address, skip: u32) -> Went {
+        here.on_if(self.number(here, left) < self.number(here, right), skip)
+    }
+
+    /// UnlessGreater.
+    #[inline(always)]
+    pub fn unless_greater(&self, here: Here, left: &Address, right: &Address, skip: u32) -> Went {
+        here.on_if(self.number(here, left) > self.number(here, right), skip)
+    }
+
+    /// UnlessLessOrEqual.
+    #[inline(always)]
+    pub fn unless_less_or_equal(
+        &self,
+        here: Here,
+        left: &Address,
+        right: &Address,
+        skip: u32,
+    ) -> Went {
+        here.on_if(self.number(here, left) <= self.number(here, right), skip)
+    }
+
+    /// UnlessGreaterOrEqual.
+    #[inline(always)]
+    pub fn unless_greater_or_equal(
+        &self,
+        here: Here,
+        left: &Address,
+        right: &Address,
+        skip: u32,
+    ) -> Went {
+        here.on_if(self.number(here, left) >= self.number(here, right), skip)
+    }
+
+    /// UnlessTexts.
+    #[inline(always)]
+    pub fn unless_texts(
+        &self,
+        here: Here,
+        relation: Relation,
+        left: &Address,
+        right: &Address,
+        skip: u32,
+    ) -> Went {
+        let holds = are_related(relation, self.text(here, left), self.text(here, right));
+        here.on_if(holds, skip)
+    }
+
+    /// UnlessEmpty.
+    #[inline(always)]
+    pub fn unless_empty(
+        &mut self,
+        here: Here,
+        set: u32,
+        owner: &Address,
+        skip: u32,
+        negated: bool,
+    ) -> Went {
+        let owner = self.number(here, owner);
+        let answer = world::is_empty(&mut self.scene, set as usize, owner);
+        branch(here, answer, negated, skip)
+    }
+
+    /// UnlessMember.
+    #[inline(always)]
+    pub fn unless_member(
+        &mut self,
+        here: Here,
+        set: u32,
+        both: (&Address, &Address),
+        skip: u32,
+        negated: bool,
+    ) -> Went {
+        let (member, owner) = (self.number(here, both.0), self.number(here, both.1));
+        let answer = world::is_in(&mut self.scene, set as usize, owner, member);
+        branch(here, answer, negated, skip)
+    }
+
+    /// Await.
+    #[inline(always)]
+    pub fn await_event(&mut self, here: Here, skip: u32) -> Went {
+        let holds = self.scene.is_awaited();
+        here.on_if(holds, skip)
+    }
+
+    /// NextEvent.
+    #[inline(always)]
+    pub fn next_event(&mut self, here: Here, back: u32) -> Went {
+        if self.scene.is_awaited() {
+            here.back(back)
+        } else {
+            here.on()
+        }
+    }
+}
