@@ -37,6 +37,37 @@ struct Walk {
     reverse: bool,
 }
 
+// What a comparison of two numbers reads, and how many instructions it jumps over.
+fn compared(instruction: &Instruction) -> Option<(Address, Address, u32)> {
+    match instruction {
+        Instruction::UnlessEqual { left, right, skip }
+        | Instruction::UnlessNotEqual { left, right, skip }
+        | Instruction::UnlessLess { left, right, skip }
+        | Instruction::UnlessGreater { left, right, skip }
+        | Instruction::UnlessLessOrEqual { left, right, skip }
+        | Instruction::UnlessGreaterOrEqual { left, right, skip } => Some((*left, *right, *skip)),
+        _ => None,
+    }
+}
+
+// Whether a turn of a walk begins with a test of an attribute of the member in this variable, which ends the turn where it fails.
+// After the Take the attribute is read, and then compared to what neither of the two has written.
+fn is_sieve(turn: &[Instruction], member: Address) -> bool {
+    match turn {
+        [_, Instruction::Attribute { entity, to, .. }, test, ..] => match compared(test) {
+            None => false,
+            Some((left, right, skip)) => {
+                *entity == member
+                    && left == *to
+                    && right != *to
+                    && right != member
+                    && skip as usize + 3 == turn.len()
+            }
+        },
+        _ => false,
+    }
+}
+
 impl Generator<'_> {
     /// A loop that begins with WHILE or UNTIL: the guards; the tick of a turn; the body; the guards again; and a jump back to
     /// the tick.
@@ -134,6 +165,7 @@ impl Generator<'_> {
         self.noted(&mut code, site, walk.variable)?;
         code.append(turn)?;
         let back = as_index(code.len())?;
+        let sifts = is_sieve(&code.instructions, walk.variable.address);
         code.put(
             site.line,
             Instruction::NextMember {
@@ -142,6 +174,7 @@ impl Generator<'_> {
                 cell: walk.cell,
                 back,
                 reverse: walk.reverse,
+                sifts,
             },
         )?;
         Ok(code)

@@ -2,7 +2,7 @@
 
 use crate::piece::{Piece, as_index};
 use crate::error::CodeError;
-use crate::expressions::{is_plain, move_of};
+use crate::expressions::move_of;
 use crate::facts::{
     attribute_mode, is_attribute_watched, is_variable_watched, variable_mode,
 };
@@ -96,6 +96,19 @@ fn set_of(spot: AttributeSpot, from: Address) -> Instruction {
     }
 }
 
+// Whether the entity of an attribute needs no look before the code of a value: there is none, or the first thing that it does is to
+// read an attribute of the same entity, which has the same faults.
+fn is_looked_at(computed: &Piece, spot: AttributeSpot) -> bool {
+    match computed.instructions.first() {
+        None => true,
+        Some(Instruction::Attribute { class, entity, .. })
+        | Some(Instruction::TextAttribute { class, entity, .. }) => {
+            *class == spot.class && *entity == spot.entity
+        }
+        Some(_) => false,
+    }
+}
+
 impl Generator<'_> {
     /// A variable as what is assigned.
     pub(crate) fn variable_spot(&self, variable: Variable) -> Result<VariableSpot, CodeError> {
@@ -163,15 +176,26 @@ impl Generator<'_> {
     ) -> Result<Spot, CodeError> {
         let spot = self.spot(code, site, place)?;
         if let Spot::Attribute(attribute) = spot {
-            code.put(
-                site.line,
-                Instruction::LookEntity {
-                    class: attribute.class,
-                    entity: attribute.entity,
-                },
-            )?;
+            self.look(code, site, attribute)?;
         }
         Ok(spot)
+    }
+
+    // The reference to the entity of an attribute is looked at.
+    fn look(
+        &mut self,
+        code: &mut Piece,
+        site: Site,
+        attribute: AttributeSpot,
+    ) -> Result<(), CodeError> {
+        code.put(
+            site.line,
+            Instruction::LookEntity {
+                class: attribute.class,
+                entity: attribute.entity,
+            },
+        )?;
+        Ok(())
     }
 
     /// Where the value that a place will be assigned goes at first: into the variable itself, or into the next cell above what
@@ -286,18 +310,21 @@ impl Generator<'_> {
         place: &Place,
         value: &Expression,
     ) -> Result<(), CodeError> {
-        let spot = if is_plain(value) {
-            self.spot(code, site, place)?
-        } else {
-            self.looked_spot(code, site, place)?
-        };
+        let spot = self.spot(code, site, place)?;
         match spot {
             Spot::Variable(variable) => {
                 self.expression(code, site, value, variable.address)?;
                 self.noted(code, site, variable)
             }
             Spot::Attribute(_) | Spot::Count(_, _) => {
-                let from = self.operand(code, site.above(spot.cells()), value)?;
+                let mut computed = Piece::new(self.alloc);
+                let from = self.operand(&mut computed, site.above(spot.cells()), value)?;
+                if let Spot::Attribute(attribute) = spot
+                    && !is_looked_at(&computed, attribute)
+                {
+                    self.look(code, site, attribute)?;
+                }
+                code.append(computed)?;
                 self.assign(code, site, spot, from.address)
             }
         }

@@ -273,13 +273,16 @@ pub enum Instruction {
         after: bool,
     },
     /// Goes on where there is no next member. It must still be in the set of the owner, who stays; then it goes in the cell, the
-    /// one that comes after it in the next, and this jumps back.
+    /// one that comes after it in the next, and this jumps back. `sifts` says what the code is there: after the Take an attribute of the
+    /// member is read and compared to a variable or a constant, and where that fails it goes on here. So the machine may make
+    /// many steps at once.
     NextMember {
         set: u32,
         owner: Address,
         cell: u32,
         back: u32,
         reverse: bool,
+        sifts: bool,
     },
     /// Cells are forgotten: those of a loop that is left, and those that stayed.
     Forget { count: u32 },

@@ -282,7 +282,7 @@ pub(crate) fn detail_of(instruction: &I) -> Detail {
             "begin at",
             &[Part::Of("set", *set), Part::From(*owner), Part::Of("cell", *cell), Part::Else(*skip), word_if(*reverse, "reverse"), word_if(*after, "after")],
         ),
-        I::NextMember { set, owner, cell, back, reverse } => with(
+        I::NextMember { set, owner, cell, back, reverse, .. } => with(
             "next member",
             &[Part::Of("set", *set), Part::From(*owner), Part::Of("cell", *cell), Part::Back(*back), word_if(*reverse, "reverse")],
         ),

@@ -24,7 +24,6 @@ pub struct Machine {
     frame: u32,
     buffers: Buffers,
     used: u64,
-    steps: u128,
     stopped: Option<Stop>,
 }
 
@@ -69,7 +68,6 @@ impl Machine {
             frame,
             buffers: Buffers::new(alloc),
             used: 0,
-            steps: 0,
             stopped: None,
         })
     }
@@ -105,14 +103,12 @@ impl Machine {
             &mut self.state,
             &mut self.buffers,
             from,
-            self.steps,
             source,
             sink,
         );
         self.place = rest.here.place;
         self.frame = rest.here.frame;
         self.used = last - rest.here.ticks;
-        self.steps = rest.steps;
         self.stopped = kept(rest.stop);
         rest.stop
     }
@@ -140,6 +136,6 @@ impl Machine {
     ///
     /// After u ticks there are at least u, and at most 3u + 4 times as many as there are instructions.
     pub fn steps(&self) -> u128 {
-        self.steps
+        self.state.steps
     }
 }

@@ -2,8 +2,6 @@
 
 use crate::flow::{Here, Went};
 use crate::state::State;
-use crate::world;
-use ss_base::Value;
 use ss_code_instructions::address::Address;
 
 impl State {
@@ -18,7 +16,7 @@ impl State {
         to: &Address,
     ) -> Went {
         let entity = self.number(here, entity);
-        let answer = world::attribute(&self.scene, class as usize, field as usize, entity);
+        let answer = self.scene.population.whole(class as usize, field as usize, entity);
         self.put(here, to, answer)
     }
 
@@ -33,12 +31,12 @@ impl State {
         to: &Address,
     ) -> Went {
         let entity = self.number(here, entity);
-        match world::text_attribute(&self.scene, class as usize, field as usize, entity) {
+        match self.scene.population.text(class as usize, field as usize, entity) {
             Ok(text) => {
                 self.set_text(here, to, text);
                 here.on()
             }
-            Err(kind) => here.fault(kind),
+            Err(kind) => self.fault(here, kind),
         }
     }
 
@@ -53,13 +51,8 @@ impl State {
         from: &Address,
     ) -> Went {
         let (entity, number) = (self.number(here, entity), self.number(here, from));
-        here.done(world::set_attribute(
-            &mut self.scene,
-            class as usize,
-            field as usize,
-            entity,
-            number,
-        ))
+        let answer = self.scene.population.set_whole(class as usize, field as usize, entity, number);
+        self.done(here, answer)
     }
 
     /// SetTextAttribute.
@@ -73,13 +66,8 @@ impl State {
         from: &Address,
     ) -> Went {
         let (entity, text) = (self.number(here, entity), self.text(here, from));
-        here.done(world::set_value(
-            &mut self.scene,
-            class as usize,
-            field as usize,
-            entity,
-            Value::Text(text),
-        ))
+        let answer = self.scene.population.set_text(class as usize, field as usize, entity, text);
+        self.done(here, answer)
     }
 
     /// AddToAttribute.
@@ -93,13 +81,8 @@ impl State {
         by: &Address,
     ) -> Went {
         let (entity, by) = (self.number(here, entity), self.number(here, by));
-        here.done(world::add_to_attribute(
-            &mut self.scene,
-            class as usize,
-            field as usize,
-            entity,
-            by,
-        ))
+        let answer = self.scene.population.add_whole(class as usize, field as usize, entity, by);
+        self.done(here, answer)
     }
 
     /// SubtractFromAttribute.
@@ -113,13 +96,8 @@ impl State {
         by: &Address,
     ) -> Went {
         let (entity, by) = (self.number(here, entity), self.number(here, by));
-        here.done(world::subtract_from_attribute(
-            &mut self.scene,
-            class as usize,
-            field as usize,
-            entity,
-            by,
-        ))
+        let answer = self.scene.population.subtract_whole(class as usize, field as usize, entity, by);
+        self.done(here, answer)
     }
 
     /// Clock.

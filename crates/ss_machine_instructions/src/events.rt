@@ -2,18 +2,18 @@
 
 use crate::flow::{Flow, Here, Went};
 use crate::state::State;
-use crate::world;
-use ss_base::{FaultKind, Line, Mode, Refused, Value};
+use ss_base::{FaultKind, Mode, Refused};
 use ss_code_instructions::address::Address;
 use ss_code_instructions::entry::Entry;
-use ss_machine_events::coming::{TakenEvent, next_event};
+use ss_machine_events::coming::next_event;
+use ss_machine_events::scheduling;
 
 impl State {
     /// At.
     #[inline(always)]
     pub fn time_at(&mut self, here: Here, time: &Address, to: &Address) -> Went {
         let time = self.number(here, time);
-        let answer = world::time_at(&self.scene, time);
+        let answer = scheduling::time_at(&self.scene, time);
         self.put(here, to, answer)
     }
 
@@ -21,7 +21,7 @@ impl State {
     #[inline(always)]
     pub fn time_in(&mut self, here: Here, units: &Address, to: &Address) -> Went {
         let units = self.number(here, units);
-        let answer = world::time_in(&self.scene, units);
+        let answer = scheduling::time_in(&self.scene, units);
         self.put(here, to, answer)
     }
 
@@ -36,14 +36,14 @@ impl State {
     ) -> Result<(), FaultKind> {
         for field in 0..given as usize {
             let at = from + field;
-            match world::field_mode(&self.scene, class, field) {
+            match self.scene.population.mode(class, field) {
                 Mode::Integer => {
                     let number = self.rows.number_at(at);
-                    world::set_attribute(&mut self.scene, class, field, notice, number)?;
+                    self.scene.population.set_whole(class, field, notice, number)?;
                 }
                 Mode::Alpha => {
-                    let text = Value::Text(self.rows.text_at(at));
-                    world::set_value(&mut self.scene, class, field, notice, text)?;
+                    let text = self.rows.text_at(at);
+                    self.scene.population.set_text(class, field, notice, text)?;
                 }
             }
         }
@@ -59,7 +59,7 @@ impl State {
         given: u32,
         time: i64,
     ) -> Result<i64, Refused> {
-        let notice = world::create(&mut self.scene, class)?;
+        let notice = self.scene.create(class)?;
         let endowed = match self.give(class, notice, from, given) {
             Ok(()) => self.scene.population.set_time_a(notice, time),
             Err(kind) => Err(kind),
@@ -88,7 +88,7 @@ impl State {
                 self.set_number(here, to, notice);
                 here.on()
             }
-            Err(refused) => here.refused(refused),
+            Err(refused) => self.refused(here, refused),
         }
     }
 
@@ -102,9 +102,9 @@ impl State {
         time: &Address,
     ) -> Went {
         let (notice, time) = (self.number(here, notice), self.number(here, time));
-        match world::file_notice(&mut self.scene, self.alloc, class as usize, notice, time) {
+        match scheduling::schedule(&mut self.scene, self.alloc, class as usize, notice, time) {
             Ok(()) => here.on(),
-            Err(refused) => here.refused(refused),
+            Err(refused) => self.refused(here, refused),
         }
     }
 
@@ -118,6 +118,9 @@ impl State {
         given: u32,
         time: i64,
     ) -> Result<(), Refused> {
+        if let Err(kind) = self.scene.population.known(class, notice) {
+            return Err(Refused::Fault(kind));
+        }
         if self.scene.timeline.is_scheduled(notice) {
             return Err(Refused::Fault(FaultKind::AlreadyScheduled));
         }
@@ -126,7 +129,7 @@ impl State {
             Err(kind) => Err(kind),
         };
         match endowed {
-            Ok(()) => world::file_notice(&mut self.scene, self.alloc, class, notice, time),
+            Ok(()) => scheduling::schedule(&mut self.scene, self.alloc, class, notice, time),
             Err(kind) => Err(Refused::Fault(kind)),
         }
     }
@@ -146,7 +149,7 @@ impl State {
         let time = self.rows.number_at(from + given as usize);
         match self.schedule_again(class as usize, notice, from, given, time) {
             Ok(()) => here.on(),
-            Err(refused) => here.refused(refused),
+            Err(refused) => self.refused(here, refused),
         }
     }
 
@@ -154,64 +157,70 @@ impl State {
     #[inline(always)]
     pub fn cancel(&mut self, here: Here, class: u32, notice: &Address) -> Went {
         let notice = self.number(here, notice);
-        here.done(world::cancel(&mut self.scene, class as usize, notice))
+        let answer = self.scene.cancel(class as usize, notice);
+        self.done(here, answer)
     }
 
-    // The first attributes of a notice go where the frame of its event begins.
+    // The first attributes of a notice, of these modes, go where the frame of its event begins.
     #[inline(always)]
-    fn read_given(&mut self, event: &TakenEvent, modes: &[Mode], from: usize) -> Result<(), FaultKind> {
-        let mut field = 0;
-        for mode in modes {
+    fn read_given(
+        &mut self,
+        class: usize,
+        notice: i64,
+        modes: &[Mode],
+        from: usize,
+    ) -> Result<(), FaultKind> {
+        for field in 0..modes.len() {
             let at = from + field;
-            match mode {
+            match modes[field] {
                 Mode::Integer => {
-                    let number =
-                        world::attribute(&self.scene, event.class, field, event.notice)?;
+                    let number = self.scene.population.whole(class, field, notice)?;
                     self.rows.set_number_at(at, number);
                 }
                 Mode::Alpha => {
-                    let text =
-                        world::text_attribute(&self.scene, event.class, field, event.notice)?;
+                    let text = self.scene.population.text(class, field, notice)?;
                     self.rows.set_text_at(at, text);
                 }
             }
-            field += 1;
         }
         Ok(())
     }
 
-    // The notice of an event is saved in a variable, or it goes.
+    // The notice of an event of this rank is saved in a variable, or it goes.
     #[inline(always)]
-    fn let_go(&mut self, event: &TakenEvent) -> Result<(), FaultKind> {
-        match event.saved {
+    fn let_go(&mut self, rank: usize, class: usize, notice: i64) -> Result<(), FaultKind> {
+        match self.scene.notices[rank].saved() {
             Some(variable) => {
-                self.rows.set_number_at(variable, event.notice);
+                self.rows.set_number_at(variable, notice);
                 Ok(())
             }
-            None => world::remove_entity(&mut self.scene, event.class, event.notice),
+            None => self.scene.remove_entity(class, notice),
         }
     }
 
-    // The event that comes next begins.
+    // The event of a notice begins, after this instruction.
     #[inline(always)]
     fn begin_event(
         &mut self,
-        before: Here,
         here: Here,
-        event: TakenEvent,
-        entry: &Entry,
+        after: Here,
+        notice: i64,
+        class: usize,
+        events: &[Entry],
         cell: u32,
     ) -> Went {
-        let Ok(frame) = self.enter(here, entry, cell) else {
-            return before.stop(Flow::NoMemory);
+        let rank = self.scene.rank(class);
+        let entry = &events[rank];
+        let Ok(frame) = self.enter(after, entry, cell) else {
+            return here.stop(Flow::NoMemory);
         };
-        let begun = match self.read_given(&event, &entry.given, frame as usize) {
-            Ok(()) => self.let_go(&event),
+        let begun = match self.read_given(class, notice, &entry.given, frame as usize) {
+            Ok(()) => self.let_go(rank, class, notice),
             Err(kind) => Err(kind),
         };
         match begun {
-            Ok(()) => here.to(entry.place, frame),
-            Err(kind) => fault_of_event(here, kind, event.line),
+            Ok(()) => after.to(entry.place, frame),
+            Err(kind) => self.fault_of_event(after, kind, rank),
         }
     }
 
@@ -221,15 +230,19 @@ impl State {
         let Some(after) = here.with_tick() else {
             return here.pause();
         };
-        match next_event(&mut self.scene) {
+        let Some(notice) = next_event(&mut self.scene) else {
+            return after.on();
+        };
+        match self.scene.population.class_of(notice) {
             None => after.on(),
-            Some(event) => self.begin_event(here, after, event, &events[event.rank], cell),
+            Some(class) => self.begin_event(here, after, notice, class, events, cell),
         }
     }
-}
 
-// A fault as an event begins has the line of its routine.
-#[inline(always)]
-fn fault_of_event(here: Here, kind: FaultKind, line: Line) -> Went {
-    here.stop(Flow::EventFaults(kind, line))
+    // A fault as an event of this rank begins has the line of its routine.
+    #[inline(always)]
+    fn fault_of_event(&mut self, here: Here, kind: FaultKind, rank: usize) -> Went {
+        self.fault_line = Some(self.scene.notices[rank].line());
+        self.fault(here, kind)
+    }
 }

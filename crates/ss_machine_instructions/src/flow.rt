@@ -1,7 +1,5 @@
 //! Where instructions lead.
 
-use ss_base::{FaultKind, Line, Refused};
-
 /// How a run goes on after an instruction.
 #[derive(Clone, Copy, Debug, PartialEq, Eq)]
 pub enum Flow {
@@ -11,10 +9,8 @@ pub enum Flow {
     Ends,
     /// A tick is due, and none is left: nothing was done.
     Pauses,
-    /// A fault, at the line of the instruction.
-    Faults(FaultKind),
-    /// A fault, at the line of an event's routine.
-    EventFaults(FaultKind, Line),
+    /// A fault, which the state says.
+    Faults,
     /// Memory was refused.
     NoMemory,
     /// The writer failed.
@@ -76,6 +72,22 @@ impl Here {
         self.with(self.place - back as usize, Flow::Goes)
     }
 
+    /// At the same instruction again.
+    #[inline(always)]
+    pub fn stay(self) -> Went {
+        self.with(self.place, Flow::Goes)
+    }
+
+    /// The same with so many ticks fewer.
+    #[inline(always)]
+    pub fn later(self, ticks: u64) -> Here {
+        Here {
+            place: self.place,
+            frame: self.frame,
+            ticks: self.ticks - ticks,
+        }
+    }
+
     /// To a place in another frame.
     #[inline(always)]
     pub fn to(self, place: usize, frame: u32) -> Went {
@@ -99,30 +111,6 @@ impl Here {
         match flow {
             Flow::Goes => self.on(),
             other => self.stop(other),
-        }
-    }
-
-    /// A fault.
-    #[inline(always)]
-    pub fn fault(self, kind: FaultKind) -> Went {
-        self.stop(Flow::Faults(kind))
-    }
-
-    /// On to the next instruction, unless there was a fault.
-    #[inline(always)]
-    pub fn done(self, answer: Result<(), FaultKind>) -> Went {
-        match answer {
-            Ok(()) => self.on(),
-            Err(kind) => self.fault(kind),
-        }
-    }
-
-    /// Where memory was refused, or there was a fault.
-    #[inline(always)]
-    pub fn refused(self, refused: Refused) -> Went {
-        match refused {
-            Refused::Fault(kind) => self.fault(kind),
-            Refused::Memory => self.stop(Flow::NoMemory),
         }
     }
 

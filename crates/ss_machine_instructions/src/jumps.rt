@@ -2,8 +2,7 @@
 
 use crate::flow::{Here, Went};
 use crate::state::State;
-use crate::world;
-use ss_base::{Alpha, FaultKind};
+use ss_base::Alpha;
 use ss_code_instructions::address::Address;
 use ss_program::condition::Relation;
 use std::cmp::Ordering;
@@ -24,15 +23,6 @@ fn allows(relation: Relation, order: Ordering) -> bool {
 #[inline(never)]
 fn are_related(relation: Relation, left: Alpha, right: Alpha) -> bool {
     allows(relation, left.cmp(&right))
-}
-
-/// On where a test holds, or does not if negated, and else past so many instructions.
-#[inline(always)]
-pub fn branch(here: Here, answer: Result<bool, FaultKind>, negated: bool, skip: u32) -> Went {
-    match answer {
-        Ok(holds) => here.on_if(holds != negated, skip),
-        Err(kind) => here.fault(kind),
-    }
 }
 
 impl State {
@@ -109,8 +99,11 @@ impl State {
         negated: bool,
     ) -> Went {
         let owner = self.number(here, owner);
-        let answer = world::is_empty(&mut self.scene, set as usize, owner);
-        branch(here, answer, negated, skip)
+        let answer = match self.scene.population.member_count(set as usize, owner) {
+            Ok(count) => Ok(count == 0),
+            Err(kind) => Err(kind),
+        };
+        self.branch(here, answer, negated, skip)
     }
 
     /// UnlessMember.
@@ -124,21 +117,21 @@ impl State {
         negated: bool,
     ) -> Went {
         let (member, owner) = (self.number(here, both.0), self.number(here, both.1));
-        let answer = world::is_in(&mut self.scene, set as usize, owner, member);
-        branch(here, answer, negated, skip)
+        let answer = self.scene.population.is_in(set as usize, owner, member);
+        self.branch(here, answer, negated, skip)
     }
 
     /// Await.
     #[inline(always)]
     pub fn await_event(&mut self, here: Here, skip: u32) -> Went {
-        let holds = self.scene.is_awaited();
+        let holds = self.scene.timeline.is_awaited();
         here.on_if(holds, skip)
     }
 
     /// NextEvent.
     #[inline(always)]
     pub fn next_event(&mut self, here: Here, back: u32) -> Went {
-        if self.scene.is_awaited() {
+        if self.scene.timeline.is_awaited() {
             here.back(back)
         } else {
             here.on()

@@ -14,4 +14,3 @@ pub mod numbers;
 pub mod sets;
 pub mod state;
 pub mod statistics;
-pub mod world;

@@ -2,7 +2,6 @@
 
 use crate::flow::{Here, Went};
 use crate::state::State;
-use crate::world;
 use ss_code_instructions::address::Address;
 
 impl State {
@@ -10,33 +9,38 @@ impl State {
     #[inline(always)]
     pub fn look_entity(&mut self, here: Here, class: u32, entity: &Address) -> Went {
         let entity = self.number(here, entity);
-        here.done(world::look_entity(&self.scene, class as usize, entity))
+        let answer = self.scene.population.known(class as usize, entity);
+        self.done(here, answer)
     }
 
     /// LookMember.
     #[inline(always)]
     pub fn look_member(&mut self, here: Here, set: u32, member: &Address) -> Went {
         let member = self.number(here, member);
-        here.done(world::look_member(&mut self.scene, set as usize, member))
+        let answer = self.scene.population.look_member(set as usize, member);
+        self.done(here, answer)
     }
 
     /// LookOwner.
     #[inline(always)]
     pub fn look_owner(&mut self, here: Here, set: u32, owner: &Address) -> Went {
         let owner = self.number(here, owner);
-        here.done(world::look_owner(&mut self.scene, set as usize, owner))
+        let answer = self.scene.population.look_owner(set as usize, owner);
+        self.done(here, answer)
     }
 
     /// LookMean.
     #[inline(always)]
     pub fn look_mean(&mut self, here: Here, statistic: u32, entity: &Address) -> Went {
         let entity = self.number(here, entity);
-        here.done(world::look_mean(&mut self.scene, statistic as usize, entity))
+        let answer = self.scene.look_mean(statistic as usize, entity);
+        self.done(here, answer)
     }
 
     /// LookCount.
     #[inline(always)]
     pub fn look_count(&mut self, here: Here, class: u32) -> Went {
-        here.done(world::look_count(&self.scene, class as usize))
+        let answer = self.scene.look_count(class as usize);
+        self.done(here, answer)
     }
 }

@@ -2,7 +2,6 @@
 
 use crate::flow::{Here, Went};
 use crate::state::State;
-use crate::world;
 use ss_base::FaultKind;
 use ss_code_instructions::address::Address;
 
@@ -31,7 +30,7 @@ impl State {
     pub fn begin(&mut self, here: Here, cell: u32, skip: u32) -> Went {
         let at = self.cell(here, cell);
         if self.rows.number_at(at + STEP) < 1 {
-            return here.fault(FaultKind::LoopStep);
+            return self.fault(here, FaultKind::LoopStep);
         }
         let has_items = self.rows.number_at(at) <= self.rows.number_at(at + LIMIT);
         here.on_if(has_items, skip)
@@ -40,7 +39,7 @@ impl State {
     /// BeginClass.
     #[inline(always)]
     pub fn begin_class(&mut self, here: Here, class: u32, cell: u32, skip: u32) -> Went {
-        let count = world::class_count(&self.scene, class as usize);
+        let count = self.scene.population.count(class as usize);
         let at = self.cell(here, cell);
         self.rows.set_number_at(at, 1);
         self.rows.set_number_at(at + LIMIT, count);

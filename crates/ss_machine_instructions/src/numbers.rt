@@ -23,7 +23,7 @@ impl State {
                 self.set_number(here, to, number);
                 here.on()
             }
-            Err(kind) => here.fault(kind),
+            Err(kind) => self.fault(here, kind),
         }
     }
 

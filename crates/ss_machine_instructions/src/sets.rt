@@ -2,7 +2,6 @@
 
 use crate::flow::{Here, Went};
 use crate::state::State;
-use crate::world;
 use ss_code_instructions::address::Address;
 
 impl State {
@@ -26,7 +25,7 @@ impl State {
     #[inline(always)]
     pub fn member_count(&mut self, here: Here, set: u32, owner: &Address, to: &Address) -> Went {
         let owner = self.number(here, owner);
-        let answer = world::member_count(&mut self.scene, set as usize, owner);
+        let answer = self.scene.population.member_count(set as usize, owner);
         self.put(here, to, answer)
     }
 
@@ -50,7 +49,11 @@ impl State {
     #[inline(always)]
     pub fn membership(&mut self, here: Here, set: u32, member: &Address, to: &Address) -> Went {
         let member = self.number(here, member);
-        let answer = world::membership(&mut self.scene, set as usize, member);
+        let answer = match self.scene.population.owner_in(set as usize, member) {
+            Ok(Some(_)) => Ok(1),
+            Ok(None) => Ok(0),
+            Err(kind) => Err(kind),
+        };
         self.put(here, to, answer)
     }
 
@@ -58,35 +61,26 @@ impl State {
     #[inline(always)]
     pub fn file_first(&mut self, here: Here, set: u32, member: &Address, owner: &Address) -> Went {
         let (member, owner) = (self.number(here, member), self.number(here, owner));
-        here.done(
-            self.scene
+        let answer = self.scene
                 .population
-                .file_first(set as usize, owner, member),
-        )
+                .file_first(set as usize, owner, member);
+        self.done(here, answer)
     }
 
     /// FileLast.
     #[inline(always)]
     pub fn file_last(&mut self, here: Here, set: u32, member: &Address, owner: &Address) -> Went {
         let (member, owner) = (self.number(here, member), self.number(here, owner));
-        here.done(world::file_last(
-            &mut self.scene,
-            set as usize,
-            owner,
-            member,
-        ))
+        let answer = self.scene.population.file_last(set as usize, owner, member);
+        self.done(here, answer)
     }
 
     /// FileRanked.
     #[inline(always)]
     pub fn file_ranked(&mut self, here: Here, set: u32, member: &Address, owner: &Address) -> Went {
         let (member, owner) = (self.number(here, member), self.number(here, owner));
-        here.done(world::file_ranked(
-            &mut self.scene,
-            set as usize,
-            owner,
-            member,
-        ))
+        let answer = self.scene.file_ranked(set as usize, owner, member);
+        self.done(here, answer)
     }
 
     /// FileBefore.
@@ -101,13 +95,8 @@ impl State {
     ) -> Went {
         let (member, beside) = (self.number(here, member), self.number(here, beside));
         let owner = self.number(here, owner);
-        here.done(world::file_before(
-            &mut self.scene,
-            set as usize,
-            owner,
-            member,
-            beside,
-        ))
+        let answer = self.scene.population.file_before(set as usize, owner, member, beside);
+        self.done(here, answer)
     }
 
     /// FileAfter.
@@ -122,27 +111,23 @@ impl State {
     ) -> Went {
         let (member, beside) = (self.number(here, member), self.number(here, beside));
         let owner = self.number(here, owner);
-        here.done(world::file_after(
-            &mut self.scene,
-            set as usize,
-            owner,
-            member,
-            beside,
-        ))
+        let answer = self.scene.population.file_after(set as usize, owner, member, beside);
+        self.done(here, answer)
     }
 
     /// Remove.
     #[inline(always)]
     pub fn remove(&mut self, here: Here, set: u32, member: &Address, owner: &Address) -> Went {
         let (member, owner) = (self.number(here, member), self.number(here, owner));
-        here.done(self.scene.population.remove(set as usize, owner, member))
+        let answer = self.scene.population.remove(set as usize, owner, member);
+        self.done(here, answer)
     }
 
     /// RemoveFirst.
     #[inline(always)]
     pub fn remove_first(&mut self, here: Here, set: u32, owner: &Address, to: &Address) -> Went {
         let owner = self.number(here, owner);
-        let answer = world::remove_first(&mut self.scene, set as usize, owner);
+        let answer = self.scene.population.remove_first(set as usize, owner);
         self.put(here, to, answer)
     }
 
@@ -150,7 +135,7 @@ impl State {
     #[inline(always)]
     pub fn remove_last(&mut self, here: Here, set: u32, owner: &Address, to: &Address) -> Went {
         let owner = self.number(here, owner);
-        let answer = world::remove_last(&mut self.scene, set as usize, owner);
+        let answer = self.scene.population.remove_last(set as usize, owner);
         self.put(here, to, answer)
     }
 }

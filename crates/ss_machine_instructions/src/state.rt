@@ -1,7 +1,7 @@
 //! What the machine works on.
 
-use crate::flow::Here;
-use ss_base::Alpha;
+use crate::flow::{Flow, Here, Went};
+use ss_base::{Alpha, FaultKind, Line, Refused};
 use ss_code_instructions::address::Address;
 use ss_machine_frames::frames::Frames;
 use ss_machine_frames::rows::Rows;
@@ -9,13 +9,17 @@ use ss_machine_world::scene::Scene;
 use std::alloc::Global;
 
 /// What the machine works on, but for its code and where it is in that: the rows of values, the open calls, the world below,
-/// and where memory comes from.
+/// and where memory comes from. Beside that the steps made in all, and the last fault: its kind, and its line where that is not
+/// the line of its instruction. Both are read only where a run stops.
 #[derive(Drop)]
 pub struct State {
     pub rows: Rows,
     pub frames: Frames,
     pub scene: Scene,
     pub alloc: Global,
+    pub steps: u128,
+    pub fault: FaultKind,
+    pub fault_line: Option<Line>,
 }
 
 impl State {
@@ -47,5 +51,39 @@ impl State {
     #[inline(always)]
     pub fn cell(&self, here: Here, cell: u32) -> usize {
         here.frame as usize + cell as usize
+    }
+
+    /// A fault.
+    #[inline(always)]
+    pub fn fault(&mut self, here: Here, kind: FaultKind) -> Went {
+        self.fault = kind;
+        here.stop(Flow::Faults)
+    }
+
+    /// On to the next instruction, unless there was a fault.
+    #[inline(always)]
+    pub fn done(&mut self, here: Here, answer: Result<(), FaultKind>) -> Went {
+        match answer {
+            Ok(()) => here.on(),
+            Err(kind) => self.fault(here, kind),
+        }
+    }
+
+    /// Where memory was refused, or there was a fault.
+    #[inline(always)]
+    pub fn refused(&mut self, here: Here, refused: Refused) -> Went {
+        match refused {
+            Refused::Fault(kind) => self.fault(here, kind),
+            Refused::Memory => here.stop(Flow::NoMemory),
+        }
+    }
+
+    /// On where a test holds, or does not if negated, and else past so many instructions.
+    #[inline(always)]
+    pub fn branch(&mut self, here: Here, answer: Result<bool, FaultKind>, negated: bool, skip: u32) -> Went {
+        match answer {
+            Ok(holds) => here.on_if(holds != negated, skip),
+            Err(kind) => self.fault(here, kind),
+        }
     }
 }

@@ -2,8 +2,6 @@
 
 use crate::flow::{Here, Went};
 use crate::state::State;
-use crate::world;
-use ss_base::Value;
 use ss_code_instructions::address::Address;
 use ss_program::expression::Fold;
 
@@ -19,7 +17,7 @@ impl State {
         to: &Address,
     ) -> Went {
         let entity = self.number(here, entity);
-        let answer = world::figure(&mut self.scene, fold, statistic as usize, entity);
+        let answer = self.scene.figure(fold, statistic as usize, entity);
         self.put(here, to, answer)
     }
 
@@ -28,7 +26,8 @@ impl State {
     pub fn note_variable(&mut self, here: Here, variable: u32) -> Went {
         let number = variable as usize;
         let value = self.rows.number_at(number);
-        here.done(world::note_variable(&mut self.scene, number, value))
+        let answer = self.scene.note_variable(number, value);
+        self.done(here, answer)
     }
 
     /// NoteAttribute.
@@ -41,26 +40,23 @@ impl State {
         entity: &Address,
     ) -> Went {
         let entity = self.number(here, entity);
-        here.done(world::note_attribute(
-            &mut self.scene,
-            class as usize,
-            field as usize,
-            entity,
-        ))
+        let answer = self.scene.note_attribute(class as usize, field as usize, entity);
+        self.done(here, answer)
     }
 
     /// NoteCount.
     #[inline(always)]
     pub fn note_count(&mut self, here: Here, set: u32, owner: &Address) -> Went {
         let owner = self.number(here, owner);
-        here.done(world::note_count(&mut self.scene, set as usize, owner))
+        let answer = self.scene.note_count(set as usize, owner);
+        self.done(here, answer)
     }
 
-    // The value of the global variable that a statistic is kept of, if it is kept of one.
-    fn held(&self, statistic: usize) -> Option<Value> {
+    // The value of the global variable that a statistic is kept of, 0 where it is kept of none.
+    fn held(&self, statistic: usize) -> i64 {
         match self.scene.variable_of(statistic) {
-            None => None,
-            Some(number) => Some(Value::Whole(self.rows.number_at(number))),
+            None => 0,
+            Some(number) => self.rows.number_at(number),
         }
     }
 
@@ -70,6 +66,7 @@ impl State {
         let statistic = statistic as usize;
         let entity = self.number(here, entity);
         let held = self.held(statistic);
-        here.done(world::reset(&mut self.scene, statistic, entity, held))
+        let answer = self.scene.reset(statistic, entity, held);
+        self.done(here, answer)
     }
 }

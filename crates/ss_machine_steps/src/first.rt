@@ -1,6 +1,6 @@
 //! The first state of a machine.
 
-use ss_base::{Mode, Value, copied_disciplines};
+use ss_base::{FaultKind, Mode, Value, copied_disciplines};
 use ss_code::code::Code;
 use ss_code_instructions::copied_notices;
 use ss_machine_frames::frames::Frames;
@@ -59,6 +59,9 @@ pub fn first_state(alloc: Global, code: &Code) -> Result<State, AllocError> {
         frames: Frames::new(alloc),
         scene,
         alloc,
+        steps: 0,
+        fault: FaultKind::NoEntity,
+        fault_line: None,
     })
 }
 

@@ -3,6 +3,7 @@
 use crate::showing::{Buffers, show};
 use ss_base::{FaultKind, FaultyWrite};
 use ss_code::lines::Lines;
+use ss_code_instructions::address::Address;
 use ss_machine_instructions::flow::{Flow, Here, Went};
 use ss_machine_instructions::state::State;
 use ss_picture::{FieldValue, Picture, Sink};
@@ -77,6 +78,7 @@ pub(crate) fn print<W: FaultyWrite>(
 }
 
 // Sends so many empty lines one by one: how the run goes on.
+#[inline(never)]
 fn send_empty<W: FaultyWrite>(lines: usize, sink: &mut Sink<W>) -> Flow {
     for _line in 0..lines {
         if sink.write(b"\n").is_err() {
@@ -86,17 +88,17 @@ fn send_empty<W: FaultyWrite>(lines: usize, sink: &mut Sink<W>) -> Flow {
     Flow::Goes
 }
 
-// So many empty lines are sent, unless there are too many: how the run goes on.
-#[inline(never)]
-fn skip_lines<W: FaultyWrite>(count: i64, sink: &mut Sink<W>) -> Flow {
-    if count < 0 || count > MOST_LINES {
-        return Flow::Faults(FaultKind::BadCount);
-    }
-    send_empty(count as usize, sink)
-}
-
 /// Skip.
 #[inline(always)]
-pub(crate) fn skip<W: FaultyWrite>(here: Here, count: i64, sink: &mut Sink<W>) -> Went {
-    here.on_or_stop(skip_lines(count, sink))
+pub(crate) fn skip<W: FaultyWrite>(
+    state: &mut State,
+    here: Here,
+    count: &Address,
+    sink: &mut Sink<W>,
+) -> Went {
+    let count = state.number(here, count);
+    if count < 0 || count > MOST_LINES {
+        return state.fault(here, FaultKind::BadCount);
+    }
+    here.on_or_stop(send_empty(count as usize, sink))
 }

@@ -4,14 +4,13 @@ use ss_base::FaultyRead;
 use ss_code_instructions::address::Address;
 use ss_input::{Missed, Source};
 use ss_machine_instructions::flow::{Flow, Here, Went};
-use ss_machine_instructions::jumps::branch;
 use ss_machine_instructions::state::State;
 
 // Where no word was read.
 #[inline(always)]
-fn unread(here: Here, missed: Missed) -> Went {
+fn unread(state: &mut State, here: Here, missed: Missed) -> Went {
     match missed {
-        Missed::Fault(kind) => here.fault(kind),
+        Missed::Fault(kind) => state.fault(here, kind),
         Missed::Input => here.stop(Flow::NoInput),
     }
 }
@@ -25,7 +24,7 @@ pub(crate) fn read_number<R: FaultyRead>(
     source: &mut Source<R>,
 ) -> Went {
     match source.integer() {
-        Err(missed) => unread(here, missed),
+        Err(missed) => unread(state, here, missed),
         Ok(number) => {
             state.set_number(here, to, number);
             here.on()
@@ -42,7 +41,7 @@ pub(crate) fn read_text<R: FaultyRead>(
     source: &mut Source<R>,
 ) -> Went {
     match source.alpha() {
-        Err(missed) => unread(here, missed),
+        Err(missed) => unread(state, here, missed),
         Ok(text) => {
             state.set_text(here, to, text);
             here.on()
@@ -53,13 +52,14 @@ pub(crate) fn read_text<R: FaultyRead>(
 /// UnlessEnded.
 #[inline(always)]
 pub(crate) fn unless_ended<R: FaultyRead>(
+    state: &mut State,
     here: Here,
     skip: u32,
     negated: bool,
     source: &mut Source<R>,
 ) -> Went {
     match source.ended() {
-        Err(missed) => unread(here, missed),
-        Ok(ended) => branch(here, Ok(ended), negated, skip),
+        Err(missed) => unread(state, here, missed),
+        Ok(ended) => here.on_if(ended != negated, skip),
     }
 }

@@ -3,7 +3,6 @@
 use ss_base::Value;
 use ss_code_instructions::item::ItemKind;
 use ss_machine_instructions::state::State;
-use ss_machine_instructions::world;
 use ss_picture::FieldValue;
 use std::alloc::{AllocError, Global};
 
@@ -27,7 +26,7 @@ impl Buffers {
 
 // A mean as an item. It was looked at before, so that there is one.
 fn mean_item(state: &mut State, statistic: usize, entity: i64) -> FieldValue {
-    match world::mean(&mut state.scene, statistic, entity) {
+    match state.scene.mean(statistic, entity) {
         Ok((sum, number)) => FieldValue::Mean(sum, number),
         Err(_) => FieldValue::Mean(0, 0),
     }

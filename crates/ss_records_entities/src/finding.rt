@@ -48,9 +48,51 @@ impl Records {
         }
     }
 
-    /// The block of an entity of a class.
+    /// The block of an entity of a class. What is out of line answers one word: the block that a search finds, or the fault.
     #[inline(always)]
     pub fn find(&self, class: usize, r: i64) -> Result<Address, FaultKind>
+        requires kept { IsKept self.now }
+        requires class { class < length self.now.layout.classes }
+        ensures found { MatchResult result (λ p. Found self.now class r p) (λ e. entity_in (state self.now) class r ≡ Err e) }
+    {
+        match self.near(class, r) {
+            Some(place) => Ok(place),
+            None => match self.search(class, r) {
+                Some(place) => Ok(place),
+                None => Err(self.missing(class, r)),
+            },
+        }
+    }
+
+    // The block of an entity of a class, if there is one.
+    #[cold]
+    #[inline(never)]
+    fn search(&self, class: usize, r: i64) -> Option<Address>
+        requires kept { IsKept self.now }
+        requires class { class < length self.now.layout.classes }
+        ensures found { IfSome result (λ p. Found self.now class r p) }
+    {
+        match self.of_kind(class, r) {
+            Ok(place) => Some(place),
+            Err(_) => None,
+        }
+    }
+
+    // The fault of a number that is no entity of a class.
+    #[cold]
+    #[inline(never)]
+    fn missing(&self, class: usize, r: i64) -> FaultKind
+        requires kept { IsKept self.now }
+        requires class { class < length self.now.layout.classes }
+    {
+        match self.of_kind(class, r) {
+            Ok(_) => FaultKind::NoEntity,
+            Err(fault) => fault,
+        }
+    }
+
+    // The block of an entity of a class, by the kind of the class.
+    fn of_kind(&self, class: usize, r: i64) -> Result<Address, FaultKind>
         requires kept { IsKept self.now }
         requires class { class < length self.now.layout.classes }
         ensures found { MatchResult result (λ p. Found self.now class r p) (λ e. entity_in (state self.now) class r ≡ Err e) }
@@ -59,17 +101,6 @@ impl Records {
             ClassKind::Permanent => self.indexed(class, r),
             ClassKind::Temporary | ClassKind::Notice => self.of_class(class, r),
         }
-    }
-
-    /// The block of an entity of a class whose entities come and go one by one.
-    #[inline(always)]
-    pub fn find_single(&self, class: usize, r: i64) -> Result<Address, FaultKind>
-        requires kept { IsKept self.now }
-        requires class { class < length self.now.layout.classes }
-        requires kind { IsPermanent (kind_of self.now.layout class) → ⊥ }
-        ensures found { MatchResult result (λ p. Found self.now class r p) (λ e. entity_in (state self.now) class r ≡ Err e) }
-    {
-        self.of_class(class, r)
     }
 
     // The block of an index of a permanent class.
@@ -163,15 +194,26 @@ impl Records {
         self.directory.near(i as usize)
     }
 
-    /// The class of the entity of a creation number, where it is found without a search.
+    /// The class of the entity of a creation number, if it is living.
     #[inline(always)]
-    pub fn class_near(&self, r: i64) -> Option<usize>
+    pub fn class_of(&self, r: i64) -> Option<usize>
         requires kept { IsKept self.now }
-        ensures { IfSome result (λ c. HasClass (state self.now) r c) }
     {
         match self.near_numbered(r) {
             Some(place) => Some(self.blocks.number(place, CLASS) as usize),
-            None => None,
+            None => self.class_apart(r),
+        }
+    }
+
+    // Does the work of `class_of` where it takes a search.
+    #[cold]
+    #[inline(never)]
+    fn class_apart(&self, r: i64) -> Option<usize>
+        requires kept { IsKept self.now }
+    {
+        match self.numbered(r) {
+            Ok(place) => Some(self.blocks.number(place, CLASS) as usize),
+            Err(_) => None,
         }
     }
 
