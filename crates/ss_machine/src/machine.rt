@@ -96,8 +96,8 @@ impl Machine {
         let from = Here {
             place: self.place,
             frame: self.frame,
-            ticks: last - self.used,
         };
+        self.state.ticks = last - self.used;
         let rest = run(
             &self.code,
             &mut self.state,
@@ -108,7 +108,7 @@ impl Machine {
         );
         self.place = rest.here.place;
         self.frame = rest.here.frame;
-        self.used = last - rest.here.ticks;
+        self.used = last - self.state.ticks;
         self.stopped = kept(rest.stop);
         rest.stop
     }

@@ -29,12 +29,12 @@ impl State {
     /// Call.
     #[inline(always)]
     pub fn call(&mut self, here: Here, entry: &Entry, cell: u32) -> Went {
-        match here.with_tick() {
-            None => here.pause(),
-            Some(after) => match self.enter(after, entry, cell) {
-                Err(_) => here.stop(Flow::NoMemory),
-                Ok(frame) => after.to(entry.place, frame),
-            },
+        if !self.has_taken_tick() {
+            return here.pause();
+        }
+        match self.enter(here, entry, cell) {
+            Err(_) => self.give_tick_back(here),
+            Ok(frame) => here.to(entry.place, frame),
         }
     }
 

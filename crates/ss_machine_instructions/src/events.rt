@@ -198,12 +198,11 @@ impl State {
         }
     }
 
-    // The event of a notice begins, after this instruction.
+    // The event of a notice begins.
     #[inline(always)]
     fn begin_event(
         &mut self,
         here: Here,
-        after: Here,
         notice: i64,
         class: usize,
         events: &[Entry],
@@ -211,31 +210,31 @@ impl State {
     ) -> Went {
         let rank = self.scene.rank(class);
         let entry = &events[rank];
-        let Ok(frame) = self.enter(after, entry, cell) else {
-            return here.stop(Flow::NoMemory);
+        let Ok(frame) = self.enter(here, entry, cell) else {
+            return self.give_tick_back(here);
         };
         let begun = match self.read_given(class, notice, &entry.given, frame as usize) {
             Ok(()) => self.let_go(rank, class, notice),
             Err(kind) => Err(kind),
         };
         match begun {
-            Ok(()) => after.to(entry.place, frame),
-            Err(kind) => self.fault_of_event(after, kind, rank),
+            Ok(()) => here.to(entry.place, frame),
+            Err(kind) => self.fault_of_event(here, kind, rank),
         }
     }
 
     /// TakeEvent.
     #[inline(always)]
     pub fn take_event(&mut self, here: Here, events: &[Entry], cell: u32) -> Went {
-        let Some(after) = here.with_tick() else {
+        if !self.has_taken_tick() {
             return here.pause();
-        };
+        }
         let Some(notice) = next_event(&mut self.scene) else {
-            return after.on();
+            return here.on();
         };
         match self.scene.population.class_of(notice) {
-            None => after.on(),
-            Some(class) => self.begin_event(here, after, notice, class, events, cell),
+            None => here.on(),
+            Some(class) => self.begin_event(here, notice, class, events, cell),
         }
     }
 

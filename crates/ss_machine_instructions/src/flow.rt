@@ -19,21 +19,19 @@ pub enum Flow {
     NoInput,
 }
 
-/// Where an instruction has led: the place, where the frame of the section begins, the ticks that are left, and how it goes on.
+/// Where an instruction has led: the place, where the frame of the section begins, and how it goes on.
 #[derive(Clone, Copy, Debug, PartialEq, Eq)]
 pub struct Went {
     pub place: usize,
     pub frame: u32,
-    pub ticks: u64,
     pub flow: Flow,
 }
 
-/// Where a run is: the place of the instruction, where the frame of the section begins, and the ticks that are left.
+/// Where a run is: the place of the instruction, and where the frame of the section begins.
 #[derive(Clone, Copy, Debug, PartialEq, Eq)]
 pub struct Here {
     pub place: usize,
     pub frame: u32,
-    pub ticks: u64,
 }
 
 impl Here {
@@ -43,7 +41,6 @@ impl Here {
         Went {
             place,
             frame: self.frame,
-            ticks: self.ticks,
             flow,
         }
     }
@@ -78,23 +75,12 @@ impl Here {
         self.with(self.place, Flow::Goes)
     }
 
-    /// The same with so many ticks fewer.
-    #[inline(always)]
-    pub fn later(self, ticks: u64) -> Here {
-        Here {
-            place: self.place,
-            frame: self.frame,
-            ticks: self.ticks - ticks,
-        }
-    }
-
     /// To a place in another frame.
     #[inline(always)]
     pub fn to(self, place: usize, frame: u32) -> Went {
         Went {
             place,
             frame,
-            ticks: self.ticks,
             flow: Flow::Goes,
         }
     }
@@ -112,19 +98,6 @@ impl Here {
             Flow::Goes => self.on(),
             other => self.stop(other),
         }
-    }
-
-    /// The same with a tick fewer; None where none is left.
-    #[inline(always)]
-    pub fn with_tick(self) -> Option<Here> {
-        if self.ticks == 0 {
-            return None;
-        }
-        Some(Here {
-            place: self.place,
-            frame: self.frame,
-            ticks: self.ticks - 1,
-        })
     }
 
     /// A tick is due, and none is left.

@@ -49,24 +49,22 @@ impl State {
 
     /// Turn.
     #[inline(always)]
-    pub fn turn(&self, here: Here) -> Went {
-        match here.with_tick() {
-            None => here.pause(),
-            Some(after) => after.on(),
+    pub fn turn(&mut self, here: Here) -> Went {
+        if !self.has_taken_tick() {
+            return here.pause();
         }
+        here.on()
     }
 
     /// Take.
     #[inline(always)]
     pub fn take(&mut self, here: Here, cell: u32, to: &Address) -> Went {
-        match here.with_tick() {
-            None => here.pause(),
-            Some(after) => {
-                let item = self.rows.number_at(self.cell(here, cell));
-                self.set_number(here, to, item);
-                after.on()
-            }
+        if !self.has_taken_tick() {
+            return here.pause();
         }
+        let item = self.rows.number_at(self.cell(here, cell));
+        self.set_number(here, to, item);
+        here.on()
     }
 
     /// Next.

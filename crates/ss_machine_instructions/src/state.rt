@@ -9,14 +9,15 @@ use ss_machine_world::scene::Scene;
 use std::alloc::Global;
 
 /// What the machine works on, but for its code and where it is in that: the rows of values, the open calls, the world below,
-/// and where memory comes from. Beside that the steps made in all, and the last fault: its kind, and its line where that is not
-/// the line of its instruction. Both are read only where a run stops.
+/// and where memory comes from. Beside that the ticks that are left, the steps made in all, and the last fault: its kind, and its line where that is not
+/// the line of its instruction.
 #[derive(Drop)]
 pub struct State {
     pub rows: Rows,
     pub frames: Frames,
     pub scene: Scene,
     pub alloc: Global,
+    pub ticks: u64,
     pub steps: u128,
     pub fault: FaultKind,
     pub fault_line: Option<Line>,
@@ -85,5 +86,22 @@ impl State {
             Ok(holds) => here.on_if(holds != negated, skip),
             Err(kind) => self.fault(here, kind),
         }
+    }
+
+    /// A tick is taken, and it goes on; where none is left, it does not.
+    #[inline(always)]
+    pub fn has_taken_tick(&mut self) -> bool {
+        if self.ticks == 0 {
+            return false;
+        }
+        self.ticks -= 1;
+        true
+    }
+
+    /// The instruction that took a tick is not carried out: memory was refused.
+    #[inline(always)]
+    pub fn give_tick_back(&mut self, here: Here) -> Went {
+        self.ticks += 1;
+        here.stop(Flow::NoMemory)
     }
 }

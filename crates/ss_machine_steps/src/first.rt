@@ -59,6 +59,7 @@ pub fn first_state(alloc: Global, code: &Code) -> Result<State, AllocError> {
         frames: Frames::new(alloc),
         scene,
         alloc,
+        ticks: 0,
         steps: 0,
         fault: FaultKind::NoEntity,
         fault_line: None,

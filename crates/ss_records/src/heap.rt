@@ -289,7 +289,6 @@ impl Heap {
         ensures same { self.new.state ≡ self.old.state }
         ensures touches { (self.new.touches ≤ 1) × (IsOk result → 1 ≤ self.new.touches) × (self.new.total ≡ self.old.total + self.new.touches) }
     {
-        self.records.start();
         self.records.count(set, o)
     }
 
@@ -451,7 +450,6 @@ impl Heap {
         ensures done { MatchResult result (λ _. filed_last self.old.state set o x ≡ Ok self.new.state) (λ e. (filed_last self.old.state set o x ≡ Err e) × (self.new.state ≡ self.old.state)) }
         ensures touches { (self.new.touches ≤ 12) × (IsOk result → 4 ≤ self.new.touches) × (self.new.total ≡ self.old.total + self.new.touches) }
     {
-        self.records.start();
         self.records.file_last(set, o, x)
     }
 
@@ -496,7 +494,6 @@ impl Heap {
         ensures done { MatchResult result (λ x. first_removed self.old.state set o ≡ Ok (x, self.new.state)) (λ e. (first_removed self.old.state set o ≡ Err e) × (self.new.state ≡ self.old.state)) }
         ensures touches { (self.new.touches ≤ 12) × (self.new.total ≡ self.old.total + self.new.touches) }
     {
-        self.records.start();
         self.records.remove_first(set, o)
     }
 

@@ -183,7 +183,10 @@ impl Records {
     {
         match self.pair(s, o, x) {
             Ok(both) => self.put_last(s, both.owner, both.x),
-            Err(fault) => Err(fault),
+            Err(fault) => {
+                self.blocks.start();
+                Err(fault)
+            }
         }
     }
 
@@ -309,7 +312,10 @@ impl Records {
     {
         match self.owner(s, o) {
             Ok(owner) => self.draw_first(s, owner),
-            Err(fault) => Err(fault),
+            Err(fault) => {
+                self.blocks.start();
+                Err(fault)
+            }
         }
     }
 

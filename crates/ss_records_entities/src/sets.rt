@@ -151,9 +151,14 @@ impl Records {
         match self.owner(s, o) {
             Ok(owner) => {
                 let base = self.layout.owner_base(s);
-                Ok(self.blocks.count(owner.place, base + 2) as i64)
+                let count = self.blocks.peek_count(owner.place, base + 2);
+                self.blocks.start_at(1);
+                Ok(count as i64)
             }
-            Err(fault) => Err(fault),
+            Err(fault) => {
+                self.blocks.start();
+                Err(fault)
+            }
         }
     }
 

@@ -13,7 +13,7 @@ ghost use Rattle.ss_sets.specs.Disciplines.{FitsMembers, filed, first_removed, l
 use crate::population::Population;
 use ss_base::{Discipline, FaultKind};
 use ss_records::{Filter, Skimmed};
-use ss_sets::{file, is_in, remove_first, remove_last};
+use ss_sets::file;
 
 impl Population {
     /// Files x in the set of an owner by a discipline. Faults: those of x (1 to 5), those of the owner, then 6 where x
@@ -89,7 +89,7 @@ impl Population {
         requires set { set < length self.old.layout.sets }
         ensures { MatchResult result (λ x. first_removed self.old set o ≡ Ok (x, self.new)) (λ e. (first_removed self.old set o ≡ Err e) × (self.new ≡ self.old)) }
     {
-        remove_first(&mut self.heap, set, o)
+        self.heap.remove_first(set, o)
     }
 
     /// Takes the last member out of the set of an owner, and answers it. Faults: 1 to 5, then 8 where there is none.
@@ -98,7 +98,7 @@ impl Population {
         requires set { set < length self.old.layout.sets }
         ensures { MatchResult result (λ x. last_removed self.old set o ≡ Ok (x, self.new)) (λ e. (last_removed self.old set o ≡ Err e) × (self.new ≡ self.old)) }
     {
-        remove_last(&mut self.heap, set, o)
+        self.heap.remove_last(set, o)
     }
 
     /// Whether x is in the set of an owner. Faults: those of x (1 to 5), then those of the owner.
@@ -108,7 +108,7 @@ impl Population {
         ensures value { result ≡ member_test self.old set o x }
         ensures same { self.new ≡ self.old }
     {
-        is_in(&mut self.heap, set, o, x)
+        self.heap.is_in(set, o, x)
     }
 
     /// The member that comes next to x in the set of an owner, after it or in reverse before it, 0 for none. None where x is
