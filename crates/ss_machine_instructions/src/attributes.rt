@@ -1,6 +1,6 @@
 //! Attributes of entities, and times.
 
-use crate::flow::{Here, Went};
+use crate::flow::Here;
 use crate::state::State;
 use ss_code_instructions::address::Address;
 
@@ -14,7 +14,7 @@ impl State {
         field: u32,
         entity: &Address,
         to: &Address,
-    ) -> Went {
+    ) -> Option<Here> {
         let entity = self.number(here, entity);
         let answer = self.scene.population.whole(class as usize, field as usize, entity);
         self.put(here, to, answer)
@@ -29,14 +29,14 @@ impl State {
         field: u32,
         entity: &Address,
         to: &Address,
-    ) -> Went {
+    ) -> Option<Here> {
         let entity = self.number(here, entity);
         match self.scene.population.text(class as usize, field as usize, entity) {
             Ok(text) => {
                 self.set_text(here, to, text);
                 here.on()
             }
-            Err(kind) => self.fault(here, kind),
+            Err(kind) => self.fault(kind),
         }
     }
 
@@ -49,7 +49,7 @@ impl State {
         field: u32,
         entity: &Address,
         from: &Address,
-    ) -> Went {
+    ) -> Option<Here> {
         let (entity, number) = (self.number(here, entity), self.number(here, from));
         let answer = self.scene.population.set_whole(class as usize, field as usize, entity, number);
         self.done(here, answer)
@@ -64,7 +64,7 @@ impl State {
         field: u32,
         entity: &Address,
         from: &Address,
-    ) -> Went {
+    ) -> Option<Here> {
         let (entity, text) = (self.number(here, entity), self.text(here, from));
         let answer = self.scene.population.set_text(class as usize, field as usize, entity, text);
         self.done(here, answer)
@@ -79,7 +79,7 @@ impl State {
         field: u32,
         entity: &Address,
         by: &Address,
-    ) -> Went {
+    ) -> Option<Here> {
         let (entity, by) = (self.number(here, entity), self.number(here, by));
         let answer = self.scene.population.add_whole(class as usize, field as usize, entity, by);
         self.done(here, answer)
@@ -94,7 +94,7 @@ impl State {
         field: u32,
         entity: &Address,
         by: &Address,
-    ) -> Went {
+    ) -> Option<Here> {
         let (entity, by) = (self.number(here, entity), self.number(here, by));
         let answer = self.scene.population.subtract_whole(class as usize, field as usize, entity, by);
         self.done(here, answer)
@@ -102,7 +102,7 @@ impl State {
 
     /// Clock.
     #[inline(always)]
-    pub fn clock(&mut self, here: Here, to: &Address) -> Went {
+    pub fn clock(&mut self, here: Here, to: &Address) -> Option<Here> {
         let time = self.scene.timeline.time();
         self.set_number(here, to, time);
         here.on()
@@ -110,7 +110,7 @@ impl State {
 
     /// TimeOf.
     #[inline(always)]
-    pub fn time_of(&mut self, here: Here, notice: &Address, to: &Address) -> Went {
+    pub fn time_of(&mut self, here: Here, notice: &Address, to: &Address) -> Option<Here> {
         let answer = self.scene.population.time_a(self.number(here, notice));
         self.put(here, to, answer)
     }

@@ -1,6 +1,6 @@
 //! Calls.
 
-use crate::flow::{Flow, Here, Went};
+use crate::flow::{Ending, Here};
 use crate::state::State;
 use ss_code_instructions::entry::Entry;
 use ss_machine_frames::frames::Frame;
@@ -28,21 +28,21 @@ impl State {
 
     /// Call.
     #[inline(always)]
-    pub fn call(&mut self, here: Here, entry: &Entry, cell: u32) -> Went {
+    pub fn call(&mut self, here: Here, entry: &Entry, cell: u32) -> Option<Here> {
         if !self.has_taken_tick() {
-            return here.pause();
+            return self.stop(Ending::Paused);
         }
         match self.enter(here, entry, cell) {
-            Err(_) => self.give_tick_back(here),
+            Err(_) => self.give_tick_back(),
             Ok(frame) => here.to(entry.place, frame),
         }
     }
 
     /// Leave.
     #[inline(always)]
-    pub fn leave(&mut self, here: Here) -> Went {
+    pub fn leave(&mut self, here: Here) -> Option<Here> {
         match self.frames.pop() {
-            None => here.stop(Flow::Ends),
+            None => self.stop(Ending::Ended),
             Some(frame) => {
                 if frame.yielding > 0 {
                     self.yield_values(here.frame as usize, frame);
@@ -54,8 +54,8 @@ impl State {
 
     /// Halt.
     #[inline(always)]
-    pub fn halt(&self, here: Here) -> Went {
-        here.stop(Flow::Ends)
+    pub fn halt(&mut self) -> Option<Here> {
+        self.stop(Ending::Ended)
     }
 
     // What is yielded goes where the frame begins, the first on top.

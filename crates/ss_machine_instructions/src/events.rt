@@ -1,6 +1,6 @@
 //! Scheduling and events.
 
-use crate::flow::{Flow, Here, Went};
+use crate::flow::{Ending, Here};
 use crate::state::State;
 use ss_base::{FaultKind, Mode, Refused};
 use ss_code_instructions::address::Address;
@@ -11,7 +11,7 @@ use ss_machine_events::scheduling;
 impl State {
     /// At.
     #[inline(always)]
-    pub fn time_at(&mut self, here: Here, time: &Address, to: &Address) -> Went {
+    pub fn time_at(&mut self, here: Here, time: &Address, to: &Address) -> Option<Here> {
         let time = self.number(here, time);
         let answer = scheduling::time_at(&self.scene, time);
         self.put(here, to, answer)
@@ -19,7 +19,7 @@ impl State {
 
     /// In.
     #[inline(always)]
-    pub fn time_in(&mut self, here: Here, units: &Address, to: &Address) -> Went {
+    pub fn time_in(&mut self, here: Here, units: &Address, to: &Address) -> Option<Here> {
         let units = self.number(here, units);
         let answer = scheduling::time_in(&self.scene, units);
         self.put(here, to, answer)
@@ -79,7 +79,7 @@ impl State {
         cell: u32,
         given: u32,
         to: &Address,
-    ) -> Went {
+    ) -> Option<Here> {
         let from = self.cell(here, cell);
         let time = self.rows.number_at(from + given as usize);
         match self.new_notice(class as usize, from, given, time) {
@@ -88,7 +88,7 @@ impl State {
                 self.set_number(here, to, notice);
                 here.on()
             }
-            Err(refused) => self.refused(here, refused),
+            Err(refused) => self.refused(refused),
         }
     }
 
@@ -100,11 +100,11 @@ impl State {
         class: u32,
         notice: &Address,
         time: &Address,
-    ) -> Went {
+    ) -> Option<Here> {
         let (notice, time) = (self.number(here, notice), self.number(here, time));
         match scheduling::schedule(&mut self.scene, self.alloc, class as usize, notice, time) {
             Ok(()) => here.on(),
-            Err(refused) => self.refused(here, refused),
+            Err(refused) => self.refused(refused),
         }
     }
 
@@ -143,19 +143,19 @@ impl State {
         notice: &Address,
         cell: u32,
         given: u32,
-    ) -> Went {
+    ) -> Option<Here> {
         let notice = self.number(here, notice);
         let from = self.cell(here, cell);
         let time = self.rows.number_at(from + given as usize);
         match self.schedule_again(class as usize, notice, from, given, time) {
             Ok(()) => here.on(),
-            Err(refused) => self.refused(here, refused),
+            Err(refused) => self.refused(refused),
         }
     }
 
     /// Cancel.
     #[inline(always)]
-    pub fn cancel(&mut self, here: Here, class: u32, notice: &Address) -> Went {
+    pub fn cancel(&mut self, here: Here, class: u32, notice: &Address) -> Option<Here> {
         let notice = self.number(here, notice);
         let answer = self.scene.cancel(class as usize, notice);
         self.done(here, answer)
@@ -207,11 +207,11 @@ impl State {
         class: usize,
         events: &[Entry],
         cell: u32,
-    ) -> Went {
+    ) -> Option<Here> {
         let rank = self.scene.rank(class);
         let entry = &events[rank];
         let Ok(frame) = self.enter(here, entry, cell) else {
-            return self.give_tick_back(here);
+            return self.give_tick_back();
         };
         let begun = match self.read_given(class, notice, &entry.given, frame as usize) {
             Ok(()) => self.let_go(rank, class, notice),
@@ -219,15 +219,15 @@ impl State {
         };
         match begun {
             Ok(()) => here.to(entry.place, frame),
-            Err(kind) => self.fault_of_event(here, kind, rank),
+            Err(kind) => self.fault_of_event(kind, rank),
         }
     }
 
     /// TakeEvent.
     #[inline(always)]
-    pub fn take_event(&mut self, here: Here, events: &[Entry], cell: u32) -> Went {
+    pub fn take_event(&mut self, here: Here, events: &[Entry], cell: u32) -> Option<Here> {
         if !self.has_taken_tick() {
-            return here.pause();
+            return self.stop(Ending::Paused);
         }
         let Some(notice) = next_event(&mut self.scene) else {
             return here.on();
@@ -240,8 +240,8 @@ impl State {
 
     // A fault as an event of this rank begins has the line of its routine.
     #[inline(always)]
-    fn fault_of_event(&mut self, here: Here, kind: FaultKind, rank: usize) -> Went {
+    fn fault_of_event(&mut self, kind: FaultKind, rank: usize) -> Option<Here> {
         self.fault_line = Some(self.scene.notices[rank].line());
-        self.fault(here, kind)
+        self.fault(kind)
     }
 }

@@ -1,6 +1,6 @@
 //! Tests and jumps.
 
-use crate::flow::{Here, Went};
+use crate::flow::Here;
 use crate::state::State;
 use ss_base::Alpha;
 use ss_code_instructions::address::Address;
@@ -28,25 +28,25 @@ fn are_related(relation: Relation, left: Alpha, right: Alpha) -> bool {
 impl State {
     /// UnlessEqual.
     #[inline(always)]
-    pub fn unless_equal(&self, here: Here, left: &Address, right: &Address, skip: u32) -> Went {
+    pub fn unless_equal(&self, here: Here, left: &Address, right: &Address, skip: u32) -> Option<Here> {
         here.on_if(self.number(here, left) == self.number(here, right), skip)
     }
 
     /// UnlessNotEqual.
     #[inline(always)]
-    pub fn unless_not_equal(&self, here: Here, left: &Address, right: &Address, skip: u32) -> Went {
+    pub fn unless_not_equal(&self, here: Here, left: &Address, right: &Address, skip: u32) -> Option<Here> {
         here.on_if(self.number(here, left) != self.number(here, right), skip)
     }
 
     /// UnlessLess.
     #[inline(always)]
-    pub fn unless_less(&self, here: Here, left: &Address, right: &Address, skip: u32) -> Went {
+    pub fn unless_less(&self, here: Here, left: &Address, right: &Address, skip: u32) -> Option<Here> {
         here.on_if(self.number(here, left) < self.number(here, right), skip)
     }
 
     /// UnlessGreater.
     #[inline(always)]
-    pub fn unless_greater(&self, here: Here, left: &Address, right: &Address, skip: u32) -> Went {
+    pub fn unless_greater(&self, here: Here, left: &Address, right: &Address, skip: u32) -> Option<Here> {
         here.on_if(self.number(here, left) > self.number(here, right), skip)
     }
 
@@ -58,7 +58,7 @@ impl State {
         left: &Address,
         right: &Address,
         skip: u32,
-    ) -> Went {
+    ) -> Option<Here> {
         here.on_if(self.number(here, left) <= self.number(here, right), skip)
     }
 
@@ -70,7 +70,7 @@ impl State {
         left: &Address,
         right: &Address,
         skip: u32,
-    ) -> Went {
+    ) -> Option<Here> {
         here.on_if(self.number(here, left) >= self.number(here, right), skip)
     }
 
@@ -83,7 +83,7 @@ impl State {
         left: &Address,
         right: &Address,
         skip: u32,
-    ) -> Went {
+    ) -> Option<Here> {
         let holds = are_related(relation, self.text(here, left), self.text(here, right));
         here.on_if(holds, skip)
     }
@@ -97,7 +97,7 @@ impl State {
         owner: &Address,
         skip: u32,
         negated: bool,
-    ) -> Went {
+    ) -> Option<Here> {
         let owner = self.number(here, owner);
         let answer = match self.scene.population.member_count(set as usize, owner) {
             Ok(count) => Ok(count == 0),
@@ -115,7 +115,7 @@ impl State {
         both: (&Address, &Address),
         skip: u32,
         negated: bool,
-    ) -> Went {
+    ) -> Option<Here> {
         let (member, owner) = (self.number(here, both.0), self.number(here, both.1));
         let answer = self.scene.population.is_in(set as usize, owner, member);
         self.branch(here, answer, negated, skip)
@@ -123,14 +123,14 @@ impl State {
 
     /// Await.
     #[inline(always)]
-    pub fn await_event(&mut self, here: Here, skip: u32) -> Went {
+    pub fn await_event(&mut self, here: Here, skip: u32) -> Option<Here> {
         let holds = self.scene.timeline.is_awaited();
         here.on_if(holds, skip)
     }
 
     /// NextEvent.
     #[inline(always)]
-    pub fn next_event(&mut self, here: Here, back: u32) -> Went {
+    pub fn next_event(&mut self, here: Here, back: u32) -> Option<Here> {
         if self.scene.timeline.is_awaited() {
             here.back(back)
         } else {

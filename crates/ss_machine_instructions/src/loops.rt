@@ -1,6 +1,6 @@
 //! FOR over numbers.
 
-use crate::flow::{Here, Went};
+use crate::flow::{Ending, Here};
 use crate::state::State;
 use ss_base::FaultKind;
 use ss_code_instructions::address::Address;
@@ -27,10 +27,10 @@ fn next_item(item: i64, step: i64, limit: i64) -> Option<i64> {
 impl State {
     /// Begin.
     #[inline(always)]
-    pub fn begin(&mut self, here: Here, cell: u32, skip: u32) -> Went {
+    pub fn begin(&mut self, here: Here, cell: u32, skip: u32) -> Option<Here> {
         let at = self.cell(here, cell);
         if self.rows.number_at(at + STEP) < 1 {
-            return self.fault(here, FaultKind::LoopStep);
+            return self.fault(FaultKind::LoopStep);
         }
         let has_items = self.rows.number_at(at) <= self.rows.number_at(at + LIMIT);
         here.on_if(has_items, skip)
@@ -38,7 +38,7 @@ impl State {
 
     /// BeginClass.
     #[inline(always)]
-    pub fn begin_class(&mut self, here: Here, class: u32, cell: u32, skip: u32) -> Went {
+    pub fn begin_class(&mut self, here: Here, class: u32, cell: u32, skip: u32) -> Option<Here> {
         let count = self.scene.population.count(class as usize);
         let at = self.cell(here, cell);
         self.rows.set_number_at(at, 1);
@@ -49,18 +49,18 @@ impl State {
 
     /// Turn.
     #[inline(always)]
-    pub fn turn(&mut self, here: Here) -> Went {
+    pub fn turn(&mut self, here: Here) -> Option<Here> {
         if !self.has_taken_tick() {
-            return here.pause();
+            return self.stop(Ending::Paused);
         }
         here.on()
     }
 
     /// Take.
     #[inline(always)]
-    pub fn take(&mut self, here: Here, cell: u32, to: &Address) -> Went {
+    pub fn take(&mut self, here: Here, cell: u32, to: &Address) -> Option<Here> {
         if !self.has_taken_tick() {
-            return here.pause();
+            return self.stop(Ending::Paused);
         }
         let item = self.rows.number_at(self.cell(here, cell));
         self.set_number(here, to, item);
@@ -69,7 +69,7 @@ impl State {
 
     /// Next.
     #[inline(always)]
-    pub fn next(&mut self, here: Here, cell: u32, back: u32) -> Went {
+    pub fn next(&mut self, here: Here, cell: u32, back: u32) -> Option<Here> {
         let at = self.cell(here, cell);
         let item = self.rows.number_at(at);
         let step = self.rows.number_at(at + STEP);

@@ -1,13 +1,13 @@
 //! Sets: what is asked of them, filing and removing.
 
-use crate::flow::{Here, Went};
+use crate::flow::Here;
 use crate::state::State;
 use ss_code_instructions::address::Address;
 
 impl State {
     /// FirstMember.
     #[inline(always)]
-    pub fn first_member(&mut self, here: Here, set: u32, owner: &Address, to: &Address) -> Went {
+    pub fn first_member(&mut self, here: Here, set: u32, owner: &Address, to: &Address) -> Option<Here> {
         let owner = self.number(here, owner);
         let answer = self.scene.population.first(set as usize, owner);
         self.put(here, to, answer)
@@ -15,7 +15,7 @@ impl State {
 
     /// LastMember.
     #[inline(always)]
-    pub fn last_member(&mut self, here: Here, set: u32, owner: &Address, to: &Address) -> Went {
+    pub fn last_member(&mut self, here: Here, set: u32, owner: &Address, to: &Address) -> Option<Here> {
         let owner = self.number(here, owner);
         let answer = self.scene.population.last(set as usize, owner);
         self.put(here, to, answer)
@@ -23,7 +23,7 @@ impl State {
 
     /// MemberCount.
     #[inline(always)]
-    pub fn member_count(&mut self, here: Here, set: u32, owner: &Address, to: &Address) -> Went {
+    pub fn member_count(&mut self, here: Here, set: u32, owner: &Address, to: &Address) -> Option<Here> {
         let owner = self.number(here, owner);
         let answer = self.scene.population.member_count(set as usize, owner);
         self.put(here, to, answer)
@@ -31,7 +31,7 @@ impl State {
 
     /// Predecessor.
     #[inline(always)]
-    pub fn predecessor(&mut self, here: Here, set: u32, member: &Address, to: &Address) -> Went {
+    pub fn predecessor(&mut self, here: Here, set: u32, member: &Address, to: &Address) -> Option<Here> {
         let member = self.number(here, member);
         let answer = self.scene.population.previous(set as usize, member);
         self.put(here, to, answer)
@@ -39,7 +39,7 @@ impl State {
 
     /// Successor.
     #[inline(always)]
-    pub fn successor(&mut self, here: Here, set: u32, member: &Address, to: &Address) -> Went {
+    pub fn successor(&mut self, here: Here, set: u32, member: &Address, to: &Address) -> Option<Here> {
         let member = self.number(here, member);
         let answer = self.scene.population.next(set as usize, member);
         self.put(here, to, answer)
@@ -47,7 +47,7 @@ impl State {
 
     /// Membership.
     #[inline(always)]
-    pub fn membership(&mut self, here: Here, set: u32, member: &Address, to: &Address) -> Went {
+    pub fn membership(&mut self, here: Here, set: u32, member: &Address, to: &Address) -> Option<Here> {
         let member = self.number(here, member);
         let answer = match self.scene.population.owner_in(set as usize, member) {
             Ok(Some(_)) => Ok(1),
@@ -59,7 +59,7 @@ impl State {
 
     /// FileFirst.
     #[inline(always)]
-    pub fn file_first(&mut self, here: Here, set: u32, member: &Address, owner: &Address) -> Went {
+    pub fn file_first(&mut self, here: Here, set: u32, member: &Address, owner: &Address) -> Option<Here> {
         let (member, owner) = (self.number(here, member), self.number(here, owner));
         let answer = self.scene
                 .population
@@ -69,7 +69,7 @@ impl State {
 
     /// FileLast.
     #[inline(always)]
-    pub fn file_last(&mut self, here: Here, set: u32, member: &Address, owner: &Address) -> Went {
+    pub fn file_last(&mut self, here: Here, set: u32, member: &Address, owner: &Address) -> Option<Here> {
         let (member, owner) = (self.number(here, member), self.number(here, owner));
         let answer = self.scene.population.file_last(set as usize, owner, member);
         self.done(here, answer)
@@ -77,7 +77,7 @@ impl State {
 
     /// FileRanked.
     #[inline(always)]
-    pub fn file_ranked(&mut self, here: Here, set: u32, member: &Address, owner: &Address) -> Went {
+    pub fn file_ranked(&mut self, here: Here, set: u32, member: &Address, owner: &Address) -> Option<Here> {
         let (member, owner) = (self.number(here, member), self.number(here, owner));
         let answer = self.scene.file_ranked(set as usize, owner, member);
         self.done(here, answer)
@@ -92,7 +92,7 @@ impl State {
         member: &Address,
         beside: &Address,
         owner: &Address,
-    ) -> Went {
+    ) -> Option<Here> {
         let (member, beside) = (self.number(here, member), self.number(here, beside));
         let owner = self.number(here, owner);
         let answer = self.scene.population.file_before(set as usize, owner, member, beside);
@@ -108,7 +108,7 @@ impl State {
         member: &Address,
         beside: &Address,
         owner: &Address,
-    ) -> Went {
+    ) -> Option<Here> {
         let (member, beside) = (self.number(here, member), self.number(here, beside));
         let owner = self.number(here, owner);
         let answer = self.scene.population.file_after(set as usize, owner, member, beside);
@@ -117,7 +117,7 @@ impl State {
 
     /// Remove.
     #[inline(always)]
-    pub fn remove(&mut self, here: Here, set: u32, member: &Address, owner: &Address) -> Went {
+    pub fn remove(&mut self, here: Here, set: u32, member: &Address, owner: &Address) -> Option<Here> {
         let (member, owner) = (self.number(here, member), self.number(here, owner));
         let answer = self.scene.population.remove(set as usize, owner, member);
         self.done(here, answer)
@@ -125,7 +125,7 @@ impl State {
 
     /// RemoveFirst.
     #[inline(always)]
-    pub fn remove_first(&mut self, here: Here, set: u32, owner: &Address, to: &Address) -> Went {
+    pub fn remove_first(&mut self, here: Here, set: u32, owner: &Address, to: &Address) -> Option<Here> {
         let owner = self.number(here, owner);
         let answer = self.scene.population.remove_first(set as usize, owner);
         self.put(here, to, answer)
@@ -133,7 +133,7 @@ impl State {
 
     /// RemoveLast.
     #[inline(always)]
-    pub fn remove_last(&mut self, here: Here, set: u32, owner: &Address, to: &Address) -> Went {
+    pub fn remove_last(&mut self, here: Here, set: u32, owner: &Address, to: &Address) -> Option<Here> {
         let owner = self.number(here, owner);
         let answer = self.scene.population.remove_last(set as usize, owner);
         self.put(here, to, answer)

@@ -1,6 +1,6 @@
 //! What the machine works on.
 
-use crate::flow::{Flow, Here, Went};
+use crate::flow::{Ending, Here};
 use ss_base::{Alpha, FaultKind, Line, Refused};
 use ss_code_instructions::address::Address;
 use ss_machine_frames::frames::Frames;
@@ -9,8 +9,8 @@ use ss_machine_world::scene::Scene;
 use std::alloc::Global;
 
 /// What the machine works on, but for its code and where it is in that: the rows of values, the open calls, the world below,
-/// and where memory comes from. Beside that the ticks that are left, the steps made in all, and the last fault: its kind, and its line where that is not
-/// the line of its instruction.
+/// and where memory comes from. Beside that the ticks that are left, the steps made in all, why the
+/// last one led nowhere, and the last fault: its kind, and its line where that is not the line of its instruction.
 #[derive(Drop)]
 pub struct State {
     pub rows: Rows,
@@ -19,6 +19,7 @@ pub struct State {
     pub alloc: Global,
     pub ticks: u64,
     pub steps: u128,
+    pub ending: Ending,
     pub fault: FaultKind,
     pub fault_line: Option<Line>,
 }
@@ -54,37 +55,50 @@ impl State {
         here.frame as usize + cell as usize
     }
 
+    /// It does not go on.
+    #[inline(always)]
+    pub fn stop(&mut self, ending: Ending) -> Option<Here> {
+        self.ending = ending;
+        None
+    }
+
     /// A fault.
     #[inline(always)]
-    pub fn fault(&mut self, here: Here, kind: FaultKind) -> Went {
+    pub fn fault(&mut self, kind: FaultKind) -> Option<Here> {
         self.fault = kind;
-        here.stop(Flow::Faults)
+        self.stop(Ending::Faulted)
     }
 
     /// On to the next instruction, unless there was a fault.
     #[inline(always)]
-    pub fn done(&mut self, here: Here, answer: Result<(), FaultKind>) -> Went {
+    pub fn done(&mut self, here: Here, answer: Result<(), FaultKind>) -> Option<Here> {
         match answer {
             Ok(()) => here.on(),
-            Err(kind) => self.fault(here, kind),
+            Err(kind) => self.fault(kind),
         }
     }
 
     /// Where memory was refused, or there was a fault.
     #[inline(always)]
-    pub fn refused(&mut self, here: Here, refused: Refused) -> Went {
+    pub fn refused(&mut self, refused: Refused) -> Option<Here> {
         match refused {
-            Refused::Fault(kind) => self.fault(here, kind),
-            Refused::Memory => here.stop(Flow::NoMemory),
+            Refused::Fault(kind) => self.fault(kind),
+            Refused::Memory => self.stop(Ending::NoMemory),
         }
     }
 
     /// On where a test holds, or does not if negated, and else past so many instructions.
     #[inline(always)]
-    pub fn branch(&mut self, here: Here, answer: Result<bool, FaultKind>, negated: bool, skip: u32) -> Went {
+    pub fn branch(
+        &mut self,
+        here: Here,
+        answer: Result<bool, FaultKind>,
+        negated: bool,
+        skip: u32,
+    ) -> Option<Here> {
         match answer {
             Ok(holds) => here.on_if(holds != negated, skip),
-            Err(kind) => self.fault(here, kind),
+            Err(kind) => self.fault(kind),
         }
     }
 
@@ -100,8 +114,8 @@ impl State {
 
     /// The instruction that took a tick is not carried out: memory was refused.
     #[inline(always)]
-    pub fn give_tick_back(&mut self, here: Here) -> Went {
+    pub fn give_tick_back(&mut self) -> Option<Here> {
         self.ticks += 1;
-        here.stop(Flow::NoMemory)
+        self.stop(Ending::NoMemory)
     }
 }

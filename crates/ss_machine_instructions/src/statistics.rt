@@ -1,6 +1,6 @@
 //! What statistics note and say, and RESET.
 
-use crate::flow::{Here, Went};
+use crate::flow::Here;
 use crate::state::State;
 use ss_code_instructions::address::Address;
 use ss_program::expression::Fold;
@@ -15,7 +15,7 @@ impl State {
         statistic: u32,
         entity: &Address,
         to: &Address,
-    ) -> Went {
+    ) -> Option<Here> {
         let entity = self.number(here, entity);
         let answer = self.scene.figure(fold, statistic as usize, entity);
         self.put(here, to, answer)
@@ -23,7 +23,7 @@ impl State {
 
     /// NoteVariable.
     #[inline(always)]
-    pub fn note_variable(&mut self, here: Here, variable: u32) -> Went {
+    pub fn note_variable(&mut self, here: Here, variable: u32) -> Option<Here> {
         let number = variable as usize;
         let value = self.rows.number_at(number);
         let answer = self.scene.note_variable(number, value);
@@ -38,7 +38,7 @@ impl State {
         class: u32,
         field: u32,
         entity: &Address,
-    ) -> Went {
+    ) -> Option<Here> {
         let entity = self.number(here, entity);
         let answer = self.scene.note_attribute(class as usize, field as usize, entity);
         self.done(here, answer)
@@ -46,7 +46,7 @@ impl State {
 
     /// NoteCount.
     #[inline(always)]
-    pub fn note_count(&mut self, here: Here, set: u32, owner: &Address) -> Went {
+    pub fn note_count(&mut self, here: Here, set: u32, owner: &Address) -> Option<Here> {
         let owner = self.number(here, owner);
         let answer = self.scene.note_count(set as usize, owner);
         self.done(here, answer)
@@ -62,7 +62,7 @@ impl State {
 
     /// Reset.
     #[inline(always)]
-    pub fn reset(&mut self, here: Here, statistic: u32, entity: &Address) -> Went {
+    pub fn reset(&mut self, here: Here, statistic: u32, entity: &Address) -> Option<Here> {
         let statistic = statistic as usize;
         let entity = self.number(here, entity);
         let held = self.held(statistic);

@@ -5,6 +5,7 @@ use ss_code::code::Code;
 use ss_code_instructions::copied_notices;
 use ss_machine_frames::frames::Frames;
 use ss_machine_frames::rows::Rows;
+use ss_machine_instructions::flow::Ending;
 use ss_machine_instructions::state::State;
 use ss_machine_world::scene::Scene;
 use std::alloc::{AllocError, Global};
@@ -61,6 +62,7 @@ pub fn first_state(alloc: Global, code: &Code) -> Result<State, AllocError> {
         alloc,
         ticks: 0,
         steps: 0,
+        ending: Ending::Ended,
         fault: FaultKind::NoEntity,
         fault_line: None,
     })

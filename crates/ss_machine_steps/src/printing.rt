@@ -4,51 +4,48 @@ use crate::showing::{Buffers, show};
 use ss_base::{FaultKind, FaultyWrite};
 use ss_code::lines::Lines;
 use ss_code_instructions::address::Address;
-use ss_machine_instructions::flow::{Flow, Here, Went};
+use ss_machine_instructions::flow::{Ending, Here};
 use ss_machine_instructions::state::State;
 use ss_picture::{FieldValue, Picture, Sink};
 
 /// The most empty lines of a SKIP.
 const MOST_LINES: i64 = 1000;
 
-// Fills one line in the buffer, and sends it: how the run goes on.
+// Fills one line in the buffer, and sends it. The error is why that failed.
 fn print_line<W: FaultyWrite>(
     line: &mut Vec<u8>,
     picture: &Picture,
     items: &[FieldValue],
     sink: &mut Sink<W>,
-) -> Flow {
+) -> Result<(), Ending> {
     line.clear();
     if picture.fill_into(line, items).is_err() || line.push(b'\n').is_err() {
-        return Flow::NoMemory;
+        return Err(Ending::NoMemory);
     }
     match sink.write(line) {
-        Ok(()) => Flow::Goes,
-        Err(_) => Flow::NoOutput,
+        Ok(()) => Ok(()),
+        Err(_) => Err(Ending::NoOutput),
     }
 }
 
-// Fills the lines of pictures with items in turn, and sends them one by one: how the run goes on.
+// Fills the lines of pictures with items in turn, and sends them one by one. The error is why that failed.
 fn print_lines<W: FaultyWrite>(
     line: &mut Vec<u8>,
     pictures: &[Picture],
     items: &[FieldValue],
     sink: &mut Sink<W>,
-) -> Flow {
+) -> Result<(), Ending> {
     let mut rest = items;
     for picture in pictures {
         let count = picture.fields().len().min(rest.len());
         let (now, later) = rest.split_at(count);
-        match print_line(line, picture, now, sink) {
-            Flow::Goes => {}
-            other => return other,
-        }
+        print_line(line, picture, now, sink)?;
         rest = later;
     }
-    Flow::Goes
+    Ok(())
 }
 
-// Lines are filled with the values from a place on, and sent: how the run goes on.
+// Lines are filled with the values from a place on, and sent. The error is why that failed.
 #[inline(never)]
 fn print_from<W: FaultyWrite>(
     state: &mut State,
@@ -56,9 +53,9 @@ fn print_from<W: FaultyWrite>(
     lines: &Lines,
     from: usize,
     sink: &mut Sink<W>,
-) -> Flow {
+) -> Result<(), Ending> {
     if show(&mut buffers.items, state, lines.items(), from).is_err() {
-        return Flow::NoMemory;
+        return Err(Ending::NoMemory);
     }
     print_lines(&mut buffers.line, lines.pictures(), &buffers.items, sink)
 }
@@ -72,20 +69,23 @@ pub(crate) fn print<W: FaultyWrite>(
     lines: &Lines,
     cell: u32,
     sink: &mut Sink<W>,
-) -> Went {
+) -> Option<Here> {
     let from = state.cell(here, cell);
-    here.on_or_stop(print_from(state, buffers, lines, from, sink))
+    match print_from(state, buffers, lines, from, sink) {
+        Ok(()) => here.on(),
+        Err(ending) => state.stop(ending),
+    }
 }
 
-// Sends so many empty lines one by one: how the run goes on.
+// Sends so many empty lines one by one. The error is why that failed.
 #[inline(never)]
-fn send_empty<W: FaultyWrite>(lines: usize, sink: &mut Sink<W>) -> Flow {
+fn send_empty<W: FaultyWrite>(lines: usize, sink: &mut Sink<W>) -> Result<(), Ending> {
     for _line in 0..lines {
         if sink.write(b"\n").is_err() {
-            return Flow::NoOutput;
+            return Err(Ending::NoOutput);
         }
     }
-    Flow::Goes
+    Ok(())
 }
 
 /// Skip.
@@ -95,10 +95,13 @@ pub(crate) fn skip<W: FaultyWrite>(
     here: Here,
     count: &Address,
     sink: &mut Sink<W>,
-) -> Went {
+) -> Option<Here> {
     let count = state.number(here, count);
     if count < 0 || count > MOST_LINES {
-        return state.fault(here, FaultKind::BadCount);
+        return state.fault(FaultKind::BadCount);
     }
-    here.on_or_stop(send_empty(count as usize, sink))
+    match send_empty(count as usize, sink) {
+        Ok(()) => here.on(),
+        Err(ending) => state.stop(ending),
+    }
 }

@@ -3,15 +3,15 @@
 use ss_base::FaultyRead;
 use ss_code_instructions::address::Address;
 use ss_input::{Missed, Source};
-use ss_machine_instructions::flow::{Flow, Here, Went};
+use ss_machine_instructions::flow::{Ending, Here};
 use ss_machine_instructions::state::State;
 
 // Where no word was read.
 #[inline(always)]
-fn unread(state: &mut State, here: Here, missed: Missed) -> Went {
+fn unread(state: &mut State, missed: Missed) -> Option<Here> {
     match missed {
-        Missed::Fault(kind) => state.fault(here, kind),
-        Missed::Input => here.stop(Flow::NoInput),
+        Missed::Fault(kind) => state.fault(kind),
+        Missed::Input => state.stop(Ending::NoInput),
     }
 }
 
@@ -22,9 +22,9 @@ pub(crate) fn read_number<R: FaultyRead>(
     here: Here,
     to: &Address,
     source: &mut Source<R>,
-) -> Went {
+) -> Option<Here> {
     match source.integer() {
-        Err(missed) => unread(state, here, missed),
+        Err(missed) => unread(state, missed),
         Ok(number) => {
             state.set_number(here, to, number);
             here.on()
@@ -39,9 +39,9 @@ pub(crate) fn read_text<R: FaultyRead>(
     here: Here,
     to: &Address,
     source: &mut Source<R>,
-) -> Went {
+) -> Option<Here> {
     match source.alpha() {
-        Err(missed) => unread(state, here, missed),
+        Err(missed) => unread(state, missed),
         Ok(text) => {
             state.set_text(here, to, text);
             here.on()
@@ -57,9 +57,9 @@ pub(crate) fn unless_ended<R: FaultyRead>(
     skip: u32,
     negated: bool,
     source: &mut Source<R>,
-) -> Went {
+) -> Option<Here> {
     match source.ended() {
-        Err(missed) => unread(state, here, missed),
+        Err(missed) => unread(state, missed),
         Ok(ended) => here.on_if(ended != negated, skip),
     }
 }

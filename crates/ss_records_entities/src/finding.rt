@@ -55,51 +55,38 @@ impl Records {
         requires class { class < length self.now.layout.classes }
         ensures found { MatchResult result (λ p. Found self.now class r p) (λ e. entity_in (state self.now) class r ≡ Err e) }
     {
-        match self.near(class, r) {
+        match self.remembered(class, r) {
             Some(place) => Ok(place),
-            None => match self.search(class, r) {
-                Some(place) => Ok(place),
-                None => Err(self.missing(class, r)),
+            None => match self.layout.kind(class) {
+                ClassKind::Permanent => self.indexed(class, r),
+                ClassKind::Temporary | ClassKind::Notice => match self.search(class, r) {
+                    Some(place) => Ok(place),
+                    None => Err(self.missing(class, r)),
+                },
             },
         }
     }
 
-    // The block of an entity of a class, if there is one.
-    #[cold]
+    // The block of an entity of a class whose entities come and go one by one, if there is one.
     #[inline(never)]
     fn search(&self, class: usize, r: i64) -> Option<Address>
         requires kept { IsKept self.now }
-        requires class { class < length self.now.layout.classes }
-        ensures found { IfSome result (λ p. Found self.now class r p) }
     {
-        match self.of_kind(class, r) {
+        match self.of_class(class, r) {
             Ok(place) => Some(place),
             Err(_) => None,
         }
     }
 
-    // The fault of a number that is no entity of a class.
+    // The fault of a number that is no entity of a class whose entities come and go one by one.
     #[cold]
     #[inline(never)]
     fn missing(&self, class: usize, r: i64) -> FaultKind
         requires kept { IsKept self.now }
-        requires class { class < length self.now.layout.classes }
     {
-        match self.of_kind(class, r) {
+        match self.of_class(class, r) {
             Ok(_) => FaultKind::NoEntity,
             Err(fault) => fault,
-        }
-    }
-
-    // The block of an entity of a class, by the kind of the class.
-    fn of_kind(&self, class: usize, r: i64) -> Result<Address, FaultKind>
-        requires kept { IsKept self.now }
-        requires class { class < length self.now.layout.classes }
-        ensures found { MatchResult result (λ p. Found self.now class r p) (λ e. entity_in (state self.now) class r ≡ Err e) }
-    {
-        match self.layout.kind(class) {
-            ClassKind::Permanent => self.indexed(class, r),
-            ClassKind::Temporary | ClassKind::Notice => self.of_class(class, r),
         }
     }
 
@@ -137,53 +124,6 @@ impl Records {
         }
     }
 
-    /// The block of an entity of a class, where it is found without a search.
-    #[inline(always)]
-    pub fn near(&self, class: usize, r: i64) -> Option<Address>
-        requires kept { IsKept self.now }
-        requires class { class < length self.now.layout.classes }
-        ensures { IfSome result (λ p. Found self.now class r p) }
-    {
-        match self.remembered(class, r) {
-            Some(place) => Some(place),
-            None => self.near_by_kind(class, r),
-        }
-    }
-
-    // The block of an entity that was not met last, where it is found without a search.
-    #[inline(always)]
-    fn near_by_kind(&self, class: usize, r: i64) -> Option<Address>
-        requires kept { IsKept self.now }
-        requires class { class < length self.now.layout.classes }
-        ensures { IfSome result (λ p. Found self.now class r p) }
-    {
-        match self.layout.kind(class) {
-            ClassKind::Permanent => match self.indexed(class, r) {
-                Ok(place) => Some(place),
-                Err(_) => None,
-            },
-            ClassKind::Temporary | ClassKind::Notice => self.near_of_class(class, r),
-        }
-    }
-
-    // The block of a creation number of a class, where it is found without a search.
-    #[inline(always)]
-    fn near_of_class(&self, class: usize, r: i64) -> Option<Address>
-        requires kept { IsKept self.now }
-        ensures { IfSome result (λ p. (numbered_place self.now.directory.places r ≡ Ok p) × (class_at_place self.now.blocks.cells p ≡ class) × (and_then (numbered (state self.now) r) (of_class class) ≡ Ok (record_of self.now.layout (words_at self.now.blocks.cells p.at)))) }
-    {
-        match self.near_numbered(r) {
-            Some(place) => {
-                if self.blocks.number(place, CLASS) == class as u64 {
-                    Some(place)
-                } else {
-                    None
-                }
-            }
-            None => None,
-        }
-    }
-
     // The block of a creation number, where it is found without a search.
     #[inline(always)]
     fn near_numbered(&self, r: i64) -> Option<Address>
@@ -199,7 +139,7 @@ impl Records {
     pub fn class_of(&self, r: i64) -> Option<usize>
         requires kept { IsKept self.now }
     {
-        match self.near_numbered(r) {
+        match self.remembered_numbered(r) {
             Some(place) => Some(self.blocks.number(place, CLASS) as usize),
             None => self.class_apart(r),
         }

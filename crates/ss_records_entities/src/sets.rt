@@ -373,22 +373,6 @@ impl Records {
         }
     }
 
-    /// The entity that x refers to, which may be in a set, where it is found without a search.
-    #[inline(always)]
-    pub fn near_joiner(&self, s: usize, x: i64) -> Option<Entry>
-        requires kept { IsKept self.now }
-        requires set { s < length self.now.layout.sets }
-        ensures { IfSome result (λ e. Joins self.now s e × (joiner (state self.now) s x ≡ Ok e.number)) }
-    {
-        match self.near(self.layout.member_class(s), x) {
-            Some(place) => Some(Entry {
-                place,
-                number: self.blocks.number(place, NUMBER),
-            }),
-            None => None,
-        }
-    }
-
     /// Whether x refers to an entity that may be in a set.
     #[inline(always)]
     pub fn look_member(&self, s: usize, x: i64) -> Result<(), FaultKind>
