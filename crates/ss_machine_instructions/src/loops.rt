@@ -9,19 +9,18 @@ use ss_code_instructions::address::Address;
 const LIMIT: usize = 1;
 const STEP: usize = 2;
 
-// The next item of a loop, where it is within the limit.
+// The next item of a loop, where it is within the limit. A step is at least 1, so that an item that is not below the limit has none.
+// How far it is below is then a number without a sign.
 #[inline(always)]
 fn next_item(item: i64, step: i64, limit: i64) -> Option<i64> {
-    match item.checked_add(step) {
-        None => None,
-        Some(next) => {
-            if next <= limit {
-                Some(next)
-            } else {
-                None
-            }
-        }
+    if item >= limit {
+        return None;
     }
+    let left = limit.wrapping_sub(item).cast_unsigned();
+    if left < step.cast_unsigned() {
+        return None;
+    }
+    Some(item.wrapping_add(step))
 }
 
 impl State {
