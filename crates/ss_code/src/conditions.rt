@@ -1,11 +1,11 @@
 //! The code of conditions: it goes on where they hold, and jumps where they do not.
 
 use crate::backward::Backward;
-use crate::piece::{Piece, as_index};
 use crate::error::CodeError;
 use crate::expressions::is_plain_owner;
 use crate::facts::expression_mode;
 use crate::generator::{Generator, Site};
+use crate::piece::{Piece, as_index};
 use ss_base::Mode;
 use ss_code_instructions::address::Address;
 use ss_code_instructions::instruction::Instruction;

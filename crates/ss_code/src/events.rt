@@ -1,9 +1,9 @@
 //! The code of events and statistics.
 
-use crate::piece::{Piece, as_index};
 use crate::error::CodeError;
 use crate::facts::is_attribute_watched;
 use crate::generator::{Generator, Site};
+use crate::piece::{Piece, as_index};
 use crate::targets::Spot;
 use ss_code_instructions::address::Address;
 use ss_code_instructions::instruction::Instruction;

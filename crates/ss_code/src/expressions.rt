@@ -1,9 +1,9 @@
 //! The code of expressions.
 
-use crate::piece::{Piece, as_index};
 use crate::error::CodeError;
 use crate::facts::{attribute_mode, expression_mode};
 use crate::generator::{Generator, Site};
+use crate::piece::{Piece, as_index};
 use ss_base::Mode;
 use ss_code_instructions::address::Address;
 use ss_code_instructions::instruction::Instruction;
@@ -285,4 +285,3 @@ pub(crate) fn is_plain_owner(owner: &SetOwner) -> bool {
 pub(crate) fn is_plain(e: &Expression) -> bool {
     matches!(e, Expression::Constant { .. } | Expression::Fetch { .. })
 }
-

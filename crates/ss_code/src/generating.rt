@@ -1,10 +1,10 @@
 //! From a resolved program to its code.
 
-use crate::piece::{Piece, as_index};
 use crate::code::{Code, Sections, Text};
 use crate::error::CodeError;
 use crate::facts::is_variable_watched;
 use crate::generator::Generator;
+use crate::piece::{Piece, as_index};
 use crate::sayings::sayings;
 use ss_base::Mode;
 use ss_code_instructions::entry::Entry;
@@ -137,7 +137,9 @@ fn code_of(alloc: Global, program: &Program) -> Result<Code, CodeError> {
         lines,
     } = code;
     let Generator {
-        constants, prints, ..
+        constants,
+        prints,
+        ..
     } = generator;
     Ok(Code::new(
         Text {

@@ -1,9 +1,9 @@
 //! The code of loops.
 
-use crate::piece::{Piece, as_index};
 use crate::error::CodeError;
 use crate::expressions::Operand;
 use crate::generator::{Generator, Site};
+use crate::piece::{Piece, as_index};
 use crate::targets::VariableSpot;
 use ss_code_instructions::address::Address;
 use ss_code_instructions::instruction::Instruction;

@@ -1,10 +1,10 @@
 //! The code of PRINT.
 
-use crate::piece::{Piece, as_index};
 use crate::error::CodeError;
 use crate::facts::expression_mode;
 use crate::generator::{Generator, Site};
 use crate::lines::Lines;
+use crate::piece::{Piece, as_index};
 use ss_base::Mode;
 use ss_code_instructions::address::Address;
 use ss_code_instructions::instruction::Instruction;

@@ -1,10 +1,10 @@
 //! The code that works on sets.
 
-use crate::piece::{Piece, as_index};
 use crate::error::CodeError;
 use crate::expressions::{Operand, is_plain_owner};
 use crate::facts::{Ordering, is_count_watched, ordering_of};
 use crate::generator::{Generator, Site};
+use crate::piece::{Piece, as_index};
 use ss_code_instructions::address::Address;
 use ss_code_instructions::instruction::Instruction;
 use ss_program::expression::{Expression, SetOwner};
@@ -71,12 +71,12 @@ impl Generator<'_> {
     ) -> Result<Beside, CodeError> {
         match position {
             Position::ByDiscipline | Position::AsFirst | Position::AsLast => Ok(Beside::Nothing),
-            Position::BeforeMember { member } => Ok(Beside::Before(
-                self.member(code, site, set, member, is_looked)?,
-            )),
-            Position::AfterMember { member } => Ok(Beside::After(
-                self.member(code, site, set, member, is_looked)?,
-            )),
+            Position::BeforeMember { member } => Ok(Beside::Before(self.member(
+                code, site, set, member, is_looked,
+            )?)),
+            Position::AfterMember { member } => Ok(Beside::After(self.member(
+                code, site, set, member, is_looked,
+            )?)),
         }
     }
 

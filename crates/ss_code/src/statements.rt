@@ -1,9 +1,9 @@
 //! The code of statements.
 
-use crate::piece::{Piece, as_index};
 use crate::error::CodeError;
 use crate::generator::{Generator, Site};
 use crate::loops::cells_of;
+use crate::piece::{Piece, as_index};
 use ss_base::Line;
 use ss_code_instructions::address::Address;
 use ss_code_instructions::instruction::Instruction;
@@ -54,12 +54,7 @@ impl Generator<'_> {
     }
 
     // What a routine yields lies in cells, the first on top: each place takes one.
-    fn gives(
-        &mut self,
-        code: &mut Piece,
-        site: Site,
-        places: &[Place],
-    ) -> Result<(), CodeError> {
+    fn gives(&mut self, code: &mut Piece, site: Site, places: &[Place]) -> Result<(), CodeError> {
         let count = places.len();
         for (i, place) in places.iter().enumerate() {
             let from = self.cell(site.above(count - 1 - i))?;
@@ -182,7 +177,10 @@ impl Generator<'_> {
                 ..
             } => self.remove_end(code, site, *end, *set, into, owner),
             Statement::Remove {
-                set, member, owner, ..
+                set,
+                member,
+                owner,
+                ..
             } => self.remove(code, site, *set, member, owner),
             Statement::ScheduleNew {
                 class,
@@ -201,7 +199,9 @@ impl Generator<'_> {
             Statement::Cancel { class, notice, .. } => self.cancel(code, site, *class, notice),
             Statement::Reset { restarts, .. } => self.resets(code, site, restarts),
             Statement::Print {
-                items, pictures, ..
+                items,
+                pictures,
+                ..
             } => self.print(code, site, items, pictures),
             Statement::Skip { count, .. } => {
                 let count = self.address(code, site, count)?;

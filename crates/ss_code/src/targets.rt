@@ -1,12 +1,10 @@
 //! The code that assigns.
 
-use crate::piece::{Piece, as_index};
 use crate::error::CodeError;
 use crate::expressions::move_of;
-use crate::facts::{
-    attribute_mode, is_attribute_watched, is_variable_watched, variable_mode,
-};
+use crate::facts::{attribute_mode, is_attribute_watched, is_variable_watched, variable_mode};
 use crate::generator::{Generator, Site};
+use crate::piece::{Piece, as_index};
 use ss_base::Mode;
 use ss_code_instructions::address::Address;
 use ss_code_instructions::instruction::Instruction;
@@ -130,10 +128,7 @@ impl Generator<'_> {
         let variable = Variable::Global {
             number: count.variable,
         };
-        Ok(Spot::Count(
-            as_index(count.class)?,
-            self.variable_spot(variable)?,
-        ))
+        Ok(Spot::Count(as_index(count.class)?, self.variable_spot(variable)?))
     }
 
     // An attribute as what is assigned: the reference to its entity is evaluated.
@@ -375,10 +370,7 @@ impl Generator<'_> {
                 self.change_variable(code, site, sign, variable, by.address)
             }
             Spot::Attribute(attribute) => {
-                code.put(
-                    site.line,
-                    attribute_change_of(sign, attribute, by.address),
-                )?;
+                code.put(site.line, attribute_change_of(sign, attribute, by.address))?;
                 self.noted_attribute(code, site, attribute)
             }
             Spot::Count(_, variable) => {

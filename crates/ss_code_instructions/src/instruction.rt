@@ -14,9 +14,15 @@ use ss_program::expression::Fold;
 pub enum Instruction {
     // Values.
     /// A number goes to a place.
-    Move { from: Address, to: Address },
+    Move {
+        from: Address,
+        to: Address,
+    },
     /// A text goes to a place.
-    MoveText { from: Address, to: Address },
+    MoveText {
+        from: Address,
+        to: Address,
+    },
     /// The sum of two numbers.
     Add {
         left: Address,
@@ -60,11 +66,19 @@ pub enum Instruction {
         to: Address,
     },
     /// ABS.F
-    Absolute { of: Address, to: Address },
+    Absolute {
+        of: Address,
+        to: Address,
+    },
     /// TIME.V
-    Clock { to: Address },
+    Clock {
+        to: Address,
+    },
     /// TIME.A of a notice.
-    TimeOf { notice: Address, to: Address },
+    TimeOf {
+        notice: Address,
+        to: Address,
+    },
     /// An attribute of an entity, a number.
     Attribute {
         class: u32,
@@ -125,15 +139,29 @@ pub enum Instruction {
 
     // Looks: where a reference is evaluated before something that may fault. What is looked at stays.
     /// Looks at a reference to an entity of a class.
-    LookEntity { class: u32, entity: Address },
+    LookEntity {
+        class: u32,
+        entity: Address,
+    },
     /// Looks at a reference to an entity that may be a member of a set.
-    LookMember { set: u32, member: Address },
+    LookMember {
+        set: u32,
+        member: Address,
+    },
     /// Looks at the owner of a set.
-    LookOwner { set: u32, owner: Address },
+    LookOwner {
+        set: u32,
+        owner: Address,
+    },
     /// Looks at the mean of a statistic of an entity.
-    LookMean { statistic: u32, entity: Address },
+    LookMean {
+        statistic: u32,
+        entity: Address,
+    },
     /// N. of a permanent class may be assigned a value.
-    LookCount { class: u32 },
+    LookCount {
+        class: u32,
+    },
 
     // Attributes.
     /// A number goes to an attribute of an entity.
@@ -167,7 +195,9 @@ pub enum Instruction {
 
     // What statistics watch: the value that was assigned before is noted in its histories. What is named stays.
     /// The value of a global variable.
-    NoteVariable { variable: u32 },
+    NoteVariable {
+        variable: u32,
+    },
     /// The value of an attribute of an entity.
     NoteAttribute {
         class: u32,
@@ -175,11 +205,16 @@ pub enum Instruction {
         entity: Address,
     },
     /// N. of the set of an owner.
-    NoteCount { set: u32, owner: Address },
+    NoteCount {
+        set: u32,
+        owner: Address,
+    },
 
     // Jumps.
     /// Jumps.
-    Jump { skip: u32 },
+    Jump {
+        skip: u32,
+    },
     /// Goes on where two numbers are equal, and jumps otherwise.
     UnlessEqual {
         left: Address,
@@ -224,7 +259,10 @@ pub enum Instruction {
         relation: Relation,
     },
     /// Goes on where no word of input is left, or one is if negated, and jumps otherwise.
-    UnlessEnded { skip: u32, negated: bool },
+    UnlessEnded {
+        skip: u32,
+        negated: bool,
+    },
     /// Goes on where the set of an owner has no member, or has one if negated, and jumps otherwise.
     UnlessEmpty {
         set: u32,
@@ -243,17 +281,32 @@ pub enum Instruction {
     /// Takes a tick: a turn of a loop that begins with WHILE or UNTIL, and an item of a loop.
     Turn,
     /// Jumps back to a turn.
-    Repeat { back: u32 },
+    Repeat {
+        back: u32,
+    },
 
     // FOR. What a loop keeps lies in cells, which stay until it forgets them.
     /// Looks at the first number, the limit and the step of a FOR, in three cells. Jumps where there is no item.
-    Begin { cell: u32, skip: u32 },
+    Begin {
+        cell: u32,
+        skip: u32,
+    },
     /// Puts the indices of a permanent class in three cells. Jumps where there is none.
-    BeginClass { class: u32, cell: u32, skip: u32 },
+    BeginClass {
+        class: u32,
+        cell: u32,
+        skip: u32,
+    },
     /// Takes a tick, and assigns the item or the member in a cell to a variable.
-    Take { cell: u32, to: Address },
+    Take {
+        cell: u32,
+        to: Address,
+    },
     /// Jumps back where there is a next item within the limit.
-    Next { cell: u32, back: u32 },
+    Next {
+        cell: u32,
+        back: u32,
+    },
     /// Puts the first member of the set of an owner or, in reverse, its last in a cell, and the one that comes after it in the
     /// next, 0 for none. Jumps where there is no first. The owner stays.
     BeginSet {
@@ -285,12 +338,17 @@ pub enum Instruction {
         sifts: bool,
     },
     /// Cells are forgotten: those of a loop that is left, and those that stayed.
-    Forget { count: u32 },
+    Forget {
+        count: u32,
+    },
 
     // Calls.
     /// Takes a tick, and calls a routine, which takes what it is given off the stack, from a cell on. What it yields comes
     /// there, the first on top.
-    Call { routine: u32, cell: u32 },
+    Call {
+        routine: u32,
+        cell: u32,
+    },
     /// The routine, or MAIN, is left.
     Leave,
     /// The run ends.
@@ -298,11 +356,20 @@ pub enum Instruction {
 
     // Entities and sets.
     /// The number of a new entity.
-    Create { class: u32, to: Address },
+    Create {
+        class: u32,
+        to: Address,
+    },
     /// All entities of a permanent class are made, as many as a global variable says.
-    CreateAll { class: u32, variable: u32 },
+    CreateAll {
+        class: u32,
+        variable: u32,
+    },
     /// An entity goes.
-    Destroy { class: u32, entity: Address },
+    Destroy {
+        class: u32,
+        entity: Address,
+    },
     /// An entity becomes the first member of the set of an owner.
     FileFirst {
         set: u32,
@@ -356,9 +423,15 @@ pub enum Instruction {
 
     // Events.
     /// A time to schedule for, which may not be past.
-    At { time: Address, to: Address },
+    At {
+        time: Address,
+        to: Address,
+    },
     /// The time that is so many units from now.
-    In { units: Address, to: Address },
+    In {
+        units: Address,
+        to: Address,
+    },
     /// The number of a new notice. It takes its first attributes off the stack, so many from a cell on, and its time from the
     /// cell above these. The time goes in the first cell.
     MakeNotice {
@@ -381,23 +454,44 @@ pub enum Instruction {
         given: u32,
     },
     /// A notice is pending no longer.
-    Cancel { class: u32, notice: Address },
+    Cancel {
+        class: u32,
+        notice: Address,
+    },
     /// Goes on where a notice is pending, and jumps otherwise.
-    Await { skip: u32 },
+    Await {
+        skip: u32,
+    },
     /// Takes a tick, takes out the notice that comes next, and begins its event, whose frame begins at a cell.
-    TakeEvent { cell: u32 },
+    TakeEvent {
+        cell: u32,
+    },
     /// Jumps back where a notice is pending.
-    NextEvent { back: u32 },
+    NextEvent {
+        back: u32,
+    },
     /// A statistic starts afresh, of an entity.
-    Reset { statistic: u32, entity: Address },
+    Reset {
+        statistic: u32,
+        entity: Address,
+    },
 
     // Input and report.
     /// The next word of input, a number.
-    Read { to: Address },
+    Read {
+        to: Address,
+    },
     /// The same, a text.
-    ReadText { to: Address },
+    ReadText {
+        to: Address,
+    },
     /// Lines are filled with items, and written. The values of these lie on the stack, from a cell on.
-    Print { lines: u32, cell: u32 },
+    Print {
+        lines: u32,
+        cell: u32,
+    },
     /// So many empty lines are written.
-    Skip { count: Address },
+    Skip {
+        count: Address,
+    },
 }

@@ -77,14 +77,8 @@ fn fold_word(fold: Fold) -> &'static str {
 /// What an instruction is called, and what it works on.
 pub(crate) fn detail_of(instruction: &I) -> Detail {
     match instruction {
-        I::Move { from, to } => with(
-            "move",
-            &[Part::From(*from), Part::To(*to)],
-        ),
-        I::MoveText { from, to } => with(
-            "move text",
-            &[Part::From(*from), Part::To(*to)],
-        ),
+        I::Move { from, to } => with("move", &[Part::From(*from), Part::To(*to)]),
+        I::MoveText { from, to } => with("move text", &[Part::From(*from), Part::To(*to)]),
         I::Add { left, right, to } => with(
             "add",
             &[Part::From(*left), Part::From(*right), Part::To(*to)],
@@ -113,25 +107,36 @@ pub(crate) fn detail_of(instruction: &I) -> Detail {
             "greatest",
             &[Part::From(*left), Part::From(*right), Part::To(*to)],
         ),
-        I::Absolute { of, to } => with(
-            "absolute",
-            &[Part::From(*of), Part::To(*to)],
-        ),
-        I::Clock { to } => with(
-            "clock",
-            &[Part::To(*to)],
-        ),
-        I::TimeOf { notice, to } => with(
-            "time of",
-            &[Part::From(*notice), Part::To(*to)],
-        ),
-        I::Attribute { class, field, entity, to } => with(
+        I::Absolute { of, to } => with("absolute", &[Part::From(*of), Part::To(*to)]),
+        I::Clock { to } => with("clock", &[Part::To(*to)]),
+        I::TimeOf { notice, to } => with("time of", &[Part::From(*notice), Part::To(*to)]),
+        I::Attribute {
+            class,
+            field,
+            entity,
+            to,
+        } => with(
             "attribute",
-            &[Part::Of("class", *class), Part::Of("field", *field), Part::From(*entity), Part::To(*to)],
+            &[
+                Part::Of("class", *class),
+                Part::Of("field", *field),
+                Part::From(*entity),
+                Part::To(*to),
+            ],
         ),
-        I::TextAttribute { class, field, entity, to } => with(
+        I::TextAttribute {
+            class,
+            field,
+            entity,
+            to,
+        } => with(
             "text attribute",
-            &[Part::Of("class", *class), Part::Of("field", *field), Part::From(*entity), Part::To(*to)],
+            &[
+                Part::Of("class", *class),
+                Part::Of("field", *field),
+                Part::From(*entity),
+                Part::To(*to),
+            ],
         ),
         I::FirstMember { set, owner, to } => with(
             "first member",
@@ -157,9 +162,19 @@ pub(crate) fn detail_of(instruction: &I) -> Detail {
             "membership",
             &[Part::Of("set", *set), Part::From(*member), Part::To(*to)],
         ),
-        I::Figure { statistic, entity, to, fold } => with(
+        I::Figure {
+            statistic,
+            entity,
+            to,
+            fold,
+        } => with(
             "figure",
-            &[Part::Of("statistic", *statistic), Part::From(*entity), Part::To(*to), Part::Word(fold_word(*fold))],
+            &[
+                Part::Of("statistic", *statistic),
+                Part::From(*entity),
+                Part::To(*to),
+                Part::Word(fold_word(*fold)),
+            ],
         ),
         I::LookEntity { class, entity } => with(
             "look entity",
@@ -177,42 +192,81 @@ pub(crate) fn detail_of(instruction: &I) -> Detail {
             "look mean",
             &[Part::Of("statistic", *statistic), Part::From(*entity)],
         ),
-        I::LookCount { class } => with(
-            "look count",
-            &[Part::Of("class", *class)],
-        ),
-        I::SetAttribute { class, field, entity, from } => with(
+        I::LookCount { class } => with("look count", &[Part::Of("class", *class)]),
+        I::SetAttribute {
+            class,
+            field,
+            entity,
+            from,
+        } => with(
             "set attribute",
-            &[Part::Of("class", *class), Part::Of("field", *field), Part::From(*entity), Part::From(*from)],
+            &[
+                Part::Of("class", *class),
+                Part::Of("field", *field),
+                Part::From(*entity),
+                Part::From(*from),
+            ],
         ),
-        I::SetTextAttribute { class, field, entity, from } => with(
+        I::SetTextAttribute {
+            class,
+            field,
+            entity,
+            from,
+        } => with(
             "set text attribute",
-            &[Part::Of("class", *class), Part::Of("field", *field), Part::From(*entity), Part::From(*from)],
+            &[
+                Part::Of("class", *class),
+                Part::Of("field", *field),
+                Part::From(*entity),
+                Part::From(*from),
+            ],
         ),
-        I::AddToAttribute { class, field, entity, by } => with(
+        I::AddToAttribute {
+            class,
+            field,
+            entity,
+            by,
+        } => with(
             "add to attribute",
-            &[Part::Of("class", *class), Part::Of("field", *field), Part::From(*entity), Part::From(*by)],
+            &[
+                Part::Of("class", *class),
+                Part::Of("field", *field),
+                Part::From(*entity),
+                Part::From(*by),
+            ],
         ),
-        I::SubtractFromAttribute { class, field, entity, by } => with(
+        I::SubtractFromAttribute {
+            class,
+            field,
+            entity,
+            by,
+        } => with(
             "subtract from attribute",
-            &[Part::Of("class", *class), Part::Of("field", *field), Part::From(*entity), Part::From(*by)],
+            &[
+                Part::Of("class", *class),
+                Part::Of("field", *field),
+                Part::From(*entity),
+                Part::From(*by),
+            ],
         ),
-        I::NoteVariable { variable } => with(
-            "note variable",
-            &[Part::Of("variable", *variable)],
-        ),
-        I::NoteAttribute { class, field, entity } => with(
+        I::NoteVariable { variable } => with("note variable", &[Part::Of("variable", *variable)]),
+        I::NoteAttribute {
+            class,
+            field,
+            entity,
+        } => with(
             "note attribute",
-            &[Part::Of("class", *class), Part::Of("field", *field), Part::From(*entity)],
+            &[
+                Part::Of("class", *class),
+                Part::Of("field", *field),
+                Part::From(*entity),
+            ],
         ),
         I::NoteCount { set, owner } => with(
             "note count",
             &[Part::Of("set", *set), Part::From(*owner)],
         ),
-        I::Jump { skip } => with(
-            "jump",
-            &[Part::Else(*skip)],
-        ),
+        I::Jump { skip } => with("jump", &[Part::Else(*skip)]),
         I::UnlessEqual { left, right, skip } => with(
             "unless equal",
             &[Part::From(*left), Part::From(*right), Part::Else(*skip)],
@@ -237,69 +291,126 @@ pub(crate) fn detail_of(instruction: &I) -> Detail {
             "unless greater or equal",
             &[Part::From(*left), Part::From(*right), Part::Else(*skip)],
         ),
-        I::UnlessTexts { left, right, skip, relation } => with(
+        I::UnlessTexts {
+            left,
+            right,
+            skip,
+            relation,
+        } => with(
             "unless texts",
-            &[Part::From(*left), Part::From(*right), Part::Else(*skip), Part::Word(relation_word(*relation))],
+            &[
+                Part::From(*left),
+                Part::From(*right),
+                Part::Else(*skip),
+                Part::Word(relation_word(*relation)),
+            ],
         ),
         I::UnlessEnded { skip, negated } => with(
             "unless ended",
             &[Part::Else(*skip), word_if(*negated, "negated")],
         ),
-        I::UnlessEmpty { set, owner, skip, negated } => with(
+        I::UnlessEmpty {
+            set,
+            owner,
+            skip,
+            negated,
+        } => with(
             "unless empty",
-            &[Part::Of("set", *set), Part::From(*owner), Part::Else(*skip), word_if(*negated, "negated")],
+            &[
+                Part::Of("set", *set),
+                Part::From(*owner),
+                Part::Else(*skip),
+                word_if(*negated, "negated"),
+            ],
         ),
-        I::UnlessMember { set, member, owner, skip, negated } => with(
+        I::UnlessMember {
+            set,
+            member,
+            owner,
+            skip,
+            negated,
+        } => with(
             "unless member",
-            &[Part::Of("set", *set), Part::From(*member), Part::From(*owner), Part::Else(*skip), word_if(*negated, "negated")],
+            &[
+                Part::Of("set", *set),
+                Part::From(*member),
+                Part::From(*owner),
+                Part::Else(*skip),
+                word_if(*negated, "negated"),
+            ],
         ),
         I::Turn => none("turn"),
-        I::Repeat { back } => with(
-            "repeat",
-            &[Part::Back(*back)],
-        ),
-        I::Begin { cell, skip } => with(
-            "begin",
-            &[Part::Of("cell", *cell), Part::Else(*skip)],
-        ),
+        I::Repeat { back } => with("repeat", &[Part::Back(*back)]),
+        I::Begin { cell, skip } => with("begin", &[Part::Of("cell", *cell), Part::Else(*skip)]),
         I::BeginClass { class, cell, skip } => with(
             "begin class",
-            &[Part::Of("class", *class), Part::Of("cell", *cell), Part::Else(*skip)],
+            &[
+                Part::Of("class", *class),
+                Part::Of("cell", *cell),
+                Part::Else(*skip),
+            ],
         ),
-        I::Take { cell, to } => with(
-            "take",
-            &[Part::Of("cell", *cell), Part::To(*to)],
-        ),
-        I::Next { cell, back } => with(
-            "next",
-            &[Part::Of("cell", *cell), Part::Back(*back)],
-        ),
-        I::BeginSet { set, owner, cell, skip, reverse } => with(
+        I::Take { cell, to } => with("take", &[Part::Of("cell", *cell), Part::To(*to)]),
+        I::Next { cell, back } => with("next", &[Part::Of("cell", *cell), Part::Back(*back)]),
+        I::BeginSet {
+            set,
+            owner,
+            cell,
+            skip,
+            reverse,
+        } => with(
             "begin set",
-            &[Part::Of("set", *set), Part::From(*owner), Part::Of("cell", *cell), Part::Else(*skip), word_if(*reverse, "reverse")],
+            &[
+                Part::Of("set", *set),
+                Part::From(*owner),
+                Part::Of("cell", *cell),
+                Part::Else(*skip),
+                word_if(*reverse, "reverse"),
+            ],
         ),
-        I::BeginAt { set, owner, cell, skip, reverse, after } => with(
+        I::BeginAt {
+            set,
+            owner,
+            cell,
+            skip,
+            reverse,
+            after,
+        } => with(
             "begin at",
-            &[Part::Of("set", *set), Part::From(*owner), Part::Of("cell", *cell), Part::Else(*skip), word_if(*reverse, "reverse"), word_if(*after, "after")],
+            &[
+                Part::Of("set", *set),
+                Part::From(*owner),
+                Part::Of("cell", *cell),
+                Part::Else(*skip),
+                word_if(*reverse, "reverse"),
+                word_if(*after, "after"),
+            ],
         ),
-        I::NextMember { set, owner, cell, back, reverse, .. } => with(
+        I::NextMember {
+            set,
+            owner,
+            cell,
+            back,
+            reverse,
+            ..
+        } => with(
             "next member",
-            &[Part::Of("set", *set), Part::From(*owner), Part::Of("cell", *cell), Part::Back(*back), word_if(*reverse, "reverse")],
+            &[
+                Part::Of("set", *set),
+                Part::From(*owner),
+                Part::Of("cell", *cell),
+                Part::Back(*back),
+                word_if(*reverse, "reverse"),
+            ],
         ),
-        I::Forget { count } => with(
-            "forget",
-            &[Part::Of("count", *count)],
-        ),
+        I::Forget { count } => with("forget", &[Part::Of("count", *count)]),
         I::Call { routine, cell } => with(
             "call",
             &[Part::Of("routine", *routine), Part::Of("cell", *cell)],
         ),
         I::Leave => none("leave"),
         I::Halt => none("halt"),
-        I::Create { class, to } => with(
-            "create",
-            &[Part::Of("class", *class), Part::To(*to)],
-        ),
+        I::Create { class, to } => with("create", &[Part::Of("class", *class), Part::To(*to)]),
         I::CreateAll { class, variable } => with(
             "create all",
             &[Part::Of("class", *class), Part::Of("variable", *variable)],
@@ -310,27 +421,63 @@ pub(crate) fn detail_of(instruction: &I) -> Detail {
         ),
         I::FileFirst { set, member, owner } => with(
             "file first",
-            &[Part::Of("set", *set), Part::From(*member), Part::From(*owner)],
+            &[
+                Part::Of("set", *set),
+                Part::From(*member),
+                Part::From(*owner),
+            ],
         ),
         I::FileLast { set, member, owner } => with(
             "file last",
-            &[Part::Of("set", *set), Part::From(*member), Part::From(*owner)],
+            &[
+                Part::Of("set", *set),
+                Part::From(*member),
+                Part::From(*owner),
+            ],
         ),
         I::FileRanked { set, member, owner } => with(
             "file ranked",
-            &[Part::Of("set", *set), Part::From(*member), Part::From(*owner)],
+            &[
+                Part::Of("set", *set),
+                Part::From(*member),
+                Part::From(*owner),
+            ],
         ),
-        I::FileBefore { set, member, beside, owner } => with(
+        I::FileBefore {
+            set,
+            member,
+            beside,
+            owner,
+        } => with(
             "file before",
-            &[Part::Of("set", *set), Part::From(*member), Part::From(*beside), Part::From(*owner)],
+            &[
+                Part::Of("set", *set),
+                Part::From(*member),
+                Part::From(*beside),
+                Part::From(*owner),
+            ],
         ),
-        I::FileAfter { set, member, beside, owner } => with(
+        I::FileAfter {
+            set,
+            member,
+            beside,
+            owner,
+        } => with(
             "file after",
-            &[Part::Of("set", *set), Part::From(*member), Part::From(*beside), Part::From(*owner)],
+            &[
+                Part::Of("set", *set),
+                Part::From(*member),
+                Part::From(*beside),
+                Part::From(*owner),
+            ],
         ),
         I::Remove { set, member, owner } => with(
             "remove",
-            &[Part::Of("set", *set), Part::From(*member), Part::From(*owner)],
+            &[
+                Part::Of("set", *set),
+                Part::From(*member),
+                Part::From(*owner),
+            ],
         ),
         I::RemoveFirst { set, owner, to } => with(
             "remove first",
@@ -340,61 +487,65 @@ pub(crate) fn detail_of(instruction: &I) -> Detail {
             "remove last",
             &[Part::Of("set", *set), Part::From(*owner), Part::To(*to)],
         ),
-        I::At { time, to } => with(
-            "at",
-            &[Part::From(*time), Part::To(*to)],
-        ),
-        I::In { units, to } => with(
-            "in",
-            &[Part::From(*units), Part::To(*to)],
-        ),
-        I::MakeNotice { class, cell, given, to } => with(
+        I::At { time, to } => with("at", &[Part::From(*time), Part::To(*to)]),
+        I::In { units, to } => with("in", &[Part::From(*units), Part::To(*to)]),
+        I::MakeNotice {
+            class,
+            cell,
+            given,
+            to,
+        } => with(
             "make notice",
-            &[Part::Of("class", *class), Part::Of("cell", *cell), Part::Of("given", *given), Part::To(*to)],
+            &[
+                Part::Of("class", *class),
+                Part::Of("cell", *cell),
+                Part::Of("given", *given),
+                Part::To(*to),
+            ],
         ),
-        I::FileNotice { class, notice, time } => with(
+        I::FileNotice {
+            class,
+            notice,
+            time,
+        } => with(
             "file notice",
-            &[Part::Of("class", *class), Part::From(*notice), Part::From(*time)],
+            &[
+                Part::Of("class", *class),
+                Part::From(*notice),
+                Part::From(*time),
+            ],
         ),
-        I::Reschedule { class, notice, cell, given } => with(
+        I::Reschedule {
+            class,
+            notice,
+            cell,
+            given,
+        } => with(
             "reschedule",
-            &[Part::Of("class", *class), Part::From(*notice), Part::Of("cell", *cell), Part::Of("given", *given)],
+            &[
+                Part::Of("class", *class),
+                Part::From(*notice),
+                Part::Of("cell", *cell),
+                Part::Of("given", *given),
+            ],
         ),
         I::Cancel { class, notice } => with(
             "cancel",
             &[Part::Of("class", *class), Part::From(*notice)],
         ),
-        I::Await { skip } => with(
-            "await",
-            &[Part::Else(*skip)],
-        ),
-        I::TakeEvent { cell } => with(
-            "take event",
-            &[Part::Of("cell", *cell)],
-        ),
-        I::NextEvent { back } => with(
-            "next event",
-            &[Part::Back(*back)],
-        ),
+        I::Await { skip } => with("await", &[Part::Else(*skip)]),
+        I::TakeEvent { cell } => with("take event", &[Part::Of("cell", *cell)]),
+        I::NextEvent { back } => with("next event", &[Part::Back(*back)]),
         I::Reset { statistic, entity } => with(
             "reset",
             &[Part::Of("statistic", *statistic), Part::From(*entity)],
         ),
-        I::Read { to } => with(
-            "read",
-            &[Part::To(*to)],
-        ),
-        I::ReadText { to } => with(
-            "read text",
-            &[Part::To(*to)],
-        ),
+        I::Read { to } => with("read", &[Part::To(*to)]),
+        I::ReadText { to } => with("read text", &[Part::To(*to)]),
         I::Print { lines, cell } => with(
             "print",
             &[Part::Of("lines", *lines), Part::Of("cell", *cell)],
         ),
-        I::Skip { count } => with(
-            "skip",
-            &[Part::From(*count)],
-        ),
+        I::Skip { count } => with("skip", &[Part::From(*count)]),
     }
 }

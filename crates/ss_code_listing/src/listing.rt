@@ -9,6 +9,7 @@ use std::alloc::{AllocError, Global};
 
 // The columns that the numbers of instructions and their names take.
 const NUMBER_WIDTH: usize = 7;
+
 const NAME_WIDTH: usize = 24;
 
 /// What a listing shows addresses by: the constants, and how many global variables come before them.
@@ -63,12 +64,7 @@ fn add_address(text: &mut Vec<u8>, names: Names, address: Address) -> Result<(),
 }
 
 // One of the things that an instruction works on.
-fn add_part(
-    text: &mut Vec<u8>,
-    names: Names,
-    place: usize,
-    part: Part,
-) -> Result<(), AllocError> {
+fn add_part(text: &mut Vec<u8>, names: Names, place: usize, part: Part) -> Result<(), AllocError> {
     match part {
         Part::Nothing => Ok(()),
         Part::From(address) => add_address(text, names, address),
@@ -126,7 +122,11 @@ pub fn listing(
     let names = Names { constants, globals };
     let mut text = Vec::new(alloc);
     for (place, instruction) in instructions.iter().enumerate() {
-        add_padded(&mut text, NUMBER_WIDTH, Buffer::new().format(place).as_bytes())?;
+        add_padded(
+            &mut text,
+            NUMBER_WIDTH,
+            Buffer::new().format(place).as_bytes(),
+        )?;
         text.push(b' ')?;
         add_detail(&mut text, names, place, &detail_of(instruction))?;
         text.push(b'\n')?;

@@ -71,15 +71,13 @@ impl Population {
 
     /// The class of a temporary entity or a notice by its number: none where no entity of that number is living.
     #[inline(always)]
-    pub fn class_of(&self, n: i64) -> Option<usize>
-    {
+    pub fn class_of(&self, n: i64) -> Option<usize> {
         self.heap.class_of(n)
     }
 
     /// The mode of an attribute.
     #[inline(always)]
-    pub fn mode(&self, class: usize, field: usize) -> Mode
-    {
+    pub fn mode(&self, class: usize, field: usize) -> Mode {
         self.heap.layout().classes[class].fields[field]
     }
 
@@ -105,21 +103,31 @@ impl Population {
 
     /// The text that an attribute is. Faults: 1 to 5.
     #[inline(always)]
-    pub fn text(&self, class: usize, field: usize, n: i64) -> Result<Alpha, FaultKind>
-    {
+    pub fn text(&self, class: usize, field: usize, n: i64) -> Result<Alpha, FaultKind> {
         self.heap.text(class, field, n)
     }
 
     /// Assigns a text to an attribute. Faults: 1 to 5.
     #[inline(always)]
-    pub fn set_text(&mut self, class: usize, field: usize, n: i64, text: Alpha) -> Result<(), FaultKind>
-    {
+    pub fn set_text(
+        &mut self,
+        class: usize,
+        field: usize,
+        n: i64,
+        text: Alpha,
+    ) -> Result<(), FaultKind> {
         self.heap.set_text(class, field, n, text)
     }
 
     /// Assigns a whole number to an attribute. Faults: 1 to 5.
     #[inline(always)]
-    pub fn set_whole(&mut self, class: usize, field: usize, n: i64, value: i64) -> Result<(), FaultKind>
+    pub fn set_whole(
+        &mut self,
+        class: usize,
+        field: usize,
+        n: i64,
+        value: i64,
+    ) -> Result<(), FaultKind>
         requires class { class < length self.old.layout.classes }
         requires mode { slice_get (modes_of self.old.layout class) field ≡ Some Mode.Integer }
         ensures done { result ≡ true → assigned self.old class field n (Value.Whole value) ≡ Ok self.new }
@@ -130,7 +138,13 @@ impl Population {
 
     /// Adds a number to an attribute of whole numbers. Faults: 1 to 5, then 14 where the sum does not fit 64 bits.
     #[inline(always)]
-    pub fn add_whole(&mut self, class: usize, field: usize, n: i64, by: i64) -> Result<(), FaultKind>
+    pub fn add_whole(
+        &mut self,
+        class: usize,
+        field: usize,
+        n: i64,
+        by: i64,
+    ) -> Result<(), FaultKind>
         requires class { class < length self.old.layout.classes }
         requires mode { slice_get (modes_of self.old.layout class) field ≡ Some Mode.Integer }
     {
@@ -139,7 +153,13 @@ impl Population {
 
     /// Subtracts a number from an attribute of whole numbers. Faults: 1 to 5, then 14 where the difference does not fit 64 bits.
     #[inline(always)]
-    pub fn subtract_whole(&mut self, class: usize, field: usize, n: i64, by: i64) -> Result<(), FaultKind>
+    pub fn subtract_whole(
+        &mut self,
+        class: usize,
+        field: usize,
+        n: i64,
+        by: i64,
+    ) -> Result<(), FaultKind>
         requires class { class < length self.old.layout.classes }
         requires mode { slice_get (modes_of self.old.layout class) field ≡ Some Mode.Integer }
     {
@@ -244,15 +264,13 @@ impl Population {
 
     /// Whether a number may be a member of a set. Faults: 1 to 5.
     #[inline(always)]
-    pub fn look_member(&self, set: usize, n: i64) -> Result<(), FaultKind>
-    {
+    pub fn look_member(&self, set: usize, n: i64) -> Result<(), FaultKind> {
         self.heap.look_member(set, n)
     }
 
     /// Whether a number is an owner of a set. Faults: 1 to 5.
     #[inline(always)]
-    pub fn look_owner(&self, set: usize, o: i64) -> Result<(), FaultKind>
-    {
+    pub fn look_owner(&self, set: usize, o: i64) -> Result<(), FaultKind> {
         self.heap.look_owner(set, o)
     }
 

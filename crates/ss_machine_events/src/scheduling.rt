@@ -48,13 +48,7 @@ fn frozen(
 
 // A notice of a class with ties is pending, by the values that the attributes which break ties have now; and says whether it is.
 #[inline(never)]
-fn schedule_tied(
-    scene: &mut Scene,
-    alloc: Global,
-    class: usize,
-    notice: i64,
-    time: i64,
-) -> bool {
+fn schedule_tied(scene: &mut Scene, alloc: Global, class: usize, notice: i64, time: i64) -> bool {
     let rank = scene.rank(class);
     let keys = scene.notices[rank].ties().as_slice();
     match frozen(scene, alloc, class, notice, keys) {

@@ -16,7 +16,10 @@ impl State {
         to: &Address,
     ) -> Option<Here> {
         let entity = self.number(here, entity);
-        let answer = self.scene.population.whole(class as usize, field as usize, entity);
+        let answer = self
+            .scene
+            .population
+            .whole(class as usize, field as usize, entity);
         self.put(here, to, answer)
     }
 
@@ -31,7 +34,11 @@ impl State {
         to: &Address,
     ) -> Option<Here> {
         let entity = self.number(here, entity);
-        match self.scene.population.text(class as usize, field as usize, entity) {
+        match self
+            .scene
+            .population
+            .text(class as usize, field as usize, entity)
+        {
             Ok(text) => {
                 self.set_text(here, to, text);
                 here.on()
@@ -51,7 +58,10 @@ impl State {
         from: &Address,
     ) -> Option<Here> {
         let (entity, number) = (self.number(here, entity), self.number(here, from));
-        let answer = self.scene.population.set_whole(class as usize, field as usize, entity, number);
+        let answer = self
+            .scene
+            .population
+            .set_whole(class as usize, field as usize, entity, number);
         self.done(here, answer)
     }
 
@@ -66,7 +76,10 @@ impl State {
         from: &Address,
     ) -> Option<Here> {
         let (entity, text) = (self.number(here, entity), self.text(here, from));
-        let answer = self.scene.population.set_text(class as usize, field as usize, entity, text);
+        let answer = self
+            .scene
+            .population
+            .set_text(class as usize, field as usize, entity, text);
         self.done(here, answer)
     }
 
@@ -81,7 +94,10 @@ impl State {
         by: &Address,
     ) -> Option<Here> {
         let (entity, by) = (self.number(here, entity), self.number(here, by));
-        let answer = self.scene.population.add_whole(class as usize, field as usize, entity, by);
+        let answer = self
+            .scene
+            .population
+            .add_whole(class as usize, field as usize, entity, by);
         self.done(here, answer)
     }
 
@@ -96,7 +112,10 @@ impl State {
         by: &Address,
     ) -> Option<Here> {
         let (entity, by) = (self.number(here, entity), self.number(here, by));
-        let answer = self.scene.population.subtract_whole(class as usize, field as usize, entity, by);
+        let answer = self
+            .scene
+            .population
+            .subtract_whole(class as usize, field as usize, entity, by);
         self.done(here, answer)
     }
 

@@ -39,7 +39,9 @@ impl State {
             match self.scene.population.mode(class, field) {
                 Mode::Integer => {
                     let number = self.rows.number_at(at);
-                    self.scene.population.set_whole(class, field, notice, number)?;
+                    self.scene
+                        .population
+                        .set_whole(class, field, notice, number)?;
                 }
                 Mode::Alpha => {
                     let text = self.rows.text_at(at);

@@ -28,25 +28,49 @@ fn are_related(relation: Relation, left: Alpha, right: Alpha) -> bool {
 impl State {
     /// UnlessEqual.
     #[inline(always)]
-    pub fn unless_equal(&self, here: Here, left: &Address, right: &Address, skip: u32) -> Option<Here> {
+    pub fn unless_equal(
+        &self,
+        here: Here,
+        left: &Address,
+        right: &Address,
+        skip: u32,
+    ) -> Option<Here> {
         here.on_if(self.number(here, left) == self.number(here, right), skip)
     }
 
     /// UnlessNotEqual.
     #[inline(always)]
-    pub fn unless_not_equal(&self, here: Here, left: &Address, right: &Address, skip: u32) -> Option<Here> {
+    pub fn unless_not_equal(
+        &self,
+        here: Here,
+        left: &Address,
+        right: &Address,
+        skip: u32,
+    ) -> Option<Here> {
         here.on_if(self.number(here, left) != self.number(here, right), skip)
     }
 
     /// UnlessLess.
     #[inline(always)]
-    pub fn unless_less(&self, here: Here, left: &Address, right: &Address, skip: u32) -> Option<Here> {
+    pub fn unless_less(
+        &self,
+        here: Here,
+        left: &Address,
+        right: &Address,
+        skip: u32,
+    ) -> Option<Here> {
         here.on_if(self.number(here, left) < self.number(here, right), skip)
     }
 
     /// UnlessGreater.
     #[inline(always)]
-    pub fn unless_greater(&self, here: Here, left: &Address, right: &Address, skip: u32) -> Option<Here> {
+    pub fn unless_greater(
+        &self,
+        here: Here,
+        left: &Address,
+        right: &Address,
+        skip: u32,
+    ) -> Option<Here> {
         here.on_if(self.number(here, left) > self.number(here, right), skip)
     }
 

@@ -7,6 +7,7 @@ use ss_code_instructions::address::Address;
 
 // Where the limit and the step of a loop lie above its item.
 const LIMIT: usize = 1;
+
 const STEP: usize = 2;
 
 // The next item of a loop, where it is within the limit. A step is at least 1, so that an item that is not below the limit has none.

@@ -17,7 +17,12 @@ fn distance(number: i64) -> Result<i64, FaultKind> {
 impl State {
     /// A number that was found goes to an address, unless there was a fault.
     #[inline(always)]
-    pub fn put(&mut self, here: Here, to: &Address, answer: Result<i64, FaultKind>) -> Option<Here> {
+    pub fn put(
+        &mut self,
+        here: Here,
+        to: &Address,
+        answer: Result<i64, FaultKind>,
+    ) -> Option<Here> {
         match answer {
             Ok(number) => {
                 self.set_number(here, to, number);
@@ -45,42 +50,78 @@ impl State {
 
     /// Add.
     #[inline(always)]
-    pub fn add(&mut self, here: Here, left: &Address, right: &Address, to: &Address) -> Option<Here> {
+    pub fn add(
+        &mut self,
+        here: Here,
+        left: &Address,
+        right: &Address,
+        to: &Address,
+    ) -> Option<Here> {
         let answer = plus(self.number(here, left), self.number(here, right));
         self.put(here, to, answer)
     }
 
     /// Subtract.
     #[inline(always)]
-    pub fn subtract(&mut self, here: Here, left: &Address, right: &Address, to: &Address) -> Option<Here> {
+    pub fn subtract(
+        &mut self,
+        here: Here,
+        left: &Address,
+        right: &Address,
+        to: &Address,
+    ) -> Option<Here> {
         let answer = minus(self.number(here, left), self.number(here, right));
         self.put(here, to, answer)
     }
 
     /// Multiply.
     #[inline(always)]
-    pub fn multiply(&mut self, here: Here, left: &Address, right: &Address, to: &Address) -> Option<Here> {
+    pub fn multiply(
+        &mut self,
+        here: Here,
+        left: &Address,
+        right: &Address,
+        to: &Address,
+    ) -> Option<Here> {
         let answer = times(self.number(here, left), self.number(here, right));
         self.put(here, to, answer)
     }
 
     /// Quotient.
     #[inline(always)]
-    pub fn quotient(&mut self, here: Here, left: &Address, right: &Address, to: &Address) -> Option<Here> {
+    pub fn quotient(
+        &mut self,
+        here: Here,
+        left: &Address,
+        right: &Address,
+        to: &Address,
+    ) -> Option<Here> {
         let answer = div_f(self.number(here, left), self.number(here, right));
         self.put(here, to, answer)
     }
 
     /// Remainder.
     #[inline(always)]
-    pub fn remainder(&mut self, here: Here, left: &Address, right: &Address, to: &Address) -> Option<Here> {
+    pub fn remainder(
+        &mut self,
+        here: Here,
+        left: &Address,
+        right: &Address,
+        to: &Address,
+    ) -> Option<Here> {
         let answer = mod_f(self.number(here, left), self.number(here, right));
         self.put(here, to, answer)
     }
 
     /// Least.
     #[inline(always)]
-    pub fn least(&mut self, here: Here, left: &Address, right: &Address, to: &Address) -> Option<Here> {
+    pub fn least(
+        &mut self,
+        here: Here,
+        left: &Address,
+        right: &Address,
+        to: &Address,
+    ) -> Option<Here> {
         let number = self.number(here, left).min(self.number(here, right));
         self.set_number(here, to, number);
         here.on()
@@ -88,7 +129,13 @@ impl State {
 
     /// Greatest.
     #[inline(always)]
-    pub fn greatest(&mut self, here: Here, left: &Address, right: &Address, to: &Address) -> Option<Here> {
+    pub fn greatest(
+        &mut self,
+        here: Here,
+        left: &Address,
+        right: &Address,
+        to: &Address,
+    ) -> Option<Here> {
         let number = self.number(here, left).max(self.number(here, right));
         self.set_number(here, to, number);
         here.on()

@@ -7,7 +7,13 @@ use ss_code_instructions::address::Address;
 impl State {
     /// FirstMember.
     #[inline(always)]
-    pub fn first_member(&mut self, here: Here, set: u32, owner: &Address, to: &Address) -> Option<Here> {
+    pub fn first_member(
+        &mut self,
+        here: Here,
+        set: u32,
+        owner: &Address,
+        to: &Address,
+    ) -> Option<Here> {
         let owner = self.number(here, owner);
         let answer = self.scene.population.first(set as usize, owner);
         self.put(here, to, answer)
@@ -15,7 +21,13 @@ impl State {
 
     /// LastMember.
     #[inline(always)]
-    pub fn last_member(&mut self, here: Here, set: u32, owner: &Address, to: &Address) -> Option<Here> {
+    pub fn last_member(
+        &mut self,
+        here: Here,
+        set: u32,
+        owner: &Address,
+        to: &Address,
+    ) -> Option<Here> {
         let owner = self.number(here, owner);
         let answer = self.scene.population.last(set as usize, owner);
         self.put(here, to, answer)
@@ -23,7 +35,13 @@ impl State {
 
     /// MemberCount.
     #[inline(always)]
-    pub fn member_count(&mut self, here: Here, set: u32, owner: &Address, to: &Address) -> Option<Here> {
+    pub fn member_count(
+        &mut self,
+        here: Here,
+        set: u32,
+        owner: &Address,
+        to: &Address,
+    ) -> Option<Here> {
         let owner = self.number(here, owner);
         let answer = self.scene.population.member_count(set as usize, owner);
         self.put(here, to, answer)
@@ -31,7 +49,13 @@ impl State {
 
     /// Predecessor.
     #[inline(always)]
-    pub fn predecessor(&mut self, here: Here, set: u32, member: &Address, to: &Address) -> Option<Here> {
+    pub fn predecessor(
+        &mut self,
+        here: Here,
+        set: u32,
+        member: &Address,
+        to: &Address,
+    ) -> Option<Here> {
         let member = self.number(here, member);
         let answer = self.scene.population.previous(set as usize, member);
         self.put(here, to, answer)
@@ -39,7 +63,13 @@ impl State {
 
     /// Successor.
     #[inline(always)]
-    pub fn successor(&mut self, here: Here, set: u32, member: &Address, to: &Address) -> Option<Here> {
+    pub fn successor(
+        &mut self,
+        here: Here,
+        set: u32,
+        member: &Address,
+        to: &Address,
+    ) -> Option<Here> {
         let member = self.number(here, member);
         let answer = self.scene.population.next(set as usize, member);
         self.put(here, to, answer)
@@ -47,7 +77,13 @@ impl State {
 
     /// Membership.
     #[inline(always)]
-    pub fn membership(&mut self, here: Here, set: u32, member: &Address, to: &Address) -> Option<Here> {
+    pub fn membership(
+        &mut self,
+        here: Here,
+        set: u32,
+        member: &Address,
+        to: &Address,
+    ) -> Option<Here> {
         let member = self.number(here, member);
         let answer = match self.scene.population.owner_in(set as usize, member) {
             Ok(Some(_)) => Ok(1),
@@ -59,17 +95,30 @@ impl State {
 
     /// FileFirst.
     #[inline(always)]
-    pub fn file_first(&mut self, here: Here, set: u32, member: &Address, owner: &Address) -> Option<Here> {
+    pub fn file_first(
+        &mut self,
+        here: Here,
+        set: u32,
+        member: &Address,
+        owner: &Address,
+    ) -> Option<Here> {
         let (member, owner) = (self.number(here, member), self.number(here, owner));
-        let answer = self.scene
-                .population
-                .file_first(set as usize, owner, member);
+        let answer = self
+            .scene
+            .population
+            .file_first(set as usize, owner, member);
         self.done(here, answer)
     }
 
     /// FileLast.
     #[inline(always)]
-    pub fn file_last(&mut self, here: Here, set: u32, member: &Address, owner: &Address) -> Option<Here> {
+    pub fn file_last(
+        &mut self,
+        here: Here,
+        set: u32,
+        member: &Address,
+        owner: &Address,
+    ) -> Option<Here> {
         let (member, owner) = (self.number(here, member), self.number(here, owner));
         let answer = self.scene.population.file_last(set as usize, owner, member);
         self.done(here, answer)
@@ -77,7 +126,13 @@ impl State {
 
     /// FileRanked.
     #[inline(always)]
-    pub fn file_ranked(&mut self, here: Here, set: u32, member: &Address, owner: &Address) -> Option<Here> {
+    pub fn file_ranked(
+        &mut self,
+        here: Here,
+        set: u32,
+        member: &Address,
+        owner: &Address,
+    ) -> Option<Here> {
         let (member, owner) = (self.number(here, member), self.number(here, owner));
         let answer = self.scene.file_ranked(set as usize, owner, member);
         self.done(here, answer)
@@ -95,7 +150,10 @@ impl State {
     ) -> Option<Here> {
         let (member, beside) = (self.number(here, member), self.number(here, beside));
         let owner = self.number(here, owner);
-        let answer = self.scene.population.file_before(set as usize, owner, member, beside);
+        let answer = self
+            .scene
+            .population
+            .file_before(set as usize, owner, member, beside);
         self.done(here, answer)
     }
 
@@ -111,13 +169,22 @@ impl State {
     ) -> Option<Here> {
         let (member, beside) = (self.number(here, member), self.number(here, beside));
         let owner = self.number(here, owner);
-        let answer = self.scene.population.file_after(set as usize, owner, member, beside);
+        let answer = self
+            .scene
+            .population
+            .file_after(set as usize, owner, member, beside);
         self.done(here, answer)
     }
 
     /// Remove.
     #[inline(always)]
-    pub fn remove(&mut self, here: Here, set: u32, member: &Address, owner: &Address) -> Option<Here> {
+    pub fn remove(
+        &mut self,
+        here: Here,
+        set: u32,
+        member: &Address,
+        owner: &Address,
+    ) -> Option<Here> {
         let (member, owner) = (self.number(here, member), self.number(here, owner));
         let answer = self.scene.population.remove(set as usize, owner, member);
         self.done(here, answer)
@@ -125,7 +192,13 @@ impl State {
 
     /// RemoveFirst.
     #[inline(always)]
-    pub fn remove_first(&mut self, here: Here, set: u32, owner: &Address, to: &Address) -> Option<Here> {
+    pub fn remove_first(
+        &mut self,
+        here: Here,
+        set: u32,
+        owner: &Address,
+        to: &Address,
+    ) -> Option<Here> {
         let owner = self.number(here, owner);
         let answer = self.scene.population.remove_first(set as usize, owner);
         self.put(here, to, answer)
@@ -133,7 +206,13 @@ impl State {
 
     /// RemoveLast.
     #[inline(always)]
-    pub fn remove_last(&mut self, here: Here, set: u32, owner: &Address, to: &Address) -> Option<Here> {
+    pub fn remove_last(
+        &mut self,
+        here: Here,
+        set: u32,
+        owner: &Address,
+        to: &Address,
+    ) -> Option<Here> {
         let owner = self.number(here, owner);
         let answer = self.scene.population.remove_last(set as usize, owner);
         self.put(here, to, answer)

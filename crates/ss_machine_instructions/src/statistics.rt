@@ -40,7 +40,9 @@ impl State {
         entity: &Address,
     ) -> Option<Here> {
         let entity = self.number(here, entity);
-        let answer = self.scene.note_attribute(class as usize, field as usize, entity);
+        let answer = self
+            .scene
+            .note_attribute(class as usize, field as usize, entity);
         self.done(here, answer)
     }
 

@@ -106,7 +106,12 @@ impl Scene {
     }
 
     // The same by the statistic.
-    fn present_value(&mut self, statistic: usize, entity: i64, held: i64) -> Result<i64, FaultKind> {
+    fn present_value(
+        &mut self,
+        statistic: usize,
+        entity: i64,
+        held: i64,
+    ) -> Result<i64, FaultKind> {
         match self.timeline.subject(statistic) {
             None => Err(FaultKind::NoEntity),
             Some(subject) => self.present(subject, entity, held),

@@ -87,8 +87,7 @@ impl Heap {
 
     /// The class of a temporary entity or a notice by its creation number: none where no entity of that number is living.
     #[inline(always)]
-    pub fn class_of(&self, r: i64) -> Option<usize>
-    {
+    pub fn class_of(&self, r: i64) -> Option<usize> {
         self.records.class_of(r)
     }
 
@@ -154,7 +153,13 @@ impl Heap {
 
     /// Sets an attribute of texts. Faults: 1 to 5.
     #[inline(never)]
-    pub fn set_text(&mut self, class: usize, field: usize, r: i64, text: Alpha) -> Result<(), FaultKind>
+    pub fn set_text(
+        &mut self,
+        class: usize,
+        field: usize,
+        r: i64,
+        text: Alpha,
+    ) -> Result<(), FaultKind>
         requires class { class < length self.old.state.layout.classes }
     {
         self.records.start();
@@ -187,7 +192,13 @@ impl Heap {
 
     /// Subtracts a number from an attribute of whole numbers. Faults: 1 to 5, then 14 where the difference does not fit 64 bits.
     #[inline(always)]
-    pub fn subtract_whole(&mut self, class: usize, field: usize, r: i64, n: i64) -> Result<(), FaultKind>
+    pub fn subtract_whole(
+        &mut self,
+        class: usize,
+        field: usize,
+        r: i64,
+        n: i64,
+    ) -> Result<(), FaultKind>
         requires class { class < length self.old.state.layout.classes }
         requires mode { slice_get (modes_of self.old.state.layout class) field ≡ Some Mode.Integer }
         ensures touches { (self.new.touches ≡ 0) × (self.new.total ≡ self.old.total) }

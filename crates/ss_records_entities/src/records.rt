@@ -238,7 +238,13 @@ impl Records {
 
     /// Subtracts a number from an attribute of whole numbers. Faults: those of the entity, then 14 where the result does not fit 64 bits.
     #[inline(always)]
-    pub fn subtract_whole(&mut self, class: usize, field: usize, r: i64, n: i64) -> Result<(), FaultKind>
+    pub fn subtract_whole(
+        &mut self,
+        class: usize,
+        field: usize,
+        r: i64,
+        n: i64,
+    ) -> Result<(), FaultKind>
         requires kept { IsKept self.old }
         requires class { class < length self.old.layout.classes }
         requires mode { slice_get (modes_of self.old.layout class) field ≡ Some Mode.Integer }

@@ -173,8 +173,7 @@ impl Histories {
         owner: i64,
         now: i64,
         number: i64,
-    ) -> Result<(), Unnoted>
-    {
+    ) -> Result<(), Unnoted> {
         let places = self.about.count_places(set);
         match each::note_number(&mut self.kept, places, owner, now, number) {
             Ok(()) => {
@@ -263,4 +262,3 @@ fn note_at(
         Err(unnoted) => Err(unnoted),
     }
 }
-
