@@ -1,8 +1,9 @@
 //! The code of statements.
 
 use crate::error::CodeError;
-use crate::generator::{Generator, Site};
+use crate::generator::{Created, Generator, Site};
 use crate::loops::cells_of;
+use crate::targets::is_attribute;
 use crate::piece::{Piece, as_index};
 use ss_base::Line;
 use ss_code_instructions::address::Address;
@@ -210,12 +211,42 @@ impl Generator<'_> {
         }
     }
 
+    // The entity that has just been created after a statement, where this one had been before it: assigning an attribute leaves it as
+    // it is.
+    fn created_after(
+        &self,
+        s: &Statement,
+        before: Option<Created>,
+    ) -> Result<Option<Created>, CodeError> {
+        match s {
+            Statement::Create {
+                class,
+                into: Place::ToVariable { variable },
+                ..
+            } => Ok(Some(Created {
+                class: as_index(*class)?,
+                entity: self.variable(*variable)?,
+            })),
+            Statement::Let { target, .. } | Statement::Change { target, .. } => {
+                Ok(if is_attribute(target) { before } else { None })
+            }
+            Statement::Read { targets, .. } => {
+                let all = targets.iter().all(|target| is_attribute(&target.place));
+                Ok(if all { before } else { None })
+            }
+            _ => Ok(None),
+        }
+    }
+
     // One statement after another, above so many cells.
     #[cycle(statements)]
     fn body(&mut self, height: usize, body: &[Statement]) -> Result<Piece, CodeError> {
         let mut code = Piece::new(self.alloc);
+        self.created = None;
         for s in body {
+            let before = self.created;
             self.statement(&mut code, height, s)?;
+            self.created = self.created_after(s, before)?;
         }
         Ok(code)
     }

@@ -3,7 +3,7 @@
 use crate::error::CodeError;
 use crate::expressions::move_of;
 use crate::facts::{attribute_mode, is_attribute_watched, is_variable_watched, variable_mode};
-use crate::generator::{Generator, Site};
+use crate::generator::{Created, Generator, Site};
 use crate::piece::{Piece, as_index};
 use ss_base::Mode;
 use ss_code_instructions::address::Address;
@@ -94,6 +94,11 @@ fn set_of(spot: AttributeSpot, from: Address) -> Instruction {
     }
 }
 
+/// Whether a place is an attribute.
+pub(crate) fn is_attribute(place: &Place) -> bool {
+    matches!(place, Place::ToAttribute { .. })
+}
+
 // Whether the entity of an attribute needs no look before the code of a value: there is none, or the first thing that it does is to
 // read an attribute of the same entity, which has the same faults.
 fn is_looked_at(computed: &Piece, spot: AttributeSpot) -> bool {
@@ -176,20 +181,18 @@ impl Generator<'_> {
         Ok(spot)
     }
 
-    // The reference to the entity of an attribute is looked at.
+    // The reference to the entity of an attribute is looked at, unless it was just created.
     fn look(
         &mut self,
         code: &mut Piece,
         site: Site,
         attribute: AttributeSpot,
     ) -> Result<(), CodeError> {
-        code.put(
-            site.line,
-            Instruction::LookEntity {
-                class: attribute.class,
-                entity: attribute.entity,
-            },
-        )?;
+        let (class, entity) = (attribute.class, attribute.entity);
+        if self.created == Some(Created { class, entity }) {
+            return Ok(());
+        }
+        code.put(site.line, Instruction::LookEntity { class, entity })?;
         Ok(())
     }
 
@@ -391,7 +394,7 @@ impl Generator<'_> {
         self.assign(code, site, spot, to)
     }
 
-    /// READ: each target takes a word of input.
+    /// READ: each target takes a word of input. What was just created may be another entity after a variable has taken one.
     pub(crate) fn reads(
         &mut self,
         code: &mut Piece,
@@ -400,6 +403,9 @@ impl Generator<'_> {
     ) -> Result<(), CodeError> {
         for target in targets {
             self.read(code, site, target)?;
+            if !is_attribute(&target.place) {
+                self.created = None;
+            }
         }
         Ok(())
     }
