@@ -4,8 +4,6 @@ use crate::error::CodeError;
 use crate::facts::is_attribute_watched;
 use crate::generator::{Generator, Site};
 use crate::piece::{Piece, as_index};
-use crate::targets::Spot;
-use ss_code_instructions::address::Address;
 use ss_code_instructions::instruction::Instruction;
 use ss_program::expression::Expression;
 use ss_program::statement::{Place, Restart, When};
@@ -41,36 +39,9 @@ impl Generator<'_> {
         self.time(code, site.above(given.len()), when)
     }
 
-    // A notice was given its first attributes: statistics that watch them note that.
-    fn noted_given(
-        &mut self,
-        code: &mut Piece,
-        site: Site,
-        class: usize,
-        given: usize,
-        notice: Address,
-    ) -> Result<(), CodeError> {
-        for field in 0..given {
-            if is_attribute_watched(self.program, class, field) {
-                code.put(
-                    site.line,
-                    Instruction::NoteAttribute {
-                        class: as_index(class)?,
-                        field: as_index(field)?,
-                        entity: notice,
-                    },
-                )?;
-            }
-        }
-        Ok(())
-    }
-
-    // Where the number of a new notice goes: into a variable, or above its time, where it stays.
-    fn notice_landing(&mut self, site: Site, spot: Spot) -> Result<Address, CodeError> {
-        match spot {
-            Spot::Variable(variable) => Ok(variable.address),
-            Spot::Attribute(_) | Spot::Count(_, _) => self.cell(site.above(1)),
-        }
+    // Whether a statistic watches one of the first attributes of a notice, so many.
+    fn is_given_watched(&self, class: usize, given: usize) -> bool {
+        (0..given).any(|field| is_attribute_watched(self.program, class, field))
     }
 
     /// SCHEDULE A.
@@ -87,7 +58,7 @@ impl Generator<'_> {
         let above = site.above(spot.cells());
         self.notice_values(code, above, given, when)?;
         let time = self.cell(above)?;
-        let to = self.notice_landing(above, spot)?;
+        let to = self.landing(above, spot, 1)?;
         let index = as_index(class)?;
         code.put(
             site.line,
@@ -96,9 +67,9 @@ impl Generator<'_> {
                 cell: self.place_of(above)?,
                 given: as_index(given.len())?,
                 to,
+                noted: self.is_given_watched(class, given.len()),
             },
         )?;
-        self.noted_given(code, site, class, given.len(), to)?;
         self.assign(code, site, spot, to)?;
         code.put(
             site.line,
@@ -108,7 +79,7 @@ impl Generator<'_> {
                 time,
             },
         )?;
-        Ok(())
+        self.forget(code, site, spot.cells())
     }
 
     /// SCHEDULE THE.
@@ -139,9 +110,10 @@ impl Generator<'_> {
                 notice: notice.address,
                 cell: self.place_of(above)?,
                 given: as_index(given.len())?,
+                noted: self.is_given_watched(class, given.len()),
             },
         )?;
-        self.noted_given(code, site, class, given.len(), notice.address)
+        Ok(())
     }
 
     /// CANCEL.

@@ -8,7 +8,7 @@ use ss_base::Mode;
 use ss_code_instructions::address::Address;
 use ss_code_instructions::instruction::Instruction;
 use ss_program::expression::{
-    Expression, MemberQuery, Operation, Operator, SetOwner, SetQuery, Sign,
+    Expression, MemberQuery, Operation, Operator, SetOwner, SetQuery, Sign, Variable,
 };
 
 /// A value that an instruction reads: where it lies, and how many cells it takes for that.
@@ -284,4 +284,28 @@ pub(crate) fn is_plain_owner(owner: &SetOwner) -> bool {
 /// Whether an expression takes no code: a variable or a constant.
 pub(crate) fn is_plain(e: &Expression) -> bool {
     matches!(e, Expression::Constant { .. } | Expression::Fetch { .. })
+}
+
+/// Whether the evaluation of an expression begins with an attribute of the entity in a variable, as one of this class: so it begins with
+/// the look at it. Nothing but constants may come before.
+pub(crate) fn begins_with_look(class: usize, variable: Variable, e: &Expression) -> bool {
+    match e {
+        Expression::Attribute { class: k, of, .. } => match &**of {
+            Expression::Fetch { variable: held } => *k == class && *held == variable,
+            inner => begins_with_look(class, variable, inner),
+        },
+        Expression::OfSet { owner: inner, .. }
+        | Expression::OfMember { member: inner, .. }
+        | Expression::TimeOf { notice: inner }
+        | Expression::FigureOf { entity: inner, .. }
+        | Expression::Signed { term: inner, .. }
+        | Expression::Absolute { argument: inner } => begins_with_look(class, variable, inner),
+        Expression::Calculate { first, further } => match (&**first, further.first()) {
+            (Expression::Constant { .. }, Some(second)) => {
+                begins_with_look(class, variable, &second.operand)
+            }
+            (first, _) => begins_with_look(class, variable, first),
+        },
+        _ => false,
+    }
 }

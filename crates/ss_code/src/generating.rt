@@ -7,6 +7,7 @@ use crate::generator::Generator;
 use crate::piece::{Piece, as_index};
 use crate::sayings::sayings;
 use ss_base::Mode;
+use ss_code_instructions::address::Address;
 use ss_code_instructions::entry::Entry;
 use ss_code_instructions::instruction::Instruction;
 use ss_code_instructions::limit::instruction_limit;
@@ -66,13 +67,14 @@ fn put_routine(
     put_section(generator, code, given, yielding, others, &routine.body)
 }
 
-// The notice of an event is saved in a variable as its routine begins: a statistic that watches that notes it.
+// The notice of an event was saved in a variable as its routine began: a statistic that watches that notes it.
 fn put_noted(generator: &mut Generator, code: &mut Piece, event: &Event) -> Result<(), CodeError> {
-    if let Some(number) = event.saved {
-        if is_variable_watched(generator.program, number) {
-            let variable = as_index(number)?;
-            code.put(event.line, Instruction::NoteVariable { variable })?;
-        }
+    if let Some(number) = event.saved
+        && is_variable_watched(generator.program, number)
+    {
+        let variable = as_index(number)?;
+        let from = Address::fixed(variable);
+        code.put(event.line, Instruction::Keep { from, variable })?;
     }
     Ok(())
 }

@@ -89,7 +89,7 @@ impl Generator<'_> {
         Ok(())
     }
 
-    // The item of a FOR: its tick, and the variable is assigned.
+    // A turn of a FOR: its tick, the item or member in a cell goes to the variable, and what follows.
     fn take(
         &mut self,
         site: Site,
@@ -98,10 +98,30 @@ impl Generator<'_> {
         turn: Piece,
     ) -> Result<Piece, CodeError> {
         let mut code = Piece::new(self.alloc);
-        let to = variable.address;
-        code.put(site.line, Instruction::Take { cell, to })?;
-        self.noted(&mut code, site, variable)?;
+        match variable.watched {
+            None => {
+                let to = variable.address;
+                code.put(site.line, Instruction::Take { cell, to })?;
+            }
+            Some(variable) => {
+                let from = Address::in_frame(cell);
+                code.put(site.line, Instruction::Turn)?;
+                code.put(site.line, Instruction::Keep { from, variable })?;
+            }
+        }
         code.append(turn)?;
+        Ok(code)
+    }
+
+    // The items of a FOR: a turn, and on to the next one.
+    fn take_items(
+        &mut self,
+        site: Site,
+        cell: u32,
+        variable: VariableSpot,
+        turn: Piece,
+    ) -> Result<Piece, CodeError> {
+        let mut code = self.take(site, cell, variable, turn)?;
         let back = as_index(code.len())?;
         code.put(site.line, Instruction::Next { cell, back })?;
         Ok(code)
@@ -125,7 +145,7 @@ impl Generator<'_> {
             Some(e) => self.push(code, site.above(2), e)?,
         }
         let spot = self.variable_spot(variable)?;
-        let items = self.take(site, cell, spot, turn)?;
+        let items = self.take_items(site, cell, spot, turn)?;
         let skip = as_index(items.len())?;
         code.put(site.line, Instruction::Begin { cell, skip })?;
         code.append(items)?;
@@ -144,7 +164,7 @@ impl Generator<'_> {
         let cell = self.cell_number(site)?;
         let _top = self.cell_number(site.above(2))?;
         let spot = self.variable_spot(variable)?;
-        let items = self.take(site, cell, spot, turn)?;
+        let items = self.take_items(site, cell, spot, turn)?;
         let skip = as_index(items.len())?;
         let class = as_index(class)?;
         code.put(site.line, Instruction::BeginClass { class, cell, skip })?;
@@ -152,18 +172,9 @@ impl Generator<'_> {
         self.forget(code, site, NUMBER_CELLS)
     }
 
-    // The members of a walk: the tick of one, the turn, and on to the next one.
+    // The members of a walk: a turn, and on to the next one.
     fn take_members(&mut self, site: Site, walk: Walk, turn: Piece) -> Result<Piece, CodeError> {
-        let mut code = Piece::new(self.alloc);
-        code.put(
-            site.line,
-            Instruction::Take {
-                cell: walk.cell,
-                to: walk.variable.address,
-            },
-        )?;
-        self.noted(&mut code, site, walk.variable)?;
-        code.append(turn)?;
+        let mut code = self.take(site, walk.cell, walk.variable, turn)?;
         let back = as_index(code.len())?;
         let sifts = is_sieve(&code.instructions, walk.variable.address);
         code.put(

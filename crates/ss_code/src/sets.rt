@@ -29,11 +29,32 @@ impl Beside {
 }
 
 // A member is filed where the discipline says.
-fn file_by(ordering: Ordering, set: u32, member: Address, owner: Address) -> Instruction {
+fn file_by(
+    ordering: Ordering,
+    set: u32,
+    member: Address,
+    owner: Address,
+    noted: bool,
+) -> Instruction {
     match ordering {
-        Ordering::First => Instruction::FileFirst { set, member, owner },
-        Ordering::Last => Instruction::FileLast { set, member, owner },
-        Ordering::Ranked => Instruction::FileRanked { set, member, owner },
+        Ordering::First => Instruction::FileFirst {
+            set,
+            member,
+            owner,
+            noted,
+        },
+        Ordering::Last => Instruction::FileLast {
+            set,
+            member,
+            owner,
+            noted,
+        },
+        Ordering::Ranked => Instruction::FileRanked {
+            set,
+            member,
+            owner,
+            noted,
+        },
     }
 }
 
@@ -90,47 +111,31 @@ impl Generator<'_> {
         owner: Address,
     ) -> Result<Instruction, CodeError> {
         let index = as_index(set)?;
+        let noted = is_count_watched(self.program, set);
         Ok(match beside {
             Beside::Before(operand) => Instruction::FileBefore {
+                noted,
                 set: index,
                 member,
                 beside: operand.address,
                 owner,
             },
             Beside::After(operand) => Instruction::FileAfter {
+                noted,
                 set: index,
                 member,
                 beside: operand.address,
                 owner,
             },
-            Beside::Nothing => match position {
-                Position::AsFirst => file_by(Ordering::First, index, member, owner),
-                Position::AsLast => file_by(Ordering::Last, index, member, owner),
-                _ => file_by(ordering_of(self.program, set), index, member, owner),
-            },
+            Beside::Nothing => {
+                let ordering = match position {
+                    Position::AsFirst => Ordering::First,
+                    Position::AsLast => Ordering::Last,
+                    _ => ordering_of(self.program, set),
+                };
+                file_by(ordering, index, member, owner, noted)
+            }
         })
-    }
-
-    // The number of members of a set has changed: a statistic that watches it notes that. So many cells stayed for it.
-    fn noted_count(
-        &mut self,
-        code: &mut Piece,
-        site: Site,
-        set: usize,
-        owner: Address,
-        cells: usize,
-    ) -> Result<(), CodeError> {
-        if !is_count_watched(self.program, set) {
-            return Ok(());
-        }
-        code.put(
-            site.line,
-            Instruction::NoteCount {
-                set: as_index(set)?,
-                owner,
-            },
-        )?;
-        self.forget(code, site, cells)
     }
 
     /// FILE.
@@ -152,7 +157,7 @@ impl Generator<'_> {
         let owner = self.owner(code, site.above(below), owner)?;
         let filing = self.filing(set, position, member.address, beside, owner.address)?;
         code.put(site.line, filing)?;
-        self.noted_count(code, site, set, owner.address, below + owner.cells)
+        Ok(())
     }
 
     /// REMOVE.
@@ -172,10 +177,10 @@ impl Generator<'_> {
                 set: as_index(set)?,
                 member: member.address,
                 owner: owner.address,
+                noted: is_count_watched(self.program, set),
             },
         )?;
-        let cells = member.cells + owner.cells;
-        self.noted_count(code, site, set, owner.address, cells)
+        Ok(())
     }
 
     // The member at an end is removed, and goes to a place.
@@ -188,10 +193,21 @@ impl Generator<'_> {
         owner: Address,
         to: Address,
     ) -> Result<(), CodeError> {
+        let noted = is_count_watched(self.program, set);
         let set = as_index(set)?;
         let instruction = match end {
-            End::First => Instruction::RemoveFirst { set, owner, to },
-            End::Last => Instruction::RemoveLast { set, owner, to },
+            End::First => Instruction::RemoveFirst {
+                set,
+                owner,
+                to,
+                noted,
+            },
+            End::Last => Instruction::RemoveLast {
+                set,
+                owner,
+                to,
+                noted,
+            },
         };
         code.put(site.line, instruction)?;
         Ok(())
@@ -208,16 +224,10 @@ impl Generator<'_> {
         owner: &SetOwner,
     ) -> Result<(), CodeError> {
         let spot = self.looked_spot(code, site, place)?;
-        let above = site.above(spot.cells());
-        let owner = self.owner(code, above, owner)?;
-        // what a watched set is noted by must stay, so that the member goes above it
-        let is_kept = is_count_watched(self.program, set);
-        let kept = if is_kept { owner.cells } else { 0 };
-        let to = self.landing(site.above(kept), spot)?;
-        self.put_remove_end(code, site, end, set, owner.address, to)?;
-        self.noted_count(code, site, set, owner.address, 0)?;
-        self.assign(code, site, spot, to)?;
-        self.forget(code, site, kept)
+        let owner = self.owner(code, site.above(spot.cells()), owner)?.address;
+        let to = self.landing(site, spot, spot.cells())?;
+        self.put_remove_end(code, site, end, set, owner, to)?;
+        self.assign(code, site, spot, to)
     }
 }
 

@@ -1,7 +1,7 @@
 //! The code that assigns.
 
 use crate::error::CodeError;
-use crate::expressions::move_of;
+use crate::expressions::{begins_with_look, is_plain, move_of};
 use crate::facts::{attribute_mode, is_attribute_watched, is_variable_watched, variable_mode};
 use crate::generator::{Created, Generator, Site};
 use crate::piece::{Piece, as_index};
@@ -66,12 +66,14 @@ fn attribute_change_of(sign: Sign, spot: AttributeSpot, by: Address) -> Instruct
             field: spot.field,
             entity: spot.entity,
             by,
+            noted: spot.is_watched,
         },
         Sign::Minus => Instruction::SubtractFromAttribute {
             class: spot.class,
             field: spot.field,
             entity: spot.entity,
             by,
+            noted: spot.is_watched,
         },
     }
 }
@@ -84,6 +86,7 @@ fn set_of(spot: AttributeSpot, from: Address) -> Instruction {
             field: spot.field,
             entity: spot.entity,
             from,
+            noted: spot.is_watched,
         },
         Mode::Alpha => Instruction::SetTextAttribute {
             class: spot.class,
@@ -99,16 +102,13 @@ pub(crate) fn is_attribute(place: &Place) -> bool {
     matches!(place, Place::ToAttribute { .. })
 }
 
-// Whether the entity of an attribute needs no look before the code of a value: there is none, or the first thing that it does is to
-// read an attribute of the same entity, which has the same faults.
-fn is_looked_at(computed: &Piece, spot: AttributeSpot) -> bool {
-    match computed.instructions.first() {
-        None => true,
-        Some(Instruction::Attribute { class, entity, .. })
-        | Some(Instruction::TextAttribute { class, entity, .. }) => {
-            *class == spot.class && *entity == spot.entity
+// Whether the entity of an attribute is looked at before the code of a value: there is some, and it does not begin with the same look.
+fn must_look(class: usize, of: &Expression, value: &Expression) -> bool {
+    match of {
+        Expression::Fetch { variable } => {
+            !is_plain(value) && !begins_with_look(class, *variable, value)
         }
-        Some(_) => false,
+        _ => !is_plain(value),
     }
 }
 
@@ -196,29 +196,25 @@ impl Generator<'_> {
         Ok(())
     }
 
-    /// Where the value that a place will be assigned goes at first: into the variable itself, or into the next cell above what
-    /// the place takes.
-    pub(crate) fn landing(&mut self, site: Site, spot: Spot) -> Result<Address, CodeError> {
-        match spot {
-            Spot::Variable(variable) => Ok(variable.address),
-            Spot::Attribute(_) | Spot::Count(_, _) => self.cell(site.above(spot.cells())),
-        }
-    }
-
-    // A variable was assigned: a statistic that watches it notes that.
-    pub(crate) fn noted(
+    /// Where the value that a place will be assigned goes at first: into the variable itself, unless it is watched, or into the next
+    /// cell above so many.
+    pub(crate) fn landing(
         &mut self,
-        code: &mut Piece,
         site: Site,
-        variable: VariableSpot,
-    ) -> Result<(), CodeError> {
-        if let Some(number) = variable.watched {
-            code.put(site.line, Instruction::NoteVariable { variable: number })?;
+        spot: Spot,
+        cells: usize,
+    ) -> Result<Address, CodeError> {
+        match spot {
+            Spot::Variable(VariableSpot {
+                address,
+                watched: None,
+                ..
+            }) => Ok(address),
+            _ => self.cell(site.above(cells)),
         }
-        Ok(())
     }
 
-    // A variable is assigned a value, unless it lies there already.
+    // A variable is assigned a value, unless it lies there already. A statistic that watches it notes that.
     fn assign_variable(
         &mut self,
         code: &mut Piece,
@@ -226,31 +222,13 @@ impl Generator<'_> {
         variable: VariableSpot,
         from: Address,
     ) -> Result<(), CodeError> {
-        if from != variable.address {
-            code.put(site.line, move_of(variable.mode, from, variable.address))?;
+        let to = variable.address;
+        match variable.watched {
+            Some(variable) => code.put(site.line, Instruction::Keep { from, variable })?,
+            None if from == to => {}
+            None => code.put(site.line, move_of(variable.mode, from, to))?,
         }
-        self.noted(code, site, variable)
-    }
-
-    // An attribute was assigned: a statistic that watches it notes that.
-    fn noted_attribute(
-        &mut self,
-        code: &mut Piece,
-        site: Site,
-        spot: AttributeSpot,
-    ) -> Result<(), CodeError> {
-        if !spot.is_watched {
-            return Ok(());
-        }
-        code.put(
-            site.line,
-            Instruction::NoteAttribute {
-                class: spot.class,
-                field: spot.field,
-                entity: spot.entity,
-            },
-        )?;
-        self.forget(code, site, spot.cells)
+        Ok(())
     }
 
     /// So many cells that stayed are forgotten.
@@ -277,10 +255,7 @@ impl Generator<'_> {
     ) -> Result<(), CodeError> {
         match spot {
             Spot::Variable(variable) => self.assign_variable(code, site, variable, from),
-            Spot::Attribute(attribute) => {
-                code.put(site.line, set_of(attribute, from))?;
-                self.noted_attribute(code, site, attribute)
-            }
+            Spot::Attribute(attribute) => Ok(code.put(site.line, set_of(attribute, from))?),
             Spot::Count(class, variable) => {
                 code.put(site.line, Instruction::LookCount { class })?;
                 self.assign_variable(code, site, variable, from)
@@ -309,41 +284,26 @@ impl Generator<'_> {
         value: &Expression,
     ) -> Result<(), CodeError> {
         let spot = self.spot(code, site, place)?;
-        match spot {
-            Spot::Variable(variable) => {
-                self.expression(code, site, value, variable.address)?;
-                self.noted(code, site, variable)
-            }
-            Spot::Attribute(_) | Spot::Count(_, _) => {
-                let mut computed = Piece::new(self.alloc);
-                let from = self.operand(&mut computed, site.above(spot.cells()), value)?;
-                if let Spot::Attribute(attribute) = spot
-                    && !is_looked_at(&computed, attribute)
-                {
-                    self.look(code, site, attribute)?;
-                }
-                code.append(computed)?;
-                self.assign(code, site, spot, from.address)
-            }
+        if let Spot::Variable(VariableSpot {
+            address,
+            watched: None,
+            ..
+        }) = spot
+        {
+            return self.expression(code, site, value, address);
         }
+        if let Place::ToAttribute { class, of, .. } = place
+            && let Spot::Attribute(attribute) = spot
+            && must_look(*class, of, value)
+        {
+            self.look(code, site, attribute)?;
+        }
+        let from = self.operand(code, site.above(spot.cells()), value)?;
+        self.assign(code, site, spot, from.address)
     }
 
-    // ADD and SUBTRACT, to a variable.
+    // ADD and SUBTRACT, to a variable or N. of a class.
     fn change_variable(
-        &mut self,
-        code: &mut Piece,
-        site: Site,
-        sign: Sign,
-        variable: VariableSpot,
-        by: Address,
-    ) -> Result<(), CodeError> {
-        let to = variable.address;
-        code.put(site.line, change_of(sign, to, by, to))?;
-        self.noted(code, site, variable)
-    }
-
-    // ADD and SUBTRACT, to N. of a class.
-    fn change_count(
         &mut self,
         code: &mut Piece,
         site: Site,
@@ -352,7 +312,7 @@ impl Generator<'_> {
         variable: VariableSpot,
         by: Address,
     ) -> Result<(), CodeError> {
-        let to = self.cell(site)?;
+        let to = self.landing(site, spot, 0)?;
         code.put(site.line, change_of(sign, variable.address, by, to))?;
         self.assign(code, site, spot, to)
     }
@@ -369,15 +329,11 @@ impl Generator<'_> {
         let by = self.operand(code, site, value)?;
         let spot = self.spot(code, site.above(by.cells), place)?;
         match spot {
-            Spot::Variable(variable) => {
-                self.change_variable(code, site, sign, variable, by.address)
+            Spot::Variable(variable) | Spot::Count(_, variable) => {
+                self.change_variable(code, site, sign, spot, variable, by.address)
             }
             Spot::Attribute(attribute) => {
-                code.put(site.line, attribute_change_of(sign, attribute, by.address))?;
-                self.noted_attribute(code, site, attribute)
-            }
-            Spot::Count(_, variable) => {
-                self.change_count(code, site, sign, spot, variable, by.address)
+                Ok(code.put(site.line, attribute_change_of(sign, attribute, by.address))?)
             }
         }
     }
@@ -385,7 +341,7 @@ impl Generator<'_> {
     // A target takes a word of input.
     fn read(&mut self, code: &mut Piece, site: Site, target: &Target) -> Result<(), CodeError> {
         let spot = self.looked_spot(code, site, &target.place)?;
-        let to = self.landing(site, spot)?;
+        let to = self.landing(site, spot, spot.cells())?;
         let instruction = match target.mode {
             Mode::Integer => Instruction::Read { to },
             Mode::Alpha => Instruction::ReadText { to },
@@ -419,7 +375,7 @@ impl Generator<'_> {
         place: &Place,
     ) -> Result<(), CodeError> {
         let spot = self.looked_spot(code, site, place)?;
-        let to = self.landing(site, spot)?;
+        let to = self.landing(site, spot, spot.cells())?;
         let class = as_index(class)?;
         code.put(site.line, Instruction::Create { class, to })?;
         self.assign(code, site, spot, to)

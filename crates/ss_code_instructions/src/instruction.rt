@@ -9,7 +9,8 @@ use ss_program::expression::Fold;
 /// An `Address` is that of a whole number, unless a text is spoken of. Where something is calculated, asked or read it goes
 /// `to` a variable or a cell. A `cell` is the number of a cell in the frame, with the variables below it counted. A jump skips so many
 /// instructions, or goes back so many. The owner of the system's set is the constant 0, and so is the entity of a statistic that
-/// has none. What lies in a cell is taken off as it is read, but where an instruction says that it stays.
+/// has none. What lies in a cell is taken off as it is read, but where an instruction says that it stays. What is `noted` is noted in
+/// the histories of statistics that watch what has changed: an attribute, or how many members a set has.
 #[derive(Clone, Copy, Debug, PartialEq, Eq)]
 pub enum Instruction {
     // Values.
@@ -22,6 +23,11 @@ pub enum Instruction {
     MoveText {
         from: Address,
         to: Address,
+    },
+    /// A number goes to a global variable, and the statistics that watch that note it. What lies in a cell of a loop stays.
+    Keep {
+        from: Address,
+        variable: u32,
     },
     /// The sum of two numbers.
     Add {
@@ -170,6 +176,7 @@ pub enum Instruction {
         field: u32,
         entity: Address,
         from: Address,
+        noted: bool,
     },
     /// The same of a text.
     SetTextAttribute {
@@ -184,6 +191,7 @@ pub enum Instruction {
         field: u32,
         entity: Address,
         by: Address,
+        noted: bool,
     },
     /// A number is subtracted from it.
     SubtractFromAttribute {
@@ -191,23 +199,7 @@ pub enum Instruction {
         field: u32,
         entity: Address,
         by: Address,
-    },
-
-    // What statistics watch: the value that was assigned before is noted in its histories. What is named stays.
-    /// The value of a global variable.
-    NoteVariable {
-        variable: u32,
-    },
-    /// The value of an attribute of an entity.
-    NoteAttribute {
-        class: u32,
-        field: u32,
-        entity: Address,
-    },
-    /// N. of the set of an owner.
-    NoteCount {
-        set: u32,
-        owner: Address,
+        noted: bool,
     },
 
     // Jumps.
@@ -375,21 +367,25 @@ pub enum Instruction {
         set: u32,
         member: Address,
         owner: Address,
+        noted: bool,
     },
     /// .. the last member.
     FileLast {
         set: u32,
         member: Address,
         owner: Address,
+        noted: bool,
     },
     /// .. a member where its rank says.
     FileRanked {
         set: u32,
         member: Address,
         owner: Address,
+        noted: bool,
     },
     /// .. a member directly before another one.
     FileBefore {
+        noted: bool,
         set: u32,
         member: Address,
         beside: Address,
@@ -397,6 +393,7 @@ pub enum Instruction {
     },
     /// .. directly after it.
     FileAfter {
+        noted: bool,
         set: u32,
         member: Address,
         beside: Address,
@@ -407,18 +404,21 @@ pub enum Instruction {
         set: u32,
         member: Address,
         owner: Address,
+        noted: bool,
     },
     /// The first member of the set of an owner is removed.
     RemoveFirst {
         set: u32,
         owner: Address,
         to: Address,
+        noted: bool,
     },
     /// The last one.
     RemoveLast {
         set: u32,
         owner: Address,
         to: Address,
+        noted: bool,
     },
 
     // Events.
@@ -439,6 +439,7 @@ pub enum Instruction {
         cell: u32,
         given: u32,
         to: Address,
+        noted: bool,
     },
     /// A notice is filed among those that are pending, for a time.
     FileNotice {
@@ -452,6 +453,7 @@ pub enum Instruction {
         notice: Address,
         cell: u32,
         given: u32,
+        noted: bool,
     },
     /// A notice is pending no longer.
     Cancel {

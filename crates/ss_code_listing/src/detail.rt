@@ -79,6 +79,10 @@ pub(crate) fn detail_of(instruction: &I) -> Detail {
     match instruction {
         I::Move { from, to } => with("move", &[Part::From(*from), Part::To(*to)]),
         I::MoveText { from, to } => with("move text", &[Part::From(*from), Part::To(*to)]),
+        I::Keep { from, variable } => with(
+            "keep",
+            &[Part::From(*from), Part::To(Address::fixed(*variable))],
+        ),
         I::Add { left, right, to } => with(
             "add",
             &[Part::From(*left), Part::From(*right), Part::To(*to)],
@@ -198,6 +202,7 @@ pub(crate) fn detail_of(instruction: &I) -> Detail {
             field,
             entity,
             from,
+            noted,
         } => with(
             "set attribute",
             &[
@@ -205,6 +210,7 @@ pub(crate) fn detail_of(instruction: &I) -> Detail {
                 Part::Of("field", *field),
                 Part::From(*entity),
                 Part::From(*from),
+                word_if(*noted, "noted"),
             ],
         ),
         I::SetTextAttribute {
@@ -226,6 +232,7 @@ pub(crate) fn detail_of(instruction: &I) -> Detail {
             field,
             entity,
             by,
+            noted,
         } => with(
             "add to attribute",
             &[
@@ -233,6 +240,7 @@ pub(crate) fn detail_of(instruction: &I) -> Detail {
                 Part::Of("field", *field),
                 Part::From(*entity),
                 Part::From(*by),
+                word_if(*noted, "noted"),
             ],
         ),
         I::SubtractFromAttribute {
@@ -240,6 +248,7 @@ pub(crate) fn detail_of(instruction: &I) -> Detail {
             field,
             entity,
             by,
+            noted,
         } => with(
             "subtract from attribute",
             &[
@@ -247,24 +256,8 @@ pub(crate) fn detail_of(instruction: &I) -> Detail {
                 Part::Of("field", *field),
                 Part::From(*entity),
                 Part::From(*by),
+                word_if(*noted, "noted"),
             ],
-        ),
-        I::NoteVariable { variable } => with("note variable", &[Part::Of("variable", *variable)]),
-        I::NoteAttribute {
-            class,
-            field,
-            entity,
-        } => with(
-            "note attribute",
-            &[
-                Part::Of("class", *class),
-                Part::Of("field", *field),
-                Part::From(*entity),
-            ],
-        ),
-        I::NoteCount { set, owner } => with(
-            "note count",
-            &[Part::Of("set", *set), Part::From(*owner)],
         ),
         I::Jump { skip } => with("jump", &[Part::Else(*skip)]),
         I::UnlessEqual { left, right, skip } => with(
@@ -419,28 +412,46 @@ pub(crate) fn detail_of(instruction: &I) -> Detail {
             "destroy",
             &[Part::Of("class", *class), Part::From(*entity)],
         ),
-        I::FileFirst { set, member, owner } => with(
+        I::FileFirst {
+            set,
+            member,
+            owner,
+            noted,
+        } => with(
             "file first",
             &[
                 Part::Of("set", *set),
                 Part::From(*member),
                 Part::From(*owner),
+                word_if(*noted, "noted"),
             ],
         ),
-        I::FileLast { set, member, owner } => with(
+        I::FileLast {
+            set,
+            member,
+            owner,
+            noted,
+        } => with(
             "file last",
             &[
                 Part::Of("set", *set),
                 Part::From(*member),
                 Part::From(*owner),
+                word_if(*noted, "noted"),
             ],
         ),
-        I::FileRanked { set, member, owner } => with(
+        I::FileRanked {
+            set,
+            member,
+            owner,
+            noted,
+        } => with(
             "file ranked",
             &[
                 Part::Of("set", *set),
                 Part::From(*member),
                 Part::From(*owner),
+                word_if(*noted, "noted"),
             ],
         ),
         I::FileBefore {
@@ -448,6 +459,7 @@ pub(crate) fn detail_of(instruction: &I) -> Detail {
             member,
             beside,
             owner,
+            noted,
         } => with(
             "file before",
             &[
@@ -455,6 +467,7 @@ pub(crate) fn detail_of(instruction: &I) -> Detail {
                 Part::From(*member),
                 Part::From(*beside),
                 Part::From(*owner),
+                word_if(*noted, "noted"),
             ],
         ),
         I::FileAfter {
@@ -462,6 +475,7 @@ pub(crate) fn detail_of(instruction: &I) -> Detail {
             member,
             beside,
             owner,
+            noted,
         } => with(
             "file after",
             &[
@@ -469,23 +483,50 @@ pub(crate) fn detail_of(instruction: &I) -> Detail {
                 Part::From(*member),
                 Part::From(*beside),
                 Part::From(*owner),
+                word_if(*noted, "noted"),
             ],
         ),
-        I::Remove { set, member, owner } => with(
+        I::Remove {
+            set,
+            member,
+            owner,
+            noted,
+        } => with(
             "remove",
             &[
                 Part::Of("set", *set),
                 Part::From(*member),
                 Part::From(*owner),
+                word_if(*noted, "noted"),
             ],
         ),
-        I::RemoveFirst { set, owner, to } => with(
+        I::RemoveFirst {
+            set,
+            owner,
+            to,
+            noted,
+        } => with(
             "remove first",
-            &[Part::Of("set", *set), Part::From(*owner), Part::To(*to)],
+            &[
+                Part::Of("set", *set),
+                Part::From(*owner),
+                Part::To(*to),
+                word_if(*noted, "noted"),
+            ],
         ),
-        I::RemoveLast { set, owner, to } => with(
+        I::RemoveLast {
+            set,
+            owner,
+            to,
+            noted,
+        } => with(
             "remove last",
-            &[Part::Of("set", *set), Part::From(*owner), Part::To(*to)],
+            &[
+                Part::Of("set", *set),
+                Part::From(*owner),
+                Part::To(*to),
+                word_if(*noted, "noted"),
+            ],
         ),
         I::At { time, to } => with("at", &[Part::From(*time), Part::To(*to)]),
         I::In { units, to } => with("in", &[Part::From(*units), Part::To(*to)]),
@@ -494,6 +535,7 @@ pub(crate) fn detail_of(instruction: &I) -> Detail {
             cell,
             given,
             to,
+            noted,
         } => with(
             "make notice",
             &[
@@ -501,6 +543,7 @@ pub(crate) fn detail_of(instruction: &I) -> Detail {
                 Part::Of("cell", *cell),
                 Part::Of("given", *given),
                 Part::To(*to),
+                word_if(*noted, "noted"),
             ],
         ),
         I::FileNotice {
@@ -520,6 +563,7 @@ pub(crate) fn detail_of(instruction: &I) -> Detail {
             notice,
             cell,
             given,
+            noted,
         } => with(
             "reschedule",
             &[
@@ -527,6 +571,7 @@ pub(crate) fn detail_of(instruction: &I) -> Detail {
                 Part::From(*notice),
                 Part::Of("cell", *cell),
                 Part::Of("given", *given),
+                word_if(*noted, "noted"),
             ],
         ),
         I::Cancel { class, notice } => with(

@@ -55,14 +55,16 @@ impl State {
         class: u32,
         field: u32,
         entity: &Address,
-        from: &Address,
+        value: &Address,
+        noted: bool,
     ) -> Option<Here> {
-        let (entity, number) = (self.number(here, entity), self.number(here, from));
+        let (entity, number) = (self.number(here, entity), self.number(here, value));
+        let (class, field) = (class as usize, field as usize);
         let answer = self
             .scene
             .population
-            .set_whole(class as usize, field as usize, entity, number);
-        self.done(here, answer)
+            .set_whole(class, field, entity, number);
+        self.assigned(here, answer, (class, field, entity), noted)
     }
 
     /// SetTextAttribute.
@@ -91,14 +93,16 @@ impl State {
         class: u32,
         field: u32,
         entity: &Address,
-        by: &Address,
+        value: &Address,
+        noted: bool,
     ) -> Option<Here> {
-        let (entity, by) = (self.number(here, entity), self.number(here, by));
+        let (entity, number) = (self.number(here, entity), self.number(here, value));
+        let (class, field) = (class as usize, field as usize);
         let answer = self
             .scene
             .population
-            .add_whole(class as usize, field as usize, entity, by);
-        self.done(here, answer)
+            .add_whole(class, field, entity, number);
+        self.assigned(here, answer, (class, field, entity), noted)
     }
 
     /// SubtractFromAttribute.
@@ -109,14 +113,16 @@ impl State {
         class: u32,
         field: u32,
         entity: &Address,
-        by: &Address,
+        value: &Address,
+        noted: bool,
     ) -> Option<Here> {
-        let (entity, by) = (self.number(here, entity), self.number(here, by));
+        let (entity, number) = (self.number(here, entity), self.number(here, value));
+        let (class, field) = (class as usize, field as usize);
         let answer = self
             .scene
             .population
-            .subtract_whole(class as usize, field as usize, entity, by);
-        self.done(here, answer)
+            .subtract_whole(class, field, entity, number);
+        self.assigned(here, answer, (class, field, entity), noted)
     }
 
     /// Clock.

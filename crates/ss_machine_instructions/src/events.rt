@@ -52,6 +52,17 @@ impl State {
         Ok(())
     }
 
+    // What the first attributes of a notice, so many, were given is noted, of each that is watched.
+    #[inline(never)]
+    fn note_given(&mut self, class: usize, notice: i64, given: u32) -> Result<(), FaultKind> {
+        for field in 0..given as usize {
+            if self.scene.population.mode(class, field) == Mode::Integer {
+                self.scene.note_attribute(class, field, notice)?;
+            }
+        }
+        Ok(())
+    }
+
     // A new notice with so many first attributes, which lie in cells from a place on, and a time: its number.
     #[inline(always)]
     fn new_notice(
@@ -81,11 +92,15 @@ impl State {
         cell: u32,
         given: u32,
         to: &Address,
+        noted: bool,
     ) -> Option<Here> {
         let from = self.cell(here, cell);
         let time = self.rows.number_at(from + given as usize);
         match self.new_notice(class as usize, from, given, time) {
             Ok(notice) => {
+                if noted && let Err(kind) = self.note_given(class as usize, notice, given) {
+                    return self.fault(kind);
+                }
                 self.rows.set_number_at(from, time);
                 self.set_number(here, to, notice);
                 here.on()
@@ -145,11 +160,16 @@ impl State {
         notice: &Address,
         cell: u32,
         given: u32,
+        noted: bool,
     ) -> Option<Here> {
         let notice = self.number(here, notice);
         let from = self.cell(here, cell);
         let time = self.rows.number_at(from + given as usize);
         match self.schedule_again(class as usize, notice, from, given, time) {
+            Ok(()) if noted => {
+                let answer = self.note_given(class as usize, notice, given);
+                self.done(here, answer)
+            }
             Ok(()) => here.on(),
             Err(refused) => self.refused(refused),
         }

@@ -2,6 +2,7 @@
 
 use crate::flow::Here;
 use crate::state::State;
+use ss_base::FaultKind;
 use ss_code_instructions::address::Address;
 
 impl State {
@@ -101,13 +102,14 @@ impl State {
         set: u32,
         member: &Address,
         owner: &Address,
+        noted: bool,
     ) -> Option<Here> {
         let (member, owner) = (self.number(here, member), self.number(here, owner));
         let answer = self
             .scene
             .population
             .file_first(set as usize, owner, member);
-        self.done(here, answer)
+        self.counted(here, answer, set, owner, noted)
     }
 
     /// FileLast.
@@ -118,10 +120,11 @@ impl State {
         set: u32,
         member: &Address,
         owner: &Address,
+        noted: bool,
     ) -> Option<Here> {
         let (member, owner) = (self.number(here, member), self.number(here, owner));
         let answer = self.scene.population.file_last(set as usize, owner, member);
-        self.done(here, answer)
+        self.counted(here, answer, set, owner, noted)
     }
 
     /// FileRanked.
@@ -132,10 +135,11 @@ impl State {
         set: u32,
         member: &Address,
         owner: &Address,
+        noted: bool,
     ) -> Option<Here> {
         let (member, owner) = (self.number(here, member), self.number(here, owner));
         let answer = self.scene.file_ranked(set as usize, owner, member);
-        self.done(here, answer)
+        self.counted(here, answer, set, owner, noted)
     }
 
     /// FileBefore.
@@ -147,6 +151,7 @@ impl State {
         member: &Address,
         beside: &Address,
         owner: &Address,
+        noted: bool,
     ) -> Option<Here> {
         let (member, beside) = (self.number(here, member), self.number(here, beside));
         let owner = self.number(here, owner);
@@ -154,7 +159,7 @@ impl State {
             .scene
             .population
             .file_before(set as usize, owner, member, beside);
-        self.done(here, answer)
+        self.counted(here, answer, set, owner, noted)
     }
 
     /// FileAfter.
@@ -166,6 +171,7 @@ impl State {
         member: &Address,
         beside: &Address,
         owner: &Address,
+        noted: bool,
     ) -> Option<Here> {
         let (member, beside) = (self.number(here, member), self.number(here, beside));
         let owner = self.number(here, owner);
@@ -173,7 +179,7 @@ impl State {
             .scene
             .population
             .file_after(set as usize, owner, member, beside);
-        self.done(here, answer)
+        self.counted(here, answer, set, owner, noted)
     }
 
     /// Remove.
@@ -184,10 +190,35 @@ impl State {
         set: u32,
         member: &Address,
         owner: &Address,
+        noted: bool,
     ) -> Option<Here> {
         let (member, owner) = (self.number(here, member), self.number(here, owner));
         let answer = self.scene.population.remove(set as usize, owner, member);
-        self.done(here, answer)
+        self.counted(here, answer, set, owner, noted)
+    }
+
+    // On to the next instruction where a member of a set was removed: that is noted where it is watched, and then the member goes to a
+    // place.
+    #[inline(always)]
+    fn removed(
+        &mut self,
+        here: Here,
+        answer: Result<i64, FaultKind>,
+        of: (u32, i64),
+        to: &Address,
+        noted: bool,
+    ) -> Option<Here> {
+        let (set, owner) = of;
+        match answer {
+            Ok(member) => {
+                if noted && let Err(kind) = self.scene.note_count(set as usize, owner) {
+                    return self.fault(kind);
+                }
+                self.set_number(here, to, member);
+                here.on()
+            }
+            Err(kind) => self.fault(kind),
+        }
     }
 
     /// RemoveFirst.
@@ -198,10 +229,11 @@ impl State {
         set: u32,
         owner: &Address,
         to: &Address,
+        noted: bool,
     ) -> Option<Here> {
         let owner = self.number(here, owner);
         let answer = self.scene.population.remove_first(set as usize, owner);
-        self.put(here, to, answer)
+        self.removed(here, answer, (set, owner), to, noted)
     }
 
     /// RemoveLast.
@@ -212,9 +244,10 @@ impl State {
         set: u32,
         owner: &Address,
         to: &Address,
+        noted: bool,
     ) -> Option<Here> {
         let owner = self.number(here, owner);
         let answer = self.scene.population.remove_last(set as usize, owner);
-        self.put(here, to, answer)
+        self.removed(here, answer, (set, owner), to, noted)
     }
 }

@@ -2,6 +2,7 @@
 
 use crate::flow::Here;
 use crate::state::State;
+use ss_base::FaultKind;
 use ss_code_instructions::address::Address;
 use ss_program::expression::Fold;
 
@@ -21,37 +22,54 @@ impl State {
         self.put(here, to, answer)
     }
 
-    /// NoteVariable.
+    /// Keep.
     #[inline(always)]
-    pub fn note_variable(&mut self, here: Here, variable: u32) -> Option<Here> {
+    pub fn keep(&mut self, here: Here, from: &Address, variable: u32) -> Option<Here> {
+        let value = self.number(here, from);
         let number = variable as usize;
-        let value = self.rows.number_at(number);
+        self.rows.set_number_at(number, value);
         let answer = self.scene.note_variable(number, value);
         self.done(here, answer)
     }
 
-    /// NoteAttribute.
+    /// On to the next instruction where an attribute was assigned a value, which is noted where it is watched, and there was no fault.
     #[inline(always)]
-    pub fn note_attribute(
+    pub(crate) fn assigned(
         &mut self,
         here: Here,
-        class: u32,
-        field: u32,
-        entity: &Address,
+        answer: Result<(), FaultKind>,
+        attribute: (usize, usize, i64),
+        noted: bool,
     ) -> Option<Here> {
-        let entity = self.number(here, entity);
-        let answer = self
-            .scene
-            .note_attribute(class as usize, field as usize, entity);
-        self.done(here, answer)
+        let (class, field, entity) = attribute;
+        match answer {
+            Ok(()) if noted => {
+                let answer = self.scene.note_attribute(class, field, entity);
+                self.done(here, answer)
+            }
+            Ok(()) => here.on(),
+            Err(kind) => self.fault(kind),
+        }
     }
 
-    /// NoteCount.
+    /// The same where a set of an owner has a member more or less.
     #[inline(always)]
-    pub fn note_count(&mut self, here: Here, set: u32, owner: &Address) -> Option<Here> {
-        let owner = self.number(here, owner);
-        let answer = self.scene.note_count(set as usize, owner);
-        self.done(here, answer)
+    pub(crate) fn counted(
+        &mut self,
+        here: Here,
+        answer: Result<(), FaultKind>,
+        set: u32,
+        owner: i64,
+        noted: bool,
+    ) -> Option<Here> {
+        match answer {
+            Ok(()) if noted => {
+                let answer = self.scene.note_count(set as usize, owner);
+                self.done(here, answer)
+            }
+            Ok(()) => here.on(),
+            Err(kind) => self.fault(kind),
+        }
     }
 
     // The value of the global variable that a statistic is kept of, 0 where it is kept of none.
