@@ -1,7 +1,7 @@
 //! The code that works on sets.
 
 use crate::error::CodeError;
-use crate::expressions::{Operand, is_plain_owner};
+use crate::expressions::{Operand, is_plain, is_plain_owner};
 use crate::facts::{Ordering, is_count_watched, ordering_of};
 use crate::generator::{Generator, Site};
 use crate::piece::{Piece, as_index};
@@ -10,21 +10,27 @@ use ss_code_instructions::instruction::Instruction;
 use ss_program::expression::{Expression, SetOwner};
 use ss_program::statement::{End, Place, Position};
 
-// The one beside which a member is filed.
-#[derive(Clone, Copy)]
-enum Beside {
-    Nothing,
-    Before(Operand),
-    After(Operand),
+// The one beside which a member is filed, if there is one.
+fn beside_of(position: &Position) -> Option<&Expression> {
+    match position {
+        Position::ByDiscipline | Position::AsFirst | Position::AsLast => None,
+        Position::BeforeMember { member } | Position::AfterMember { member } => Some(member),
+    }
 }
 
-impl Beside {
-    // How many cells it takes.
-    fn cells(self) -> usize {
-        match self {
-            Beside::Nothing => 0,
-            Beside::Before(operand) | Beside::After(operand) => operand.cells,
-        }
+// Whether the evaluation of what there may be may fault.
+fn may_fault(e: Option<&Expression>) -> bool {
+    match e {
+        None => false,
+        Some(e) => !is_plain(e),
+    }
+}
+
+// How many cells what there may be takes.
+fn cells_of(operand: Option<Operand>) -> usize {
+    match operand {
+        None => 0,
+        Some(operand) => operand.cells,
     }
 }
 
@@ -81,7 +87,7 @@ impl Generator<'_> {
         Ok(member)
     }
 
-    // The one beside which a member is filed.
+    // The one beside which a member is filed, if there is one.
     fn beside(
         &mut self,
         code: &mut Piece,
@@ -89,15 +95,10 @@ impl Generator<'_> {
         set: usize,
         position: &Position,
         is_looked: bool,
-    ) -> Result<Beside, CodeError> {
-        match position {
-            Position::ByDiscipline | Position::AsFirst | Position::AsLast => Ok(Beside::Nothing),
-            Position::BeforeMember { member } => Ok(Beside::Before(self.member(
-                code, site, set, member, is_looked,
-            )?)),
-            Position::AfterMember { member } => Ok(Beside::After(self.member(
-                code, site, set, member, is_looked,
-            )?)),
+    ) -> Result<Option<Operand>, CodeError> {
+        match beside_of(position) {
+            None => Ok(None),
+            Some(e) => Ok(Some(self.member(code, site, set, e, is_looked)?)),
         }
     }
 
@@ -107,34 +108,26 @@ impl Generator<'_> {
         set: usize,
         position: &Position,
         member: Address,
-        beside: Beside,
+        beside: Option<Operand>,
         owner: Address,
     ) -> Result<Instruction, CodeError> {
-        let index = as_index(set)?;
         let noted = is_count_watched(self.program, set);
+        let ordering = match position {
+            Position::AsFirst => Ordering::First,
+            Position::AsLast => Ordering::Last,
+            _ => ordering_of(self.program, set),
+        };
+        let set = as_index(set)?;
         Ok(match beside {
-            Beside::Before(operand) => Instruction::FileBefore {
+            None => file_by(ordering, set, member, owner, noted),
+            Some(operand) => Instruction::FileBeside {
                 noted,
-                set: index,
+                after: matches!(position, Position::AfterMember { .. }),
+                set,
                 member,
                 beside: operand.address,
                 owner,
             },
-            Beside::After(operand) => Instruction::FileAfter {
-                noted,
-                set: index,
-                member,
-                beside: operand.address,
-                owner,
-            },
-            Beside::Nothing => {
-                let ordering = match position {
-                    Position::AsFirst => Ordering::First,
-                    Position::AsLast => Ordering::Last,
-                    _ => ordering_of(self.program, set),
-                };
-                file_by(ordering, index, member, owner, noted)
-            }
         })
     }
 
@@ -149,11 +142,11 @@ impl Generator<'_> {
         owner: &SetOwner,
     ) -> Result<(), CodeError> {
         let owner_may_fault = !is_plain_owner(owner);
-        let is_looked = owner_may_fault || !is_plain_position(position);
+        let is_looked = owner_may_fault || may_fault(beside_of(position));
         let member = self.member(code, site, set, member, is_looked)?;
         let beside_here = site.above(member.cells);
         let beside = self.beside(code, beside_here, set, position, owner_may_fault)?;
-        let below = member.cells + beside.cells();
+        let below = member.cells + cells_of(beside);
         let owner = self.owner(code, site.above(below), owner)?;
         let filing = self.filing(set, position, member.address, beside, owner.address)?;
         code.put(site.line, filing)?;
@@ -228,15 +221,5 @@ impl Generator<'_> {
         let to = self.landing(site, spot, spot.cells())?;
         self.put_remove_end(code, site, end, set, owner, to)?;
         self.assign(code, site, spot, to)
-    }
-}
-
-// Whether a position takes no code.
-fn is_plain_position(position: &Position) -> bool {
-    match position {
-        Position::ByDiscipline | Position::AsFirst | Position::AsLast => true,
-        Position::BeforeMember { member } | Position::AfterMember { member } => {
-            crate::expressions::is_plain(member)
-        }
     }
 }

@@ -58,26 +58,6 @@ fn change_of(sign: Sign, left: Address, right: Address, to: Address) -> Instruct
     }
 }
 
-// The same to an attribute.
-fn attribute_change_of(sign: Sign, spot: AttributeSpot, by: Address) -> Instruction {
-    match sign {
-        Sign::Plus => Instruction::AddToAttribute {
-            class: spot.class,
-            field: spot.field,
-            entity: spot.entity,
-            by,
-            noted: spot.is_watched,
-        },
-        Sign::Minus => Instruction::SubtractFromAttribute {
-            class: spot.class,
-            field: spot.field,
-            entity: spot.entity,
-            by,
-            noted: spot.is_watched,
-        },
-    }
-}
-
 // A value goes to an attribute.
 fn set_of(spot: AttributeSpot, from: Address) -> Instruction {
     match spot.mode {
@@ -332,9 +312,17 @@ impl Generator<'_> {
             Spot::Variable(variable) | Spot::Count(_, variable) => {
                 self.change_variable(code, site, sign, spot, variable, by.address)
             }
-            Spot::Attribute(attribute) => {
-                Ok(code.put(site.line, attribute_change_of(sign, attribute, by.address))?)
-            }
+            Spot::Attribute(attribute) => Ok(code.put(
+                site.line,
+                Instruction::ChangeAttribute {
+                    class: attribute.class,
+                    field: attribute.field,
+                    entity: attribute.entity,
+                    by: by.address,
+                    sign,
+                    noted: attribute.is_watched,
+                },
+            )?),
         }
     }
 

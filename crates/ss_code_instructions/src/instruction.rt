@@ -2,7 +2,7 @@
 
 use crate::address::Address;
 use ss_program::condition::Relation;
-use ss_program::expression::Fold;
+use ss_program::expression::{Fold, Sign};
 
 /// One instruction.
 ///
@@ -24,7 +24,7 @@ pub enum Instruction {
         from: Address,
         to: Address,
     },
-    /// A number goes to a global variable, and the statistics that watch that note it. What lies in a cell of a loop stays.
+    /// A number goes to a global variable, and the statistics that watch that note it. What a loop keeps in a cell stays.
     Keep {
         from: Address,
         variable: u32,
@@ -185,20 +185,13 @@ pub enum Instruction {
         entity: Address,
         from: Address,
     },
-    /// A number is added to an attribute of an entity.
-    AddToAttribute {
+    /// A number is added to an attribute of an entity, or subtracted from it.
+    ChangeAttribute {
         class: u32,
         field: u32,
         entity: Address,
         by: Address,
-        noted: bool,
-    },
-    /// A number is subtracted from it.
-    SubtractFromAttribute {
-        class: u32,
-        field: u32,
-        entity: Address,
-        by: Address,
+        sign: Sign,
         noted: bool,
     },
 
@@ -383,17 +376,10 @@ pub enum Instruction {
         owner: Address,
         noted: bool,
     },
-    /// .. a member directly before another one.
-    FileBefore {
+    /// .. a member directly before another one, or directly after it.
+    FileBeside {
         noted: bool,
-        set: u32,
-        member: Address,
-        beside: Address,
-        owner: Address,
-    },
-    /// .. directly after it.
-    FileAfter {
-        noted: bool,
+        after: bool,
         set: u32,
         member: Address,
         beside: Address,

@@ -3,7 +3,7 @@
 use ss_code_instructions::address::Address;
 use ss_code_instructions::instruction::Instruction as I;
 use ss_program::condition::Relation;
-use ss_program::expression::Fold;
+use ss_program::expression::{Fold, Sign};
 
 /// One of the things that an instruction works on.
 #[derive(Clone, Copy)]
@@ -202,7 +202,7 @@ pub(crate) fn detail_of(instruction: &I) -> Detail {
             field,
             entity,
             from,
-            noted,
+            ..
         } => with(
             "set attribute",
             &[
@@ -210,7 +210,6 @@ pub(crate) fn detail_of(instruction: &I) -> Detail {
                 Part::Of("field", *field),
                 Part::From(*entity),
                 Part::From(*from),
-                word_if(*noted, "noted"),
             ],
         ),
         I::SetTextAttribute {
@@ -227,36 +226,23 @@ pub(crate) fn detail_of(instruction: &I) -> Detail {
                 Part::From(*from),
             ],
         ),
-        I::AddToAttribute {
+        I::ChangeAttribute {
             class,
             field,
             entity,
             by,
-            noted,
+            sign,
+            ..
         } => with(
-            "add to attribute",
+            match sign {
+                Sign::Plus => "add to attribute",
+                Sign::Minus => "subtract from attribute",
+            },
             &[
                 Part::Of("class", *class),
                 Part::Of("field", *field),
                 Part::From(*entity),
                 Part::From(*by),
-                word_if(*noted, "noted"),
-            ],
-        ),
-        I::SubtractFromAttribute {
-            class,
-            field,
-            entity,
-            by,
-            noted,
-        } => with(
-            "subtract from attribute",
-            &[
-                Part::Of("class", *class),
-                Part::Of("field", *field),
-                Part::From(*entity),
-                Part::From(*by),
-                word_if(*noted, "noted"),
             ],
         ),
         I::Jump { skip } => with("jump", &[Part::Else(*skip)]),
@@ -412,121 +398,61 @@ pub(crate) fn detail_of(instruction: &I) -> Detail {
             "destroy",
             &[Part::Of("class", *class), Part::From(*entity)],
         ),
-        I::FileFirst {
-            set,
-            member,
-            owner,
-            noted,
-        } => with(
+        I::FileFirst { set, member, owner, .. } => with(
             "file first",
             &[
                 Part::Of("set", *set),
                 Part::From(*member),
                 Part::From(*owner),
-                word_if(*noted, "noted"),
             ],
         ),
-        I::FileLast {
-            set,
-            member,
-            owner,
-            noted,
-        } => with(
+        I::FileLast { set, member, owner, .. } => with(
             "file last",
             &[
                 Part::Of("set", *set),
                 Part::From(*member),
                 Part::From(*owner),
-                word_if(*noted, "noted"),
             ],
         ),
-        I::FileRanked {
-            set,
-            member,
-            owner,
-            noted,
-        } => with(
+        I::FileRanked { set, member, owner, .. } => with(
             "file ranked",
             &[
                 Part::Of("set", *set),
                 Part::From(*member),
                 Part::From(*owner),
-                word_if(*noted, "noted"),
             ],
         ),
-        I::FileBefore {
+        I::FileBeside {
+            after,
             set,
             member,
             beside,
             owner,
-            noted,
+            ..
         } => with(
-            "file before",
+            if *after { "file after" } else { "file before" },
             &[
                 Part::Of("set", *set),
                 Part::From(*member),
                 Part::From(*beside),
                 Part::From(*owner),
-                word_if(*noted, "noted"),
             ],
         ),
-        I::FileAfter {
-            set,
-            member,
-            beside,
-            owner,
-            noted,
-        } => with(
-            "file after",
-            &[
-                Part::Of("set", *set),
-                Part::From(*member),
-                Part::From(*beside),
-                Part::From(*owner),
-                word_if(*noted, "noted"),
-            ],
-        ),
-        I::Remove {
-            set,
-            member,
-            owner,
-            noted,
-        } => with(
+        I::Remove { set, member, owner, .. } => with(
             "remove",
             &[
                 Part::Of("set", *set),
                 Part::From(*member),
                 Part::From(*owner),
-                word_if(*noted, "noted"),
             ],
         ),
-        I::RemoveFirst {
-            set,
-            owner,
-            to,
-            noted,
-        } => with(
+        I::RemoveFirst { set, owner, to, .. } => with(
             "remove first",
-            &[
-                Part::Of("set", *set),
-                Part::From(*owner),
-                Part::To(*to),
-                word_if(*noted, "noted"),
-            ],
+            &[Part::Of("set", *set), Part::From(*owner), Part::To(*to)],
         ),
-        I::RemoveLast {
-            set,
-            owner,
-            to,
-            noted,
-        } => with(
+        I::RemoveLast { set, owner, to, .. } => with(
             "remove last",
-            &[
-                Part::Of("set", *set),
-                Part::From(*owner),
-                Part::To(*to),
-                word_if(*noted, "noted"),
-            ],
+            &[Part::Of("set", *set), Part::From(*owner), Part::To(*to)],
         ),
         I::At { time, to } => with("at", &[Part::From(*time), Part::To(*to)]),
         I::In { units, to } => with("in", &[Part::From(*units), Part::To(*to)]),
@@ -535,7 +461,7 @@ pub(crate) fn detail_of(instruction: &I) -> Detail {
             cell,
             given,
             to,
-            noted,
+            ..
         } => with(
             "make notice",
             &[
@@ -543,7 +469,6 @@ pub(crate) fn detail_of(instruction: &I) -> Detail {
                 Part::Of("cell", *cell),
                 Part::Of("given", *given),
                 Part::To(*to),
-                word_if(*noted, "noted"),
             ],
         ),
         I::FileNotice {
@@ -563,7 +488,7 @@ pub(crate) fn detail_of(instruction: &I) -> Detail {
             notice,
             cell,
             given,
-            noted,
+            ..
         } => with(
             "reschedule",
             &[
@@ -571,7 +496,6 @@ pub(crate) fn detail_of(instruction: &I) -> Detail {
                 Part::From(*notice),
                 Part::Of("cell", *cell),
                 Part::Of("given", *given),
-                word_if(*noted, "noted"),
             ],
         ),
         I::Cancel { class, notice } => with(

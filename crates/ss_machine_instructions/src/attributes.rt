@@ -3,6 +3,7 @@
 use crate::flow::Here;
 use crate::state::State;
 use ss_code_instructions::address::Address;
+use ss_program::expression::Sign;
 
 impl State {
     /// Attribute.
@@ -85,43 +86,24 @@ impl State {
         self.done(here, answer)
     }
 
-    /// AddToAttribute.
+    /// ChangeAttribute.
     #[inline(always)]
-    pub fn add_to_attribute(
+    pub fn change_attribute(
         &mut self,
         here: Here,
-        class: u32,
-        field: u32,
+        sign: Sign,
+        attribute: (u32, u32),
         entity: &Address,
-        value: &Address,
+        by: &Address,
         noted: bool,
     ) -> Option<Here> {
-        let (entity, number) = (self.number(here, entity), self.number(here, value));
-        let (class, field) = (class as usize, field as usize);
-        let answer = self
-            .scene
-            .population
-            .add_whole(class, field, entity, number);
-        self.assigned(here, answer, (class, field, entity), noted)
-    }
-
-    /// SubtractFromAttribute.
-    #[inline(always)]
-    pub fn subtract_from_attribute(
-        &mut self,
-        here: Here,
-        class: u32,
-        field: u32,
-        entity: &Address,
-        value: &Address,
-        noted: bool,
-    ) -> Option<Here> {
-        let (entity, number) = (self.number(here, entity), self.number(here, value));
-        let (class, field) = (class as usize, field as usize);
-        let answer = self
-            .scene
-            .population
-            .subtract_whole(class, field, entity, number);
+        let (entity, by) = (self.number(here, entity), self.number(here, by));
+        let (class, field) = (attribute.0 as usize, attribute.1 as usize);
+        let population = &mut self.scene.population;
+        let answer = match sign {
+            Sign::Plus => population.add_whole(class, field, entity, by),
+            Sign::Minus => population.subtract_whole(class, field, entity, by),
+        };
         self.assigned(here, answer, (class, field, entity), noted)
     }
 

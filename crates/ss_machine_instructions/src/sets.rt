@@ -142,43 +142,25 @@ impl State {
         self.counted(here, answer, set, owner, noted)
     }
 
-    /// FileBefore.
+    /// FileBeside.
     #[inline(always)]
-    pub fn file_before(
+    pub fn file_beside(
         &mut self,
         here: Here,
         set: u32,
-        member: &Address,
-        beside: &Address,
+        both: (&Address, &Address),
         owner: &Address,
+        after: bool,
         noted: bool,
     ) -> Option<Here> {
-        let (member, beside) = (self.number(here, member), self.number(here, beside));
+        let (member, beside) = (self.number(here, both.0), self.number(here, both.1));
         let owner = self.number(here, owner);
-        let answer = self
-            .scene
-            .population
-            .file_before(set as usize, owner, member, beside);
-        self.counted(here, answer, set, owner, noted)
-    }
-
-    /// FileAfter.
-    #[inline(always)]
-    pub fn file_after(
-        &mut self,
-        here: Here,
-        set: u32,
-        member: &Address,
-        beside: &Address,
-        owner: &Address,
-        noted: bool,
-    ) -> Option<Here> {
-        let (member, beside) = (self.number(here, member), self.number(here, beside));
-        let owner = self.number(here, owner);
-        let answer = self
-            .scene
-            .population
-            .file_after(set as usize, owner, member, beside);
+        let population = &mut self.scene.population;
+        let answer = if after {
+            population.file_after(set as usize, owner, member, beside)
+        } else {
+            population.file_before(set as usize, owner, member, beside)
+        };
         self.counted(here, answer, set, owner, noted)
     }
 
@@ -197,8 +179,7 @@ impl State {
         self.counted(here, answer, set, owner, noted)
     }
 
-    // On to the next instruction where a member of a set was removed: that is noted where it is watched, and then the member goes to a
-    // place.
+    // On to the next instruction where a member of a set was removed, which goes to a place.
     #[inline(always)]
     fn removed(
         &mut self,
@@ -208,14 +189,10 @@ impl State {
         to: &Address,
         noted: bool,
     ) -> Option<Here> {
-        let (set, owner) = of;
         match answer {
             Ok(member) => {
-                if noted && let Err(kind) = self.scene.note_count(set as usize, owner) {
-                    return self.fault(kind);
-                }
                 self.set_number(here, to, member);
-                here.on()
+                self.counted(here, Ok(()), of.0, of.1, noted)
             }
             Err(kind) => self.fault(kind),
         }

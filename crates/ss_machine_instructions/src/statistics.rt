@@ -47,8 +47,7 @@ impl State {
                 let answer = self.scene.note_attribute(class, field, entity);
                 self.done(here, answer)
             }
-            Ok(()) => here.on(),
-            Err(kind) => self.fault(kind),
+            answer => self.done(here, answer),
         }
     }
 
@@ -67,8 +66,7 @@ impl State {
                 let answer = self.scene.note_count(set as usize, owner);
                 self.done(here, answer)
             }
-            Ok(()) => here.on(),
-            Err(kind) => self.fault(kind),
+            answer => self.done(here, answer),
         }
     }
 
