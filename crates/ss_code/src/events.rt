@@ -4,6 +4,7 @@ use crate::error::CodeError;
 use crate::facts::is_attribute_watched;
 use crate::generator::{Generator, Site};
 use crate::piece::{Piece, as_index};
+use crate::targets::Spot;
 use ss_code_instructions::instruction::Instruction;
 use ss_program::expression::Expression;
 use ss_program::statement::{Place, Restart, When};
@@ -71,11 +72,15 @@ impl Generator<'_> {
             },
         )?;
         self.assign(code, site, spot, to)?;
+        let notice = match spot {
+            Spot::Variable(variable) => variable.address,
+            Spot::Attribute(_) | Spot::Count(_, _) => to,
+        };
         code.put(
             site.line,
             Instruction::FileNotice {
                 class: index,
-                notice: to,
+                notice,
                 time,
             },
         )?;

@@ -2,14 +2,11 @@
 
 use crate::code::{Code, Sections, Text};
 use crate::error::CodeError;
-use crate::facts::is_variable_watched;
 use crate::generator::Generator;
-use crate::piece::{Piece, as_index};
+use crate::piece::Piece;
 use crate::sayings::sayings;
 use ss_base::Mode;
-use ss_code_instructions::address::Address;
 use ss_code_instructions::entry::Entry;
-use ss_code_instructions::instruction::Instruction;
 use ss_code_instructions::limit::instruction_limit;
 use ss_program::checked::Checked;
 use ss_program::sections::{Event, Program, Routine};
@@ -67,31 +64,15 @@ fn put_routine(
     put_section(generator, code, given, yielding, others, &routine.body)
 }
 
-// The notice of an event was saved in a variable as its routine began: a statistic that watches that notes it.
-fn put_noted(generator: &mut Generator, code: &mut Piece, event: &Event) -> Result<(), CodeError> {
-    if let Some(number) = event.saved
-        && is_variable_watched(generator.program, number)
-    {
-        let variable = as_index(number)?;
-        let from = Address::fixed(variable);
-        code.put(event.line, Instruction::Keep { from, variable })?;
-    }
-    Ok(())
-}
-
 // The routine of an event.
 fn put_event(
     generator: &mut Generator,
     code: &mut Piece,
     event: &Event,
 ) -> Result<Entry, CodeError> {
-    let place = code.len();
-    put_noted(generator, code, event)?;
     let given = Vec::from_slice(generator.alloc, &event.given)?;
     let others = Vec::from_slice(generator.alloc, &event.others)?;
-    let mut entry = put_section(generator, code, given, 0, others, &event.body)?;
-    entry.place = place;
-    Ok(entry)
+    put_section(generator, code, given, 0, others, &event.body)
 }
 
 // An entry comes after others.

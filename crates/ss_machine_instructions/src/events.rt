@@ -25,7 +25,7 @@ impl State {
         self.put(here, to, answer)
     }
 
-    // So many first attributes of a notice are assigned what lies in cells, from a place on.
+    // So many first attributes of a notice are assigned what lies in cells, from a place on. Each is noted where one is watched.
     #[inline(always)]
     fn give(
         &mut self,
@@ -33,6 +33,7 @@ impl State {
         notice: i64,
         from: usize,
         given: u32,
+        noted: bool,
     ) -> Result<(), FaultKind> {
         for field in 0..given as usize {
             let at = from + field;
@@ -42,22 +43,14 @@ impl State {
                     self.scene
                         .population
                         .set_whole(class, field, notice, number)?;
+                    if noted {
+                        self.scene.note_attribute(class, field, notice)?;
+                    }
                 }
                 Mode::Alpha => {
                     let text = self.rows.text_at(at);
                     self.scene.population.set_text(class, field, notice, text)?;
                 }
-            }
-        }
-        Ok(())
-    }
-
-    // What the first attributes of a notice, so many, were given is noted, of each that is watched.
-    #[inline(never)]
-    fn note_given(&mut self, class: usize, notice: i64, given: u32) -> Result<(), FaultKind> {
-        for field in 0..given as usize {
-            if self.scene.population.mode(class, field) == Mode::Integer {
-                self.scene.note_attribute(class, field, notice)?;
             }
         }
         Ok(())
@@ -71,9 +64,10 @@ impl State {
         from: usize,
         given: u32,
         time: i64,
+        noted: bool,
     ) -> Result<i64, Refused> {
         let notice = self.scene.create(class)?;
-        let endowed = match self.give(class, notice, from, given) {
+        let endowed = match self.give(class, notice, from, given, noted) {
             Ok(()) => self.scene.population.set_time_a(notice, time),
             Err(kind) => Err(kind),
         };
@@ -96,11 +90,8 @@ impl State {
     ) -> Option<Here> {
         let from = self.cell(here, cell);
         let time = self.rows.number_at(from + given as usize);
-        match self.new_notice(class as usize, from, given, time) {
+        match self.new_notice(class as usize, from, given, time, noted) {
             Ok(notice) => {
-                if noted && let Err(kind) = self.note_given(class as usize, notice, given) {
-                    return self.fault(kind);
-                }
                 self.rows.set_number_at(from, time);
                 self.set_number(here, to, notice);
                 here.on()
@@ -134,6 +125,7 @@ impl State {
         from: usize,
         given: u32,
         time: i64,
+        noted: bool,
     ) -> Result<(), Refused> {
         if let Err(kind) = self.scene.population.known(class, notice) {
             return Err(Refused::Fault(kind));
@@ -141,7 +133,7 @@ impl State {
         if self.scene.timeline.is_scheduled(notice) {
             return Err(Refused::Fault(FaultKind::AlreadyScheduled));
         }
-        let endowed = match self.give(class, notice, from, given) {
+        let endowed = match self.give(class, notice, from, given, noted) {
             Ok(()) => self.scene.population.set_time_a(notice, time),
             Err(kind) => Err(kind),
         };
@@ -165,11 +157,7 @@ impl State {
         let notice = self.number(here, notice);
         let from = self.cell(here, cell);
         let time = self.rows.number_at(from + given as usize);
-        match self.schedule_again(class as usize, notice, from, given, time) {
-            Ok(()) if noted => {
-                let answer = self.note_given(class as usize, notice, given);
-                self.done(here, answer)
-            }
+        match self.schedule_again(class as usize, notice, from, given, time, noted) {
             Ok(()) => here.on(),
             Err(refused) => self.refused(refused),
         }
@@ -208,13 +196,13 @@ impl State {
         Ok(())
     }
 
-    // The notice of an event of this rank is saved in a variable, or it goes.
+    // The notice of an event of this rank is saved in a variable, which is noted where it is watched, or it goes.
     #[inline(always)]
     fn let_go(&mut self, rank: usize, class: usize, notice: i64) -> Result<(), FaultKind> {
         match self.scene.notices[rank].saved() {
             Some(variable) => {
                 self.rows.set_number_at(variable, notice);
-                Ok(())
+                self.scene.note_variable(variable, notice)
             }
             None => self.scene.remove_entity(class, notice),
         }
