@@ -16,7 +16,7 @@ use ss_program::statement::{CountedClass, Place, Target};
 pub(crate) struct VariableSpot {
     pub(crate) address: Address,
     mode: Mode,
-    watched: Option<u32>,
+    pub(crate) watched: Option<u32>,
 }
 
 /// An attribute that is assigned: its class, its number in that, its mode, the entity, how many cells that takes, and whether a
