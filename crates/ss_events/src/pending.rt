@@ -144,7 +144,7 @@ impl Pending {
 
     // Schedules a notice without ties, and says whether it did. It may say no where there is no room yet, where a search is needed to
     // see that the notice isn't pending, or where the rank or the number of schedulings is great. The list is then as it was.
-    #[inline(never)]
+    #[inline(always)]
     fn schedule_at_once(&mut self, time: i64, rank: usize, notice: i64) -> bool
         ensures done { result ≡ true → scheduled (record { time = time; rank = rank; ties = [] }) notice self.old.list ≡ Ok self.new.list }
         ensures kept { result ≡ false → self.new.list ≡ self.old.list }

@@ -60,7 +60,17 @@ fn schedule_tied(scene: &mut Scene, alloc: Global, class: usize, notice: i64, ti
     }
 }
 
-// Why a notice of a class with ties is not pending.
+// The same of a class without ties.
+#[inline(never)]
+fn schedule_untied(scene: &mut Scene, alloc: Global, class: usize, notice: i64, time: i64) -> bool {
+    let rank = scene.rank(class);
+    scene
+        .timeline
+        .schedule_untied(alloc, time, rank, notice)
+        .is_ok()
+}
+
+// Why a notice is not pending.
 #[cold]
 #[inline(never)]
 fn unscheduled(scene: &Scene, notice: i64, time: i64) -> Refused {
@@ -84,11 +94,12 @@ pub fn schedule(
     match scene.population.known(class, notice) {
         Err(kind) => Err(Refused::Fault(kind)),
         Ok(()) => {
-            if !scene.has_ties(class) {
-                let rank = scene.rank(class);
-                return scene.timeline.schedule_untied(alloc, time, rank, notice);
-            }
-            if schedule_tied(scene, alloc, class, notice, time) {
+            let is_done = if scene.has_ties(class) {
+                schedule_tied(scene, alloc, class, notice, time)
+            } else {
+                schedule_untied(scene, alloc, class, notice, time)
+            };
+            if is_done {
                 return Ok(());
             }
             Err(unscheduled(scene, notice, time))
