@@ -1,6 +1,6 @@
 //! What the machine reads of its input.
 
-use ss_base::FaultyRead;
+use ss_base::{Alpha, FaultyRead};
 use ss_code_instructions::address::Address;
 use ss_input::{Missed, Source};
 use ss_machine_instructions::flow::{Ending, Here};
@@ -15,6 +15,24 @@ fn unread(state: &mut State, missed: Missed) -> Option<Here> {
     }
 }
 
+// The next number. Out of line, as the next two are: so the source takes no register of the loop.
+#[inline(never)]
+fn next_number<R: FaultyRead>(source: &mut Source<R>) -> Result<i64, Missed> {
+    source.integer()
+}
+
+// The next text.
+#[inline(never)]
+fn next_text<R: FaultyRead>(source: &mut Source<R>) -> Result<Alpha, Missed> {
+    source.alpha()
+}
+
+// Whether no word is left.
+#[inline(never)]
+fn is_ended<R: FaultyRead>(source: &mut Source<R>) -> Result<bool, Missed> {
+    source.ended()
+}
+
 /// Read.
 #[inline(always)]
 pub(crate) fn read_number<R: FaultyRead>(
@@ -23,7 +41,7 @@ pub(crate) fn read_number<R: FaultyRead>(
     to: &Address,
     source: &mut Source<R>,
 ) -> Option<Here> {
-    match source.integer() {
+    match next_number(source) {
         Err(missed) => unread(state, missed),
         Ok(number) => {
             state.set_number(here, to, number);
@@ -40,7 +58,7 @@ pub(crate) fn read_text<R: FaultyRead>(
     to: &Address,
     source: &mut Source<R>,
 ) -> Option<Here> {
-    match source.alpha() {
+    match next_text(source) {
         Err(missed) => unread(state, missed),
         Ok(text) => {
             state.set_text(here, to, text);
@@ -58,7 +76,7 @@ pub(crate) fn unless_ended<R: FaultyRead>(
     negated: bool,
     source: &mut Source<R>,
 ) -> Option<Here> {
-    match source.ended() {
+    match is_ended(source) {
         Err(missed) => unread(state, missed),
         Ok(ended) => here.on_if(ended != negated, skip),
     }
