@@ -42,7 +42,12 @@ impl Generator<'_> {
 
     // Whether a statistic watches one of the first attributes of a notice, so many.
     fn is_given_watched(&self, class: usize, given: usize) -> bool {
-        (0..given).any(|field| is_attribute_watched(self.program, class, field))
+        for field in 0..given {
+            if is_attribute_watched(self.program, class, field) {
+                return true;
+            }
+        }
+        false
     }
 
     /// SCHEDULE A.

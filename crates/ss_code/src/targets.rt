@@ -83,11 +83,13 @@ pub(crate) fn is_attribute(place: &Place) -> bool {
 }
 
 // Whether the entity of an attribute is looked at before the code of a value: there is some, and it does not begin with the same look.
-fn must_look(class: usize, of: &Expression, value: &Expression) -> bool {
-    match of {
-        Expression::Fetch { variable } => {
-            !is_plain(value) && !begins_with_look(class, *variable, value)
-        }
+fn must_look(place: &Place, value: &Expression) -> bool {
+    match place {
+        Place::ToAttribute {
+            class,
+            of: Expression::Fetch { variable },
+            ..
+        } => !is_plain(value) && !begins_with_look(*class, *variable, value),
         _ => !is_plain(value),
     }
 }
@@ -272,9 +274,8 @@ impl Generator<'_> {
         {
             return self.expression(code, site, value, address);
         }
-        if let Place::ToAttribute { class, of, .. } = place
-            && let Spot::Attribute(attribute) = spot
-            && must_look(*class, of, value)
+        if let Spot::Attribute(attribute) = spot
+            && must_look(place, value)
         {
             self.look(code, site, attribute)?;
         }
