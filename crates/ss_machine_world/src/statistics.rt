@@ -32,7 +32,7 @@ impl Scene {
     }
 
     /// Notes N. of the set of an owner. Faults: 1 to 5, then 14.
-    #[inline(always)]
+    #[inline(never)]
     pub fn note_count(&mut self, set: usize, owner: i64) -> Result<(), FaultKind> {
         match self.population.member_count(set, owner) {
             Ok(count) => or_full(self.timeline.note_count(set, owner, count)),
