@@ -1,5 +1,4 @@
+pub mod Instructions
 pub mod States
 pub mod Machine
-pub mod Running
 pub mod Translation
-pub mod Laws

@@ -1,420 +1,760 @@
--- The instructions of a program.
-use Rattle.std.specs.Prelude.{ℕ, ◌+◌, Bool, true, false, List, [], ◌∷◌, ◌++◌, length, map, pos, Option, Some, None}
+-- The code of a program. Each part of it says of each of its places the line, the instruction, and what is found there: the modes of the section's
+-- variables and of the frame's cells.
+use Rattle.std.specs.Prelude.{ℕ, zero, suc, ◌+◌, ◌-◌, Bool, true, false, not, List, [], ◌∷◌, ◌++◌, length, map, pos, Option, Some, None, slice_get, if◌then◌else◌}
 use Rattle.ss_base.specs.declared.line.Line.{Line}
+use Rattle.ss_base.specs.declared.value.Value.{Value}
 use Rattle.ss_base.specs.declared.value.Value.TheVariants.{Whole}
+use Rattle.ss_base.specs.declared.layout.Mode.{Mode}
+use Rattle.ss_base.specs.declared.layout.Mode.TheVariants.{Integer}
+use Rattle.ss_base.specs.declared.layout.Discipline.{Discipline}
+use Rattle.ss_base.specs.declared.layout.Discipline.TheVariants as disciplines
+use Rattle.ss_base.specs.Layout.{mode_of}
 use Rattle.ss_program.specs.declared.expression.Variable.{Variable}
+use Rattle.ss_program.specs.declared.expression.Variable.TheVariants.{Global, Local}
+use Rattle.ss_program.specs.declared.expression.Sign.{Sign}
 use Rattle.ss_program.specs.declared.head.GuardKind.{GuardKind}
 use Rattle.ss_program.specs.declared.head.GuardKind.TheVariants as guards
 use Rattle.ss_program.specs.declared.head.PhraseKind.{PhraseKind}
 use Rattle.ss_program.specs.declared.head.PhraseKind.TheVariants as kinds
+use Rattle.ss_program.specs.declared.statement.End.{End}
 use Rattle.ss_program.specs.declared.statement.CountedClass.{CountedClass}
+use Rattle.ss_program.specs.declared.sections.Subject.{Subject}
+use Rattle.ss_program.specs.declared.sections.Subject.TheVariants.{OfVariable, OfAttribute, OfCount}
+use Rattle.ss_program.specs.declared.sections.Statistic.{Statistic}
 use Rattle.ss_program.specs.Program.{Expression, Constant, Fetch, Attribute, OfSystemSet, OfSet, OfMember, Clock, TimeOf, Figure, FigureOf, Signed, Absolute, Calculate, SetOwner, TheSystem, Entity, Test, Compare, DataEnded, Empty, Member, Condition, Head, Numbers, Members, Each, Start, AtEnd, From, After, Phrase, Guard, Place, ToVariable, ToAttribute, ToCount, Target, Position, ByDiscipline, AsFirst, AsLast, BeforeMember, AfterMember, When, At, In, Now, Restart, Item, AValue, AMean, AMeanOf, Statement, Let, Change, Call, Return, Stop, Read, Simulate, If, Loop, For, Find, Create, CreateEvery, Destroy, File, RemoveEnd, Remove, ScheduleNew, Schedule, Cancel, Reset, Print, Skip, Block, Done, Then, Routine, Event, Program}
-use Rattle.ss_code_instructions.specs.declared.instruction.Destination.{Destination}
-use Rattle.ss_code_instructions.specs.declared.instruction.Destination.TheVariants as destinations
-use Rattle.ss_code_instructions.specs.declared.instruction.Filing.{Filing}
-use Rattle.ss_code_instructions.specs.declared.instruction.Filing.TheVariants as filings
-use Rattle.ss_code_instructions.specs.declared.instruction.Instruction.{Instruction}
-use Rattle.ss_code_instructions.specs.declared.instruction.Instruction.TheVariants as i
+use Rattle.ss_program.specs.WellTyped.{Scope, mode_at, field_mode}
+use Rattle.ss_meaning.specs.Values.{operator_of}
+use Rattle.ss_meaning.specs.Histories.{same_subject}
 use Rattle.ss_meaning.specs.Meaning.{setting_of, tie_shapes}
-use Rattle.ss_code_instructions.specs.declared.item.ItemKind.{ItemKind}
-use Rattle.ss_code_instructions.specs.declared.item.ItemKind.TheVariants as shows
-use Rattle.ss_code_instructions.specs.Machine.{EntryPoint, Lines, Code}
+use Rattle.ss_code_instructions.specs.Instructions as i
+use Rattle.ss_code_instructions.specs.Instructions.{Operand, Bearer, Filing, Instruction, Placed, ItemKind, Lines, EntryPoint}
+use Rattle.ss_code_instructions.specs.Instructions.{Target as To}
+use Rattle.ss_code_instructions.specs.Machine.{Code}
+
+-- ## Where code is made
+
+-- the section, the line of the statement, and the modes of the cells that are in use, the topmost first
+pub record Site : Type 0 where
+  pub scope : Scope
+  pub line : Line
+  pub cells : List Mode
+
+-- how many cells are in use
+abbrev pub height : Site → ℕ
+height t = length t.cells
+
+-- a new cell as a target
+abbrev pub next : Site → To
+next t = i.Onto (height t)
+
+-- with a cell more
+abbrev pub above : Site → Mode → Site
+above t m = record t { cells = m ∷ t.cells }
+
+abbrev pub at_line : Site → Line → Site
+at_line t l = record t { line = l }
+
+-- an instruction here
+abbrev pub place : Site → Instruction → Placed
+place t x = record { line = t.line; instruction = x; locals = t.scope.locals; cells = t.cells }
+
+-- what stayed in cells is forgotten, at a site with all of these, which leaves another one
+abbrev pub forget : Site → (count : ℕ) → List Placed
+forget u zero = []
+forget u (suc k) = place u (i.Forget (suc k)) ∷ []
+
+abbrev pub forget_to : (t u : Site) → List Placed
+forget_to t u = forget u (height u - height t)
+
+-- ## What the preamble says
+
+-- the statistics watch a subject
+abbrev pub watch : List Statistic → Subject → Bool
+watch [] subject = false
+watch (s ∷ ss) subject = if same_subject s.subject subject then true else watch ss subject
+
+abbrev pub is_watched : Site → Subject → Bool
+is_watched t subject = watch t.scope.program.statistics subject
+
+-- where the discipline of a set files a member
+abbrev pub filing_by : Option Discipline → Filing
+filing_by None = i.Ranked
+filing_by (Some disciplines.Fifo) = i.Last
+filing_by (Some disciplines.Lifo) = i.First
+filing_by (Some (disciplines.Ranked keys)) = i.Ranked
+
+-- ## Modes
+
+abbrev pub or_integer : Option Mode → Mode
+or_integer None = Integer
+or_integer (Some m) = m
+
+abbrev pub expression_mode : Scope → Expression → Mode
+expression_mode s (Constant v) = mode_of v
+expression_mode s (Fetch x) = or_integer (mode_at s x)
+expression_mode s (Attribute class field e) = or_integer (field_mode s.program class field)
+expression_mode s _ = Integer
+
+abbrev pub place_mode : Scope → Place → Mode
+place_mode s (ToVariable x) = or_integer (mode_at s x)
+place_mode s (ToAttribute class field e) = or_integer (field_mode s.program class field)
+place_mode s (ToCount c) = Integer
+
+-- ## Operands
+
+-- an expression as an operand: a constant and a variable are operands as they are, anything else lies in a new cell
+abbrev pub operand : Site → Expression → Operand
+operand t (Constant v) = i.Constant v
+operand t (Fetch x) = i.Held x
+operand t _ = i.Taken (height t)
+
+-- the site with the cell that it takes, if any
+abbrev pub after : Site → Expression → Site
+after t (Constant v) = t
+after t (Fetch x) = t
+after t e = above t (expression_mode t.scope e)
+
+abbrev pub is_leaf : Expression → Bool
+is_leaf (Constant v) = true
+is_leaf (Fetch x) = true
+is_leaf _ = false
+
+abbrev pub unless_leaf : Expression → List Placed → List Placed
+unless_leaf (Constant v) code = []
+unless_leaf (Fetch x) code = []
+unless_leaf _ code = code
+
+-- an operand that stays where it lies
+abbrev pub stay : Operand → Operand
+stay (i.Taken h) = i.Stays h
+stay (i.Stays h) = i.Stays h
+stay (i.Constant v) = i.Constant v
+stay (i.Held x) = i.Held x
 
 -- ## Expressions
 
--- an expression: its value on top of the stack
-abbrev pub expression_code : Line → Expression → List Instruction
-expression_code l (Constant v) = i.Push v ∷ []
-expression_code l (Fetch x) = i.Fetch x ∷ []
-expression_code l (Attribute class field e) = expression_code l e ++ i.Attribute class field l ∷ []
-expression_code l (OfSystemSet query set) = i.OfSet query set true l ∷ []
-expression_code l (OfSet query set e) = expression_code l e ++ i.OfSet query set false l ∷ []
-expression_code l (OfMember query set e) = expression_code l e ++ i.OfMember query set l ∷ []
-expression_code l Clock = i.Clock ∷ []
-expression_code l (TimeOf e) = expression_code l e ++ i.TimeOf l ∷ []
-expression_code l (Figure fold j) = i.Figure fold j true l ∷ []
-expression_code l (FigureOf fold j e) = expression_code l e ++ i.Figure fold j false l ∷ []
-expression_code l (Signed sign e) = expression_code l e ++ i.Signed sign l ∷ []
-expression_code l (Absolute e) = expression_code l e ++ i.Absolute l ∷ []
-expression_code l (Calculate op a b) = expression_code l a ++ (expression_code l b ++ i.Calculate op l ∷ [])
+-- an operand with its code, and then an instruction that reads it
+abbrev pub one : Site → Expression → (code : List Placed) → (Operand → Instruction) → List Placed
+one t a code make = unless_leaf a code ++ place (after t a) (make (operand t a)) ∷ []
 
--- several values, one above the other
-abbrev pub values_code : Line → List Expression → List Instruction
-values_code l [] = []
-values_code l (e ∷ es) = expression_code l e ++ values_code l es
+-- an expression: its last instruction leaves its value at a target
+abbrev pub expression_code : Site → To → Expression → List Placed
+expression_code t to (Constant v) = place t (i.Move (i.Constant v) to) ∷ []
+expression_code t to (Fetch x) = place t (i.Move (i.Held x) to) ∷ []
+expression_code t to (Attribute class field e) = one t e (expression_code t (next t) e) (λ x. i.Attribute class field x to)
+expression_code t to (OfSystemSet query set) = place t (i.OfSet query set None to) ∷ []
+expression_code t to (OfSet query set e) = one t e (expression_code t (next t) e) (λ x. i.OfSet query set (Some x) to)
+expression_code t to (OfMember query set e) = one t e (expression_code t (next t) e) (λ x. i.OfMember query set x to)
+expression_code t to Clock = place t (i.Clock to) ∷ []
+expression_code t to (TimeOf e) = one t e (expression_code t (next t) e) (λ x. i.TimeOf x to)
+expression_code t to (Figure fold j) = place t (i.Figure fold j None to) ∷ []
+expression_code t to (FigureOf fold j e) = one t e (expression_code t (next t) e) (λ x. i.Figure fold j (Some x) to)
+expression_code t to (Signed sign e) =
+    one t e (expression_code t (next t) e) (λ x. i.Calculate (operator_of sign) (i.Constant (Whole (pos 0))) x to)
+expression_code t to (Absolute e) = one t e (expression_code t (next t) e) (λ x. i.Absolute x to)
+expression_code t to (Calculate op a b) =
+    unless_leaf a (expression_code t (next t) a)
+    ++ one (after t a) b (expression_code (after t a) (next (after t a)) b) (λ y. i.Calculate op (operand t a) y to)
 
--- references that are looked at
-abbrev pub entity_code : Line → (class : ℕ) → Expression → List Instruction
-entity_code l class e = expression_code l e ++ i.LookEntity class l ∷ []
+-- the code of an operand: none where it is one as it is
+abbrev pub operand_code : Site → Expression → List Placed
+operand_code t e = unless_leaf e (expression_code t (next t) e)
 
-abbrev pub member_code : Line → (set : ℕ) → Expression → List Instruction
-member_code l set e = expression_code l e ++ i.LookMember set l ∷ []
+-- an operand, and the instruction that reads it
+abbrev pub with_operand : Site → Expression → (Operand → Instruction) → List Placed
+with_operand t e make = one t e (expression_code t (next t) e) make
 
--- the owner of a set, of which nothing is on the stack where it is the system
-abbrev pub owner_code : Line → SetOwner → List Instruction
-owner_code l TheSystem = []
-owner_code l (Entity e) = expression_code l e
+-- several values in new cells, one above the other
+abbrev pub values_code : Site → List Expression → List Placed
+values_code t [] = []
+values_code t (e ∷ es) = expression_code t (next t) e ++ values_code (above t (expression_mode t.scope e)) es
 
-abbrev pub is_the_system : SetOwner → Bool
-is_the_system TheSystem = true
-is_the_system (Entity e) = false
+abbrev pub after_values : Site → List Expression → Site
+after_values t [] = t
+after_values t (e ∷ es) = after_values (above t (expression_mode t.scope e)) es
 
--- a value that there may be, of which nothing is on the stack where there is none
-abbrev pub any_code : Line → Option Expression → List Instruction
-any_code l None = []
-any_code l (Some e) = expression_code l e
+-- ## References
 
-abbrev pub is_absent : Option Expression → Bool
-is_absent None = true
-is_absent (Some e) = false
+-- a reference that is looked at, where something may fault before it is used
+abbrev pub looked_code : Site → (looked : Bool) → Expression → (Operand → Instruction) → List Placed
+looked_code t false e look = operand_code t e
+looked_code t true e look = with_operand t e (λ x. look (stay x))
+
+abbrev pub entity_code : Site → (looked : Bool) → (class : ℕ) → Expression → List Placed
+entity_code t looked class e = looked_code t looked e (i.LookEntity class)
+
+abbrev pub member_code : Site → (looked : Bool) → (set : ℕ) → Expression → List Placed
+member_code t looked set e = looked_code t looked e (i.LookMember set)
+
+-- the owner of a set, or the entity of a statistic, of which there is none where it is the system
+abbrev pub expression_of : SetOwner → Option Expression
+expression_of TheSystem = None
+expression_of (Entity e) = Some e
+
+abbrev pub bearer : Site → Option Expression → Bearer
+bearer t None = None
+bearer t (Some e) = Some (operand t e)
+
+abbrev pub bearer_code : Site → Option Expression → List Placed
+bearer_code t None = []
+bearer_code t (Some e) = operand_code t e
+
+abbrev pub after_bearer : Site → Option Expression → Site
+after_bearer t None = t
+after_bearer t (Some e) = after t e
+
+abbrev pub bearer_stays : Bearer → Bearer
+bearer_stays None = None
+bearer_stays (Some x) = Some (stay x)
+
+-- whether its evaluation may fault
+abbrev pub may_fault : Option Expression → Bool
+may_fault None = false
+may_fault (Some e) = not (is_leaf e)
+
+-- an owner, and the instruction that reads it
+abbrev pub with_owner : Site → SetOwner → (Bearer → Instruction) → List Placed
+with_owner t o make = bearer_code t (expression_of o) ++ place (after_bearer t (expression_of o)) (make (bearer t (expression_of o))) ∷ []
 
 -- ## Conditions: on where it holds, and past so many instructions where it does not
 
-abbrev pub test_code : Line → (skip : ℕ) → Test → List Instruction
-test_code l skip (Compare relation a b) = expression_code l a ++ (expression_code l b ++ i.Compare relation skip ∷ [])
-test_code l skip (DataEnded negated) = i.TestData negated skip l ∷ []
-test_code l skip (Empty negated set owner) = owner_code l owner ++ i.TestEmpty negated set (is_the_system owner) skip l ∷ []
-test_code l skip (Member negated set e owner) =
-    member_code l set e ++ (owner_code l owner ++ i.TestMember negated set (is_the_system owner) skip l ∷ [])
+abbrev pub test_code : Site → (skip : ℕ) → Test → List Placed
+test_code t skip (Compare relation a b) = operand_code t a ++ with_operand (after t a) b (λ y. i.Unless relation (operand t a) y skip)
+test_code t skip (DataEnded negated) = place t (i.UnlessEnded negated skip) ∷ []
+test_code t skip (Empty negated set o) = with_owner t o (λ o. i.UnlessEmpty negated set o skip)
+test_code t skip (Member negated set e o) =
+    member_code t (may_fault (expression_of o)) set e ++ with_owner (after t e) o (λ o. i.UnlessMember negated set (operand t e) o skip)
 
 -- tests that all must hold
-abbrev pub tests_code : Line → (skip : ℕ) → List Test → List Instruction
-tests_code l skip [] = []
-tests_code l skip (t ∷ ts) = test_code l (length (tests_code l skip ts) + skip) t ++ tests_code l skip ts
+abbrev pub tests_code : Site → (skip : ℕ) → List Test → List Placed
+tests_code t skip [] = []
+tests_code t skip (x ∷ xs) = test_code t (length (tests_code t skip xs) + skip) x ++ tests_code t skip xs
 
 -- one alternative and the further ones, of which one must hold
-abbrev pub alternatives_code : Line → (skip : ℕ) → List Test → List (List Test) → List Instruction
-alternatives_code l skip ts [] = tests_code l skip ts
-alternatives_code l skip ts (us ∷ others) =
-    tests_code l 1 ts ++ i.Jump (length (alternatives_code l skip us others)) ∷ alternatives_code l skip us others
+abbrev pub alternatives_code : Site → (skip : ℕ) → List Test → List (List Test) → List Placed
+alternatives_code t skip xs [] = tests_code t skip xs
+alternatives_code t skip xs (ys ∷ others) =
+    tests_code t 1 xs ++ place t (i.Jump (length (alternatives_code t skip ys others))) ∷ alternatives_code t skip ys others
 
-abbrev pub condition_code : Line → (skip : ℕ) → Condition → List Instruction
-condition_code l skip [] = i.Jump skip ∷ []
-condition_code l skip (ts ∷ others) = alternatives_code l skip ts others
+abbrev pub condition_code : Site → (skip : ℕ) → Condition → List Placed
+condition_code t skip [] = place t (i.Jump skip) ∷ []
+condition_code t skip (xs ∷ others) = alternatives_code t skip xs others
 
 -- a condition that must not hold
-abbrev pub negated_code : Line → (skip : ℕ) → Condition → List Instruction
-negated_code l skip c = condition_code l 1 c ++ i.Jump skip ∷ []
+abbrev pub negated_code : Site → (skip : ℕ) → Condition → List Placed
+negated_code t skip c = condition_code t 1 c ++ place t (i.Jump skip) ∷ []
 
-abbrev pub guard_code : Line → (skip : ℕ) → GuardKind → Condition → List Instruction
-guard_code l skip guards.While c = condition_code l skip c
-guard_code l skip guards.Until c = negated_code l skip c
+abbrev pub guard_code : Site → (skip : ℕ) → GuardKind → Condition → List Placed
+guard_code t skip guards.While c = condition_code t skip c
+guard_code t skip guards.Until c = negated_code t skip c
 
-abbrev pub guards_code : Line → (skip : ℕ) → List Guard → List Instruction
-guards_code l skip [] = []
-guards_code l skip (g ∷ gs) = guard_code l (length (guards_code l skip gs) + skip) g.kind g.condition ++ guards_code l skip gs
+abbrev pub guards_code : Site → (skip : ℕ) → List Guard → List Placed
+guards_code t skip [] = []
+guards_code t skip (g ∷ gs) = guard_code t (length (guards_code t skip gs) + skip) g.kind g.condition ++ guards_code t skip gs
+
+-- a condition, and two sides; before the second comes a jump past it, and nothing where it is empty
+abbrev pub if_code : Site → Condition → List Placed → List Placed → List Placed
+if_code t c a [] = condition_code t (length a) c ++ a
+if_code t c a (x ∷ b) = condition_code t (length a + 1) c ++ (a ++ (place t (i.Jump (length (x ∷ b))) ∷ (x ∷ b)))
+
+-- the guards; the tick of a turn; the body; the guards again; and a jump back to the tick
+abbrev pub loop_code : Site → List Guard → (body : List Placed) → List Placed
+loop_code t gs body =
+    guards_code t (length body + length (guards_code t 1 gs) + 2) gs
+    ++ (place t i.Turn ∷ (body ++ (guards_code t 1 gs ++ (place t (i.Repeat (length body + length (guards_code t 1 gs) + 1)) ∷ []))))
+
+-- ## Assignments
+
+-- a variable was assigned: where a statistic watches it, that is noted
+abbrev pub noted_code : Site → Variable → List Placed
+noted_code t (Global k) = if is_watched t (OfVariable k) then place t (i.NoteVariable k) ∷ [] else []
+noted_code t (Local k) = []
+
+-- N. of a permanent class is assigned an operand, at a site that leaves another one
+abbrev pub count_code : (t u : Site) → CountedClass → Operand → List Placed
+count_code t u c from =
+    place u (i.LookCount c.class) ∷ (place u (i.Move from (i.Into (Global c.variable))) ∷ noted_code t (Global c.variable))
+
+-- an attribute is set or changed by an instruction with two operands, at a site that leaves another one. Where a statistic watches it both stay
+-- until that is noted
+abbrev pub attribute_code : (t u : Site) → (class field : ℕ) → (make : Operand → Operand → Instruction) → (entity value : Operand) → List Placed
+attribute_code t u class field make x y =
+    if is_watched t (OfAttribute class field)
+    then place u (make (stay x) (stay y)) ∷ (place u (i.NoteAttribute class field (stay x)) ∷ forget_to t u)
+    else place u (make x y) ∷ []
+
+-- LET: a reference is looked at where the value may fault
+abbrev pub let_code : Site → Place → Expression → List Placed
+let_code t (ToVariable x) e = expression_code t (i.Into x) e ++ noted_code t x
+let_code t (ToAttribute class field r) e =
+    entity_code t (not (is_leaf e)) class r ++ (operand_code (after t r) e
+    ++ attribute_code t (after (after t r) e) class field (i.SetAttribute class field) (operand t r) (operand (after t r) e))
+let_code t (ToCount c) e = operand_code t e ++ count_code t (after t e) c (operand t e)
+
+-- ADD and SUBTRACT: the value comes first
+abbrev pub change_code : Site → Sign → Place → Expression → List Placed
+change_code t sign (ToVariable x) e = with_operand t e (λ y. i.Calculate (operator_of sign) (i.Held x) y (i.Into x)) ++ noted_code t x
+change_code t sign (ToAttribute class field r) e =
+    operand_code t e ++ (operand_code (after t e) r
+    ++ attribute_code t (after (after t e) r) class field (i.ChangeAttribute sign class field) (operand (after t e) r) (operand t e))
+change_code t sign (ToCount c) e =
+    with_operand t e (λ y. i.Calculate (operator_of sign) (i.Held (Global c.variable)) y (next t))
+    ++ count_code t (above t Integer) c (i.Taken (height t))
+
+-- a value that some code leaves at a target comes to a place, whose reference is looked at before
+abbrev pub to_place_code : Site → Place → Mode → (source : Site → To → List Placed) → List Placed
+to_place_code t (ToVariable x) m source = source t (i.Into x) ++ noted_code t x
+to_place_code t (ToAttribute class field r) m source =
+    entity_code t true class r ++ (source (after t r) (next (after t r))
+    ++ attribute_code t (above (after t r) m) class field (i.SetAttribute class field) (operand t r) (i.Taken (height (after t r))))
+to_place_code t (ToCount c) m source = source t (next t) ++ count_code t (above t m) c (i.Taken (height t))
+
+abbrev pub reads_code : Site → List Target → List Placed
+reads_code t [] = []
+reads_code t (x ∷ xs) = to_place_code t x.place x.mode (λ u to. place u (i.Read x.mode to) ∷ []) ++ reads_code t xs
+
+-- what a routine yields lies in cells, the first on top
+abbrev pub with_results : Site → List Place → Site
+with_results t [] = t
+with_results t (p ∷ ps) = above (with_results t ps) (place_mode t.scope p)
+
+-- a place takes the value in the topmost cell
+abbrev pub give_code : (t : Site) → Place → List Placed
+give_code t (ToVariable x) =
+    place (above t (place_mode t.scope (ToVariable x))) (i.Move (i.Taken (height t)) (i.Into x)) ∷ noted_code t x
+give_code t (ToAttribute class field r) =
+    let u : Site = above t (place_mode t.scope (ToAttribute class field r)) in
+    operand_code u r ++ attribute_code t (after u r) class field (i.SetAttribute class field) (operand u r) (i.Taken (height t))
+give_code t (ToCount c) = count_code t (above t Integer) c (i.Taken (height t))
+
+abbrev pub gives_code : Site → List Place → List Placed
+gives_code t [] = []
+gives_code t (p ∷ ps) = give_code (with_results t ps) p ++ gives_code t ps
 
 -- ## Loops
 
 -- a phrase before the rest of a turn: it goes on with the rest, or jumps past it, or past it and one instruction more
-abbrev pub phrase_code : Line → (rest : ℕ) → PhraseKind → Condition → List Instruction
-phrase_code l rest kinds.With c = condition_code l rest c
-phrase_code l rest kinds.Unless c = negated_code l rest c
-phrase_code l rest kinds.While c = condition_code l (rest + 1) c
-phrase_code l rest kinds.Until c = negated_code l (rest + 1) c
+abbrev pub phrase_code : Site → (rest : ℕ) → PhraseKind → Condition → List Placed
+phrase_code t rest kinds.With c = condition_code t rest c
+phrase_code t rest kinds.Unless c = negated_code t rest c
+phrase_code t rest kinds.While c = condition_code t (rest + 1) c
+phrase_code t rest kinds.Until c = negated_code t (rest + 1) c
 
-abbrev pub phrases_code : Line → List Phrase → (turn : List Instruction) → List Instruction
-phrases_code l [] turn = turn
-phrases_code l (p ∷ ps) turn = phrase_code l (length (phrases_code l ps turn)) p.kind p.condition ++ phrases_code l ps turn
+abbrev pub phrases_code : Site → List Phrase → (turn : List Placed) → List Placed
+phrases_code t [] turn = turn
+phrases_code t (p ∷ ps) turn = phrase_code t (length (phrases_code t ps turn)) p.kind p.condition ++ phrases_code t ps turn
 
--- the items of a FOR: the tick of an item; the turn; on to the next item; and the end of the loop
-abbrev pub items_code : Line → Variable → (turn : List Instruction) → List Instruction
-items_code l x turn = i.Take x l ∷ (turn ++ (i.Next (length turn + 1) ∷ (i.Forget 3 ∷ [])))
+-- a loop over numbers keeps the item, the limit and the step
+abbrev pub number_loop : Site → Site
+number_loop t = above (above (above t Integer) Integer) Integer
 
-abbrev pub step_code : Line → Option Expression → List Instruction
-step_code l None = i.Push (Whole (pos 1)) ∷ []
-step_code l (Some e) = expression_code l e
+-- a walk keeps its owner, if that is not the system, the member and the next one
+abbrev pub owner_cell : Site → SetOwner → Site
+owner_cell t TheSystem = t
+owner_cell t (Entity e) = above t Integer
 
--- the first number, the limit and the step of a FOR, and the look at them; past so many instructions where there is no item
-abbrev pub range_code : Line → (skip : ℕ) → (first limit : Expression) → (step : Option Expression) → List Instruction
-range_code l skip a b c = expression_code l a ++ (expression_code l b ++ (step_code l c ++ i.Begin skip l ∷ []))
+abbrev pub owner_kept : Site → SetOwner → Bearer
+owner_kept t TheSystem = None
+owner_kept t (Entity e) = Some (i.Stays (height t))
 
--- the owner of a FOR over members, and the first of them; past so many instructions where there is none
-abbrev pub outset_code : Line → (skip : ℕ) → (set : ℕ) → SetOwner → Start → (reverse : Bool) → List Instruction
-outset_code l skip set owner AtEnd reverse = owner_code l owner ++ i.BeginSet reverse set (is_the_system owner) skip l ∷ []
-outset_code l skip set owner (From e) reverse =
-    owner_code l owner ++ (i.LookOwner set (is_the_system owner) l ∷ (member_code l set e ++ i.BeginAt reverse false set (is_the_system owner) skip l ∷ []))
-outset_code l skip set owner (After e) reverse =
-    owner_code l owner ++ (i.LookOwner set (is_the_system owner) l ∷ (member_code l set e ++ i.BeginAt reverse true set (is_the_system owner) skip l ∷ []))
+abbrev pub walk_loop : Site → SetOwner → Site
+walk_loop t o = above (above (owner_cell t o) Integer) Integer
 
--- how many values a FOR over members keeps on the stack
-abbrev pub members_cells : (system : Bool) → ℕ
-members_cells true = 1
-members_cells false = 2
+-- where the turns of a FOR are
+abbrev pub in_loop : Site → Head → Site
+in_loop t (Numbers x a b c) = number_loop t
+in_loop t (Each x class) = number_loop t
+in_loop t (Members x set o start reverse) = walk_loop t o
 
--- the members: the tick of one; the turn; on to the next member; and the end of the loop
-abbrev pub members_code : Line → Variable → (set : ℕ) → (system reverse : Bool) → (turn : List Instruction) → List Instruction
-members_code l x set system reverse turn =
-    i.TakeMember x reverse set l ∷ (turn ++ (i.NextMember set system (length turn + 1) l ∷ (i.Forget (members_cells system) ∷ [])))
+-- the tick of an item or a member, which a variable is assigned; the turn; and on to the next one
+abbrev pub turns_code : Site → (cell : ℕ) → Variable → (turn : List Placed) → (again : ℕ → Instruction) → List Placed
+turns_code u h x turn again =
+    place u (i.Take h x) ∷ (noted_code u x ++ (turn ++ (place u (again (1 + length (noted_code u x) + length turn)) ∷ [])))
 
-abbrev pub for_code : Line → Head → (turn : List Instruction) → List Instruction
-for_code l (Numbers x a b c) turn = range_code l (length turn + 2) a b c ++ items_code l x turn
-for_code l (Each x class) turn = (i.BeginClass class (length turn + 2) l ∷ []) ++ items_code l x turn
-for_code l (Members x set owner start reverse) turn =
-    outset_code l (length turn + 2) set owner start reverse ++ members_code l x set (is_the_system owner) reverse turn
+-- the first number, the limit and the step
+abbrev pub step_code : Site → Option Expression → List Placed
+step_code t None = place t (i.Move (i.Constant (Whole (pos 1))) (next t)) ∷ []
+step_code t (Some e) = expression_code t (next t) e
 
--- how many values a FOR keeps on the stack
-abbrev pub loop_cells : Head → ℕ
-loop_cells (Numbers x a b c) = 3
-loop_cells (Each x class) = 3
-loop_cells (Members x set owner start reverse) = members_cells (is_the_system owner)
+abbrev pub range_code : Site → (first limit : Expression) → (step : Option Expression) → List Placed
+range_code t a b c =
+    expression_code t (next t) a ++ (expression_code (above t Integer) (next (above t Integer)) b ++ step_code (above (above t Integer) Integer) c)
+
+-- the owner of a walk
+abbrev pub owner_code : Site → SetOwner → List Placed
+owner_code t TheSystem = []
+owner_code t (Entity e) = expression_code t (next t) e
+
+-- the member with which a walk begins, or after which
+abbrev pub start_code : Site → (set : ℕ) → Bearer → Start → List Placed
+start_code t set o AtEnd = []
+start_code t set o (From e) = place t (i.LookOwner set o) ∷ expression_code t (next t) e
+start_code t set o (After e) = place t (i.LookOwner set o) ∷ expression_code t (next t) e
+
+abbrev pub begin_code : Site → (reverse : Bool) → (set : ℕ) → Bearer → Start → (skip : ℕ) → Placed
+begin_code t reverse set o AtEnd skip = place t (i.BeginSet reverse set o (height t) skip)
+begin_code t reverse set o (From e) skip = place (above t Integer) (i.BeginAt reverse false set o (height t) skip)
+begin_code t reverse set o (After e) skip = place (above t Integer) (i.BeginAt reverse true set o (height t) skip)
+
+-- the head of a loop; its turns; and the end, where what it keeps is forgotten
+abbrev pub for_code : Site → Head → (turn : List Placed) → List Placed
+for_code t (Numbers x a b c) turn =
+    let turns : List Placed = turns_code (number_loop t) (height t) x turn (i.Next (height t)) in
+    range_code t a b c ++ (place (number_loop t) (i.Begin (height t) (length turns)) ∷ (turns ++ forget_to t (number_loop t)))
+for_code t (Each x class) turn =
+    let turns : List Placed = turns_code (number_loop t) (height t) x turn (i.Next (height t)) in
+    place t (i.BeginClass class (height t) (length turns)) ∷ (turns ++ forget_to t (number_loop t))
+for_code t (Members x set o start reverse) turn =
+    let u : Site = owner_cell t o in
+    let turns : List Placed = turns_code (walk_loop t o) (height u) x turn (i.NextMember reverse set (owner_kept t o) (height u)) in
+    owner_code t o ++ (start_code u set (owner_kept t o) start
+    ++ (begin_code u reverse set (owner_kept t o) start (length turns) ∷ (turns ++ forget_to t (walk_loop t o))))
 
 -- the sides of a FIND: the end of the loop at which no case was found comes before its side, the other after a jump past both sides
-abbrev pub find_code : Line → Head → List Phrase → (found none : List Instruction) → List Instruction
-find_code l head ps found none =
-    for_code l head (phrases_code l ps (i.Jump (length none + 3) ∷ []))
-    ++ (none ++ (i.Jump (length found + 1) ∷ (i.Forget (loop_cells head) ∷ found)))
+abbrev pub find_code : Site → Head → List Phrase → (found none : List Placed) → List Placed
+find_code t head ps found none =
+    for_code t head (phrases_code (in_loop t head) ps (place (in_loop t head) (i.Jump (length none + 3)) ∷ []))
+    ++ (none ++ (place t (i.Jump (length found + 1)) ∷ (forget_to t (in_loop t head) ++ found)))
 
--- a condition, and two sides; before the second comes a jump past it, and nothing where it is empty
-abbrev pub if_code : Line → Condition → List Instruction → List Instruction → List Instruction
-if_code l c a [] = condition_code l (length a) c ++ a
-if_code l c a (j ∷ b) = condition_code l (length a + 1) c ++ (a ++ (i.Jump (length (j ∷ b)) ∷ (j ∷ b)))
+-- ## Sets
 
--- the guards; the tick of a turn; the body; the guards again; and a jump back to the tick
-abbrev pub loop_code : Line → List Guard → (body : List Instruction) → List Instruction
-loop_code l gs body =
-    guards_code l (length body + length (guards_code l 1 gs) + 2) gs
-    ++ (i.Turn ∷ (body ++ (guards_code l 1 gs ++ (i.Repeat (length body + length (guards_code l 1 gs) + 1) ∷ []))))
+-- a set is changed by an instruction, at a site that leaves another one. Where a statistic watches how many members it has, what lies in cells stays
+-- until that is noted
+abbrev pub set_code : (t u : Site) → (set : ℕ) → (owner : Bearer) → (make : (Operand → Operand) → Instruction) → List Placed
+set_code t u set o make =
+    if is_watched t (OfCount set)
+    then place u (make stay) ∷ (place u (i.NoteCount set (bearer_stays o)) ∷ forget_to t u)
+    else place u (make (λ x. x)) ∷ []
 
--- ## Values that go to places
-
-abbrev pub destination_of : Place → Destination
-destination_of (ToVariable x) = destinations.Variable x
-destination_of (ToAttribute class field e) = destinations.Attribute class field
-destination_of (ToCount c) = destinations.Count c
-
--- a place is resolved: the reference to the entity of an attribute is on the stack
-abbrev pub spot_code : Line → Place → List Instruction
-spot_code l (ToVariable x) = []
-spot_code l (ToAttribute class field e) = entity_code l class e
-spot_code l (ToCount c) = []
-
--- a place is resolved, a value comes, and is written
-abbrev pub give_code : Line → Place → (source : List Instruction) → List Instruction
-give_code l t source = spot_code l t ++ (source ++ i.Assign (destination_of t) l ∷ [])
-
--- each place takes a value off the stack
-abbrev pub gives_code : Line → List Place → List Instruction
-gives_code l [] = []
-gives_code l (t ∷ ts) = (spot_code l t ++ i.Give (destination_of t) l ∷ []) ++ gives_code l ts
-
-abbrev pub reads_code : Line → List Target → List Instruction
-reads_code l [] = []
-reads_code l (t ∷ ts) = give_code l t.place (i.Read t.mode l ∷ []) ++ reads_code l ts
-
--- ## Entities and sets
-
-abbrev pub creates_code : Line → List CountedClass → List Instruction
-creates_code l [] = []
-creates_code l (c ∷ cs) = i.CreateAll c l ∷ creates_code l cs
-
-abbrev pub filing_of : Position → Filing
-filing_of ByDiscipline = filings.ByDiscipline
-filing_of AsFirst = filings.First
-filing_of AsLast = filings.Last
-filing_of (BeforeMember e) = filings.Before
-filing_of (AfterMember e) = filings.After
+abbrev pub bearer_as : (Operand → Operand) → Bearer → Bearer
+bearer_as keep None = None
+bearer_as keep (Some x) = Some (keep x)
 
 -- the member beside which another one is filed
-abbrev pub beside_code : Line → (set : ℕ) → Position → List Instruction
-beside_code l set ByDiscipline = []
-beside_code l set AsFirst = []
-beside_code l set AsLast = []
-beside_code l set (BeforeMember e) = member_code l set e
-beside_code l set (AfterMember e) = member_code l set e
+abbrev pub beside : Position → Option Expression
+beside ByDiscipline = None
+beside AsFirst = None
+beside AsLast = None
+beside (BeforeMember e) = Some e
+beside (AfterMember e) = Some e
 
-abbrev pub file_code : Line → (set : ℕ) → Expression → Position → SetOwner → List Instruction
-file_code l set e position owner =
-    member_code l set e ++ (beside_code l set position ++ (owner_code l owner ++ i.File (filing_of position) set (is_the_system owner) l ∷ []))
+abbrev pub beside_code : Site → (looked : Bool) → (set : ℕ) → Option Expression → List Placed
+beside_code t looked set None = []
+beside_code t looked set (Some e) = member_code t looked set e
+
+abbrev pub filing : Site → (set : ℕ) → (Operand → Operand) → Position → Filing
+filing t set keep ByDiscipline = filing_by (slice_get t.scope.program.disciplines set)
+filing t set keep AsFirst = i.First
+filing t set keep AsLast = i.Last
+filing t set keep (BeforeMember e) = i.Before (keep (operand t e))
+filing t set keep (AfterMember e) = i.After (keep (operand t e))
+
+-- FILE: the member, the one beside it, the owner; a member is looked at where one of those after it may fault
+abbrev pub file_code : Site → (set : ℕ) → Expression → Position → SetOwner → List Placed
+file_code t set e position o =
+    let y : Option Expression = beside position in
+    let o : Option Expression = expression_of o in
+    let t1 : Site = after t e in
+    let t2 : Site = after_bearer t1 y in
+    member_code t (if may_fault y then true else may_fault o) set e ++ (beside_code t1 (may_fault o) set y ++ (bearer_code t2 o
+    ++ set_code t (after_bearer t2 o) set (bearer t2 o)
+    (λ keep. i.File (filing t1 set keep position) set (keep (operand t e)) (bearer_as keep (bearer t2 o)))))
+
+-- REMOVE: the member, the owner
+abbrev pub remove_code : Site → (set : ℕ) → Expression → SetOwner → List Placed
+remove_code t set e o =
+    let o : Option Expression = expression_of o in
+    let t1 : Site = after t e in
+    member_code t (may_fault o) set e ++ (bearer_code t1 o
+    ++ set_code t (after_bearer t1 o) set (bearer t1 o) (λ keep. i.Remove set (keep (operand t e)) (bearer_as keep (bearer t1 o))))
+
+-- ## Places that are assigned while what lies in cells stays
+
+-- a place is resolved, and its reference looked at
+abbrev pub place_code : Site → Place → List Placed
+place_code t (ToVariable x) = []
+place_code t (ToAttribute class field r) = entity_code t true class r
+place_code t (ToCount c) = []
+
+abbrev pub after_place : Site → Place → Site
+after_place t (ToVariable x) = t
+after_place t (ToAttribute class field r) = after t r
+after_place t (ToCount c) = t
+
+-- it is assigned an operand at a site u, which is v once the operand was read
+abbrev pub assign_code : (t u v : Site) → Place → Operand → List Placed
+assign_code t u v (ToVariable x) from = place u (i.Move from (i.Into x)) ∷ noted_code v x
+assign_code t u v (ToAttribute class field r) from =
+    place u (i.SetAttribute class field (stay (operand t r)) from)
+    ∷ (if is_watched t (OfAttribute class field) then place v (i.NoteAttribute class field (stay (operand t r))) ∷ [] else [])
+assign_code t u v (ToCount c) from = count_code v u c from
+
+-- REMOVE FIRST and REMOVE LAST
+abbrev pub remove_end_code : Site → End → (set : ℕ) → Place → SetOwner → List Placed
+remove_end_code t end set p o =
+    let o : Option Expression = expression_of o in
+    let t1 : Site = after_place t p in
+    let t2 : Site = after_bearer t1 o in
+    let u : Site = above t2 Integer in
+    if is_watched t (OfCount set)
+    then place_code t p ++ (bearer_code t1 o
+    ++ (place t2 (i.RemoveEnd end set (bearer_stays (bearer t1 o)) (next t2))
+    ∷ (place u (i.NoteCount set (bearer_stays (bearer t1 o))) ∷ (assign_code t u t2 p (i.Taken (height t2)) ++ forget_to t t2))))
+    else to_place_code t p Integer (λ t to. bearer_code t o ++ place (after_bearer t o) (i.RemoveEnd end set (bearer t o) to) ∷ [])
+
+-- ## Entities
+
+abbrev pub creates_code : Site → List CountedClass → List Placed
+creates_code t [] = []
+creates_code t (c ∷ cs) = place t (i.CreateAll c) ∷ creates_code t cs
 
 -- ## Events
 
--- the time to schedule for, on top of the stack
-abbrev pub when_code : Line → When → List Instruction
-when_code l (At e) = expression_code l e ++ i.When false l ∷ []
-when_code l (In e) = expression_code l e ++ i.When true l ∷ []
-when_code l Now = i.Clock ∷ []
+-- the time to schedule for, in a new cell
+abbrev pub when_code : Site → When → List Placed
+when_code t (At e) = with_operand t e (λ x. i.At x (next t))
+when_code t (In e) = with_operand t e (λ x. i.In x (next t))
+when_code t Now = place t (i.Clock (next t)) ∷ []
 
-abbrev pub schedule_new_code : Line → (class : ℕ) → Place → List Expression → When → List Instruction
-schedule_new_code l class t given when =
-    spot_code l t ++ (values_code l given ++ (when_code l when
-    ++ (i.MakeNotice class (length given) l ∷ (i.Name (destination_of t) l ∷ (i.FileNotice class l ∷ [])))))
+-- a notice was given its first attributes, from a number on: where statistics watch them, that is noted
+abbrev pub given_code : Site → (class field : ℕ) → List Expression → Operand → List Placed
+given_code t class field [] x = []
+given_code t class field (e ∷ es) x =
+    (if is_watched t (OfAttribute class field) then place t (i.NoteAttribute class field x) ∷ [] else []) ++ given_code t class (field + 1) es x
 
-abbrev pub schedule_code : Line → (class : ℕ) → Expression → List Expression → When → List Instruction
-schedule_code l class e given when =
-    entity_code l class e ++ (values_code l given ++ (when_code l when ++ i.Reschedule class (length given) l ∷ []))
+-- where the number of a new notice goes: to a variable at once, or to a new cell above its time, where it stays until the notice is filed
+abbrev pub notice_target : Site → Place → To
+notice_target t (ToVariable x) = i.Into x
+notice_target t (ToAttribute class field r) = next t
+notice_target t (ToCount c) = next t
 
--- ## Items of PRINT
+abbrev pub notice_operand : Site → Place → Operand
+notice_operand t (ToVariable x) = i.Held x
+notice_operand t (ToAttribute class field r) = i.Taken (height t)
+notice_operand t (ToCount c) = i.Taken (height t)
 
--- an item: the value that it takes on top of the stack; a mean is looked at in its place
-abbrev pub item_code : Line → Item → List Instruction
-item_code l (AValue e) = expression_code l e
-item_code l (AMean j) = i.LookMean j true l ∷ []
-item_code l (AMeanOf j e) = expression_code l e ++ i.LookMean j false l ∷ []
+abbrev pub with_notice : Site → Place → Site
+with_notice t (ToVariable x) = t
+with_notice t (ToAttribute class field r) = above t Integer
+with_notice t (ToCount c) = above t Integer
 
--- several items, one after the other
-abbrev pub shown_code : Line → List Item → List Instruction
-shown_code l [] = []
-shown_code l (x ∷ xs) = item_code l x ++ shown_code l xs
+-- it is assigned to its place, unless it is there already
+abbrev pub name_code : (t u : Site) → Place → Operand → List Placed
+name_code t u (ToVariable x) from = noted_code u x
+name_code t u (ToAttribute class field r) from = assign_code t u u (ToAttribute class field r) from
+name_code t u (ToCount c) from = assign_code t u u (ToCount c) from
 
--- how many values an item takes
-abbrev pub value_count : Item → ℕ
-value_count (AValue e) = 1
-value_count (AMean j) = 0
-value_count (AMeanOf j e) = 1
+-- SCHEDULE A: the place, the values, the time; the notice is made, assigned, noted and filed
+abbrev pub schedule_new_code : Site → (class : ℕ) → Place → List Expression → When → List Placed
+schedule_new_code t class p given when =
+    let t1 : Site = after_place t p in
+    let t2 : Site = after_values t1 given in
+    let u : Site = above t1 Integer in
+    let v : Site = with_notice u p in
+    let x : Operand = notice_operand u p in
+    place_code t p ++ (values_code t1 given ++ (when_code t2 when
+    ++ (place (above t2 Integer) (i.MakeNotice class (height t1) (length given) (notice_target u p))
+    ∷ (name_code t v p (stay x) ++ (given_code v class 0 given (stay x)
+    ++ (place v (i.FileNotice class x (i.Taken (height t1))) ∷ forget_to t t1))))))
 
-abbrev pub values_taken : List Item → ℕ
-values_taken [] = 0
-values_taken (x ∷ xs) = value_count x + values_taken xs
+-- a notice is filed again; where anything is noted of what it was given, it stays until then
+abbrev pub renewed_code : (t u : Site) → (class given : ℕ) → Operand → (notes end : List Placed) → List Placed
+renewed_code t u class given x [] end = place u (i.Reschedule class x (height t) given) ∷ []
+renewed_code t u class given x (n ∷ ns) end = place u (i.Reschedule class (stay x) (height t) given) ∷ ((n ∷ ns) ++ end)
+
+-- SCHEDULE THE: the notice, the values, the time
+abbrev pub schedule_code : Site → (class : ℕ) → Expression → List Expression → When → List Placed
+schedule_code t class e given when =
+    let t1 : Site = after t e in
+    let t2 : Site = after_values t1 given in
+    let x : Operand = operand t e in
+    let notes : List Placed = given_code t1 class 0 given (stay x) in
+    entity_code t true class e ++ (values_code t1 given ++ (when_code t2 when
+    ++ renewed_code t1 (above t2 Integer) class (length given) x notes (forget_to t t1)))
+
+-- ## Statistics
+
+abbrev pub restarts_code : Site → List Restart → List Placed
+restarts_code t [] = []
+restarts_code t (r ∷ rs) =
+    (bearer_code t r.of ++ place (after_bearer t r.of) (i.Reset r.statistic (bearer t r.of)) ∷ []) ++ restarts_code t rs
+
+-- ## PRINT
+
+-- an item: the value that it takes in a new cell; a mean is looked at in its place
+abbrev pub item_code : Site → Item → List Placed
+item_code t (AValue e) = expression_code t (next t) e
+item_code t (AMean j) = place t (i.LookMean j None) ∷ []
+item_code t (AMeanOf j e) = expression_code t (next t) e ++ place (above t Integer) (i.LookMean j (Some (i.Stays (height t)))) ∷ []
+
+abbrev pub after_item : Site → Item → Site
+after_item t (AValue e) = above t (expression_mode t.scope e)
+after_item t (AMean j) = t
+after_item t (AMeanOf j e) = above t Integer
+
+abbrev pub items_code : Site → List Item → List Placed
+items_code t [] = []
+items_code t (x ∷ xs) = item_code t x ++ items_code (after_item t x) xs
+
+abbrev pub after_items : Site → List Item → Site
+after_items t [] = t
+after_items t (x ∷ xs) = after_items (after_item t x) xs
 
 -- what an item is
 abbrev pub item_kind : Item → ItemKind
-item_kind (AValue e) = shows.Value
-item_kind (AMean j) = shows.Mean j
-item_kind (AMeanOf j e) = shows.MeanOf j
+item_kind (AValue e) = i.ShowsValue
+item_kind (AMean j) = i.ShowsMean j
+item_kind (AMeanOf j e) = i.ShowsMeanOf j
 
 -- the lines of a PRINT of these items
-abbrev pub print_lines : List Item → (pictures : List (List ℕ)) → Lines
-print_lines items pictures = record { pictures = pictures; items = map item_kind items }
+abbrev pub lines_of : List Item → (pictures : List (List ℕ)) → Lines
+lines_of items pictures = record { pictures = pictures; items = map item_kind items }
 
 -- ## Statements
-
-abbrev pub restarts_code : Line → List Restart → List Instruction
-restarts_code l [] = []
-restarts_code l (r ∷ rs) = (any_code l r.of ++ i.Reset r.statistic (is_absent r.of) l ∷ []) ++ restarts_code l rs
 
 abbrev mutual
   -- the lines of each PRINT of a statement
   pub statement_prints : Statement → List Lines
-  statement_prints (Let l t e) = []
-  statement_prints (Change l sign t e) = []
-  statement_prints (Call l routine given yielding) = []
-  statement_prints Return = []
-  statement_prints Stop = []
-  statement_prints (Read l targets) = []
-  statement_prints Simulate = []
   statement_prints (If l c a b) = block_prints a ++ block_prints b
   statement_prints (Loop l gs a) = block_prints a
   statement_prints (For l head ps a) = block_prints a
   statement_prints (Find l head ps a b) = block_prints a ++ block_prints b
-  statement_prints (Create l class t) = []
-  statement_prints (CreateEvery l classes) = []
-  statement_prints (Destroy l class e) = []
-  statement_prints (File l set e position owner) = []
-  statement_prints (RemoveEnd l end set t owner) = []
-  statement_prints (Remove l set e owner) = []
-  statement_prints (ScheduleNew l class t given when) = []
-  statement_prints (Schedule l class e given when) = []
-  statement_prints (Cancel l class e) = []
-  statement_prints (Reset l restarts) = []
-  statement_prints (Print l items pictures) = print_lines items pictures ∷ []
-  statement_prints (Skip l e) = []
+  statement_prints (Print l items pictures) = lines_of items pictures ∷ []
+  statement_prints _ = []
 
   pub block_prints : Block → List Lines
   block_prints Done = []
   block_prints (Then s rest) = statement_prints s ++ block_prints rest
 
+-- the line of what never faults
+abbrev pub no_line : Line
+no_line = record { 0 = 0 }
+
 abbrev mutual
   -- a statement, before which there are so many PRINTs
-  pub statement_code : ℕ → Statement → List Instruction
-  statement_code first (Let l t e) = give_code l t (expression_code l e)
-  statement_code first (Change l sign t e) = expression_code l e ++ (spot_code l t ++ i.Change sign (destination_of t) l ∷ [])
-  statement_code first (Call l routine given yielding) =
-      values_code l given ++ (i.Call routine (length given) (length yielding) ∷ gives_code l yielding)
-  statement_code first Return = i.Leave ∷ []
-  statement_code first Stop = i.Halt ∷ []
-  statement_code first (Read l targets) = reads_code l targets
-  statement_code first Simulate = i.Await 2 ∷ (i.TakeEvent ∷ (i.NextEvent 1 ∷ []))
-  statement_code first (If l c a b) = if_code l c (block_code first a) (block_code (first + length (block_prints a)) b)
-  statement_code first (Loop l gs a) = loop_code l gs (block_code first a)
-  statement_code first (For l head ps a) = for_code l head (phrases_code l ps (block_code first a))
-  statement_code first (Find l head ps a b) =
-      find_code l head ps (block_code first a) (block_code (first + length (block_prints a)) b)
-  statement_code first (Create l class t) = give_code l t (i.Create class l ∷ [])
-  statement_code first (CreateEvery l classes) = creates_code l classes
-  statement_code first (Destroy l class e) = expression_code l e ++ i.Destroy class l ∷ []
-  statement_code first (File l set e position owner) = file_code l set e position owner
-  statement_code first (RemoveEnd l end set t owner) =
-      give_code l t (owner_code l owner ++ i.RemoveEnd end set (is_the_system owner) l ∷ [])
-  statement_code first (Remove l set e owner) = member_code l set e ++ (owner_code l owner ++ i.Remove set (is_the_system owner) l ∷ [])
-  statement_code first (ScheduleNew l class t given when) = schedule_new_code l class t given when
-  statement_code first (Schedule l class e given when) = schedule_code l class e given when
-  statement_code first (Cancel l class e) = expression_code l e ++ i.Cancel class l ∷ []
-  statement_code first (Reset l restarts) = restarts_code l restarts
-  statement_code first (Print l items pictures) = shown_code l items ++ i.Print first (values_taken items) ∷ []
-  statement_code first (Skip l e) = expression_code l e ++ i.Skip l ∷ []
+  pub statement_code : Site → ℕ → Statement → List Placed
+  statement_code t first (Let l p e) = let_code (at_line t l) p e
+  statement_code t first (Change l sign p e) = change_code (at_line t l) sign p e
+  statement_code t first (Call l routine given yielding) =
+      values_code (at_line t l) given ++ (place (after_values (at_line t l) given) (i.Call routine (height t)) ∷ gives_code (at_line t l) yielding)
+  statement_code t first Return = place (at_line t no_line) i.Leave ∷ []
+  statement_code t first Stop = place (at_line t no_line) i.Halt ∷ []
+  statement_code t first (Read l targets) = reads_code (at_line t l) targets
+  statement_code t first Simulate =
+      place (at_line t no_line) (i.Await 2) ∷ (place (at_line t no_line) (i.TakeEvent (height t)) ∷ (place (at_line t no_line) (i.NextEvent 1) ∷ []))
+  statement_code t first (If l c a b) =
+      if_code (at_line t l) c (block_code t first a) (block_code t (first + length (block_prints a)) b)
+  statement_code t first (Loop l gs a) = loop_code (at_line t l) gs (block_code t first a)
+  statement_code t first (For l head ps a) =
+      for_code (at_line t l) head (phrases_code (in_loop (at_line t l) head) ps (block_code (in_loop t head) first a))
+  statement_code t first (Find l head ps a b) =
+      find_code (at_line t l) head ps (block_code t first a) (block_code t (first + length (block_prints a)) b)
+  statement_code t first (Create l class p) = to_place_code (at_line t l) p Integer (λ t to. place t (i.Create class to) ∷ [])
+  statement_code t first (CreateEvery l classes) = creates_code (at_line t l) classes
+  statement_code t first (Destroy l class e) = with_operand (at_line t l) e (i.Destroy class)
+  statement_code t first (File l set e position o) = file_code (at_line t l) set e position o
+  statement_code t first (RemoveEnd l end set p o) = remove_end_code (at_line t l) end set p o
+  statement_code t first (Remove l set e o) = remove_code (at_line t l) set e o
+  statement_code t first (ScheduleNew l class p given when) = schedule_new_code (at_line t l) class p given when
+  statement_code t first (Schedule l class e given when) = schedule_code (at_line t l) class e given when
+  statement_code t first (Cancel l class e) = with_operand (at_line t l) e (i.Cancel class)
+  statement_code t first (Reset l restarts) = restarts_code (at_line t l) restarts
+  statement_code t first (Print l items pictures) =
+      items_code (at_line t l) items ++ place (after_items (at_line t l) items) (i.Print first (height t)) ∷ []
+  statement_code t first (Skip l e) = with_operand (at_line t l) e i.Skip
 
-  pub block_code : ℕ → Block → List Instruction
-  block_code first Done = []
-  block_code first (Then s rest) = statement_code first s ++ block_code (first + length (statement_prints s)) rest
+  pub block_code : Site → ℕ → Block → List Placed
+  block_code t first Done = []
+  block_code t first (Then s rest) = statement_code t first s ++ block_code t (first + length (statement_prints s)) rest
 
 -- ## Programs: MAIN, the routines, and the events' routines
 
--- each ends with a return
-abbrev pub section_code : ℕ → Block → List Instruction
-section_code first body = block_code first body ++ i.Leave ∷ []
+abbrev pub main_scope : Program → Scope
+main_scope p = record { program = p; locals = p.locals; is_main = true }
 
-abbrev pub sections_prints : List Block → List Lines
-sections_prints [] = []
-sections_prints (b ∷ bs) = block_prints b ++ sections_prints bs
+abbrev pub routine_scope : Program → Routine → Scope
+routine_scope p r = record { program = p; locals = r.given ++ (r.yielding ++ r.others); is_main = false }
 
-abbrev pub sections_code : ℕ → List Block → List Instruction
-sections_code first [] = []
-sections_code first (b ∷ bs) = section_code first b ++ sections_code (first + length (block_prints b)) bs
+abbrev pub event_scope : Program → Event → Scope
+event_scope p e = record { program = p; locals = e.given ++ e.others; is_main = false }
+
+-- where a section begins: there are no cells
+abbrev pub first_site : Scope → Site
+first_site s = record { scope = s; line = no_line; cells = [] }
+
+-- each section ends with a return
+abbrev pub section_code : Scope → ℕ → Block → List Placed
+section_code s first body = block_code (first_site s) first body ++ place (first_site s) i.Leave ∷ []
+
+-- the variable in which the notice of an event is saved was assigned as the event began
+abbrev pub saved_code : Site → Option ℕ → List Placed
+saved_code t None = []
+saved_code t (Some k) = noted_code t (Global k)
+
+abbrev pub routine_code : Program → ℕ → Routine → List Placed
+routine_code p first r = section_code (routine_scope p r) first r.body
+
+abbrev pub event_code : Program → ℕ → Event → List Placed
+event_code p first e = saved_code (at_line (first_site (event_scope p e)) e.line) e.saved ++ section_code (event_scope p e) first e.body
+
+-- the routines, and the events' routines, after so many PRINTs
+abbrev pub routines_code : Program → ℕ → List Routine → List Placed
+routines_code p first [] = []
+routines_code p first (r ∷ rs) = routine_code p first r ++ routines_code p (first + length (block_prints r.body)) rs
+
+abbrev pub events_code : Program → ℕ → List Event → List Placed
+events_code p first [] = []
+events_code p first (e ∷ es) = event_code p first e ++ events_code p (first + length (block_prints e.body)) es
+
+abbrev pub routines_prints : List Routine → List Lines
+routines_prints [] = []
+routines_prints (r ∷ rs) = block_prints r.body ++ routines_prints rs
+
+abbrev pub events_prints : List Event → List Lines
+events_prints [] = []
+events_prints (e ∷ es) = block_prints e.body ++ events_prints es
 
 abbrev pub routine_entry : (place : ℕ) → Routine → EntryPoint
-routine_entry place r = record { place = place; given = r.given; yielding = length r.yielding; others = r.yielding ++ r.others }
+routine_entry at r = record { place = at; given = r.given; yielding = length r.yielding; others = r.yielding ++ r.others }
 
 -- an event yields nothing
 abbrev pub event_entry : (place : ℕ) → Event → EntryPoint
-event_entry place e = record { place = place; given = e.given; yielding = 0; others = e.others }
+event_entry at e = record { place = at; given = e.given; yielding = 0; others = e.others }
 
--- where routines begin, the first of them at this place, after so many PRINTs
-abbrev pub routine_entries : (place first : ℕ) → List Routine → List EntryPoint
-routine_entries place first [] = []
-routine_entries place first (r ∷ rs) =
-    routine_entry place r ∷ routine_entries (place + length (section_code first r.body)) (first + length (block_prints r.body)) rs
+-- where they begin, the first of them at this place
+abbrev pub routine_entries : Program → (place first : ℕ) → List Routine → List EntryPoint
+routine_entries p at first [] = []
+routine_entries p at first (r ∷ rs) =
+    routine_entry at r ∷ routine_entries p (at + length (routine_code p first r)) (first + length (block_prints r.body)) rs
 
-abbrev pub event_entries : (place first : ℕ) → List Event → List EntryPoint
-event_entries place first [] = []
-event_entries place first (e ∷ es) =
-    event_entry place e ∷ event_entries (place + length (section_code first e.body)) (first + length (block_prints e.body)) es
+abbrev pub event_entries : Program → (place first : ℕ) → List Event → List EntryPoint
+event_entries p at first [] = []
+event_entries p at first (e ∷ es) =
+    event_entry at e ∷ event_entries p (at + length (event_code p first e)) (first + length (block_prints e.body)) es
 
-abbrev pub routine_body : Routine → Block
-routine_body r = r.body
-
-abbrev pub event_body : Event → Block
-event_body e = e.body
-
-abbrev pub routine_bodies : List Routine → List Block
-routine_bodies rs = map routine_body rs
-
-abbrev pub event_bodies : List Event → List Block
-event_bodies es = map event_body es
-
--- how many PRINTs MAIN has, and MAIN and the routines
-abbrev pub prints_of_main : Program → ℕ
-prints_of_main p = length (block_prints p.main)
+-- how many PRINTs come before the routines, and before the events
+abbrev pub main_prints : Program → ℕ
+main_prints p = length (block_prints p.main)
 
 abbrev pub prints_before_events : Program → ℕ
-prints_before_events p = prints_of_main p + length (sections_prints (routine_bodies p.routines))
+prints_before_events p = main_prints p + length (routines_prints p.routines)
 
-abbrev pub main_code : Program → List Instruction
-main_code p = section_code 0 p.main
+abbrev pub main_code : Program → List Placed
+main_code p = section_code (main_scope p) 0 p.main
 
-abbrev pub routines_code : Program → List Instruction
-routines_code p = sections_code (prints_of_main p) (routine_bodies p.routines)
+abbrev pub all_routines : Program → List Placed
+all_routines p = routines_code p (main_prints p) p.routines
 
-abbrev pub events_code : Program → List Instruction
-events_code p = sections_code (prints_before_events p) (event_bodies p.events)
+abbrev pub all_events : Program → List Placed
+all_events p = events_code p (prints_before_events p) p.events
 
 -- the code of a program
 abbrev pub code_of : Program → Code
 code_of p = record {
-  instructions = main_code p ++ (routines_code p ++ events_code p);
-  prints = block_prints p.main ++ (sections_prints (routine_bodies p.routines) ++ sections_prints (event_bodies p.events));
-  routines = routine_entries (length (main_code p)) (prints_of_main p) p.routines;
-  events = event_entries (length (main_code p) + length (routines_code p)) (prints_before_events p) p.events;
+  places = main_code p ++ (all_routines p ++ all_events p);
+  prints = block_prints p.main ++ (routines_prints p.routines ++ events_prints p.events);
+  routines = routine_entries p (length (main_code p)) (main_prints p) p.routines;
+  events = event_entries p (length (main_code p) + length (all_routines p)) (prints_before_events p) p.events;
   layout = p.layout;
   setting = setting_of p;
   ties = map (tie_shapes p.layout) p.events;
