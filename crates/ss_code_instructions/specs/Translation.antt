@@ -1,6 +1,6 @@
 -- The code of a program. Each part of it says of each of its places the line, the instruction, and what is found there: the modes of the section's
 -- variables and of the frame's cells.
-use Rattle.std.specs.Prelude.{ℕ, zero, suc, ◌+◌, ◌-◌, Bool, true, false, not, List, [], ◌∷◌, ◌++◌, length, map, pos, Option, Some, None, slice_get, if◌then◌else◌}
+use Rattle.std.specs.Prelude.{ℕ, zero, suc, ◌+◌, ◌-◌, Bool, true, false, not, List, [], ◌∷◌, ◌++◌, length, map, pos, Option, Some, None, is_some, slice_get, if◌then◌else◌}
 use Rattle.ss_base.specs.declared.line.Line.{Line}
 use Rattle.ss_base.specs.declared.value.Value.{Value}
 use Rattle.ss_base.specs.declared.value.Value.TheVariants.{Whole}
@@ -47,9 +47,12 @@ height t = length t.cells
 abbrev pub next : Site → To
 next t = i.Onto (height t)
 
--- with a cell more
+-- with other cells, and with a cell more
+abbrev pub with_cells : Site → List Mode → Site
+with_cells t ms = record t { cells = ms }
+
 abbrev pub above : Site → Mode → Site
-above t m = record t { cells = m ∷ t.cells }
+above t m = with_cells t (m ∷ t.cells)
 
 abbrev pub at_line : Site → Line → Site
 at_line t l = record t { line = l }
@@ -102,27 +105,38 @@ place_mode s (ToCount c) = Integer
 
 -- ## Operands
 
--- an expression as an operand: a constant and a variable are operands as they are, anything else lies in a new cell
-abbrev pub operand : Site → Expression → Operand
-operand t (Constant v) = i.Constant v
-operand t (Fetch x) = i.Held x
-operand t _ = i.Taken (height t)
-
--- the site with the cell that it takes, if any
-abbrev pub after : Site → Expression → Site
-after t (Constant v) = t
-after t (Fetch x) = t
-after t e = above t (expression_mode t.scope e)
+-- a constant and a variable are operands as they are
+abbrev pub leaf : Expression → Option Operand
+leaf (Constant v) = Some (i.Constant v)
+leaf (Fetch x) = Some (i.Held x)
+leaf _ = None
 
 abbrev pub is_leaf : Expression → Bool
-is_leaf (Constant v) = true
-is_leaf (Fetch x) = true
-is_leaf _ = false
+is_leaf e = is_some (leaf e)
 
-abbrev pub unless_leaf : Expression → List Placed → List Placed
-unless_leaf (Constant v) code = []
-unless_leaf (Fetch x) code = []
-unless_leaf _ code = code
+-- anything else lies in a new cell
+abbrev pub or_cell : (height : ℕ) → Option Operand → Operand
+or_cell h (Some x) = x
+or_cell h None = i.Taken h
+
+abbrev pub or_in_cell : Option Operand → Mode → List Mode → List Mode
+or_in_cell (Some x) m ms = ms
+or_in_cell None m ms = m ∷ ms
+
+-- an expression as an operand, and the cells with that which it takes, if any
+abbrev pub operand : Site → Expression → Operand
+operand t e = or_cell (height t) (leaf e)
+
+abbrev pub operand_cells : Site → Expression → List Mode
+operand_cells t e = or_in_cell (leaf e) (expression_mode t.scope e) t.cells
+
+abbrev pub after : Site → Expression → Site
+after t e = with_cells t (operand_cells t e)
+
+-- the code of an operand: none where it is one as it is
+abbrev pub unless_leaf : Option Operand → List Placed → List Placed
+unless_leaf (Some x) code = []
+unless_leaf None code = code
 
 -- an operand that stays where it lies
 abbrev pub stay : Operand → Operand
@@ -135,7 +149,7 @@ stay (i.Held x) = i.Held x
 
 -- an operand with its code, and then an instruction that reads it
 abbrev pub one : Site → Expression → (code : List Placed) → (Operand → Instruction) → List Placed
-one t a code make = unless_leaf a code ++ place (after t a) (make (operand t a)) ∷ []
+one t a code make = unless_leaf (leaf a) code ++ place (after t a) (make (operand t a)) ∷ []
 
 -- an expression: its last instruction leaves its value at a target
 abbrev pub expression_code : Site → To → Expression → List Placed
@@ -153,12 +167,12 @@ expression_code t to (Signed sign e) =
     one t e (expression_code t (next t) e) (λ x. i.Calculate (operator_of sign) (i.Constant (Whole (pos 0))) x to)
 expression_code t to (Absolute e) = one t e (expression_code t (next t) e) (λ x. i.Absolute x to)
 expression_code t to (Calculate op a b) =
-    unless_leaf a (expression_code t (next t) a)
+    unless_leaf (leaf a) (expression_code t (next t) a)
     ++ one (after t a) b (expression_code (after t a) (next (after t a)) b) (λ y. i.Calculate op (operand t a) y to)
 
--- the code of an operand: none where it is one as it is
+-- the code of an operand
 abbrev pub operand_code : Site → Expression → List Placed
-operand_code t e = unless_leaf e (expression_code t (next t) e)
+operand_code t e = unless_leaf (leaf e) (expression_code t (next t) e)
 
 -- an operand, and the instruction that reads it
 abbrev pub with_operand : Site → Expression → (Operand → Instruction) → List Placed
@@ -169,9 +183,12 @@ abbrev pub values_code : Site → List Expression → List Placed
 values_code t [] = []
 values_code t (e ∷ es) = expression_code t (next t) e ++ values_code (above t (expression_mode t.scope e)) es
 
+abbrev pub values_cells : Scope → List Expression → List Mode → List Mode
+values_cells s [] ms = ms
+values_cells s (e ∷ es) ms = values_cells s es (expression_mode s e ∷ ms)
+
 abbrev pub after_values : Site → List Expression → Site
-after_values t [] = t
-after_values t (e ∷ es) = after_values (above t (expression_mode t.scope e)) es
+after_values t es = with_cells t (values_cells t.scope es t.cells)
 
 -- ## References
 
@@ -199,9 +216,12 @@ abbrev pub bearer_code : Site → Option Expression → List Placed
 bearer_code t None = []
 bearer_code t (Some e) = operand_code t e
 
+abbrev pub bearer_cells : Site → Option Expression → List Mode
+bearer_cells t None = t.cells
+bearer_cells t (Some e) = operand_cells t e
+
 abbrev pub after_bearer : Site → Option Expression → Site
-after_bearer t None = t
-after_bearer t (Some e) = after t e
+after_bearer t o = with_cells t (bearer_cells t o)
 
 abbrev pub bearer_stays : Bearer → Bearer
 bearer_stays None = None
@@ -314,9 +334,12 @@ reads_code t [] = []
 reads_code t (x ∷ xs) = to_place_code t x.place x.mode (λ u to. place u (i.Read x.mode to) ∷ []) ++ reads_code t xs
 
 -- what a routine yields lies in cells, the first on top
+abbrev pub results_cells : Site → List Place → List Mode
+results_cells t [] = t.cells
+results_cells t (p ∷ ps) = place_mode t.scope p ∷ results_cells t ps
+
 abbrev pub with_results : Site → List Place → Site
-with_results t [] = t
-with_results t (p ∷ ps) = above (with_results t ps) (place_mode t.scope p)
+with_results t ps = with_cells t (results_cells t ps)
 
 -- a place takes the value in the topmost cell
 abbrev pub give_code : (t : Site) → Place → List Placed
@@ -349,9 +372,12 @@ abbrev pub number_loop : Site → Site
 number_loop t = above (above (above t Integer) Integer) Integer
 
 -- a walk keeps its owner, if that is not the system, the member and the next one
+abbrev pub owner_cells : Site → SetOwner → List Mode
+owner_cells t TheSystem = t.cells
+owner_cells t (Entity e) = Integer ∷ t.cells
+
 abbrev pub owner_cell : Site → SetOwner → Site
-owner_cell t TheSystem = t
-owner_cell t (Entity e) = above t Integer
+owner_cell t o = with_cells t (owner_cells t o)
 
 abbrev pub owner_kept : Site → SetOwner → Bearer
 owner_kept t TheSystem = None
@@ -361,10 +387,13 @@ abbrev pub walk_loop : Site → SetOwner → Site
 walk_loop t o = above (above (owner_cell t o) Integer) Integer
 
 -- where the turns of a FOR are
+abbrev pub loop_cells : Site → Head → List Mode
+loop_cells t (Numbers x a b c) = (number_loop t).cells
+loop_cells t (Each x class) = (number_loop t).cells
+loop_cells t (Members x set o start reverse) = (walk_loop t o).cells
+
 abbrev pub in_loop : Site → Head → Site
-in_loop t (Numbers x a b c) = number_loop t
-in_loop t (Each x class) = number_loop t
-in_loop t (Members x set o start reverse) = walk_loop t o
+in_loop t head = with_cells t (loop_cells t head)
 
 -- the tick of an item or a member, which a variable is assigned; the turn; and on to the next one
 abbrev pub turns_code : Site → (cell : ℕ) → Variable → (turn : List Placed) → (again : ℕ → Instruction) → List Placed
@@ -476,10 +505,13 @@ place_code t (ToVariable x) = []
 place_code t (ToAttribute class field r) = entity_code t true class r
 place_code t (ToCount c) = []
 
+abbrev pub place_cells : Site → Place → List Mode
+place_cells t (ToVariable x) = t.cells
+place_cells t (ToAttribute class field r) = operand_cells t r
+place_cells t (ToCount c) = t.cells
+
 abbrev pub after_place : Site → Place → Site
-after_place t (ToVariable x) = t
-after_place t (ToAttribute class field r) = after t r
-after_place t (ToCount c) = t
+after_place t p = with_cells t (place_cells t p)
 
 -- it is assigned an operand at a site u, which is v once the operand was read
 abbrev pub assign_code : (t u v : Site) → Place → Operand → List Placed
@@ -533,10 +565,13 @@ notice_operand t (ToVariable x) = i.Held x
 notice_operand t (ToAttribute class field r) = i.Taken (height t)
 notice_operand t (ToCount c) = i.Taken (height t)
 
+abbrev pub notice_cells : Site → Place → List Mode
+notice_cells t (ToVariable x) = t.cells
+notice_cells t (ToAttribute class field r) = Integer ∷ t.cells
+notice_cells t (ToCount c) = Integer ∷ t.cells
+
 abbrev pub with_notice : Site → Place → Site
-with_notice t (ToVariable x) = t
-with_notice t (ToAttribute class field r) = above t Integer
-with_notice t (ToCount c) = above t Integer
+with_notice t p = with_cells t (notice_cells t p)
 
 -- it is assigned to its place, unless it is there already
 abbrev pub name_code : (t u : Site) → Place → Operand → List Placed
@@ -587,18 +622,21 @@ item_code t (AValue e) = expression_code t (next t) e
 item_code t (AMean j) = place t (i.LookMean j None) ∷ []
 item_code t (AMeanOf j e) = expression_code t (next t) e ++ place (above t Integer) (i.LookMean j (Some (i.Stays (height t)))) ∷ []
 
-abbrev pub after_item : Site → Item → Site
-after_item t (AValue e) = above t (expression_mode t.scope e)
-after_item t (AMean j) = t
-after_item t (AMeanOf j e) = above t Integer
+abbrev pub item_cells : Scope → Item → List Mode → List Mode
+item_cells s (AValue e) ms = expression_mode s e ∷ ms
+item_cells s (AMean j) ms = ms
+item_cells s (AMeanOf j e) ms = Integer ∷ ms
 
 abbrev pub items_code : Site → List Item → List Placed
 items_code t [] = []
-items_code t (x ∷ xs) = item_code t x ++ items_code (after_item t x) xs
+items_code t (x ∷ xs) = item_code t x ++ items_code (with_cells t (item_cells t.scope x t.cells)) xs
+
+abbrev pub items_cells : Scope → List Item → List Mode → List Mode
+items_cells s [] ms = ms
+items_cells s (x ∷ xs) ms = items_cells s xs (item_cells s x ms)
 
 abbrev pub after_items : Site → List Item → Site
-after_items t [] = t
-after_items t (x ∷ xs) = after_items (after_item t x) xs
+after_items t xs = with_cells t (items_cells t.scope xs t.cells)
 
 -- what an item is
 abbrev pub item_kind : Item → ItemKind

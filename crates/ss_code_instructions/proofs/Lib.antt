@@ -1,0 +1,6 @@
+mod Keeping
+mod Acting
+pub mod Steps
+pub mod Parts
+pub mod Operands
+pub mod Expressions
