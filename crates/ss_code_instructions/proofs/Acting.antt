@@ -62,7 +62,7 @@ module _ (s : Store) where
 
   value : (x : Operand) (t : Store) (cells : List Value) (go : Value → List Value → Moved) → ((v : Value) (below : List Value) → Keeps (go v below)) → Keeps (with_value x t cells go)
   value (Constant v) t cells go k = k v cells
-  value (Held x) t cells go k = fit_any _ _ (λ v. k v cells)
+  value (Held x) t cells go k = k _ cells
   value (Taken h) t cells go k = top h cells go k
   value (Stays h) t cells go k = fit_any _ _ (λ v. k v cells)
 

@@ -94,7 +94,7 @@ pub without_same : (class : ℕ) (x : Value) (s : Store) → Only (Same s) (with
 without_same class x s = each (Same s) _ _ (λ n. unless (Same s) _ _ _ (gone_same class x s))
 
 pub filed_same : (f : Filing) (set : ℕ) (x : Value) (o : Option Value) (s : Store) → Only (Same s) (put_in_set f set x o s)
-filed_same f set x o s = each (Same s) _ _ (λ n. each (Same s) _ _ (λ m. made (Same s) _ _ (λ h. refl)))
+filed_same f set x o s = each (Same s) _ _ (λ n. each (Same s) _ _ (λ u. each (Same s) _ _ (λ m. made (Same s) _ _ (λ h. refl))))
 
 pub removed_same : (set : ℕ) (x : Value) (o : Option Value) (s : Store) → Only (Same s) (taken_from_set set x o s)
 removed_same set x o s = each (Same s) _ _ (λ n. each (Same s) _ _ (λ m. made (Same s) _ _ (λ h. refl)))

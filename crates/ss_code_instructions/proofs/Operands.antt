@@ -13,7 +13,7 @@ use Rattle.ss_meaning.specs.Expressions.{value}
 use Rattle.ss_meaning.specs.Parts.{World, WentOn, Part, outcome_then, looked, look, settle, change, settle_with, get}
 use Rattle.ss_code_instructions.specs.Instructions.{Operand, Held, Taken, Stays, Bearer, Target, Into, Onto, Instruction, Placed}
 use Rattle.ss_code_instructions.specs.Instructions as i
-use Rattle.ss_code_instructions.specs.States.{Frame, MachineState, Moved, To, did, fit, at_height, core_at, with_topmost, with_value, with_values, lies_above, with_bearer, put_to, deliver, deliver_with, onward}
+use Rattle.ss_code_instructions.specs.States.{Frame, MachineState, Moved, To, did, fit, at_height, core_at, with_topmost, or_zero, with_value, with_values, lies_above, with_bearer, put_to, deliver, deliver_with, onward}
 use Rattle.ss_code_instructions.specs.Machine.{Code, act, is_due}
 use Rattle.ss_code_instructions.specs.Translation.{Site, height, place, leaf, or_cell, or_in_cell, operand, operand_cells, after, unless_leaf, operand_code, expression_code, next}
 use Rattle.ss_code_instructions.proofs.Steps.{HasAt, has_front, has_back, Goal, Comes, Reaches, here, free, reaches_on, Kept, at, arrive, join}
@@ -89,7 +89,7 @@ leaf_reads (Constant u) x v s q r cells go =
     subst (λ x. with_value x s cells go ≡ go v cells) e (ap (λ u. go u cells) p)
 leaf_reads (Fetch y) x v s q r cells go =
     let e : Held y ≡ x = cc in
-    subst (λ x. with_value x s cells go ≡ go v cells) e (ap (λ o. fit o (λ v. go v cells)) (sure_is (fetched y s) v r))
+    subst (λ x. with_value x s cells go ≡ go v cells) e (ap (λ o. go (or_zero o) cells) (sure_is (fetched y s) v r))
 leaf_reads (Attribute class field e) x v s q r cells go = absurd cc
 leaf_reads (OfSystemSet query set) x v s q r cells go = absurd cc
 leaf_reads (OfSet query set e) x v s q r cells go = absurd cc

@@ -1,5 +1,5 @@
 -- Small programs with their code, worked out by hand from the language's rules and the table of instructions.
-use Rattle.std.specs.Prelude.{◌≡◌, ℕ, List, [], ◌∷◌, map, ℤ, pos, codes, Option, Some, None, true, false, refl}
+use Rattle.std.specs.Prelude.{◌≡◌, ℕ, List, [], ◌∷◌, map, length, ℤ, pos, codes, Option, Some, None, true, false, refl}
 use Rattle.ss_base.specs.declared.value.Value.TheVariants.{Whole}
 use Rattle.ss_base.specs.declared.layout.Mode.TheVariants.{Integer}
 use Rattle.ss_base.specs.declared.layout.Discipline.TheVariants.{Fifo}
@@ -21,19 +21,12 @@ use Rattle.ss_code_instructions.specs.Translation.{code_of}
 abbrev instruction_of : Placed → Instruction
 instruction_of x = x.instruction
 
-abbrev cells_of : Placed → List _
-cells_of x = x.cells
-
 -- the instructions of a program, and how many cells each of its places finds
 abbrev instructions : Program → List Instruction
 instructions p = map instruction_of (code_of p).places
 
 abbrev heights : Program → List ℕ
-heights p = map (λ (x : Placed). count x.cells) (code_of p).places
-  where
-    count : {A : Type 0} → List A → ℕ
-    count [] = 0
-    count (x ∷ xs) = 1 + count xs
+heights p = map (λ (x : Placed). length x.cells) (code_of p).places
 
 -- a number as an operand
 abbrev number : ℤ → i.Operand

@@ -124,10 +124,19 @@ filed_by Hindmost set o x s = due (filed_last s.scene.heap set o x)
 filed_by (JustBefore y) set o x s = if_ok (member set y s) (λ k. due (filed_before s.scene.heap set o x k))
 filed_by (JustAfter y) set o x s = if_ok (member set y s) (λ k. due (filed_after s.scene.heap set o x k))
 
+-- the member beside which another one is filed must be there
+abbrev pub beside_known : Filing → (set : ℕ) → Store → Result (Unit {0}) Trouble
+beside_known ByRule set s = Ok tt
+beside_known Foremost set s = Ok tt
+beside_known Hindmost set s = Ok tt
+beside_known (JustBefore y) set s = turned (λ _. tt) (member set y s)
+beside_known (JustAfter y) set s = turned (λ _. tt) (member set y s)
+
 -- the store with x as a member of the set of an owner
 abbrev pub put_in_set : Filing → (set : ℕ) → Value → Option Value → Store → Result Store Trouble
 put_in_set filing set x o s =
-    if_ok (member set x s) (λ n. if_ok (owner_number set o s) (λ m. turned (with_heap s) (filed_by filing set m n s)))
+    if_ok (member set x s) (λ n. if_ok (beside_known filing set s) (λ _. if_ok (owner_number set o s) (λ m.
+    turned (with_heap s) (filed_by filing set m n s))))
 
 -- x is filed in the set of an owner, and the histories note that
 abbrev pub filed_in : Filing → (set : ℕ) → Value → Option Value → Store → Result Store Trouble
