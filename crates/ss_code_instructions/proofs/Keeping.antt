@@ -3,7 +3,11 @@ use Rattle.std.proofs.Common.{◌≡◌, ℕ, zero, suc, ◌+◌, Bool, true, fa
 use Rattle.std.specs.Prelude.{Result, if◌then◌else◌}
 use Rattle.ss_base.specs.declared.fault.FaultKind.{FaultKind}
 use Rattle.ss_base.specs.declared.value.Value.{Value}
-use Rattle.ss_world.specs.State.{Record, State}
+use Rattle.ss_world.specs.State.{Record, State, value_in}
+use Rattle.ss_world.specs.Sets.{count_in}
+use Rattle.ss_program.specs.declared.sections.Subject.{Subject}
+use Rattle.ss_program.specs.declared.sections.Subject.TheVariants.{OfAttribute, OfCount}
+use Rattle.ss_meaning.specs.Histories.{noted_there}
 use Rattle.ss_program.specs.declared.expression.Sign.{Sign}
 use Rattle.ss_program.specs.declared.expression.Variable.{Variable}
 use Rattle.ss_program.specs.declared.expression.Variable.TheVariants.{Global, Local}
@@ -13,7 +17,7 @@ use Rattle.ss_meaning.specs.Values.{Trouble, if_ok, turned, due, sure, where_fit
 use Rattle.ss_meaning.specs.Store.{Setting, Store, put}
 use Rattle.ss_meaning.specs.Entities.{made_one, made_all, gone, without}
 use Rattle.ss_meaning.specs.Places.{noted_variable, put_attribute, noted_attribute}
-use Rattle.ss_meaning.specs.Sets.{Filing, put_in_set, taken_from_set, taken_at, noted_count}
+use Rattle.ss_meaning.specs.Sets.{Filing, put_in_set, taken_from_set, taken_at, count_value, noted_count}
 use Rattle.ss_meaning.specs.Events.{Ranked, with_notice_time, endowed, prepared, made_notice, filed_notice, rescheduled, unscheduled, saved_or_gone, Beginning, Coming, coming_as, coming_with, ranked_as, next_event, event_begun}
 use Rattle.ss_meaning.specs.Statistics.{reset}
 use Rattle.ss_meaning.specs.Statements.{read_value}
@@ -72,11 +76,15 @@ pub variable_noted_same : (x : Variable) (s : Store) → Only (Same s) (noted_va
 variable_noted_same (Global k) s = each (Same s) _ _ (λ v. made (Same s) _ _ (λ hs. refl))
 variable_noted_same (Local k) s = refl
 
+there_same : (subject : Subject) (n : ℤ) (r : Result Value FaultKind) (s : Store) → Only (Same s) (noted_there subject n r s)
+there_same subject n (Ok v) s = made (Same s) _ _ (λ hs. refl)
+there_same subject n (Err kind) s = refl
+
 pub attribute_put_same : (class field : ℕ) (x v : Value) (s : Store) → Only (Same s) (put_attribute class field x v s)
 attribute_put_same class field x v s = each (Same s) _ _ (λ n. fitting (Same s) _ _ (made (Same s) _ _ (λ h. refl)))
 
 pub attribute_noted_same : (class field : ℕ) (x : Value) (s : Store) → Only (Same s) (noted_attribute class field x s)
-attribute_noted_same class field x s = each (Same s) _ _ (λ n. each (Same s) _ _ (λ v. made (Same s) _ _ (λ hs. refl)))
+attribute_noted_same class field x s = each (Same s) _ _ (λ n. there_same (OfAttribute class field) n (value_in s.scene.heap class field n) s)
 
 pub changed_same : (sign : Sign) (class field : ℕ) (x y : Value) (s : Store) → Only (Same s) (changed_attribute sign class field x y s)
 changed_same sign class field x y s = each (Same s) _ _ (λ v. each (Same s) _ _ (λ w. attribute_put_same class field x w s))
@@ -103,7 +111,7 @@ pub end_same : (end : End) (set : ℕ) (o : Option Value) (s : Store) → Only (
 end_same end set o s = each (SameWith s) _ _ (λ m. made (SameWith s) _ _ (λ r. refl))
 
 pub count_noted_same : (set : ℕ) (o : Option Value) (s : Store) → Only (Same s) (noted_count set o s)
-count_noted_same set o s = each (Same s) _ _ (λ m. each (Same s) _ _ (λ n. made (Same s) _ _ (λ hs. refl)))
+count_noted_same set o s = each (Same s) _ _ (λ m. there_same (OfCount set) m (count_value (count_in s.scene.heap set m)) s)
 
 endowed_same : (class field : ℕ) (x : Value) (vs : List Value) (s : Store) → Only (Same s) (endowed class field x vs s)
 endowed_same class field x [] s = refl

@@ -5,4 +5,8 @@ pub mod Parts
 pub mod Operands
 pub mod Expressions
 pub mod Branching
+pub mod Looking
+pub mod Members
 pub mod Conditions
+pub mod Noting
+pub mod Assigning

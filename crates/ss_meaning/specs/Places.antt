@@ -4,14 +4,14 @@ use Rattle.ss_base.specs.declared.fault.FaultKind.TheVariants.{CreatedTwice}
 use Rattle.ss_base.specs.declared.value.Value.{Value}
 use Rattle.ss_base.specs.declared.layout.Mode.{Mode}
 use Rattle.ss_base.specs.Layout.{mode_of}
-use Rattle.ss_world.specs.State.{assigned, is_made}
+use Rattle.ss_world.specs.State.{value_in, assigned, is_made}
 use Rattle.ss_program.specs.declared.expression.Variable.{Variable}
 use Rattle.ss_program.specs.declared.expression.Variable.TheVariants.{Global, Local}
 use Rattle.ss_program.specs.declared.sections.Subject.TheVariants.{OfVariable, OfAttribute}
 use Rattle.ss_program.specs.declared.statement.CountedClass.{CountedClass}
-use Rattle.ss_meaning.specs.Values.{Trouble, same_mode, if_ok, turned, due, sure, where_fit, unless_fault}
+use Rattle.ss_meaning.specs.Values.{Trouble, same_mode, if_ok, turned, due, sure, where_fit, unless_fault, number_of}
 use Rattle.ss_meaning.specs.Store.{Store, with_heap, fetched, put}
-use Rattle.ss_meaning.specs.Histories.{noted}
+use Rattle.ss_meaning.specs.Histories.{noted, noted_there}
 use Rattle.ss_meaning.specs.Entities.{class_at, field_at, entity, attribute, is_permanent}
 
 -- a place whose reference was looked at: a variable, an attribute of an entity, or N. of a permanent class
@@ -51,7 +51,7 @@ put_attribute class field x v s =
 -- the store once the histories of an attribute of an entity noted its value
 abbrev pub noted_attribute : (class field : ℕ) → (x : Value) → Store → Result Store Trouble
 noted_attribute class field x s =
-    if_ok (entity class x s) (λ n. if_ok (attribute class field x s) (λ v. noted (OfAttribute class field) n v s))
+    if_ok (number_of x) (λ n. noted_there (OfAttribute class field) n (value_in s.scene.heap class field n) s)
 
 -- an attribute is assigned a value, and its histories note that
 abbrev pub assigned_attribute : (class field : ℕ) → (x v : Value) → Store → Result Store Trouble

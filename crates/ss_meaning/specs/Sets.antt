@@ -24,7 +24,7 @@ use Rattle.ss_program.specs.declared.statement.End.{End}
 use Rattle.ss_program.specs.declared.statement.End.TheVariants as ends
 use Rattle.ss_meaning.specs.Values.{Trouble, Fails, Misfit, if_ok, turned, due, sure, where_fit, unless_fault, number_of}
 use Rattle.ss_meaning.specs.Store.{Store, with_heap}
-use Rattle.ss_meaning.specs.Histories.{noted}
+use Rattle.ss_meaning.specs.Histories.{noted_there}
 
 -- ## Members and owners
 
@@ -92,10 +92,15 @@ is_in set x o s = if_ok (member set x s) (λ n. if_ok (owner_number set o s) (λ
 
 -- ## Filing and removing
 
--- the store once the histories of N. of the set of an owner noted how many members it has
+-- how many members the set of an owner has, as a value
+abbrev pub count_value : Result ℤ FaultKind → Result Value FaultKind
+count_value (Ok n) = Ok (Whole n)
+count_value (Err kind) = Err kind
+
+-- the store once the histories of N. of the set of an owner noted that
 abbrev pub noted_count : (set : ℕ) → Option Value → Store → Result Store Trouble
 noted_count set o s =
-    if_ok (owner_number set o s) (λ m. if_ok (due (count_in s.scene.heap set m)) (λ n. noted (OfCount set) m (Whole n) s))
+    if_ok (owner_number set o s) (λ m. noted_there (OfCount set) m (count_value (count_in s.scene.heap set m)) s)
 
 abbrev pub is_field : Layout → ℕ → RankKey → Bool
 is_field l class key = nat_lt key.field (length (modes_of l class))
