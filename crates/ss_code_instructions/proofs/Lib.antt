@@ -10,3 +10,9 @@ pub mod Members
 pub mod Conditions
 pub mod Noting
 pub mod Assigning
+pub mod Loops
+pub mod Looping
+pub mod Pieces
+pub mod Holding
+pub mod Sizes
+pub mod Landing
