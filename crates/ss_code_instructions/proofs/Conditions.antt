@@ -16,7 +16,8 @@ use Rattle.ss_code_instructions.specs.Instructions.{Placed}
 use Rattle.ss_code_instructions.specs.Instructions as i
 use Rattle.ss_code_instructions.specs.States.{Frame, Moved, To, did, fit, core_at, past, onward_if}
 use Rattle.ss_code_instructions.specs.Machine.{Code}
-use Rattle.ss_code_instructions.specs.Translation.{Site, height, place, operand, after, expression_of, may_fault, with_owner, looked_code, test_code, tests_code, alternatives_code, condition_code, negated_code, guard_code, guards_code}
+use Rattle.ss_code_instructions.specs.Facts.{expression_of, may_fault}
+use Rattle.ss_code_instructions.specs.Translation.{Site, height, place, operand, after, with_owner, looked_code, test_code, tests_code, alternatives_code, condition_code, negated_code, guard_code, guards_code}
 use Rattle.ss_code_instructions.proofs.Steps.{Comes, Reaches, here, at, arrive}
 use Rattle.ss_code_instructions.proofs.Parts.{Leads, onwards, Lands, same, done, alike, look_lands}
 use Rattle.ss_code_instructions.proofs.Looking.{fit_did, two_lands, owner_lands}

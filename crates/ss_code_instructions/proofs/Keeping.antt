@@ -1,26 +1,30 @@
 -- No operation changes what the program says once and for all.
-use Rattle.std.proofs.Common.{◌≡◌, ℕ, zero, suc, ◌+◌, Bool, true, false, List, [], ◌∷◌, Option, Some, None, Ok, Err, ℤ, refl, ◌∙◌}
-use Rattle.std.specs.Prelude.{Result, if◌then◌else◌}
+use Rattle.std.proofs.Common.{◌≡◌, ℕ, zero, suc, ◌+◌, Bool, true, false, List, [], ◌∷◌, Option, Some, None, Ok, Err, ℤ, pos, refl, ◌∙◌}
+use Rattle.std.specs.Prelude.{Result, int_lt, if◌then◌else◌}
 use Rattle.ss_base.specs.declared.fault.FaultKind.{FaultKind}
+use Rattle.ss_base.specs.declared.fault.FaultKind.TheVariants.{Scheduled, AlreadyScheduled, PastTime}
+use Rattle.ss_base.specs.declared.layout.Mode.{Mode}
 use Rattle.ss_base.specs.declared.value.Value.{Value}
-use Rattle.ss_world.specs.State.{Record, State, value_in}
-use Rattle.ss_world.specs.Sets.{count_in}
+use Rattle.ss_world.specs.State.{State, notice, value_in, assigned, created, created_all, destroyed, timed}
+use Rattle.ss_world.specs.Sets.{count_in, removed}
+use Rattle.ss_world.specs.PendingList.{is_pending, scheduled, cancelled, next}
+use Rattle.ss_meaning.specs.Words.{value_given}
 use Rattle.ss_program.specs.declared.sections.Subject.{Subject}
-use Rattle.ss_program.specs.declared.sections.Subject.TheVariants.{OfAttribute, OfCount}
-use Rattle.ss_meaning.specs.Histories.{noted_there}
+use Rattle.ss_program.specs.declared.sections.Subject.TheVariants.{OfVariable, OfAttribute, OfCount}
+use Rattle.ss_meaning.specs.Histories.{all_noting, noted, noted_there, renewed}
 use Rattle.ss_program.specs.declared.expression.Sign.{Sign}
 use Rattle.ss_program.specs.declared.expression.Variable.{Variable}
 use Rattle.ss_program.specs.declared.expression.Variable.TheVariants.{Global, Local}
 use Rattle.ss_program.specs.declared.statement.CountedClass.{CountedClass}
 use Rattle.ss_program.specs.declared.statement.End.{End}
-use Rattle.ss_meaning.specs.Values.{Trouble, if_ok, turned, due, sure, where_fit, unless_fault}
-use Rattle.ss_meaning.specs.Store.{Setting, Store, put}
-use Rattle.ss_meaning.specs.Entities.{made_one, made_all, gone, without}
-use Rattle.ss_meaning.specs.Places.{noted_variable, put_attribute, noted_attribute}
-use Rattle.ss_meaning.specs.Sets.{Filing, put_in_set, taken_from_set, taken_at, count_value, noted_count}
-use Rattle.ss_meaning.specs.Events.{Ranked, with_notice_time, endowed, prepared, made_notice, filed_notice, rescheduled, unscheduled, saved_or_gone, Beginning, Coming, coming_as, coming_with, ranked_as, next_event, event_begun}
-use Rattle.ss_meaning.specs.Statistics.{reset}
-use Rattle.ss_meaning.specs.Statements.{read_value}
+use Rattle.ss_meaning.specs.Values.{Trouble, if_ok, turned, due, sure, where_fit, unless_fault, number_of, calculated, operator_of}
+use Rattle.ss_meaning.specs.Store.{Store, with_heap, with_pending, with_histories, fetched, put_at, put}
+use Rattle.ss_meaning.specs.Entities.{class_at, field_at, entity, attribute, is_single, is_permanent, with_new, made_one, with_all, made_all, with_none, gone, without}
+use Rattle.ss_meaning.specs.Places.{is_of_mode, noted_variable, put_attribute, noted_attribute}
+use Rattle.ss_meaning.specs.Sets.{Filing, member, owner_number, filed_by, beside_known, put_in_set, taken_from_set, end_removed, without_member, taken_at, count_value, noted_count}
+use Rattle.ss_meaning.specs.Events.{Ranked, ranked, ties_of, attributes_given, with_notice_time, endowed, prepared, made_notice, filed_notice, rescheduled, unscheduled, saved_or_gone, Beginning, Coming, coming_as, coming_with, ranked_as, next_event, event_begun}
+use Rattle.ss_meaning.specs.Statistics.{subject_of, bearer, present, reset}
+use Rattle.ss_meaning.specs.Statements.{with_input, read_value}
 use Rattle.ss_code_instructions.specs.Machine.{changed_attribute}
 
 -- what an operation gives, where it gives anything, has a property
@@ -68,50 +72,61 @@ same_on : (s t : Store) (r : Result Store Trouble) → Same s t → Only (Same t
 same_on s t (Ok u) p q = q ∙ p
 same_on s t (Err e) p q = tt
 
+noted_same : (subject : Subject) (n : ℤ) (v : Value) (s : Store) → Only (Same s) (noted subject n v s)
+noted_same subject n v s =
+    made (Same s) (with_histories s) (all_noting subject n s.scene.time v s.scene.setting.statistics s.scene.histories) (λ hs. refl)
+
 pub put_same : (x : Variable) (v : Value) (s : Store) → Only (Same s) (put x v s)
-put_same (Global k) v s = made (Same s) _ _ (λ vs. refl)
-put_same (Local k) v s = made (Same s) _ _ (λ vs. refl)
+put_same (Global k) v s = made (Same s) (λ vs. record s { globals = vs }) (put_at s.globals k v) (λ vs. refl)
+put_same (Local k) v s = made (Same s) (λ vs. record s { locals = vs }) (put_at s.locals k v) (λ vs. refl)
 
 pub variable_noted_same : (x : Variable) (s : Store) → Only (Same s) (noted_variable x s)
-variable_noted_same (Global k) s = each (Same s) _ _ (λ v. made (Same s) _ _ (λ hs. refl))
+variable_noted_same (Global k) s = each (Same s) (sure (fetched (Global k) s)) _ (λ v. noted_same (OfVariable k) (pos 0) v s)
 variable_noted_same (Local k) s = refl
 
 there_same : (subject : Subject) (n : ℤ) (r : Result Value FaultKind) (s : Store) → Only (Same s) (noted_there subject n r s)
-there_same subject n (Ok v) s = made (Same s) _ _ (λ hs. refl)
+there_same subject n (Ok v) s = noted_same subject n v s
 there_same subject n (Err kind) s = refl
 
 pub attribute_put_same : (class field : ℕ) (x v : Value) (s : Store) → Only (Same s) (put_attribute class field x v s)
-attribute_put_same class field x v s = each (Same s) _ _ (λ n. fitting (Same s) _ _ (made (Same s) _ _ (λ h. refl)))
+attribute_put_same class field x v s =
+    each (Same s) (entity class x s) _ (λ n. fitting (Same s) (is_of_mode v (field_at class field s)) _ (made (Same s) (with_heap s) (due (assigned s.scene.heap class field n v)) (λ h. refl)))
 
 pub attribute_noted_same : (class field : ℕ) (x : Value) (s : Store) → Only (Same s) (noted_attribute class field x s)
-attribute_noted_same class field x s = each (Same s) _ _ (λ n. there_same (OfAttribute class field) n (value_in s.scene.heap class field n) s)
+attribute_noted_same class field x s = each (Same s) (number_of x) _ (λ n. there_same (OfAttribute class field) n (value_in s.scene.heap class field n) s)
 
 pub changed_same : (sign : Sign) (class field : ℕ) (x y : Value) (s : Store) → Only (Same s) (changed_attribute sign class field x y s)
-changed_same sign class field x y s = each (Same s) _ _ (λ v. each (Same s) _ _ (λ w. attribute_put_same class field x w s))
+changed_same sign class field x y s = each (Same s) (attribute class field x s) _ (λ v. each (Same s) (calculated (operator_of sign) v y) _ (λ w. attribute_put_same class field x w s))
 
 pub made_one_same : (class : ℕ) (s : Store) → Only (SameWith {A = Value} s) (made_one class s)
-made_one_same class s = fitting (SameWith s) _ _ (made (SameWith s) _ _ (λ b. refl))
+made_one_same class s = fitting (SameWith s) (is_single (class_at class s)) _ (made (SameWith s) (with_new class s) (due (created s.scene.heap class)) (λ b. refl))
 
 pub made_all_same : (c : CountedClass) (s : Store) → Only (Same s) (made_all c s)
-made_all_same c s = each (Same s) _ _ (λ v. each (Same s) _ _ (λ n. fitting (Same s) _ _ (made (Same s) _ _ (λ h. refl))))
+made_all_same c s =
+    each (Same s) (sure (fetched (Global c.variable) s)) _ (λ v. each (Same s) (number_of v) _ (λ n.
+    fitting (Same s) (is_permanent (class_at c.class s)) _ (made (Same s) (with_all c.class s) (due (created_all s.scene.heap c.class n)) (λ h. refl))))
 
 pub gone_same : (class : ℕ) (x : Value) (s : Store) → Only (Same s) (gone class x s)
-gone_same class x s = each (Same s) _ _ (λ n. fitting (Same s) _ _ (made (Same s) _ _ (λ h. refl)))
+gone_same class x s =
+    each (Same s) (number_of x) _ (λ n. fitting (Same s) (is_single (class_at class s)) _ (made (Same s) (with_none class n s) (due (destroyed s.scene.heap class n)) (λ h. refl)))
 
 pub without_same : (class : ℕ) (x : Value) (s : Store) → Only (Same s) (without class x s)
-without_same class x s = each (Same s) _ _ (λ n. unless (Same s) _ _ _ (gone_same class x s))
+without_same class x s = each (Same s) (entity class x s) _ (λ n. unless (Same s) (is_pending n s.scene.pending.entries) Scheduled (gone class x s) (gone_same class x s))
 
 pub filed_same : (f : Filing) (set : ℕ) (x : Value) (o : Option Value) (s : Store) → Only (Same s) (put_in_set f set x o s)
-filed_same f set x o s = each (Same s) _ _ (λ n. each (Same s) _ _ (λ u. each (Same s) _ _ (λ m. made (Same s) _ _ (λ h. refl))))
+filed_same f set x o s =
+    each (Same s) (member set x s) _ (λ n. each (Same s) (beside_known f set s) _ (λ u. each (Same s) (owner_number set o s) _ (λ m.
+    made (Same s) (with_heap s) (filed_by f set m n s) (λ h. refl))))
 
 pub removed_same : (set : ℕ) (x : Value) (o : Option Value) (s : Store) → Only (Same s) (taken_from_set set x o s)
-removed_same set x o s = each (Same s) _ _ (λ n. each (Same s) _ _ (λ m. made (Same s) _ _ (λ h. refl)))
+removed_same set x o s =
+    each (Same s) (member set x s) _ (λ n. each (Same s) (owner_number set o s) _ (λ m. made (Same s) (with_heap s) (due (removed s.scene.heap set m n)) (λ h. refl)))
 
 pub end_same : (end : End) (set : ℕ) (o : Option Value) (s : Store) → Only (SameWith {A = Value} s) (taken_at end set o s)
-end_same end set o s = each (SameWith s) _ _ (λ m. made (SameWith s) _ _ (λ r. refl))
+end_same end set o s = each (SameWith s) (owner_number set o s) _ (λ m. made (SameWith s) (without_member s) (due (end_removed end s.scene.heap set m)) (λ r. refl))
 
 pub count_noted_same : (set : ℕ) (o : Option Value) (s : Store) → Only (Same s) (noted_count set o s)
-count_noted_same set o s = each (Same s) _ _ (λ m. there_same (OfCount set) m (count_value (count_in s.scene.heap set m)) s)
+count_noted_same set o s = each (Same s) (owner_number set o s) _ (λ m. there_same (OfCount set) m (count_value (count_in s.scene.heap set m)) s)
 
 endowed_same : (class field : ℕ) (x : Value) (vs : List Value) (s : Store) → Only (Same s) (endowed class field x vs s)
 endowed_same class field x [] s = refl
@@ -120,7 +135,7 @@ endowed_same class field x (v ∷ vs) s =
     same_on s t (endowed class (field + 1) x vs t) p (endowed_same class (field + 1) x vs t))
 
 timed_same : (x : Value) (time : ℤ) (s : Store) → Only (Same s) (with_notice_time x time s)
-timed_same x time s = each (Same s) _ _ (λ n. made (Same s) _ _ (λ h. refl))
+timed_same x time s = each (Same s) (number_of x) _ (λ n. made (Same s) (with_heap s) (due (timed s.scene.heap n time)) (λ h. refl))
 
 prepared_same : (class : ℕ) (x : Value) (vs : List Value) (time : ℤ) (s : Store) → Only (Same s) (prepared class x vs time s)
 prepared_same class x vs time s =
@@ -134,22 +149,25 @@ notice_same class vs time s =
 
 pub pending_same : (class : ℕ) (x : Value) (time : ℤ) (s : Store) → Only (Same s) (filed_notice class x time s)
 pending_same class x time s =
-    each (Same s) _ _ (λ n. each (Same s) _ _ (λ r. each (Same s) _ _ (λ ties. unless (Same s) _ _ _ (made (Same s) _ _ (λ p. refl)))))
+    each (Same s) (entity class x s) _ (λ n. each (Same s) (sure (ranked class s)) _ (λ r. each (Same s) (ties_of class x s r.said.ties) _ (λ ties.
+    unless (Same s) (int_lt time s.scene.time) PastTime _ (made (Same s) (with_pending s) (due (scheduled (record { time = time; rank = r.rank; ties = ties }) n s.scene.pending)) (λ p. refl)))))
 
 pub again_same : (class : ℕ) (x : Value) (vs : List Value) (time : ℤ) (s : Store) → Only (Same s) (rescheduled class x vs time s)
 again_same class x vs time s =
-    each (Same s) _ _ (λ n. unless (Same s) _ _ _
+    each (Same s) (entity class x s) _ (λ n. unless (Same s) (is_pending n s.scene.pending.entries) AlreadyScheduled (if_ok (prepared class x vs time s) (filed_notice class x time))
     (then_only (Same s) (Same s) (prepared class x vs time s) (filed_notice class x time) (prepared_same class x vs time s) (λ t p.
     same_on s t (filed_notice class x time t) p (pending_same class x time t))))
 
 pub cancelled_same : (class : ℕ) (x : Value) (s : Store) → Only (Same s) (unscheduled class x s)
-cancelled_same class x s = each (Same s) _ _ (λ n. made (Same s) _ _ (λ p. refl))
+cancelled_same class x s = each (Same s) (entity class x s) _ (λ n. made (Same s) (with_pending s) (due (cancelled n s.scene.pending)) (λ p. refl))
 
-pub read_same : (mode : _) (s : Store) → Only (SameWith {A = Value} s) (read_value mode s)
-read_same mode s = made (SameWith s) _ _ (λ g. refl)
+pub read_same : (mode : Mode) (s : Store) → Only (SameWith {A = Value} s) (read_value mode s)
+read_same mode s = made (SameWith s) (with_input s) (due (value_given mode s.scene.input)) (λ g. refl)
 
 pub reset_same : (j : ℕ) (x : Option Value) (s : Store) → Only (Same s) (reset j x s)
-reset_same j x s = each (Same s) _ _ (λ t. each (Same s) _ _ (λ n. each (Same s) _ _ (λ v. each (Same s) _ _ (λ z. made (Same s) _ _ (λ hs. refl)))))
+reset_same j x s =
+    each (Same s) (subject_of j s) _ (λ t. each (Same s) (bearer t x s) _ (λ n. each (Same s) (present t x s) _ (λ v. each (Same s) (number_of v) _ (λ z.
+    made (Same s) (with_histories s) (renewed j n s.scene.time z s.scene.histories) (λ hs. refl)))))
 
 -- ## Events
 
@@ -162,10 +180,10 @@ coming_same (Some r) time x s = refl
 
 next_same : (o : Option (ℤ × ℤ)) (s : Store) → Where (ComingSame s) (coming_with o s)
 next_same None s = tt
-next_same (Some n) s = coming_same _ n.0 n.1 s
+next_same (Some n) s = coming_same (ranked_as (notice s.scene.heap n.1) s) n.0 n.1 s
 
 pub event_same : (s : Store) → Where (ComingSame s) (next_event s)
-event_same s = next_same _ s
+event_same s = next_same (next s.scene.pending) s
 
 saved_same : (saved : Option ℕ) (class : ℕ) (x : Value) (s : Store) → Only (Same s) (saved_or_gone saved class x s)
 saved_same (Some k) class x s = put_same (Global k) x s
@@ -176,5 +194,5 @@ BeginningSame s b = Same s b.store
 
 pub begun_same : (c : Coming) → Only (BeginningSame c.store) (event_begun c)
 begun_same c =
-    each (BeginningSame c.store) _ _ (λ vs.
-    made_from (BeginningSame c.store) (Same c.store) _ (saved_or_gone c.ranked.said.saved c.ranked.said.class c.notice c.store) (saved_same c.ranked.said.saved c.ranked.said.class c.notice c.store) (λ t q. q))
+    each (BeginningSame c.store) (attributes_given c.ranked.said.class 0 c.ranked.said.given c.notice c.store) _ (λ vs.
+    made_from (BeginningSame c.store) (Same c.store) (λ t. record { rank = c.ranked.rank; given = vs; store = t }) (saved_or_gone c.ranked.said.saved c.ranked.said.class c.notice c.store) (saved_same c.ranked.said.saved c.ranked.said.class c.notice c.store) (λ t q. q))

@@ -16,7 +16,8 @@ use Rattle.ss_code_instructions.specs.Instructions.{Operand, Bearer, Instruction
 use Rattle.ss_code_instructions.specs.Instructions as i
 use Rattle.ss_code_instructions.specs.States.{Frame, MachineState, Moved, To, did, fit, core_at, with_value, with_values, with_bearer, past, onward_if}
 use Rattle.ss_code_instructions.specs.Machine.{Code, act, is_due}
-use Rattle.ss_code_instructions.specs.Translation.{Site, height, place, leaf, operand, after, operand_code, one, with_operand, expression_code, next, expression_of, bearer, bearer_code, bearer_cells, after_bearer, may_fault, is_leaf, with_owner, looked_code, member_code, test_code, tests_code, alternatives_code, condition_code, negated_code, guard_code, guards_code}
+use Rattle.ss_code_instructions.specs.Facts.{expression_of, may_fault, is_leaf}
+use Rattle.ss_code_instructions.specs.Translation.{Site, height, place, leaf, operand, after, operand_code, one, with_operand, expression_code, next, bearer, bearer_code, bearer_cells, after_bearer, with_owner, looked_code, member_code, test_code, tests_code, alternatives_code, condition_code, negated_code, guard_code, guards_code}
 use Rattle.ss_code_instructions.proofs.Steps.{HasAt, has_front, has_back, Comes, Reaches, here, free, at, arrive, join}
 use Rattle.ss_code_instructions.proofs.Parts.{Within, within_on, Leads, onwards, whatever, step_leads, did_leads, Lands, same, done, alike, went, looks_then, look_then, looked_then, turned_then, look_lands}
 use Rattle.ss_code_instructions.proofs.Operands.{held, held_height, reads, reads_both, join_look, Evaluates, one_join, two_join}

@@ -14,7 +14,8 @@ use Rattle.ss_meaning.specs.Parts.{World, WentOn, Part, outcome_then, looked, lo
 use Rattle.ss_code_instructions.specs.Instructions.{Operand, Bearer, Instruction, Placed, Constant as AConstant, Held, Taken, Stays, LookMember}
 use Rattle.ss_code_instructions.specs.States.{Frame, MachineState, Moved, did, fit, core_at, onward, cell_at, or_zero, with_value, with_bearer}
 use Rattle.ss_code_instructions.specs.Machine.{Code, act, is_due}
-use Rattle.ss_code_instructions.specs.Translation.{Site, height, place, leaf, or_cell, operand, after, operand_code, stay, expression_of, bearer, bearer_code, after_bearer, may_fault, with_owner, looked_code}
+use Rattle.ss_code_instructions.specs.Facts.{expression_of, may_fault}
+use Rattle.ss_code_instructions.specs.Translation.{Site, height, place, leaf, or_cell, operand, after, operand_code, stay, bearer, bearer_code, after_bearer, with_owner, looked_code}
 use Rattle.ss_code_instructions.proofs.Steps.{HasAt, has_front, has_back, Reaches, free, at, arrive}
 use Rattle.ss_code_instructions.proofs.Parts.{Within, Leads, onwards, breaks, whatever, step_leads, did_leads, turned_then}
 use Rattle.ss_code_instructions.proofs.Operands.{held, held_height, reads, one_join}

@@ -22,7 +22,8 @@ use Rattle.ss_code_instructions.specs.Instructions.{Placed}
 use Rattle.ss_code_instructions.specs.Instructions as i
 use Rattle.ss_code_instructions.specs.States.{Frame, MachineState, core_at, take_off, TakenOff, fit, onward}
 use Rattle.ss_code_instructions.specs.Machine.{Code}
-use Rattle.ss_code_instructions.specs.Translation.{Site, height, place, forget, watch, is_watched, noted_code}
+use Rattle.ss_code_instructions.specs.Facts.{watch}
+use Rattle.ss_code_instructions.specs.Translation.{Site, height, place, forget, is_watched, noted_code}
 use Rattle.ss_code_instructions.proofs.Steps.{HasAt, Comes, Reaches, here, free, at, arrive}
 use Rattle.ss_code_instructions.proofs.Parts.{Within, onwards, step_leads, Lands, Runs, same, done, change_runs}
 

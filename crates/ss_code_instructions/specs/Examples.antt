@@ -68,7 +68,9 @@ pub code_of_a_turn : instructions a_turn ≡
     ∷ i.Repeat 4 ∷ i.Leave ∷ []
 code_of_a_turn = refl
 
--- FOR EACH JOB IN QUEUE(M) WITH RANK LT 5, LET RANK = 3: the owner, the member and the next one stay in cells; a reference that is a variable needs no
+-- The workshop has bells, whose routine does nothing: its code is the last Leave.
+--
+-- FOR EACH JOB IN QUEUE(M), IF RANK LT 5 LET RANK = 3: the owner, the member and the next one stay in cells; a reference that is a variable needs no
 -- look before a constant
 abbrev a_walk : Program
 a_walk = workshop 1 (For (line 3) (Members (Global job) queue (Entity (local 0)) AtEnd false)
@@ -80,7 +82,8 @@ pub code_of_a_walk : instructions a_walk ≡
     ∷ i.Take 1 (Global job)
     ∷ i.Attribute job 0 (Held (Global job)) (Onto 3) ∷ i.Unless Less (Taken 3) (number (pos 5)) 1
     ∷ i.SetAttribute job 0 (Held (Global job)) (number (pos 3))
-    ∷ i.NextMember false queue (Some (Stays 0)) 1 4 ∷ i.Forget 3 ∷ i.Leave ∷ []
+    ∷ i.NextMember false queue (Some (Stays 0)) 1 4 ∷ i.Forget 3 ∷ i.Leave
+    ∷ i.Leave ∷ []
 code_of_a_walk = refl
 
 -- LET RANK = RANK + 1 looks at the reference first, since the value may fault
@@ -89,7 +92,8 @@ a_raise = workshop 0 (Let (line 3) (ToAttribute job 0 (global job)) (Calculate o
 
 pub code_of_a_raise : instructions a_raise ≡
     i.LookEntity job (Held (Global job)) ∷ i.Attribute job 0 (Held (Global job)) (Onto 0)
-    ∷ i.Calculate operators.Add (Taken 0) (number (pos 1)) (Onto 0) ∷ i.SetAttribute job 0 (Held (Global job)) (Taken 0) ∷ i.Leave ∷ []
+    ∷ i.Calculate operators.Add (Taken 0) (number (pos 1)) (Onto 0) ∷ i.SetAttribute job 0 (Held (Global job)) (Taken 0) ∷ i.Leave
+    ∷ i.Leave ∷ []
 code_of_a_raise = refl
 
 -- CALL SPLIT GIVING X, X * 2 YIELDING Y, RANK: the arguments lie in the cells 0 and 1, and what is yielded lies there afterwards, the first on top

@@ -1,6 +1,7 @@
 pub mod Instructions
 pub mod States
 pub mod Machine
+pub mod Facts
 pub mod Translation
 pub mod Size
 pub mod Running

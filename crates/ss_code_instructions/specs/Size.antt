@@ -9,9 +9,8 @@ use Rattle.ss_program.specs.declared.head.PhraseKind.TheVariants as kinds
 use Rattle.ss_program.specs.declared.statement.CountedClass.{CountedClass}
 use Rattle.ss_program.specs.declared.sections.Subject.{Subject}
 use Rattle.ss_program.specs.declared.sections.Subject.TheVariants.{OfVariable, OfAttribute, OfCount}
-use Rattle.ss_program.specs.declared.sections.Statistic.{Statistic}
 use Rattle.ss_program.specs.Program.{Expression, Constant, Fetch, Attribute, OfSystemSet, OfSet, OfMember, Clock, TimeOf, Figure, FigureOf, Signed, Absolute, Calculate, SetOwner, TheSystem, Entity, Test, Compare, DataEnded, Empty, Member, Condition, Head, Numbers, Members, Each, Start, AtEnd, From, After, Phrase, Guard, Place, ToVariable, ToAttribute, ToCount, Target, Position, ByDiscipline, AsFirst, AsLast, BeforeMember, AfterMember, When, At, In, Now, Restart, Item, AValue, AMean, AMeanOf, Statement, Let, Change, Call, Return, Stop, Read, Simulate, If, Loop, For, Find, Create, CreateEvery, Destroy, File, RemoveEnd, Remove, ScheduleNew, Schedule, Cancel, Reset, Print, Skip, Block, Done, Then, Routine, Event, Program}
-use Rattle.ss_meaning.specs.Histories.{same_subject}
+use Rattle.ss_code_instructions.specs.Facts.{watch, is_leaf, expression_of, may_fault, beside}
 
 -- one where something is so, and else none
 abbrev pub one_if : Bool → ℕ
@@ -23,11 +22,6 @@ one_if_some zero = 0
 one_if_some (suc n) = 1
 
 -- ## Expressions: a constant and a variable are operands as they are, anything else takes a cell and as much code as it needs
-
-abbrev pub is_leaf : Expression → Bool
-is_leaf (Constant v) = true
-is_leaf (Fetch x) = true
-is_leaf _ = false
 
 abbrev pub unless_leaf : Expression → ℕ → ℕ
 unless_leaf (Constant v) n = 0
@@ -63,10 +57,6 @@ abbrev pub looked_size : (looked : Bool) → Expression → ℕ
 looked_size looked e = operand_size e + one_if looked
 
 -- an expression that there may be
-abbrev pub expression_of : SetOwner → Option Expression
-expression_of TheSystem = None
-expression_of (Entity e) = Some e
-
 abbrev pub any_size : Option Expression → ℕ
 any_size None = 0
 any_size (Some e) = operand_size e
@@ -74,10 +64,6 @@ any_size (Some e) = operand_size e
 abbrev pub any_cells : Option Expression → ℕ
 any_cells None = 0
 any_cells (Some e) = operand_cells e
-
-abbrev pub may_fault : Option Expression → Bool
-may_fault None = false
-may_fault (Some e) = not (is_leaf e)
 
 -- ## Conditions
 
@@ -119,10 +105,6 @@ phrases_size [] turn = turn
 phrases_size (x ∷ xs) turn = phrase_size x.kind x.condition + phrases_size xs turn
 
 -- ## Assignments: a statistic that watches what is assigned takes an instruction, and what stayed for it another one
-
-abbrev pub watch : List Statistic → Subject → Bool
-watch [] subject = false
-watch (s ∷ ss) subject = if same_subject s.subject subject then true else watch ss subject
 
 module _ (p : Program) where
   abbrev pub noted_size : Variable → ℕ
@@ -203,13 +185,6 @@ module _ (p : Program) where
   for_size head turn = head_size head + (1 + (turns_size (loop_variable head) turn + 1))
 
   -- ## Sets and events
-
-  abbrev pub beside : Position → Option Expression
-  beside ByDiscipline = None
-  beside AsFirst = None
-  beside AsLast = None
-  beside (BeforeMember e) = Some e
-  beside (AfterMember e) = Some e
 
   abbrev pub beside_size : (looked : Bool) → Option Expression → ℕ
   beside_size looked None = 0

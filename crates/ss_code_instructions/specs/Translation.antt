@@ -1,6 +1,6 @@
 -- The code of a program. Each part of it says of each of its places the line, the instruction, and what is found there: the modes of the section's
 -- variables and of the frame's cells.
-use Rattle.std.specs.Prelude.{ℕ, zero, suc, ◌+◌, ◌-◌, Bool, true, false, not, List, [], ◌∷◌, ◌++◌, length, map, pos, Option, Some, None, is_some, slice_get, if◌then◌else◌}
+use Rattle.std.specs.Prelude.{ℕ, zero, suc, ◌+◌, ◌-◌, Bool, true, false, not, List, [], ◌∷◌, ◌++◌, length, map, pos, Option, Some, None, slice_get, if◌then◌else◌}
 use Rattle.ss_base.specs.declared.line.Line.{Line}
 use Rattle.ss_base.specs.declared.value.Value.{Value}
 use Rattle.ss_base.specs.declared.value.Value.TheVariants.{Whole}
@@ -20,16 +20,15 @@ use Rattle.ss_program.specs.declared.statement.End.{End}
 use Rattle.ss_program.specs.declared.statement.CountedClass.{CountedClass}
 use Rattle.ss_program.specs.declared.sections.Subject.{Subject}
 use Rattle.ss_program.specs.declared.sections.Subject.TheVariants.{OfVariable, OfAttribute, OfCount}
-use Rattle.ss_program.specs.declared.sections.Statistic.{Statistic}
 use Rattle.ss_program.specs.Program.{Expression, Constant, Fetch, Attribute, OfSystemSet, OfSet, OfMember, Clock, TimeOf, Figure, FigureOf, Signed, Absolute, Calculate, SetOwner, TheSystem, Entity, Test, Compare, DataEnded, Empty, Member, Condition, Head, Numbers, Members, Each, Start, AtEnd, From, After, Phrase, Guard, Place, ToVariable, ToAttribute, ToCount, Target, Position, ByDiscipline, AsFirst, AsLast, BeforeMember, AfterMember, When, At, In, Now, Restart, Item, AValue, AMean, AMeanOf, Statement, Let, Change, Call, Return, Stop, Read, Simulate, If, Loop, For, Find, Create, CreateEvery, Destroy, File, RemoveEnd, Remove, ScheduleNew, Schedule, Cancel, Reset, Print, Skip, Block, Done, Then, Routine, Event, Program}
 use Rattle.ss_program.specs.WellTyped.{Scope, mode_at, field_mode}
 use Rattle.ss_meaning.specs.Values.{operator_of}
-use Rattle.ss_meaning.specs.Histories.{same_subject}
 use Rattle.ss_meaning.specs.Meaning.{setting_of, tie_shapes}
 use Rattle.ss_code_instructions.specs.Instructions as i
 use Rattle.ss_code_instructions.specs.Instructions.{Operand, Bearer, Filing, Instruction, Placed, ItemKind, Lines, EntryPoint}
 use Rattle.ss_code_instructions.specs.Instructions.{Target as To}
 use Rattle.ss_code_instructions.specs.Machine.{Code}
+use Rattle.ss_code_instructions.specs.Facts.{watch, is_leaf, expression_of, may_fault, beside}
 
 -- ## Where code is made
 
@@ -71,11 +70,6 @@ forget_to t u = forget u (height u - height t)
 
 -- ## What the preamble says
 
--- the statistics watch a subject
-abbrev pub watch : List Statistic → Subject → Bool
-watch [] subject = false
-watch (s ∷ ss) subject = if same_subject s.subject subject then true else watch ss subject
-
 abbrev pub is_watched : Site → Subject → Bool
 is_watched t subject = watch t.scope.program.statistics subject
 
@@ -110,9 +104,6 @@ abbrev pub leaf : Expression → Option Operand
 leaf (Constant v) = Some (i.Constant v)
 leaf (Fetch x) = Some (i.Held x)
 leaf _ = None
-
-abbrev pub is_leaf : Expression → Bool
-is_leaf e = is_some (leaf e)
 
 -- anything else lies in a new cell
 abbrev pub or_cell : (height : ℕ) → Option Operand → Operand
@@ -204,10 +195,6 @@ abbrev pub member_code : Site → (looked : Bool) → (set : ℕ) → Expression
 member_code t looked set e = looked_code t looked e (i.LookMember set)
 
 -- the owner of a set, or the entity of a statistic, of which there is none where it is the system
-abbrev pub expression_of : SetOwner → Option Expression
-expression_of TheSystem = None
-expression_of (Entity e) = Some e
-
 abbrev pub bearer : Site → Option Expression → Bearer
 bearer t None = None
 bearer t (Some e) = Some (operand t e)
@@ -226,11 +213,6 @@ after_bearer t o = with_cells t (bearer_cells t o)
 abbrev pub bearer_stays : Bearer → Bearer
 bearer_stays None = None
 bearer_stays (Some x) = Some (stay x)
-
--- whether its evaluation may fault
-abbrev pub may_fault : Option Expression → Bool
-may_fault None = false
-may_fault (Some e) = not (is_leaf e)
 
 -- an owner, and the instruction that reads it
 abbrev pub with_owner : Site → SetOwner → (Bearer → Instruction) → List Placed
@@ -460,13 +442,6 @@ bearer_as keep None = None
 bearer_as keep (Some x) = Some (keep x)
 
 -- the member beside which another one is filed
-abbrev pub beside : Position → Option Expression
-beside ByDiscipline = None
-beside AsFirst = None
-beside AsLast = None
-beside (BeforeMember e) = Some e
-beside (AfterMember e) = Some e
-
 abbrev pub beside_code : Site → (looked : Bool) → (set : ℕ) → Option Expression → List Placed
 beside_code t looked set None = []
 beside_code t looked set (Some e) = member_code t looked set e
