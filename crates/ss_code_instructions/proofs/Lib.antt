@@ -1,5 +1,7 @@
 mod Keeping
+mod Moving
 mod Acting
+pub mod Calling
 pub mod Steps
 pub mod Parts
 pub mod Operands

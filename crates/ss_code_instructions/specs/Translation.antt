@@ -303,7 +303,7 @@ change_code t sign (ToCount c) e =
     with_operand t e (λ y. i.Calculate (operator_of sign) (i.Held (Global c.variable)) y (next t))
     ++ count_code t (above t Integer) c (i.Taken (height t))
 
--- a value that some code leaves at a target comes to a place, whose reference is looked at before
+-- a place takes the value that some code leaves at a target; its reference is looked at before
 abbrev pub to_place_code : Site → Place → Mode → (source : Site → To → List Placed) → List Placed
 to_place_code t (ToVariable x) m source = source t (i.Into x) ++ noted_code t x
 to_place_code t (ToAttribute class field r) m source =
