@@ -144,7 +144,7 @@ After s n x = ((x.ticks ≡ n) ⊎ (suc x.ticks ≡ n)) × CallsAreLike s x
 -- of the three ways the second is only that of an instruction that takes a tick
 without_tick : (s x : MachineState) → Calls false s.core x.core → CallsAreLike s x
 without_tick s x (inl e) = inl e
-without_tick s x (inr (inl o)) = absurd o.2
+without_tick s x (inr (inl o)) = let q : false ≡ true = o.2 in absurd cc
 without_tick s x (inr (inr b)) = inr (inr b)
 
 with_tick : (s x : MachineState) → suc x.ticks ≡ s.ticks → Calls true s.core x.core → CallsAreLike s x

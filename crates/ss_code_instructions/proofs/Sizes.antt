@@ -27,7 +27,7 @@ use Rattle.ss_code_instructions.specs.Instructions as i
 use Rattle.ss_code_instructions.specs.Instructions.{Target as To}
 use Rattle.ss_code_instructions.specs.Translation as t
 use Rattle.ss_code_instructions.specs.Translation.{Site, height, place, leaf, operand, after, next, expression_code, operand_code}
-use Rattle.ss_code_instructions.specs.Facts.{watch, is_leaf, expression_of, may_fault, beside}
+use Rattle.ss_code_instructions.specs.Facts.{watch, must_look, expression_of, may_fault, beside}
 use Rattle.ss_code_instructions.specs.Size as z
 use Rattle.ss_code_instructions.specs.Size.{expression_size, operand_size, code_size}
 use Rattle.ss_code_instructions.specs.Laws.{HasSize}
@@ -239,8 +239,8 @@ let_length s (ToVariable x) e = both_codes (expression_code s (i.Into x) e) (t.n
 let_length s (ToAttribute class field r) e =
     let u : Site = after (after s r) e in
     let c = t.attribute_code s u class field (i.SetAttribute class field) (operand s r) (operand (after s r) e) in
-    both_codes (t.entity_code s (not (is_leaf e)) class r) (operand_code (after s r) e ++ c) (z.looked_size (not (is_leaf e)) r) (operand_size e + z.attribute_size s.scope.program class field (z.operand_cells r + z.operand_cells e))
-    (looked_length s (not (is_leaf e)) r (i.LookEntity class))
+    both_codes (t.entity_code s (must_look class r e) class r) (operand_code (after s r) e ++ c) (z.looked_size (must_look class r e) r) (operand_size e + z.attribute_size s.scope.program class field (z.operand_cells r + z.operand_cells e))
+    (looked_length s (must_look class r e) r (i.LookEntity class))
     (both_codes (operand_code (after s r) e) c (operand_size e) (z.attribute_size s.scope.program class field (z.operand_cells r + z.operand_cells e)) (operand_length (after s r) e)
     (attribute_length s u class field (i.SetAttribute class field) (operand s r) (operand (after s r) e) (z.operand_cells r + z.operand_cells e) (omega (arith, operand_height s r, operand_height (after s r) e))))
 let_length s (ToCount c) e = both_codes (operand_code s e) (t.count_code s (after s e) c (operand s e)) (operand_size e) (z.count_size s.scope.program c) (operand_length s e) (count_length s (after s e) c (operand s e))

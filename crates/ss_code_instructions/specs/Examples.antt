@@ -86,15 +86,25 @@ pub code_of_a_walk : instructions a_walk ≡
     ∷ i.Leave ∷ []
 code_of_a_walk = refl
 
--- LET RANK = RANK + 1 looks at the reference first, since the value may fault
+-- LET RANK = RANK + 1: the value begins with a look at the entity
 abbrev a_raise : Program
 a_raise = workshop 0 (Let (line 3) (ToAttribute job 0 (global job)) (Calculate operators.Add (Attribute job 0 (global job)) (num (pos 1))) ∷ [])
 
 pub code_of_a_raise : instructions a_raise ≡
-    i.LookEntity job (Held (Global job)) ∷ i.Attribute job 0 (Held (Global job)) (Onto 0)
+    i.Attribute job 0 (Held (Global job)) (Onto 0)
     ∷ i.Calculate operators.Add (Taken 0) (number (pos 1)) (Onto 0) ∷ i.SetAttribute job 0 (Held (Global job)) (Taken 0) ∷ i.Leave
     ∷ i.Leave ∷ []
 code_of_a_raise = refl
+
+-- LET RANK = X + 1: the value may fault before the entity is seen, so it is looked at first
+abbrev a_look : Program
+a_look = workshop 1 (Let (line 3) (ToAttribute job 0 (global job)) (Calculate operators.Add (local 0) (num (pos 1))) ∷ [])
+
+pub code_of_a_look : instructions a_look ≡
+    i.LookEntity job (Held (Global job)) ∷ i.Calculate operators.Add (Held (Local 0)) (number (pos 1)) (Onto 0)
+    ∷ i.SetAttribute job 0 (Held (Global job)) (Taken 0) ∷ i.Leave
+    ∷ i.Leave ∷ []
+code_of_a_look = refl
 
 -- CALL SPLIT GIVING X, X * 2 YIELDING Y, RANK: the arguments lie in the cells 0 and 1, and what is yielded lies there afterwards, the first on top
 abbrev a_call : Program

@@ -1,8 +1,10 @@
 -- What the code of a program goes by beside the program itself.
-use Rattle.std.specs.Prelude.{Bool, true, false, not, List, [], ◌∷◌, Option, Some, None, if◌then◌else◌}
+use Rattle.std.specs.Prelude.{ℕ, ◌==◌, Bool, true, false, not, ◌&&◌, List, [], ◌∷◌, Option, Some, None, if◌then◌else◌}
+use Rattle.ss_program.specs.declared.expression.Variable.{Variable}
+use Rattle.ss_program.specs.declared.expression.Variable.TheVariants.{Global, Local}
 use Rattle.ss_program.specs.declared.sections.Subject.{Subject}
 use Rattle.ss_program.specs.declared.sections.Statistic.{Statistic}
-use Rattle.ss_program.specs.Program.{Expression, Constant, Fetch, SetOwner, TheSystem, Entity, Position, ByDiscipline, AsFirst, AsLast, BeforeMember, AfterMember}
+use Rattle.ss_program.specs.Program.{Expression, Constant, Fetch, Attribute, OfSet, OfMember, TimeOf, FigureOf, Signed, Absolute, Calculate, SetOwner, TheSystem, Entity, Position, ByDiscipline, AsFirst, AsLast, BeforeMember, AfterMember}
 use Rattle.ss_meaning.specs.Histories.{same_subject}
 
 -- the statistics watch a subject
@@ -33,3 +35,33 @@ beside AsFirst = None
 beside AsLast = None
 beside (BeforeMember e) = Some e
 beside (AfterMember e) = Some e
+
+-- ## When a reference need not be looked at
+
+abbrev pub same_variable : Variable → Variable → Bool
+same_variable (Global k) (Global j) = k == j
+same_variable (Global k) (Local j) = false
+same_variable (Local k) (Global j) = false
+same_variable (Local k) (Local j) = k == j
+
+-- an expression is this variable
+abbrev pub is_fetch_of : Variable → Expression → Bool
+is_fetch_of x (Fetch y) = same_variable x y
+is_fetch_of x _ = false
+
+-- the evaluation of an expression begins with an attribute of the entity in a variable, as one of this class: so it begins with the look at it
+abbrev pub looks_first : (class : ℕ) → Variable → Expression → Bool
+looks_first class x (Attribute k field e) = if is_leaf e then (k == class) && is_fetch_of x e else looks_first class x e
+looks_first class x (OfSet query set e) = looks_first class x e
+looks_first class x (OfMember query set e) = looks_first class x e
+looks_first class x (TimeOf e) = looks_first class x e
+looks_first class x (FigureOf fold j e) = looks_first class x e
+looks_first class x (Signed sign e) = looks_first class x e
+looks_first class x (Absolute e) = looks_first class x e
+looks_first class x (Calculate op a b) = if is_leaf a then looks_first class x b else looks_first class x a
+looks_first class x _ = false
+
+-- whether the entity whose attribute is assigned a value is looked at before: where the value may fault, and does not begin with the same look
+abbrev pub must_look : (class : ℕ) → (reference value : Expression) → Bool
+must_look class (Fetch x) e = if is_leaf e then false else not (looks_first class x e)
+must_look class _ e = not (is_leaf e)

@@ -10,7 +10,7 @@ use Rattle.ss_program.specs.declared.statement.CountedClass.{CountedClass}
 use Rattle.ss_program.specs.declared.sections.Subject.{Subject}
 use Rattle.ss_program.specs.declared.sections.Subject.TheVariants.{OfVariable, OfAttribute, OfCount}
 use Rattle.ss_program.specs.Program.{Expression, Constant, Fetch, Attribute, OfSystemSet, OfSet, OfMember, Clock, TimeOf, Figure, FigureOf, Signed, Absolute, Calculate, SetOwner, TheSystem, Entity, Test, Compare, DataEnded, Empty, Member, Condition, Head, Numbers, Members, Each, Start, AtEnd, From, After, Phrase, Guard, Place, ToVariable, ToAttribute, ToCount, Target, Position, ByDiscipline, AsFirst, AsLast, BeforeMember, AfterMember, When, At, In, Now, Restart, Item, AValue, AMean, AMeanOf, Statement, Let, Change, Call, Return, Stop, Read, Simulate, If, Loop, For, Find, Create, CreateEvery, Destroy, File, RemoveEnd, Remove, ScheduleNew, Schedule, Cancel, Reset, Print, Skip, Block, Done, Then, Routine, Event, Program}
-use Rattle.ss_code_instructions.specs.Facts.{watch, is_leaf, expression_of, may_fault, beside}
+use Rattle.ss_code_instructions.specs.Facts.{watch, must_look, expression_of, may_fault, beside}
 
 -- one where something is so, and else none
 abbrev pub one_if : Bool → ℕ
@@ -124,7 +124,7 @@ module _ (p : Program) where
   abbrev pub let_size : Place → Expression → ℕ
   let_size (ToVariable x) e = expression_size e + noted_size x
   let_size (ToAttribute class field r) e =
-      looked_size (not (is_leaf e)) r + (operand_size e + attribute_size class field (operand_cells r + operand_cells e))
+      looked_size (must_look class r e) r + (operand_size e + attribute_size class field (operand_cells r + operand_cells e))
   let_size (ToCount c) e = operand_size e + count_size c
 
   abbrev pub change_size : Place → Expression → ℕ

@@ -28,7 +28,7 @@ use Rattle.ss_code_instructions.specs.Instructions as i
 use Rattle.ss_code_instructions.specs.Instructions.{Operand, Bearer, Filing, Instruction, Placed, ItemKind, Lines, EntryPoint}
 use Rattle.ss_code_instructions.specs.Instructions.{Target as To}
 use Rattle.ss_code_instructions.specs.Machine.{Code}
-use Rattle.ss_code_instructions.specs.Facts.{watch, is_leaf, expression_of, may_fault, beside}
+use Rattle.ss_code_instructions.specs.Facts.{watch, must_look, expression_of, may_fault, beside}
 
 -- ## Where code is made
 
@@ -285,11 +285,11 @@ attribute_code t u class field make x y =
     then place u (make (stay x) (stay y)) ∷ (place u (i.NoteAttribute class field (stay x)) ∷ forget_to t u)
     else place u (make x y) ∷ []
 
--- LET: a reference is looked at where the value may fault
+-- LET: a reference is looked at where the value may fault, but where that begins with the same look
 abbrev pub let_code : Site → Place → Expression → List Placed
 let_code t (ToVariable x) e = expression_code t (i.Into x) e ++ noted_code t x
 let_code t (ToAttribute class field r) e =
-    entity_code t (not (is_leaf e)) class r ++ (operand_code (after t r) e
+    entity_code t (must_look class r e) class r ++ (operand_code (after t r) e
     ++ attribute_code t (after (after t r) e) class field (i.SetAttribute class field) (operand t r) (operand (after t r) e))
 let_code t (ToCount c) e = operand_code t e ++ count_code t (after t e) c (operand t e)
 
