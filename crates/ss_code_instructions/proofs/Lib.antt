@@ -12,6 +12,7 @@ pub mod Members
 pub mod Conditions
 pub mod Noting
 pub mod Assigning
+pub mod Attributes
 pub mod Loops
 pub mod Looping
 pub mod Pieces

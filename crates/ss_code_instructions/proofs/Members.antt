@@ -24,7 +24,7 @@ use Rattle.ss_code_instructions.proofs.Looking.{owner_is, Found, bearer_join}
 
 -- ## Operands that stay
 
-top_cell : (h : ℕ) (v : Value) (cells : List Value) → length cells ≡ h → cell_at h (v ∷ cells) ≡ Some v
+pub top_cell : (h : ℕ) (v : Value) (cells : List Value) → length cells ≡ h → cell_at h (v ∷ cells) ≡ Some v
 top_cell h v cells e = ap (λ (b : Bool). if b then Some v else cell_at h cells) (eq-eqb (length cells) h e)
 
 leaf_stays : (e : Expression) (x : Operand) → leaf e ≡ Some x → stay x ≡ x

@@ -77,7 +77,7 @@ held_length None m v cells ms e = ap suc e
 pub held_height : (t : Site) (e : Expression) (v : Value) (cells : List Value) → length cells ≡ height t → length (held (leaf e) v cells) ≡ height (after t e)
 held_height t e v cells h = held_length (leaf e) _ v cells t.cells h
 
-sure_is : {A : Type 0} (o : Option A) (a : A) → sure o ≡ Ok a → o ≡ Some a
+pub sure_is : {A : Type 0} (o : Option A) (a : A) → sure o ≡ Ok a → o ≡ Some a
 sure_is None a e = absurd cc
 sure_is (Some b) a e = let q : b ≡ a = cc in ap Some q
 

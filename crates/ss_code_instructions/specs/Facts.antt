@@ -49,6 +49,10 @@ abbrev pub is_fetch_of : Variable → Expression → Bool
 is_fetch_of x (Fetch y) = same_variable x y
 is_fetch_of x _ = false
 
+abbrev pub is_constant : Expression → Bool
+is_constant (Constant v) = true
+is_constant _ = false
+
 -- the evaluation of an expression begins with an attribute of the entity in a variable, as one of this class: so it begins with the look at it
 abbrev pub looks_first : (class : ℕ) → Variable → Expression → Bool
 looks_first class x (Attribute k field e) = if is_leaf e then (k == class) && is_fetch_of x e else looks_first class x e
@@ -58,7 +62,7 @@ looks_first class x (TimeOf e) = looks_first class x e
 looks_first class x (FigureOf fold j e) = looks_first class x e
 looks_first class x (Signed sign e) = looks_first class x e
 looks_first class x (Absolute e) = looks_first class x e
-looks_first class x (Calculate op a b) = if is_leaf a then looks_first class x b else looks_first class x a
+looks_first class x (Calculate op a b) = if is_constant a then looks_first class x b else looks_first class x a
 looks_first class x _ = false
 
 -- whether the entity whose attribute is assigned a value is looked at before: where the value may fault, and does not begin with the same look
