@@ -26,14 +26,14 @@ use Rattle.ss_code_instructions.specs.Instructions as i
 use Rattle.ss_code_instructions.specs.States.{Frame, MachineState, Moved, did, fit, cell_at, or_zero, core_at, with_value, with_values, lies_above, onward}
 use Rattle.ss_code_instructions.specs.Machine.{Code, changed_attribute, act, is_due}
 use Rattle.ss_code_instructions.specs.Facts.{is_leaf, is_constant, same_variable, is_fetch_of, looks_first, must_look}
-use Rattle.ss_code_instructions.specs.Translation.{Site, height, with_cells, place, forget_to, is_watched, leaf, or_cell, or_in_cell, operand, operand_cells, after, operand_code, stay, looked_code, entity_code, attribute_code, let_code}
+use Rattle.ss_code_instructions.specs.Translation.{Site, height, with_cells, place, forget_to, is_watched, leaf, or_cell, or_in_cell, operand, operand_cells, after, operand_code, stay, is_cell, looked_code, entity_code, attribute_code, let_code}
 use Rattle.ss_code_instructions.proofs.Keeping.{Only, Same, each, made, fitting}
 use Rattle.ss_code_instructions.proofs.Steps.{HasAt, has_front, has_back, Comes, Reaches, here, free, at, left_to, arrive}
 use Rattle.ss_code_instructions.proofs.Parts.{Within, Leads, onwards, breaks, step_leads, did_leads, Runs, same, done, went, then_then, turned_then}
 use Rattle.ss_code_instructions.proofs.Operands.{held, held_height, sure_is, reads, reads_both, one_join}
 use Rattle.ss_code_instructions.proofs.Expressions.{evaluates}
 use Rattle.ss_code_instructions.proofs.Noting.{Sited, attribute_quiet, watched_here, quiet_goes, forget_run}
-use Rattle.ss_code_instructions.proofs.Members.{top_cell, stay_reads}
+use Rattle.ss_code_instructions.proofs.Members.{top_cell, leaf_stays, stay_reads}
 use Rattle.ss_code_instructions.proofs.Assigning.{changed_twice}
 
 -- ## Operations that leave the variables, and what the program says
@@ -103,6 +103,14 @@ under_reads t r o v z s u cells go h q g l = by (leaf r) refl
     by (Some x) e = leaf_later r x v s u e q g l (held o z cells) go
     by None e = ap (λ c. fit c (λ k. go k (held o z (v ∷ cells)))) (cell_below (height t) o z v cells h)
 
+-- an operand that is no cell gives its value when the others are taken off
+leaf_after : (t : Site) (r : Expression) (v : Value) (s u : Store) (cells : List Value) (go : Value → List Value → Moved) → is_cell (operand t r) ≡ false → value r s ≡ Ok v → u.globals ≡ s.globals → u.locals ≡ s.locals → with_value (operand t r) u cells go ≡ go v cells
+leaf_after t r v s u cells go c q g l = by (leaf r) refl c
+  where
+    by : (p : Option Operand) → leaf r ≡ p → is_cell (or_cell (height t) p) ≡ false → with_value (or_cell (height t) p) u cells go ≡ go v cells
+    by (Some x) e c = subst (λ y. with_value y u cells go ≡ go v cells) (leaf_stays r x e) (leaf_later r x v s u e q g l cells go)
+    by None e c = absurd cc
+
 -- ## An entity and a value as operands
 
 -- how an instruction finds an entity v and a value z, where some cells lie above those of the site
@@ -110,6 +118,7 @@ pub record Both (t : Site) (us : List Mode) (x y : Operand) (v z : Value) (s : S
   pub takes : (go : Value → Value → List Value → Moved) → with_values x y s cells0 go ≡ go v z cells
   pub keeps : (go : Value → Value → List Value → Moved) → with_values (stay x) (stay y) s cells0 go ≡ go v z cells0
   pub later : (u : Store) → u.globals ≡ s.globals → u.locals ≡ s.locals → (go : Value → List Value → Moved) → with_value (stay x) u cells0 go ≡ go v cells0
+  pub after : is_cell x ≡ false → (u : Store) → u.globals ≡ s.globals → u.locals ≡ s.locals → (go : Value → List Value → Moved) → with_value x u cells go ≡ go v cells
   pub more : List Value
   pub lies : more ++ cells ≡ cells0
   pub count : length us - height t ≡ length more
@@ -133,6 +142,7 @@ both t r e v z s cells h p q = record {
       ∙ stay_reads (after t r) e z s (held (leaf r) v cells) (λ w above. with_value (stay (operand t r)) s above (λ v below. go v w below)) (held_height t r v cells h) q
       ∙ under_reads t r (leaf e) v z s s cells (λ v below. go v z below) h p refl refl;
   later = λ u g l go. under_reads t r (leaf e) v z s u cells go h p g l;
+  after = λ c u g l go. leaf_after t r v s u cells go c p g l;
   more = held (leaf e) z (held (leaf r) v []);
   lies = held_onto (leaf e) z (held (leaf r) v []) cells ∙ ap (held (leaf e) z) (held_onto (leaf r) v [] cells);
   count = count_held (leaf e) (leaf r) _ _ t.cells z v;
@@ -258,34 +268,48 @@ module _ (code : Code) (n : ℕ) where
   -- ## An attribute is set or changed, and that is noted
 
   pub attribute_run : (t : Site) (us : List Mode) (class field : ℕ) (make : Operand → Operand → Instruction) (g : Value → Value → Store → OkOr Store Trouble) (x y : Operand) (v z : Value) (q : ℕ) (cells0 cells : List Value) (frames : List Frame) (w : World) → Sited code t → Within code n w → Both t us x y v z w.store cells0 cells → Steady w.store (g v z w.store) → ((a b : Operand) → is_due (make a b) ≡ false) → ((a b : Operand) (p : ℕ) (cs : List Value) (s : Store) → act code t.line (make a b) (core_at p cs frames s) ≡ with_values a b s cs (λ v z below. did t.line (g v z s) (λ u. onward below (core_at p cs frames s) u))) → HasAt code.places q (attribute_code t (with_cells t us) class field make x y) → Reaches code (at q cells0 frames w) (arrive (λ o w'. at (q + length (attribute_code t (with_cells t us) class field make x y)) cells frames w') frames (outcome_then (change t.line (g v z) w) (λ _. change t.line (noted_attribute class field v))))
-  attribute_run t us class field make g x y v z q cells0 cells frames w fits in_ both steady calm acts = by (is_watched t (OfAttribute class field)) refl
+  attribute_run t us class field make g x y v z q cells0 cells frames w fits in_ both steady calm acts = by (is_watched t (OfAttribute class field)) (is_cell x) refl refl
     where
       later : (u : Store) → g v z w.store ≡ Ok u → Within code n (record w { store = u })
       later u e = record { ticks = in_.ticks; says = (only_ok (Alike w.store) (g v z w.store) u steady e).2 ∙ in_.says }
 
-      by : (b : Bool) → is_watched t (OfAttribute class field) ≡ b → HasAt code.places q (if b then place (with_cells t us) (make (stay x) (stay y)) ∷ (place (with_cells t us) (i.NoteAttribute class field (stay x)) ∷ forget_to t (with_cells t us)) else place (with_cells t us) (make x y) ∷ []) → Reaches code (at q cells0 frames w) (arrive (λ o w'. at (q + length (if b then place (with_cells t us) (make (stay x) (stay y)) ∷ (place (with_cells t us) (i.NoteAttribute class field (stay x)) ∷ forget_to t (with_cells t us)) else place (with_cells t us) (make x y) ∷ [])) cells frames w') frames (outcome_then (change t.line (g v z) w) (λ _. change t.line (noted_attribute class field v))))
-      by false watched has =
-          subst (λ o. Reaches code (at q cells0 frames w) (arrive (λ o w'. at (q + 1) cells frames w') frames o)) (sym (then_then (looked t.line (g v z w.store) w) settle (λ _. change t.line (noted_attribute class field v))))
+      -- the change where nothing stays, and what follows
+      plainly : (k : Unit {0} → World → MachineState) → HasAt code.places q (place (with_cells t us) (make x y) ∷ []) → ((u : Store) → g v z w.store ≡ Ok u → Reaches code (at (q + 1) cells frames (record w { store = u })) (arrive k frames (change t.line (noted_attribute class field v) (record w { store = u })))) → Reaches code (at q cells0 frames w) (arrive k frames (outcome_then (change t.line (g v z) w) (λ _. change t.line (noted_attribute class field v))))
+      plainly k has f =
+          subst (λ o. Reaches code (at q cells0 frames w) (arrive k frames o)) (sym (then_then (looked t.line (g v z w.store) w) settle (λ _. change t.line (noted_attribute class field v))))
           (step_leads code (place (with_cells t us) (make x y)) (core_at q cells0 frames w.store) w _ _ has.0 (calm x y)
           (acts x y q cells0 w.store ∙ both.takes (λ v z below. did t.line (g v z w.store) (λ u. onward below (core_at q cells0 frames w.store) u)))
-          (did_leads code t.line (g v z w.store) _ w (λ o w'. at (q + 1) cells frames w') frames (λ u w. change t.line (noted_attribute class field v) (record w { store = u })) (λ u e.
-          onwards
-          (subst (λ o. Reaches code (at (q + 1) cells frames (record w { store = u })) (arrive (λ o w'. at (q + 1) cells frames w') frames o)) (went (change t.line (noted_attribute class field v) (record w { store = u })))
+          (did_leads code t.line (g v z w.store) _ w k frames (λ u w. change t.line (noted_attribute class field v) (record w { store = u })) (λ u e.
+          onwards (f u e))))
+
+      by : (b k : Bool) → is_watched t (OfAttribute class field) ≡ b → is_cell x ≡ k → HasAt code.places q (if b then (if k then place (with_cells t us) (make (stay x) (stay y)) ∷ (place (with_cells t us) (i.NoteAttribute class field (stay x)) ∷ forget_to t (with_cells t us)) else place (with_cells t us) (make x y) ∷ (place t (i.NoteAttribute class field x) ∷ [])) else place (with_cells t us) (make x y) ∷ []) → Reaches code (at q cells0 frames w) (arrive (λ o w'. at (q + length (if b then (if k then place (with_cells t us) (make (stay x) (stay y)) ∷ (place (with_cells t us) (i.NoteAttribute class field (stay x)) ∷ forget_to t (with_cells t us)) else place (with_cells t us) (make x y) ∷ (place t (i.NoteAttribute class field x) ∷ [])) else place (with_cells t us) (make x y) ∷ [])) cells frames w') frames (outcome_then (change t.line (g v z) w) (λ _. change t.line (noted_attribute class field v))))
+      by false k watched cell has =
+          plainly (λ o w'. at (q + 1) cells frames w') has (λ u e.
+          subst (λ o. Reaches code (at (q + 1) cells frames (record w { store = u })) (arrive (λ o w'. at (q + 1) cells frames w') frames o)) (went (change t.line (noted_attribute class field v) (record w { store = u })))
           (quiet_goes code (at (q + 1) cells frames (record w { store = u })) t.line (noted_attribute class field v u) (record w { store = u }) (λ o w'. at (q + 1) cells frames w') frames WentOn
           (attribute_quiet class field v u (watched_here code t n (record w { store = u }) (OfAttribute class field) false fits (later u e) watched))
-          here)))))
-      by true watched has =
+          here))
+      by true false watched cell has =
+          let end : q + 1 + 1 ≡ q + 2 = omega arith in
+          plainly (λ o w'. at (q + 2) cells frames w') (has.0, tt) (λ u e.
+          let alike = only_ok (Alike w.store) (g v z w.store) u steady e in
+          step_leads code (place t (i.NoteAttribute class field x)) (core_at (q + 1) cells frames u) (record w { store = u }) _ _ has.1.0 refl
+          (both.after cell u alike.0 alike.1 (λ x below. did t.line (noted_attribute class field x u) (λ k. onward below (core_at (q + 1) cells frames u) k)))
+          (did_leads code t.line (noted_attribute class field v u) _ (record w { store = u }) (λ o w'. at (q + 2) cells frames w') frames settle (λ k e'.
+          onwards (subst (λ j. Reaches code (at (q + 1 + 1) cells frames (record w { store = k })) (Comes (at j cells frames (record w { store = k })))) end here))))
+      by true true watched cell has =
           let rest : List Placed = forget_to t (with_cells t us) in
-          let end : q + 1 + 1 + length rest ≡ q + length (place (with_cells t us) (make (stay x) (stay y)) ∷ (place (with_cells t us) (i.NoteAttribute class field (stay x)) ∷ rest)) = omega arith in
-          subst (λ o. Reaches code (at q cells0 frames w) (arrive (λ o w'. at (q + length (place (with_cells t us) (make (stay x) (stay y)) ∷ (place (with_cells t us) (i.NoteAttribute class field (stay x)) ∷ rest))) cells frames w') frames o)) (sym (then_then (looked t.line (g v z w.store) w) settle (λ _. change t.line (noted_attribute class field v))))
+          let all : List Placed = place (with_cells t us) (make (stay x) (stay y)) ∷ (place (with_cells t us) (i.NoteAttribute class field (stay x)) ∷ rest) in
+          let end : q + 1 + 1 + length rest ≡ q + length all = omega arith in
+          subst (λ o. Reaches code (at q cells0 frames w) (arrive (λ o w'. at (q + length all) cells frames w') frames o)) (sym (then_then (looked t.line (g v z w.store) w) settle (λ _. change t.line (noted_attribute class field v))))
           (step_leads code (place (with_cells t us) (make (stay x) (stay y))) (core_at q cells0 frames w.store) w _ _ has.0 (calm (stay x) (stay y))
           (acts (stay x) (stay y) q cells0 w.store ∙ both.keeps (λ v z below. did t.line (g v z w.store) (λ u. onward below (core_at q cells0 frames w.store) u)))
-          (did_leads code t.line (g v z w.store) _ w (λ o w'. at (q + length (place (with_cells t us) (make (stay x) (stay y)) ∷ (place (with_cells t us) (i.NoteAttribute class field (stay x)) ∷ rest))) cells frames w') frames (λ u w. change t.line (noted_attribute class field v) (record w { store = u })) (λ u e.
+          (did_leads code t.line (g v z w.store) _ w (λ o w'. at (q + length all) cells frames w') frames (λ u w. change t.line (noted_attribute class field v) (record w { store = u })) (λ u e.
           let alike = only_ok (Alike w.store) (g v z w.store) u steady e in
           onwards
           (step_leads code (place (with_cells t us) (i.NoteAttribute class field (stay x))) (core_at (q + 1) cells0 frames u) (record w { store = u }) _ _ has.1.0 refl
           (both.later u alike.0 alike.1 (λ x below. did t.line (noted_attribute class field x u) (λ k. onward below (core_at (q + 1) cells0 frames u) k)))
-          (did_leads code t.line (noted_attribute class field v u) _ (record w { store = u }) (λ o w'. at (q + length (place (with_cells t us) (make (stay x) (stay y)) ∷ (place (with_cells t us) (i.NoteAttribute class field (stay x)) ∷ rest))) cells frames w') frames settle (λ k e'.
+          (did_leads code t.line (noted_attribute class field v u) _ (record w { store = u }) (λ o w'. at (q + length all) cells frames w') frames settle (λ k e'.
           onwards
           (subst (λ j. Reaches code (at (q + 1 + 1) cells0 frames (record w { store = k })) (Comes (at j cells frames (record w { store = k })))) end
           (subst (λ c. Reaches code (at (q + 1 + 1) c frames (record w { store = k })) (Comes (at (q + 1 + 1 + length rest) cells frames (record w { store = k })))) both.lies
@@ -317,7 +341,7 @@ module _ (code : Code) (n : ℕ) where
 
   -- the assignment of a constant or a variable finds the fault of the reference
   leaf_faults : (t : Site) (us : List Mode) (class field : ℕ) (r : Expression) (y : Operand) (v z : Value) (kind : FaultKind) (q : ℕ) (cells : List Value) (frames : List Frame) (w : World) → length cells ≡ height t → value r w.store ≡ Ok v → entity class v w.store ≡ Err (Fails kind) → stay y ≡ y → ((x : Operand) → lies_above x y ≡ false) → ((cs : List Value) (go : Value → List Value → Moved) → with_value y w.store cs go ≡ go z cs) → HasAt code.places q (attribute_code t (with_cells t us) class field (i.SetAttribute class field) (operand t r) y) → Reaches code (at q (held (leaf r) v cells) frames w) (left_to (Faulted kind t.line) frames w)
-  leaf_faults t us class field r y v z kind q cells frames w high p h stays low reads_y = by (is_watched t (OfAttribute class field))
+  leaf_faults t us class field r y v z kind q cells frames w high p h stays low reads_y = by (is_watched t (OfAttribute class field)) (is_cell (operand t r))
     where
       both_read : (x : Operand) (cs : List Value) (go : Value → Value → List Value → Moved) → ((go : Value → List Value → Moved) → with_value x w.store (held (leaf r) v cells) go ≡ go v cs) → with_values x y w.store (held (leaf r) v cells) go ≡ go v z cs
       both_read x cs go one =
@@ -328,13 +352,17 @@ module _ (code : Code) (n : ℕ) where
       fails : (go : Store → Moved) → did t.line (put_attribute class field v z w.store) go ≡ did t.line (Err (Fails kind)) go
       fails go = ap (λ r. did t.line r go) (err_first (entity class v w.store) _ (Fails kind) h)
 
-      by : (b : Bool) → HasAt code.places q (if b then place (with_cells t us) (i.SetAttribute class field (stay (operand t r)) (stay y)) ∷ (place (with_cells t us) (i.NoteAttribute class field (stay (operand t r))) ∷ forget_to t (with_cells t us)) else place (with_cells t us) (i.SetAttribute class field (operand t r) y) ∷ []) → Reaches code (at q (held (leaf r) v cells) frames w) (left_to (Faulted kind t.line) frames w)
-      by false has =
-          step_leads code (place (with_cells t us) (i.SetAttribute class field (operand t r) y)) (core_at q (held (leaf r) v cells) frames w.store) w _ _ has.0 refl
+      plainly : slice_get code.places q ≡ Some (place (with_cells t us) (i.SetAttribute class field (operand t r) y)) → Reaches code (at q (held (leaf r) v cells) frames w) (left_to (Faulted kind t.line) frames w)
+      plainly has =
+          step_leads code (place (with_cells t us) (i.SetAttribute class field (operand t r) y)) (core_at q (held (leaf r) v cells) frames w.store) w _ _ has refl
           (both_read (operand t r) cells (λ v z below. did t.line (put_attribute class field v z w.store) (λ u. onward below (core_at q (held (leaf r) v cells) frames w.store) u)) (λ go. reads t r v w.store cells go high p)
           ∙ fails (λ u. onward cells (core_at q (held (leaf r) v cells) frames w.store) u))
           breaks
-      by true has =
+
+      by : (b k : Bool) → HasAt code.places q (if b then (if k then place (with_cells t us) (i.SetAttribute class field (stay (operand t r)) (stay y)) ∷ (place (with_cells t us) (i.NoteAttribute class field (stay (operand t r))) ∷ forget_to t (with_cells t us)) else place (with_cells t us) (i.SetAttribute class field (operand t r) y) ∷ (place t (i.NoteAttribute class field (operand t r)) ∷ [])) else place (with_cells t us) (i.SetAttribute class field (operand t r) y) ∷ []) → Reaches code (at q (held (leaf r) v cells) frames w) (left_to (Faulted kind t.line) frames w)
+      by false k has = plainly has.0
+      by true false has = plainly has.0
+      by true true has =
           step_leads code (place (with_cells t us) (i.SetAttribute class field (stay (operand t r)) (stay y))) (core_at q (held (leaf r) v cells) frames w.store) w _ _ has.0 refl
           (ap (λ y. with_values (stay (operand t r)) y w.store (held (leaf r) v cells) (λ v z below. did t.line (put_attribute class field v z w.store) (λ u. onward below (core_at q (held (leaf r) v cells) frames w.store) u))) stays
           ∙ both_read (stay (operand t r)) (held (leaf r) v cells) (λ v z below. did t.line (put_attribute class field v z w.store) (λ u. onward below (core_at q (held (leaf r) v cells) frames w.store) u)) (λ go. stay_reads t r v w.store cells go high p)

@@ -27,7 +27,7 @@ use Rattle.ss_code_instructions.specs.Instructions as i
 use Rattle.ss_code_instructions.specs.Instructions.{Target as To}
 use Rattle.ss_code_instructions.specs.Translation as t
 use Rattle.ss_code_instructions.specs.Translation.{Site, height, place, leaf, operand, after, next, expression_code, operand_code}
-use Rattle.ss_code_instructions.specs.Facts.{watch, must_look, expression_of, may_fault, beside}
+use Rattle.ss_code_instructions.specs.Facts.{watch, must_look, is_owner, expression_of, may_fault, beside}
 use Rattle.ss_code_instructions.specs.Size as z
 use Rattle.ss_code_instructions.specs.Size.{expression_size, operand_size, code_size}
 use Rattle.ss_code_instructions.specs.Laws.{HasSize}
@@ -222,15 +222,42 @@ note_length false x = refl
 count_length : (s u : Site) (c : CountedClass) (from : Operand) → length (t.count_code s u c from) ≡ z.count_size s.scope.program c
 count_length s u c from = omega (arith, noted_length s (Global c.variable))
 
-attribute_length : (s u : Site) (class field : ℕ) (make : Operand → Operand → Instruction) (x y : Operand) (n : ℕ) → height u ≡ height s + n → length (t.attribute_code s u class field make x y) ≡ z.attribute_size s.scope.program class field n
-attribute_length s u class field make x y n q =
-    where_length (t.is_watched s (OfAttribute class field)) (place u (make (t.stay x) (t.stay y)) ∷ (place u (i.NoteAttribute class field (t.stay x)) ∷ t.forget_to s u)) (place u (make x y) ∷ []) (2 + z.one_if_some n) 1
-    (omega (arith, forget_to_length s u n q)) refl
+-- an operand in a cell takes it
+cell_size : (s : Site) (e : Expression) → z.one_if (t.is_cell (operand s e)) ≡ z.operand_cells e
+cell_size s (Constant v) = refl
+cell_size s (Fetch x) = refl
+cell_size s (Attribute class field e) = refl
+cell_size s (OfSystemSet query set) = refl
+cell_size s (OfSet query set e) = refl
+cell_size s (OfMember query set e) = refl
+cell_size s Clock = refl
+cell_size s (TimeOf e) = refl
+cell_size s (Figure fold j) = refl
+cell_size s (FigureOf fold j e) = refl
+cell_size s (Signed sign e) = refl
+cell_size s (Absolute e) = refl
+cell_size s (Calculate op a b) = refl
 
-set_length : (s u : Site) (set : ℕ) (o : Bearer) (make : (Operand → Operand) → Instruction) (n : ℕ) → height u ≡ height s + n → length (t.set_code s u set o make) ≡ z.set_size s.scope.program set n
-set_length s u set o make n q =
-    where_length (t.is_watched s (OfCount set)) (place u (make t.stay) ∷ (place u (i.NoteCount set (t.bearer_stays o)) ∷ t.forget_to s u)) (place u (make (λ x. x)) ∷ []) (2 + z.one_if_some n) 1
-    (omega (arith, forget_to_length s u n q)) refl
+bearer_size : (s : Site) (o : Option Expression) → z.one_if (t.is_bearer_cell (t.bearer s o)) ≡ z.any_cells o
+bearer_size s None = refl
+bearer_size s (Some e) = cell_size s e
+
+-- a change, a note of it, and an end where something stayed
+noting_length : (b k : Bool) (s u : Site) (x1 x2 y1 y2 x3 : Placed) (c n : ℕ) → z.one_if k ≡ c → height u ≡ height s + (c + n) → length (if b then (if k then x1 ∷ (x2 ∷ t.forget_to s u) else y1 ∷ (y2 ∷ [])) else x3 ∷ []) ≡ (if b then 2 + c else 1)
+noting_length false k s u x1 x2 y1 y2 x3 c n p q = refl
+noting_length true true s u x1 x2 y1 y2 x3 c n p q =
+    let higher : height u ≡ height s + suc n = omega (arith, p, q) in
+    let forgotten : length (t.forget_to s u) ≡ 1 = forget_to_length s u (suc n) higher in
+    omega (arith, p, forgotten)
+noting_length true false s u x1 x2 y1 y2 x3 c n p q = omega (arith, p)
+
+attribute_length : (s u : Site) (class field : ℕ) (make : Operand → Operand → Instruction) (x y : Operand) (c n : ℕ) → z.one_if (t.is_cell x) ≡ c → height u ≡ height s + (c + n) → length (t.attribute_code s u class field make x y) ≡ z.attribute_size s.scope.program class field c
+attribute_length s u class field make x y c n p q =
+    noting_length (t.is_watched s (OfAttribute class field)) (t.is_cell x) s u (place u (make (t.stay x) (t.stay y))) (place u (i.NoteAttribute class field (t.stay x))) (place u (make x y)) (place s (i.NoteAttribute class field x)) (place u (make x y)) c n p q
+
+set_length : (s u : Site) (set : ℕ) (o : Bearer) (make : (Operand → Operand) → Instruction) (c n : ℕ) → z.one_if (t.is_bearer_cell o) ≡ c → height u ≡ height s + (c + n) → length (t.set_code s u set o make) ≡ z.set_size s.scope.program set c
+set_length s u set o make c n p q =
+    noting_length (t.is_watched s (OfCount set)) (t.is_bearer_cell o) s u (place u (make t.stay)) (place u (i.NoteCount set (t.bearer_stays o))) (place u (make (λ x. x))) (place s (i.NoteCount set o)) (place u (make (λ x. x))) c n p q
 
 -- ## Assignments
 
@@ -239,10 +266,10 @@ let_length s (ToVariable x) e = both_codes (expression_code s (i.Into x) e) (t.n
 let_length s (ToAttribute class field r) e =
     let u : Site = after (after s r) e in
     let c = t.attribute_code s u class field (i.SetAttribute class field) (operand s r) (operand (after s r) e) in
-    both_codes (t.entity_code s (must_look class r e) class r) (operand_code (after s r) e ++ c) (z.looked_size (must_look class r e) r) (operand_size e + z.attribute_size s.scope.program class field (z.operand_cells r + z.operand_cells e))
+    both_codes (t.entity_code s (must_look class r e) class r) (operand_code (after s r) e ++ c) (z.looked_size (must_look class r e) r) (operand_size e + z.attribute_size s.scope.program class field (z.operand_cells r))
     (looked_length s (must_look class r e) r (i.LookEntity class))
-    (both_codes (operand_code (after s r) e) c (operand_size e) (z.attribute_size s.scope.program class field (z.operand_cells r + z.operand_cells e)) (operand_length (after s r) e)
-    (attribute_length s u class field (i.SetAttribute class field) (operand s r) (operand (after s r) e) (z.operand_cells r + z.operand_cells e) (omega (arith, operand_height s r, operand_height (after s r) e))))
+    (both_codes (operand_code (after s r) e) c (operand_size e) (z.attribute_size s.scope.program class field (z.operand_cells r)) (operand_length (after s r) e)
+    (attribute_length s u class field (i.SetAttribute class field) (operand s r) (operand (after s r) e) (z.operand_cells r) (z.operand_cells e) (cell_size s r) (omega (arith, operand_height s r, operand_height (after s r) e))))
 let_length s (ToCount c) e = both_codes (operand_code s e) (t.count_code s (after s e) c (operand s e)) (operand_size e) (z.count_size s.scope.program c) (operand_length s e) (count_length s (after s e) c (operand s e))
 
 change_length : (s : Site) (sign : Sign) (p : Place) (e : Expression) → length (t.change_code s sign p e) ≡ z.change_size s.scope.program p e
@@ -252,9 +279,9 @@ change_length s sign (ToVariable x) e =
 change_length s sign (ToAttribute class field r) e =
     let u : Site = after (after s e) r in
     let c = t.attribute_code s u class field (i.ChangeAttribute sign class field) (operand (after s e) r) (operand s e) in
-    both_codes (operand_code s e) (operand_code (after s e) r ++ c) (operand_size e) (operand_size r + z.attribute_size s.scope.program class field (z.operand_cells e + z.operand_cells r)) (operand_length s e)
-    (both_codes (operand_code (after s e) r) c (operand_size r) (z.attribute_size s.scope.program class field (z.operand_cells e + z.operand_cells r)) (operand_length (after s e) r)
-    (attribute_length s u class field (i.ChangeAttribute sign class field) (operand (after s e) r) (operand s e) (z.operand_cells e + z.operand_cells r) (omega (arith, operand_height s e, operand_height (after s e) r))))
+    both_codes (operand_code s e) (operand_code (after s e) r ++ c) (operand_size e) (operand_size r + z.attribute_size s.scope.program class field (z.operand_cells r)) (operand_length s e)
+    (both_codes (operand_code (after s e) r) c (operand_size r) (z.attribute_size s.scope.program class field (z.operand_cells r)) (operand_length (after s e) r)
+    (attribute_length s u class field (i.ChangeAttribute sign class field) (operand (after s e) r) (operand s e) (z.operand_cells r) (z.operand_cells e) (cell_size (after s e) r) (omega (arith, operand_height s e, operand_height (after s e) r))))
 change_length s sign (ToCount c) e =
     let make : Operand → Instruction = λ y. i.Calculate (operator_of sign) (i.Held (Global c.variable)) y (next s) in
     both_codes (t.with_operand s e make) (t.count_code s (t.above s Integer) c (i.Taken (height s))) (operand_size e + 1) (z.count_size s.scope.program c) (with_length s e make) (count_length s (t.above s Integer) c (i.Taken (height s)))
@@ -264,9 +291,9 @@ to_place_length s (ToVariable x) m source n q = both_codes (source s (i.Into x))
 to_place_length s (ToAttribute class field r) m source n q =
     let u : Site = t.above (after s r) m in
     let c = t.attribute_code s u class field (i.SetAttribute class field) (operand s r) (i.Taken (height (after s r))) in
-    both_codes (t.entity_code s true class r) (source (after s r) (next (after s r)) ++ c) (z.looked_size true r) (n + z.attribute_size s.scope.program class field (z.operand_cells r + 1)) (looked_length s true r (i.LookEntity class))
-    (both_codes (source (after s r) (next (after s r))) c n (z.attribute_size s.scope.program class field (z.operand_cells r + 1)) (q (after s r) (next (after s r)))
-    (attribute_length s u class field (i.SetAttribute class field) (operand s r) (i.Taken (height (after s r))) (z.operand_cells r + 1) (omega (arith, operand_height s r))))
+    both_codes (t.entity_code s true class r) (source (after s r) (next (after s r)) ++ c) (z.looked_size true r) (n + z.attribute_size s.scope.program class field (z.operand_cells r)) (looked_length s true r (i.LookEntity class))
+    (both_codes (source (after s r) (next (after s r))) c n (z.attribute_size s.scope.program class field (z.operand_cells r)) (q (after s r) (next (after s r)))
+    (attribute_length s u class field (i.SetAttribute class field) (operand s r) (i.Taken (height (after s r))) (z.operand_cells r) 1 (cell_size s r) (omega (arith, operand_height s r))))
 to_place_length s (ToCount c) m source n q = both_codes (source s (next s)) (t.count_code s (t.above s m) c (i.Taken (height s))) n (z.count_size s.scope.program c) (q s (next s)) (count_length s (t.above s m) c (i.Taken (height s)))
 
 reads_length : (s : Site) (xs : List Target) → length (t.reads_code s xs) ≡ z.reads_size s.scope.program xs
@@ -279,8 +306,8 @@ give_length : (s : Site) (p : Place) → length (t.give_code s p) ≡ z.give_siz
 give_length s (ToVariable x) = omega (arith, noted_length s x)
 give_length s (ToAttribute class field r) =
     let u : Site = t.above s (t.place_mode s.scope (ToAttribute class field r)) in
-    both_codes (operand_code u r) (t.attribute_code s (after u r) class field (i.SetAttribute class field) (operand u r) (i.Taken (height s))) (operand_size r) (z.attribute_size s.scope.program class field (z.operand_cells r + 1)) (operand_length u r)
-    (attribute_length s (after u r) class field (i.SetAttribute class field) (operand u r) (i.Taken (height s)) (z.operand_cells r + 1) (omega (arith, operand_height u r)))
+    both_codes (operand_code u r) (t.attribute_code s (after u r) class field (i.SetAttribute class field) (operand u r) (i.Taken (height s))) (operand_size r) (z.attribute_size s.scope.program class field (z.operand_cells r)) (operand_length u r)
+    (attribute_length s (after u r) class field (i.SetAttribute class field) (operand u r) (i.Taken (height s)) (z.operand_cells r) 1 (cell_size u r) (omega (arith, operand_height u r)))
 give_length s (ToCount c) = count_length s (t.above s Integer) c (i.Taken (height s))
 
 gives_length : (s : Site) (ps : List Place) → length (t.gives_code s ps) ≡ z.gives_size s.scope.program ps
@@ -367,9 +394,9 @@ file_length s set e position o =
     let make : (Operand → Operand) → Instruction = λ keep. i.File (t.filing s1 set keep position) set (keep (operand s e)) (t.bearer_as keep (t.bearer s2 x)) in
     let c = t.set_code s u set (t.bearer s2 x) make in
     let look = if may_fault y then true else may_fault x in
-    let n = z.operand_cells e + z.any_cells y + z.any_cells x in
+    let n = z.operand_cells e + z.any_cells y in
     omega (arith, length-append (t.member_code s look set e) (t.beside_code s1 (may_fault x) set y ++ (t.bearer_code s2 x ++ c)), length-append (t.beside_code s1 (may_fault x) set y) (t.bearer_code s2 x ++ c), length-append (t.bearer_code s2 x) c,
-    looked_length s look e (i.LookMember set), beside_length s1 (may_fault x) set y, bearer_length s2 x, set_length s u set (t.bearer s2 x) make n (omega (arith, operand_height s e, bearer_height s1 y, bearer_height s2 x)))
+    looked_length s look e (i.LookMember set), beside_length s1 (may_fault x) set y, bearer_length s2 x, set_length s u set (t.bearer s2 x) make (z.any_cells x) n (bearer_size s2 x) (omega (arith, operand_height s e, bearer_height s1 y, bearer_height s2 x)))
 
 remove_length : (s : Site) (set : ℕ) (e : Expression) (o : SetOwner) → length (t.remove_code s set e o) ≡ z.remove_size s.scope.program set e (expression_of o)
 remove_length s set e o =
@@ -379,7 +406,7 @@ remove_length s set e o =
     let make : (Operand → Operand) → Instruction = λ keep. i.Remove set (keep (operand s e)) (t.bearer_as keep (t.bearer s1 x)) in
     let c = t.set_code s u set (t.bearer s1 x) make in
     omega (arith, length-append (t.member_code s (may_fault x) set e) (t.bearer_code s1 x ++ c), length-append (t.bearer_code s1 x) c,
-    looked_length s (may_fault x) e (i.LookMember set), bearer_length s1 x, set_length s u set (t.bearer s1 x) make (z.operand_cells e + z.any_cells x) (omega (arith, operand_height s e, bearer_height s1 x)))
+    looked_length s (may_fault x) e (i.LookMember set), bearer_length s1 x, set_length s u set (t.bearer s1 x) make (z.any_cells x) (z.operand_cells e) (bearer_size s1 x) (omega (arith, operand_height s e, bearer_height s1 x)))
 
 place_length : (s : Site) (p : Place) → length (t.place_code s p) ≡ z.place_size s.scope.program p
 place_length s (ToVariable x) = refl
@@ -392,19 +419,33 @@ assign_length s u v (ToVariable x) from q = omega (arith, noted_length v x, ap (
 assign_length s u v (ToAttribute class field r) from q = ap suc (note_length (t.is_watched s (OfAttribute class field)) (place v (i.NoteAttribute class field (t.stay (operand s r)))))
 assign_length s u v (ToCount c) from q = count_length v u c from ∙ ap (λ p. z.count_size p c) q
 
-remove_end_length : (s : Site) (end : End) (set : ℕ) (p : Place) (o : SetOwner) → length (t.remove_end_code s end set p o) ≡ z.remove_end_size s.scope.program set p (expression_of o)
-remove_end_length s end set p o =
-    let x : Option Expression = expression_of o in
+removed_in_cell_length : (s : Site) (end : End) (set : ℕ) (p : Place) (x : Option Expression) → length (t.removed_in_cell_code s end set p x) ≡ z.removed_in_cell_size s.scope.program p x
+removed_in_cell_length s end set p x =
     let s1 : Site = t.after_place s p in
     let s2 : Site = t.after_bearer s1 x in
     let u : Site = t.above s2 Integer in
-    let source : Site → To → List Placed = λ v to. t.bearer_code v x ++ place (t.after_bearer v x) (i.RemoveEnd end set (t.bearer v x) to) ∷ [] in
     let assign = t.assign_code s u s2 p (i.Taken (height s2)) in
     let tail = place s2 (i.RemoveEnd end set (t.bearer_stays (t.bearer s1 x)) (next s2)) ∷ (place u (i.NoteCount set (t.bearer_stays (t.bearer s1 x))) ∷ (assign ++ t.forget_to s s2)) in
-    where_length (t.is_watched s (OfCount set)) (t.place_code s p ++ (t.bearer_code s1 x ++ tail)) (t.to_place_code s p Integer source)
-    (z.place_size s.scope.program p + (z.any_size x + (2 + (z.assign_size s.scope.program p + z.one_if_some (z.place_cells s.scope.program p + z.any_cells x))))) (z.to_place_size s.scope.program p (z.any_size x + 1))
-    (omega (arith, length-append (t.place_code s p) (t.bearer_code s1 x ++ tail), length-append (t.bearer_code s1 x) tail, length-append assign (t.forget_to s s2), place_length s p, bearer_length s1 x, assign_length s u s2 p (i.Taken (height s2)) refl,
-    forget_to_length s s2 (z.place_cells s.scope.program p + z.any_cells x) (omega (arith, place_height s p, bearer_height s1 x))))
+    omega (arith, length-append (t.place_code s p) (t.bearer_code s1 x ++ tail), length-append (t.bearer_code s1 x) tail, length-append assign (t.forget_to s s2), place_length s p, bearer_length s1 x, assign_length s u s2 p (i.Taken (height s2)) refl,
+    forget_to_length s s2 (z.place_cells s.scope.program p + z.any_cells x) (omega (arith, place_height s p, bearer_height s1 x)))
+
+removed_length : (s : Site) (end : End) (set : ℕ) (p : Place) (x : Option Expression) → length (t.removed_code s end set p x) ≡ z.removed_size s.scope.program p x
+removed_length s end set (ToVariable v) x =
+    let u : Site = t.after_bearer s x in
+    let tail = place u (i.RemoveEnd end set (t.bearer_stays (t.bearer s x)) (i.Into v)) ∷ (place u (i.NoteCount set (t.bearer_stays (t.bearer s x))) ∷ (t.noted_code u v ++ t.forget_to s u)) in
+    where_length (is_owner v x) (t.removed_in_cell_code s end set (ToVariable v) x) (t.bearer_code s x ++ tail)
+    (z.removed_in_cell_size s.scope.program (ToVariable v) x) (z.any_size x + (2 + (z.noted_size s.scope.program v + z.one_if_some (z.any_cells x))))
+    (removed_in_cell_length s end set (ToVariable v) x)
+    (omega (arith, length-append (t.bearer_code s x) tail, length-append (t.noted_code u v) (t.forget_to s u), bearer_length s x, noted_length u v, forget_to_length s u (z.any_cells x) (bearer_height s x)))
+removed_length s end set (ToAttribute class field r) x = removed_in_cell_length s end set (ToAttribute class field r) x
+removed_length s end set (ToCount c) x = removed_in_cell_length s end set (ToCount c) x
+
+remove_end_length : (s : Site) (end : End) (set : ℕ) (p : Place) (o : SetOwner) → length (t.remove_end_code s end set p o) ≡ z.remove_end_size s.scope.program set p (expression_of o)
+remove_end_length s end set p o =
+    let x : Option Expression = expression_of o in
+    let source : Site → To → List Placed = λ v to. t.bearer_code v x ++ place (t.after_bearer v x) (i.RemoveEnd end set (t.bearer v x) to) ∷ [] in
+    where_length (t.is_watched s (OfCount set)) (t.removed_code s end set p x) (t.to_place_code s p Integer source) (z.removed_size s.scope.program p x) (z.to_place_size s.scope.program p (z.any_size x + 1))
+    (removed_length s end set p x)
     (to_place_length s p Integer source (z.any_size x + 1) (λ v to. after_code (t.bearer_code v x) (place (t.after_bearer v x) (i.RemoveEnd end set (t.bearer v x) to)) (z.any_size x) (bearer_length v x)))
 
 creates_length : (s : Site) (cs : List CountedClass) → length (t.creates_code s cs) ≡ length cs
@@ -438,10 +479,10 @@ schedule_new_length s class p given when =
     let v : Site = t.with_notice u p in
     let x : Operand = t.notice_operand u p in
     let file = place v (i.FileNotice class x (i.Taken (height s1))) ∷ t.forget_to s s1 in
-    let notes = t.given_code v class 0 given (t.stay x) ++ file in
-    let name = t.name_code s v p (t.stay x) ++ notes in
-    let make = place (t.above s2 Integer) (i.MakeNotice class (height s1) (length given) (t.notice_target u p)) ∷ name in
-    omega (arith, length-append (t.place_code s p) (t.values_code s1 given ++ (t.when_code s2 when ++ make)), length-append (t.values_code s1 given) (t.when_code s2 when ++ make), length-append (t.when_code s2 when) make, length-append (t.name_code s v p (t.stay x)) notes, length-append (t.given_code v class 0 given (t.stay x)) file,
+    let name = t.name_code s v p (t.stay x) ++ file in
+    let notes = t.given_code v class 0 given (t.stay x) ++ name in
+    let make = place (t.above s2 Integer) (i.MakeNotice class (height s1) (length given) (t.notice_target u p)) ∷ notes in
+    omega (arith, length-append (t.place_code s p) (t.values_code s1 given ++ (t.when_code s2 when ++ make)), length-append (t.values_code s1 given) (t.when_code s2 when ++ make), length-append (t.when_code s2 when) make, length-append (t.name_code s v p (t.stay x)) file, length-append (t.given_code v class 0 given (t.stay x)) name,
     place_length s p, values_length s1 given, when_length s2 when, name_length s v p (t.stay x) refl, given_length v class 0 given (t.stay x), forget_to_length s s1 (z.place_cells s.scope.program p) (place_height s p))
 
 renewed_length : (s u : Site) (class given : ℕ) (x : Operand) (notes end : List Placed) (m n : ℕ) → length notes ≡ m → length end ≡ z.one_if_some n → length (t.renewed_code s u class given x notes end) ≡ z.renewed_size s.scope.program m n

@@ -138,7 +138,8 @@ watched = record (workshop 1
     (Read (line 3) (record { place = ToVariable (Global 0); mode = Integer } ∷ [])
     ∷ Let (line 4) (ToAttribute job 0 (Attribute job 0 (global job))) (num (pos 3))
     ∷ File (line 5) queue (global job) ByDiscipline (Entity (local 0))
-    ∷ RemoveEnd (line 6) ends.First queue (ToVariable (Global job)) (Entity (Attribute job 0 (global job))) ∷ [])) {
+    ∷ RemoveEnd (line 6) ends.First queue (ToVariable (Global job)) (Entity (Attribute job 0 (global job)))
+    ∷ RemoveEnd (line 7) ends.Last queue (ToVariable (Global job)) (Entity (global job)) ∷ [])) {
   statistics = record { subject = OfVariable 0; weighting = Tally } ∷ record { subject = OfAttribute job 0; weighting = Tally }
       ∷ record { subject = OfCount queue; weighting = Tally } ∷ [];
 }
@@ -147,8 +148,10 @@ pub code_of_watched : instructions watched ≡
     i.Read Integer (Into (Global 0)) ∷ i.NoteVariable 0
     ∷ i.Attribute job 0 (Held (Global job)) (Onto 0) ∷ i.SetAttribute job 0 (Stays 0) (number (pos 3)) ∷ i.NoteAttribute job 0 (Stays 0) ∷ i.Forget 1
     ∷ i.File Last queue (Held (Global job)) (Some (Held (Local 0))) ∷ i.NoteCount queue (Some (Held (Local 0)))
-    ∷ i.Attribute job 0 (Held (Global job)) (Onto 0) ∷ i.RemoveEnd ends.First queue (Some (Stays 0)) (Onto 1)
-    ∷ i.NoteCount queue (Some (Stays 0)) ∷ i.Move (Taken 1) (Into (Global job)) ∷ i.Forget 1
+    ∷ i.Attribute job 0 (Held (Global job)) (Onto 0) ∷ i.RemoveEnd ends.First queue (Some (Stays 0)) (Into (Global job))
+    ∷ i.NoteCount queue (Some (Stays 0)) ∷ i.Forget 1
+    ∷ i.RemoveEnd ends.Last queue (Some (Held (Global job))) (Onto 0) ∷ i.NoteCount queue (Some (Held (Global job)))
+    ∷ i.Move (Taken 0) (Into (Global job))
     ∷ i.Leave
     ∷ i.Leave ∷ []
 code_of_watched = refl

@@ -69,3 +69,8 @@ looks_first class x _ = false
 abbrev pub must_look : (class : ℕ) → (reference value : Expression) → Bool
 must_look class (Fetch x) e = if is_leaf e then false else not (looks_first class x e)
 must_look class _ e = not (is_leaf e)
+
+-- the owner of a set is this variable
+abbrev pub is_owner : Variable → Option Expression → Bool
+is_owner x None = false
+is_owner x (Some e) = is_fetch_of x e

@@ -10,7 +10,7 @@ use Rattle.ss_program.specs.declared.statement.CountedClass.{CountedClass}
 use Rattle.ss_program.specs.declared.sections.Subject.{Subject}
 use Rattle.ss_program.specs.declared.sections.Subject.TheVariants.{OfVariable, OfAttribute, OfCount}
 use Rattle.ss_program.specs.Program.{Expression, Constant, Fetch, Attribute, OfSystemSet, OfSet, OfMember, Clock, TimeOf, Figure, FigureOf, Signed, Absolute, Calculate, SetOwner, TheSystem, Entity, Test, Compare, DataEnded, Empty, Member, Condition, Head, Numbers, Members, Each, Start, AtEnd, From, After, Phrase, Guard, Place, ToVariable, ToAttribute, ToCount, Target, Position, ByDiscipline, AsFirst, AsLast, BeforeMember, AfterMember, When, At, In, Now, Restart, Item, AValue, AMean, AMeanOf, Statement, Let, Change, Call, Return, Stop, Read, Simulate, If, Loop, For, Find, Create, CreateEvery, Destroy, File, RemoveEnd, Remove, ScheduleNew, Schedule, Cancel, Reset, Print, Skip, Block, Done, Then, Routine, Event, Program}
-use Rattle.ss_code_instructions.specs.Facts.{watch, must_look, expression_of, may_fault, beside}
+use Rattle.ss_code_instructions.specs.Facts.{watch, must_look, is_owner, expression_of, may_fault, beside}
 
 -- one where something is so, and else none
 abbrev pub one_if : Bool → ℕ
@@ -111,12 +111,12 @@ module _ (p : Program) where
   noted_size (Global k) = one_if (watch p.statistics (OfVariable k))
   noted_size (Local k) = 0
 
-  -- with so many cells that may have to stay
+  -- where the entity or the owner takes so many cells
   abbrev pub attribute_size : (class field cells : ℕ) → ℕ
-  attribute_size class field cells = if watch p.statistics (OfAttribute class field) then 2 + one_if_some cells else 1
+  attribute_size class field cells = if watch p.statistics (OfAttribute class field) then 2 + cells else 1
 
   abbrev pub set_size : (set cells : ℕ) → ℕ
-  set_size set cells = if watch p.statistics (OfCount set) then 2 + one_if_some cells else 1
+  set_size set cells = if watch p.statistics (OfCount set) then 2 + cells else 1
 
   abbrev pub count_size : CountedClass → ℕ
   count_size c = 2 + noted_size (Global c.variable)
@@ -124,19 +124,19 @@ module _ (p : Program) where
   abbrev pub let_size : Place → Expression → ℕ
   let_size (ToVariable x) e = expression_size e + noted_size x
   let_size (ToAttribute class field r) e =
-      looked_size (must_look class r e) r + (operand_size e + attribute_size class field (operand_cells r + operand_cells e))
+      looked_size (must_look class r e) r + (operand_size e + attribute_size class field (operand_cells r))
   let_size (ToCount c) e = operand_size e + count_size c
 
   abbrev pub change_size : Place → Expression → ℕ
   change_size (ToVariable x) e = operand_size e + 1 + noted_size x
   change_size (ToAttribute class field r) e =
-      operand_size e + (operand_size r + attribute_size class field (operand_cells e + operand_cells r))
+      operand_size e + (operand_size r + attribute_size class field (operand_cells r))
   change_size (ToCount c) e = operand_size e + 1 + count_size c
 
   -- a place that takes what so many instructions leave
   abbrev pub to_place_size : Place → (source : ℕ) → ℕ
   to_place_size (ToVariable x) source = source + noted_size x
-  to_place_size (ToAttribute class field r) source = looked_size true r + (source + attribute_size class field (operand_cells r + 1))
+  to_place_size (ToAttribute class field r) source = looked_size true r + (source + attribute_size class field (operand_cells r))
   to_place_size (ToCount c) source = source + count_size c
 
   abbrev pub reads_size : List Target → ℕ
@@ -145,7 +145,7 @@ module _ (p : Program) where
 
   abbrev pub give_size : Place → ℕ
   give_size (ToVariable x) = 1 + noted_size x
-  give_size (ToAttribute class field r) = operand_size r + attribute_size class field (operand_cells r + 1)
+  give_size (ToAttribute class field r) = operand_size r + attribute_size class field (operand_cells r)
   give_size (ToCount c) = count_size c
 
   abbrev pub gives_size : List Place → ℕ
@@ -193,10 +193,10 @@ module _ (p : Program) where
   abbrev pub file_size : (set : ℕ) → Expression → (beside owner : Option Expression) → ℕ
   file_size set e y o =
       looked_size (if may_fault y then true else may_fault o) e + (beside_size (may_fault o) y + (any_size o
-      + set_size set (operand_cells e + any_cells y + any_cells o)))
+      + set_size set (any_cells o)))
 
   abbrev pub remove_size : (set : ℕ) → Expression → (owner : Option Expression) → ℕ
-  remove_size set e o = looked_size (may_fault o) e + (any_size o + set_size set (operand_cells e + any_cells o))
+  remove_size set e o = looked_size (may_fault o) e + (any_size o + set_size set (any_cells o))
 
   abbrev pub place_size : Place → ℕ
   place_size (ToVariable x) = 0
@@ -213,11 +213,17 @@ module _ (p : Program) where
   assign_size (ToAttribute class field r) = 1 + one_if (watch p.statistics (OfAttribute class field))
   assign_size (ToCount c) = count_size c
 
+  abbrev pub removed_in_cell_size : Place → (owner : Option Expression) → ℕ
+  removed_in_cell_size t o = place_size t + (any_size o + (2 + (assign_size t + one_if_some (place_cells t + any_cells o))))
+
+  abbrev pub removed_size : Place → (owner : Option Expression) → ℕ
+  removed_size (ToVariable x) o =
+      if is_owner x o then removed_in_cell_size (ToVariable x) o else any_size o + (2 + (noted_size x + one_if_some (any_cells o)))
+  removed_size (ToAttribute class field r) o = removed_in_cell_size (ToAttribute class field r) o
+  removed_size (ToCount c) o = removed_in_cell_size (ToCount c) o
+
   abbrev pub remove_end_size : (set : ℕ) → Place → (owner : Option Expression) → ℕ
-  remove_end_size set t o =
-      if watch p.statistics (OfCount set)
-      then place_size t + (any_size o + (2 + (assign_size t + one_if_some (place_cells t + any_cells o))))
-      else to_place_size t (any_size o + 1)
+  remove_end_size set t o = if watch p.statistics (OfCount set) then removed_size t o else to_place_size t (any_size o + 1)
 
   abbrev pub when_size : When → ℕ
   when_size (At e) = operand_size e + 1
@@ -235,7 +241,7 @@ module _ (p : Program) where
 
   abbrev pub schedule_new_size : (class : ℕ) → Place → List Expression → When → ℕ
   schedule_new_size class t given when =
-      place_size t + (values_size given + (when_size when + (1 + (name_size t + (given_size class 0 given + (1 + one_if_some (place_cells t)))))))
+      place_size t + (values_size given + (when_size when + (1 + (given_size class 0 given + (name_size t + (1 + one_if_some (place_cells t)))))))
 
   -- what so many notes take, where a reference stays for them in so many cells
   abbrev pub renewed_size : (notes cells : ℕ) → ℕ

@@ -28,7 +28,7 @@ use Rattle.ss_code_instructions.specs.Instructions as i
 use Rattle.ss_code_instructions.specs.Instructions.{Operand, Bearer, Filing, Instruction, Placed, ItemKind, Lines, EntryPoint}
 use Rattle.ss_code_instructions.specs.Instructions.{Target as To}
 use Rattle.ss_code_instructions.specs.Machine.{Code}
-use Rattle.ss_code_instructions.specs.Facts.{watch, must_look, expression_of, may_fault, beside}
+use Rattle.ss_code_instructions.specs.Facts.{watch, must_look, is_owner, expression_of, may_fault, beside}
 
 -- ## Where code is made
 
@@ -136,6 +136,13 @@ stay (i.Stays h) = i.Stays h
 stay (i.Constant v) = i.Constant v
 stay (i.Held x) = i.Held x
 
+-- whether an operand is taken from a cell
+abbrev pub is_cell : Operand → Bool
+is_cell (i.Taken h) = true
+is_cell (i.Stays h) = false
+is_cell (i.Constant v) = false
+is_cell (i.Held x) = false
+
 -- ## Expressions
 
 -- an operand with its code, and then an instruction that reads it
@@ -214,6 +221,10 @@ abbrev pub bearer_stays : Bearer → Bearer
 bearer_stays None = None
 bearer_stays (Some x) = Some (stay x)
 
+abbrev pub is_bearer_cell : Bearer → Bool
+is_bearer_cell None = false
+is_bearer_cell (Some x) = is_cell x
+
 -- an owner, and the instruction that reads it
 abbrev pub with_owner : Site → SetOwner → (Bearer → Instruction) → List Placed
 with_owner t o make = bearer_code t (expression_of o) ++ place (after_bearer t (expression_of o)) (make (bearer t (expression_of o))) ∷ []
@@ -277,12 +288,13 @@ abbrev pub count_code : (t u : Site) → CountedClass → Operand → List Place
 count_code t u c from =
     place u (i.LookCount c.class) ∷ (place u (i.Move from (i.Into (Global c.variable))) ∷ noted_code t (Global c.variable))
 
--- an attribute is set or changed by an instruction with two operands, at a site that leaves another one. Where a statistic watches it both stay
--- until that is noted
+-- an attribute is set or changed by an instruction with two operands, at a site that leaves another one. Where a statistic watches it that is noted.
+-- So an entity that is in a cell stays until then, and with it what may lie above it
 abbrev pub attribute_code : (t u : Site) → (class field : ℕ) → (make : Operand → Operand → Instruction) → (entity value : Operand) → List Placed
 attribute_code t u class field make x y =
     if is_watched t (OfAttribute class field)
-    then place u (make (stay x) (stay y)) ∷ (place u (i.NoteAttribute class field (stay x)) ∷ forget_to t u)
+    then (if is_cell x then place u (make (stay x) (stay y)) ∷ (place u (i.NoteAttribute class field (stay x)) ∷ forget_to t u)
+    else place u (make x y) ∷ (place t (i.NoteAttribute class field x) ∷ []))
     else place u (make x y) ∷ []
 
 -- LET: a reference is looked at where the value may fault, but where that begins with the same look
@@ -429,12 +441,13 @@ find_code t head ps found none =
 
 -- ## Sets
 
--- a set is changed by an instruction, at a site that leaves another one. Where a statistic watches how many members it has, what lies in cells stays
--- until that is noted
+-- a set is changed by an instruction, at a site that leaves another one. Where a statistic watches how many members it has, that is noted. So an
+-- owner that is in a cell stays until then, and with it what lies below it
 abbrev pub set_code : (t u : Site) → (set : ℕ) → (owner : Bearer) → (make : (Operand → Operand) → Instruction) → List Placed
 set_code t u set o make =
     if is_watched t (OfCount set)
-    then place u (make stay) ∷ (place u (i.NoteCount set (bearer_stays o)) ∷ forget_to t u)
+    then (if is_bearer_cell o then place u (make stay) ∷ (place u (i.NoteCount set (bearer_stays o)) ∷ forget_to t u)
+    else place u (make (λ x. x)) ∷ (place t (i.NoteCount set o) ∷ []))
     else place u (make (λ x. x)) ∷ []
 
 abbrev pub bearer_as : (Operand → Operand) → Bearer → Bearer
@@ -496,17 +509,31 @@ assign_code t u v (ToAttribute class field r) from =
     ∷ (if is_watched t (OfAttribute class field) then place v (i.NoteAttribute class field (stay (operand t r))) ∷ [] else [])
 assign_code t u v (ToCount c) from = count_code v u c from
 
+-- a member is removed from a set that a statistic watches: it lies in a cell until the number of members is noted
+abbrev pub removed_in_cell_code : Site → End → (set : ℕ) → Place → (owner : Option Expression) → List Placed
+removed_in_cell_code t end set p o =
+    let t1 : Site = after_place t p in
+    let t2 : Site = after_bearer t1 o in
+    let u : Site = above t2 Integer in
+    place_code t p ++ (bearer_code t1 o
+    ++ (place t2 (i.RemoveEnd end set (bearer_stays (bearer t1 o)) (next t2))
+    ∷ (place u (i.NoteCount set (bearer_stays (bearer t1 o))) ∷ (assign_code t u t2 p (i.Taken (height t2)) ++ forget_to t t2))))
+
+-- or it goes to its variable at once, unless that holds the owner
+abbrev pub removed_code : Site → End → (set : ℕ) → Place → (owner : Option Expression) → List Placed
+removed_code t end set (ToVariable x) o =
+    let u : Site = after_bearer t o in
+    if is_owner x o then removed_in_cell_code t end set (ToVariable x) o
+    else bearer_code t o ++ (place u (i.RemoveEnd end set (bearer_stays (bearer t o)) (i.Into x))
+    ∷ (place u (i.NoteCount set (bearer_stays (bearer t o))) ∷ (noted_code u x ++ forget_to t u)))
+removed_code t end set (ToAttribute class field r) o = removed_in_cell_code t end set (ToAttribute class field r) o
+removed_code t end set (ToCount c) o = removed_in_cell_code t end set (ToCount c) o
+
 -- REMOVE FIRST and REMOVE LAST
 abbrev pub remove_end_code : Site → End → (set : ℕ) → Place → SetOwner → List Placed
 remove_end_code t end set p o =
     let o : Option Expression = expression_of o in
-    let t1 : Site = after_place t p in
-    let t2 : Site = after_bearer t1 o in
-    let u : Site = above t2 Integer in
-    if is_watched t (OfCount set)
-    then place_code t p ++ (bearer_code t1 o
-    ++ (place t2 (i.RemoveEnd end set (bearer_stays (bearer t1 o)) (next t2))
-    ∷ (place u (i.NoteCount set (bearer_stays (bearer t1 o))) ∷ (assign_code t u t2 p (i.Taken (height t2)) ++ forget_to t t2))))
+    if is_watched t (OfCount set) then removed_code t end set p o
     else to_place_code t p Integer (λ t to. bearer_code t o ++ place (after_bearer t o) (i.RemoveEnd end set (bearer t o) to) ∷ [])
 
 -- ## Entities
@@ -554,7 +581,7 @@ name_code t u (ToVariable x) from = noted_code u x
 name_code t u (ToAttribute class field r) from = assign_code t u u (ToAttribute class field r) from
 name_code t u (ToCount c) from = assign_code t u u (ToCount c) from
 
--- SCHEDULE A: the place, the values, the time; the notice is made, assigned, noted and filed
+-- SCHEDULE A: the place, the values, the time; the notice is made, what it was given is noted, it is assigned, and filed
 abbrev pub schedule_new_code : Site → (class : ℕ) → Place → List Expression → When → List Placed
 schedule_new_code t class p given when =
     let t1 : Site = after_place t p in
@@ -564,7 +591,7 @@ schedule_new_code t class p given when =
     let x : Operand = notice_operand u p in
     place_code t p ++ (values_code t1 given ++ (when_code t2 when
     ++ (place (above t2 Integer) (i.MakeNotice class (height t1) (length given) (notice_target u p))
-    ∷ (name_code t v p (stay x) ++ (given_code v class 0 given (stay x)
+    ∷ (given_code v class 0 given (stay x) ++ (name_code t v p (stay x)
     ++ (place v (i.FileNotice class x (i.Taken (height t1))) ∷ forget_to t t1))))))
 
 -- a notice is filed again; where anything is noted of what it was given, it stays until then

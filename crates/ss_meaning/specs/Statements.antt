@@ -84,12 +84,12 @@ remove_end l end set owner w = outcome_then (look l (owner_value owner) w) (λ o
 abbrev pub note_given : Line → (class count : ℕ) → (x : Value) → Part (Unit {0})
 note_given l class count x = change l (noted_attributes class 0 count x)
 
--- the place, the values, the time, the notice with its attributes; it is written, and then filed among those that are pending
+-- the place, the values, the time, the notice with its attributes, which histories note; it is written, and then filed among those that are pending
 abbrev pub schedule_new : Line → (class : ℕ) → Place → List Expression → When → Part (Unit {0})
 schedule_new l class t given when w =
     outcome_then (look l (spot t) w) (λ p w. outcome_then (look l (values given) w) (λ vs w. outcome_then (look l (time_value when) w) (λ time w.
-    outcome_then (get l (made_notice class vs time) w) (λ x w. outcome_then (write l p x w) (λ _ w.
-    outcome_then (note_given l class (length given) x w) (λ _. change l (filed_notice class x time)))))))
+    outcome_then (get l (made_notice class vs time) w) (λ x w. outcome_then (note_given l class (length given) x w) (λ _ w.
+    outcome_then (write l p x w) (λ _. change l (filed_notice class x time)))))))
 
 -- the notice, the values, the time
 abbrev pub schedule : Line → (class : ℕ) → Expression → List Expression → When → Part (Unit {0})
