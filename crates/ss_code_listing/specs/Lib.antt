@@ -2,3 +2,4 @@ pub mod Words
 pub mod Operands
 pub mod Details
 pub mod Listing
+pub mod Examples

@@ -1,21 +1,21 @@
--- The text that shows a list of instructions.
-use Rattle.std.specs.Prelude.{ℕ, ◌+◌, List, [], ◌∷◌, ◌++◌, map, codes, decimal}
-use Rattle.ss_code_instructions.specs.Machine.{EntryPoint, Code}
-use Rattle.ss_code_instructions.specs.declared.instruction.Instruction.{Instruction}
-use Rattle.ss_code_listing.specs.declared.operand.Operand.{Operand}
-use Rattle.ss_code_listing.specs.declared.operand.Operand.TheVariants.{To}
+-- The text that shows the code of a program.
+use Rattle.std.specs.Prelude.{ℕ, zero, suc, ◌+◌, List, [], ◌∷◌, ◌++◌, codes, decimal}
+use Rattle.ss_base.specs.declared.line.Line.{Line}
+use Rattle.ss_code_instructions.specs.Instructions.{Placed}
+use Rattle.ss_code_instructions.specs.Machine.{Code}
 use Rattle.ss_code_listing.specs.Details.{padded, detail}
 
--- where the routine of an event begins
-abbrev pub event_place : EntryPoint → Operand
-event_place e = To e.place
+-- the line of an instruction; one that has no fault may have none
+abbrev pub line_number : ℕ → List ℕ
+line_number zero = []
+line_number (suc n) = decimal (suc n)
 
--- a line for each instruction, the first of them with this number: the number, a blank, and the instruction
-abbrev pub listed : List EntryPoint → (events : List Operand) → (place : ℕ) → List Instruction → List ℕ
-listed routines events place [] = []
-listed routines events place (instruction ∷ rest) =
-    padded 7 (decimal place) ++ (codes " " ++ (detail routines events place instruction ++ (codes "\n" ++ listed routines events (place + 1) rest)))
+-- a line for each place, the first of them with this number: the number, the line of the text, and the instruction
+abbrev pub listed : (place : ℕ) → List Placed → List ℕ
+listed place [] = []
+listed place (x ∷ rest) =
+    padded 8 (decimal place) ++ (padded 6 (line_number x.line.0) ++ (detail place x.instruction ++ (codes "\n" ++ listed (place + 1) rest)))
 
 -- the listing of a program's code
 abbrev pub listing_of : Code → List ℕ
-listing_of code = listed code.routines (map event_place code.events) 0 code.instructions
+listing_of code = listed 0 code.places

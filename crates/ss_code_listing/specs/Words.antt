@@ -16,10 +16,6 @@ use Rattle.ss_program.specs.declared.condition.Relation.{Relation}
 use Rattle.ss_program.specs.declared.condition.Relation.TheVariants as relations
 use Rattle.ss_program.specs.declared.statement.End.{End}
 use Rattle.ss_program.specs.declared.statement.End.TheVariants as ends
-use Rattle.ss_code_instructions.specs.declared.instruction.Filing.{Filing}
-use Rattle.ss_code_instructions.specs.declared.instruction.Filing.TheVariants as filings
-use Rattle.ss_code_listing.specs.declared.words.Word.{Word}
-use Rattle.ss_code_listing.specs.declared.words.Word.TheVariants as w
 
 -- what a word of input is read as
 abbrev pub mode_word : Mode → List ℕ
@@ -74,14 +70,6 @@ abbrev pub end_word : End → List ℕ
 end_word ends.First = codes "first"
 end_word ends.Last = codes "last"
 
--- where a member is filed
-abbrev pub filing_word : Filing → List ℕ
-filing_word filings.ByDiscipline = codes "by discipline"
-filing_word filings.First = codes "first"
-filing_word filings.Last = codes "last"
-filing_word filings.Before = codes "before"
-filing_word filings.After = codes "after"
-
 -- whether a test goes on where it doesn't hold
 abbrev pub negated_word : Bool → List ℕ
 negated_word false = codes "if so"
@@ -96,24 +84,3 @@ order_word true = codes "backwards"
 abbrev pub start_word : (after : Bool) → List ℕ
 start_word false = codes "from"
 start_word true = codes "after"
-
--- whether a value is a time, or how many units from now
-abbrev pub time_word : (later : Bool) → List ℕ
-time_word false = codes "at"
-time_word true = codes "in"
-
--- a word of an instruction
-abbrev pub word_text : Word → List ℕ
-word_text (w.Mode m) = mode_word m
-word_text (w.Operator op) = operator_word op
-word_text (w.Sign s) = sign_word s
-word_text (w.OfSet q) = set_word q
-word_text (w.OfMember q) = member_word q
-word_text (w.Fold f) = fold_word f
-word_text (w.Relation r) = relation_word r
-word_text (w.End e) = end_word e
-word_text (w.Filing f) = filing_word f
-word_text (w.Negated b) = negated_word b
-word_text (w.Order b) = order_word b
-word_text (w.Start b) = start_word b
-word_text (w.Time b) = time_word b
