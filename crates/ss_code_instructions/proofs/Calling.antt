@@ -23,7 +23,7 @@ use Rattle.ss_code_instructions.specs.Laws.{CallsAreLike, TicksAndCalls}
 use Rattle.ss_code_instructions.proofs.Moving.{Every, did_any, fit_any, if_every, high, block, number, value, values, bearer, position, three, walk}
 
 -- the open calls after an instruction, which takes a tick or not
-abbrev Calls : Bool → Core → Core → Type 0
+abbrev pub Calls : Bool → Core → Core → Type 0
 Calls due c d =
     (d.frames ≡ c.frames)
     ⊎ (((f : Frame) × (d.frames ≡ f ∷ c.frames) × (due ≡ true))
@@ -61,7 +61,7 @@ taking code h n c =
     did_any (Calls true c) n.ranked.said.line (event_begun n) _ (λ b. fit_any (Calls true c) (slice_get code.events b.rank) _ (λ e.
     high (Calls true c) h c.cells _ (entering e (AnEvent b.rank) b.given c.cells c b.store)))
 
-act_calls : (code : Code) (l : Line) (x : Instruction) (c : Core) → Every (Calls (is_due x) c) (act code l x c)
+pub act_calls : (code : Code) (l : Line) (x : Instruction) (c : Core) → Every (Calls (is_due x) c) (act code l x c)
 act_calls code l (i.Move from to) c = value (Calls false c) from c.store c.cells _ (λ v below. computes l to (Ok v) below c)
 act_calls code l (i.Calculate op left right to) c = values (Calls false c) left right c.store c.cells _ (λ x y below. computes l to (calculated op x y) below c)
 act_calls code l (i.Absolute x to) c = value (Calls false c) x c.store c.cells _ (λ x below. computes l to (absolute x) below c)

@@ -19,3 +19,4 @@ pub mod Pieces
 pub mod Holding
 pub mod Sizes
 pub mod Landing
+pub mod Bounding
