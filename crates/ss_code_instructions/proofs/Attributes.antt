@@ -1,5 +1,5 @@
 -- The code that assigns attributes.
-use Rattle.std.proofs.Common.{◌≡◌, ℕ, zero, suc, ◌+◌, ◌-◌, Bool, true, false, not, List, [], ◌∷◌, ◌++◌, length, Option, Some, None, Ok, Err, refl, sym, ap, ◌∙◌, subst, arith, length-append, ◌⊎◌, inl, inr}
+use Rattle.std.proofs.Common.{◌≡◌, ℕ, zero, suc, ◌+◌, ◌-◌, Bool, true, false, not, List, [], ◌∷◌, ◌++◌, length, Option, Some, None, Ok, Err, ℤ, refl, sym, ap, ◌∙◌, subst, arith, length-append, ◌⊎◌, inl, inr}
 use Rattle.std.proofs.lemmas.Bool.{ne_eqb, eqb-true, and_parts}
 use Rattle.std.specs.Prelude.{Result as OkOr, slice_get, ◌==◌, ◌&&◌, if◌then◌else◌}
 use Rattle.ss_base.specs.declared.fault.FaultKind.{FaultKind}
@@ -118,7 +118,7 @@ pub record Both (t : Site) (us : List Mode) (x y : Operand) (v z : Value) (s : S
   pub takes : (go : Value → Value → List Value → Moved) → with_values x y s cells0 go ≡ go v z cells
   pub keeps : (go : Value → Value → List Value → Moved) → with_values (stay x) (stay y) s cells0 go ≡ go v z cells0
   pub later : (u : Store) → u.globals ≡ s.globals → u.locals ≡ s.locals → (go : Value → List Value → Moved) → with_value (stay x) u cells0 go ≡ go v cells0
-  pub after : is_cell x ≡ false → (u : Store) → u.globals ≡ s.globals → u.locals ≡ s.locals → (go : Value → List Value → Moved) → with_value x u cells go ≡ go v cells
+  pub reads_on : is_cell x ≡ false → (u : Store) → u.globals ≡ s.globals → u.locals ≡ s.locals → (go : Value → List Value → Moved) → with_value x u cells go ≡ go v cells
   pub more : List Value
   pub lies : more ++ cells ≡ cells0
   pub count : length us - height t ≡ length more
@@ -142,7 +142,7 @@ both t r e v z s cells h p q = record {
       ∙ stay_reads (after t r) e z s (held (leaf r) v cells) (λ w above. with_value (stay (operand t r)) s above (λ v below. go v w below)) (held_height t r v cells h) q
       ∙ under_reads t r (leaf e) v z s s cells (λ v below. go v z below) h p refl refl;
   later = λ u g l go. under_reads t r (leaf e) v z s u cells go h p g l;
-  after = λ c u g l go. leaf_after t r v s u cells go c p g l;
+  reads_on = λ c u g l go. leaf_after t r v s u cells go c p g l;
   more = held (leaf e) z (held (leaf r) v []);
   lies = held_onto (leaf e) z (held (leaf r) v []) cells ∙ ap (held (leaf e) z) (held_onto (leaf r) v [] cells);
   count = count_held (leaf e) (leaf r) _ _ t.cells z v;
@@ -294,7 +294,7 @@ module _ (code : Code) (n : ℕ) where
           plainly (λ o w'. at (q + 2) cells frames w') (has.0, tt) (λ u e.
           let alike = only_ok (Alike w.store) (g v z w.store) u steady e in
           step_leads code (place t (i.NoteAttribute class field x)) (core_at (q + 1) cells frames u) (record w { store = u }) _ _ has.1.0 refl
-          (both.after cell u alike.0 alike.1 (λ x below. did t.line (noted_attribute class field x u) (λ k. onward below (core_at (q + 1) cells frames u) k)))
+          (both.reads_on cell u alike.0 alike.1 (λ x below. did t.line (noted_attribute class field x u) (λ k. onward below (core_at (q + 1) cells frames u) k)))
           (did_leads code t.line (noted_attribute class field v u) _ (record w { store = u }) (λ o w'. at (q + 2) cells frames w') frames settle (λ k e'.
           onwards (subst (λ j. Reaches code (at (q + 1 + 1) cells frames (record w { store = k })) (Comes (at j cells frames (record w { store = k })))) end here))))
       by true true watched cell has =
@@ -395,7 +395,7 @@ module _ (code : Code) (n : ℕ) where
   spot_then l class field e (Err Misfit) w = refl
   spot_then l class field e (Ok v) w = by (entity class v w.store)
     where
-      by : (m : OkOr _ Trouble) → outcome_then (looked l m w) (λ n w. outcome_then (look l (value e) w) (write l (InAttribute class field v))) ≡ outcome_then (looked l (turned (InAttribute class field) (turned (λ n. v) m)) w) (λ p w. outcome_then (look l (value e) w) (write l p))
+      by : (m : OkOr ℤ Trouble) → outcome_then (looked l m w) (λ n w. outcome_then (look l (value e) w) (write l (InAttribute class field v))) ≡ outcome_then (looked l (turned (InAttribute class field) (turned (λ n. v) m)) w) (λ p w. outcome_then (look l (value e) w) (write l p))
       by (Ok n) = refl
       by (Err (Fails kind)) = refl
       by (Err Misfit) = refl
@@ -412,7 +412,7 @@ module _ (code : Code) (n : ℕ) where
           (one_join code n t r (evaluates code n t r) rest (λ o w'. at (p + length (c ++ rest)) cells frames w') (let_part t.line class field e) p cells frames w high has in_ (λ v found has'.
           go v found (p + length c) (p + length (c ++ rest)) end has' (entity class v w.store) refl))
         where
-          go : (v : Value) → value r w.store ≡ Ok v → (j end : ℕ) → j + length (value_code t class field r e) ≡ end → HasAt code.places j (value_code t class field r e) → (m : OkOr _ Trouble) → entity class v w.store ≡ m → Reaches code (at j (held (leaf r) v cells) frames w) (arrive (λ o w'. at end cells frames w') frames (outcome_then (looked t.line m w) (λ n w. outcome_then (look t.line (value e) w) (write t.line (InAttribute class field v)))))
+          go : (v : Value) → value r w.store ≡ Ok v → (j end : ℕ) → j + length (value_code t class field r e) ≡ end → HasAt code.places j (value_code t class field r e) → (m : OkOr ℤ Trouble) → entity class v w.store ≡ m → Reaches code (at j (held (leaf r) v cells) frames w) (arrive (λ o w'. at end cells frames w') frames (outcome_then (looked t.line m w) (λ n w. outcome_then (look t.line (value e) w) (write t.line (InAttribute class field v)))))
           go v found j end len h (Ok n) known = valued t class field r e v j end cells frames w fits in_ high found len h
           go v found j end len h (Err Misfit) known = free
           go v found j end len h (Err (Fails kind)) known = by (unlooked class r e v w.store (Fails kind) q found known)

@@ -1,5 +1,5 @@
 -- A member, then an owner, then an instruction that works on both: the member is looked at before where the owner's evaluation may fault.
-use Rattle.std.proofs.Common.{◌≡◌, ℕ, ◌+◌, Bool, true, false, not, List, [], ◌∷◌, ◌++◌, length, Option, Some, None, Ok, Err, refl, sym, ap, ◌∙◌, subst, arith, length-append}
+use Rattle.std.proofs.Common.{◌≡◌, ℕ, ◌+◌, Bool, true, false, not, List, [], ◌∷◌, ◌++◌, length, Option, Some, None, Ok, Err, ℤ, refl, sym, ap, ◌∙◌, subst, arith, length-append}
 use Rattle.std.proofs.lemmas.Bool.{eq-eqb}
 use Rattle.std.specs.Prelude.{slice_get, ◌==◌, Result as OkOr, if◌then◌else◌}
 use Rattle.ss_base.specs.declared.fault.FaultKind.{FaultKind}
@@ -108,7 +108,7 @@ module _ (code : Code) (n : ℕ) where
           works v u on_top r found (q + length (bearer_code (after t e) y)) h'.0 (λ cells0 a. g (q + length (bearer_code (after t e) y)) cells0 a len)))
 
       -- after the member was evaluated, where it is not looked at before
-      unlooked : (v : Value) → value e w.store ≡ Ok v → may_fault y ≡ false → (m : OkOr _ Trouble) → member set v w.store ≡ m → HasAt code.places (p + length c) (bearer_code (after t e) y ++ last ∷ []) → ((j : ℕ) (cells0 : List Value) (a : A) → j + 1 ≡ p + length c + length (bearer_code (after t e) y) + 1 → Leads code w (next j cells0 frames w.store cells a) (arrive k frames (go a w))) → Reaches code (at (p + length c) (held (leaf e) v cells) frames w) (arrive k frames (outcome_then (looked t.line (turned (λ n. v) m) w) (λ v w. outcome_then (look t.line (owner_value o) w) (λ u w. outcome_then (look t.line (op v u) w) go))))
+      unlooked : (v : Value) → value e w.store ≡ Ok v → may_fault y ≡ false → (m : OkOr ℤ Trouble) → member set v w.store ≡ m → HasAt code.places (p + length c) (bearer_code (after t e) y ++ last ∷ []) → ((j : ℕ) (cells0 : List Value) (a : A) → j + 1 ≡ p + length c + length (bearer_code (after t e) y) + 1 → Leads code w (next j cells0 frames w.store cells a) (arrive k frames (go a w))) → Reaches code (at (p + length c) (held (leaf e) v cells) frames w) (arrive k frames (outcome_then (looked t.line (turned (λ n. v) m) w) (λ v w. outcome_then (look t.line (owner_value o) w) (λ u w. outcome_then (look t.line (op v u) w) go))))
       unlooked v r q (Ok x) z h g = owned v r (p + length c) _ refl h g
       unlooked v r q (Err Misfit) z h g = free
       unlooked v r q (Err (Fails kind)) z h g =
