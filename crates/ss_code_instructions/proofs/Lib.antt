@@ -15,6 +15,7 @@ pub mod Assigning
 pub mod Attributes
 pub mod Loops
 pub mod Looping
+pub mod Ranging
 pub mod Pieces
 pub mod Holding
 pub mod Sizes
