@@ -61,7 +61,7 @@ fetched_alike (Local k) s u g l = ap (λ vs. slice_get vs k) l
 
 -- ## Operands that stay
 
-stays_low : (x y : Operand) → lies_above (stay x) y ≡ false
+pub stays_low : (x y : Operand) → lies_above (stay x) y ≡ false
 stays_low (i.Constant v) y = refl
 stays_low (Held x) y = refl
 stays_low (Taken h) y = refl
@@ -104,7 +104,7 @@ under_reads t r o v z s u cells go h q g l = by (leaf r) refl
     by None e = ap (λ c. fit c (λ k. go k (held o z (v ∷ cells)))) (cell_below (height t) o z v cells h)
 
 -- an operand that is no cell gives its value when the others are taken off
-leaf_after : (t : Site) (r : Expression) (v : Value) (s u : Store) (cells : List Value) (go : Value → List Value → Moved) → is_cell (operand t r) ≡ false → value r s ≡ Ok v → u.globals ≡ s.globals → u.locals ≡ s.locals → with_value (operand t r) u cells go ≡ go v cells
+pub leaf_after : (t : Site) (r : Expression) (v : Value) (s u : Store) (cells : List Value) (go : Value → List Value → Moved) → is_cell (operand t r) ≡ false → value r s ≡ Ok v → u.globals ≡ s.globals → u.locals ≡ s.locals → with_value (operand t r) u cells go ≡ go v cells
 leaf_after t r v s u cells go c q g l = by (leaf r) refl c
   where
     by : (p : Option Operand) → leaf r ≡ p → is_cell (or_cell (height t) p) ≡ false → with_value (or_cell (height t) p) u cells go ≡ go v cells
@@ -123,11 +123,11 @@ pub record Both (t : Site) (us : List Mode) (x y : Operand) (v z : Value) (s : S
   pub lies : more ++ cells ≡ cells0
   pub count : length us - height t ≡ length more
 
-held_onto : (o : Option Operand) (v : Value) (a b : List Value) → held o v a ++ b ≡ held o v (a ++ b)
+pub held_onto : (o : Option Operand) (v : Value) (a b : List Value) → held o v a ++ b ≡ held o v (a ++ b)
 held_onto (Some x) v a b = refl
 held_onto None v a b = refl
 
-count_held : (o p : Option Operand) (m k : Mode) (ms : List Mode) (z v : Value) → length (or_in_cell o m (or_in_cell p k ms)) - length ms ≡ length (held o z (held p v []))
+pub count_held : (o p : Option Operand) (m k : Mode) (ms : List Mode) (z v : Value) → length (or_in_cell o m (or_in_cell p k ms)) - length ms ≡ length (held o z (held p v []))
 count_held (Some x) (Some y) m k ms z v = let e : length ms - length ms ≡ 0 = omega arith in e
 count_held (Some x) None m k ms z v = let e : suc (length ms) - length ms ≡ 1 = omega arith in e
 count_held None (Some y) m k ms z v = let e : suc (length ms) - length ms ≡ 1 = omega arith in e
@@ -171,7 +171,7 @@ fetch_value x (Signed sign e) v s q f = absurd cc
 fetch_value x (Absolute e) v s q f = absurd cc
 fetch_value x (Calculate op a b) v s q f = absurd cc
 
-err_first : {A B : Type 0} (r : OkOr A Trouble) (f : A → OkOr B Trouble) (t : Trouble) → r ≡ Err t → if_ok r f ≡ Err t
+pub err_first : {A B : Type 0} (r : OkOr A Trouble) (f : A → OkOr B Trouble) (t : Trouble) → r ≡ Err t → if_ok r f ≡ Err t
 err_first r f t e = ap (λ r. if_ok r f) e
 
 constant_value : (e : Expression) (s : Store) → is_constant e ≡ true → (c : Value) × (value e s ≡ Ok c)
@@ -252,13 +252,13 @@ unlooked class (Absolute r) e v s t q p h = inr (leaf_if e q)
 unlooked class (Calculate op a b) e v s t q p h = inr (leaf_if e q)
 
 -- a constant or a variable lies below no cell
-low_constant : (x : Operand) (c : Value) → lies_above x (i.Constant c) ≡ false
+pub low_constant : (x : Operand) (c : Value) → lies_above x (i.Constant c) ≡ false
 low_constant (i.Constant v) c = refl
 low_constant (Held y) c = refl
 low_constant (Taken h) c = refl
 low_constant (Stays h) c = refl
 
-low_held : (x : Operand) (y : Variable) → lies_above x (Held y) ≡ false
+pub low_held : (x : Operand) (y : Variable) → lies_above x (Held y) ≡ false
 low_held (i.Constant v) y = refl
 low_held (Held z) y = refl
 low_held (Taken h) y = refl

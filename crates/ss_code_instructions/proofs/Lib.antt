@@ -13,6 +13,7 @@ pub mod Conditions
 pub mod Noting
 pub mod Assigning
 pub mod Attributes
+pub mod Changing
 pub mod Loops
 pub mod Looping
 pub mod Ranging

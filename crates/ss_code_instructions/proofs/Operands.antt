@@ -82,7 +82,7 @@ sure_is None a e = absurd cc
 sure_is (Some b) a e = let q : b ≡ a = cc in ap Some q
 
 -- a constant and a variable are read as they are
-leaf_reads : (e : Expression) (x : Operand) (v : Value) (s : Store) → leaf e ≡ Some x → value e s ≡ Ok v → (cells : List Value) (go : Value → List Value → Moved) → with_value x s cells go ≡ go v cells
+pub leaf_reads : (e : Expression) (x : Operand) (v : Value) (s : Store) → leaf e ≡ Some x → value e s ≡ Ok v → (cells : List Value) (go : Value → List Value → Moved) → with_value x s cells go ≡ go v cells
 leaf_reads (Constant u) x v s q r cells go =
     let e : i.Constant u ≡ x = cc in
     let p : u ≡ v = cc in
