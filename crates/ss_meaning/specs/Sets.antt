@@ -199,12 +199,12 @@ abbrev pub begun_at : (reverse after : Bool) → (set : ℕ) → Value → Optio
 begun_at reverse after set x o s =
     if_ok (is_in set x o s) (λ b. unless_fault (not b) NotFiled (if_ok (number_of x) (λ n. from_or_after reverse after set n s)))
 
--- where a walk over members is: at a member, and the one that comes after it, which is fixed as the walk comes to the member; 0 is none
+-- where a walk over members is: at a member, and the one that comes after it, which is fixed as the walk gets to the member; 0 is none
 pub record Walk : Type 0 where
   pub member : ℤ
   pub next : ℤ
 
--- a walk comes to a member; at no member it is over
+-- a walk gets to a member; at no member it is over
 abbrev pub walk_to : (reverse : Bool) → (set : ℕ) → (x : ℤ) → Store → Result Walk Trouble
 walk_to reverse set x s =
     if is_none x then Ok (record { member = pos 0; next = pos 0 }) else turned (λ y. record { member = x; next = y }) (coming reverse set x s)
