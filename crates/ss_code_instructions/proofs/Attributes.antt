@@ -38,7 +38,7 @@ use Rattle.ss_code_instructions.proofs.Assigning.{changed_twice}
 
 -- ## Operations that leave the variables, and what the program says
 
-abbrev Alike : Store → Store → Type 0
+abbrev pub Alike : Store → Store → Type 0
 Alike s u = (u.globals ≡ s.globals) × (u.locals ≡ s.locals) × Same s u
 
 abbrev pub Steady : Store → OkOr Store Trouble → Type 0
@@ -68,7 +68,7 @@ stays_low (Taken h) y = refl
 stays_low (Stays h) y = refl
 
 -- a variable holds the same later
-leaf_later : (e : Expression) (x : Operand) (v : Value) (s u : Store) → leaf e ≡ Some x → value e s ≡ Ok v → u.globals ≡ s.globals → u.locals ≡ s.locals → (cells : List Value) (go : Value → List Value → Moved) → with_value (stay x) u cells go ≡ go v cells
+pub leaf_later : (e : Expression) (x : Operand) (v : Value) (s u : Store) → leaf e ≡ Some x → value e s ≡ Ok v → u.globals ≡ s.globals → u.locals ≡ s.locals → (cells : List Value) (go : Value → List Value → Moved) → with_value (stay x) u cells go ≡ go v cells
 leaf_later (Constant c) x v s u q r g l cells go =
     let e : i.Constant c ≡ x = cc in
     let p : c ≡ v = cc in

@@ -61,7 +61,7 @@ under_none (Absolute e) x y q = absurd cc
 under_none (Calculate op a b) x y q = absurd cc
 
 -- which of two operands is read first
-by_order : (k : Bool) (x y : Operand) (s : Store) (cs : List Value) (go : Value → Value → List Value → Moved) → lies_above x y ≡ k → with_values x y s cs go ≡ (if k then with_value x s cs (λ v above. with_value y s above (λ w below. go v w below)) else with_value y s cs (λ w above. with_value x s above (λ v below. go v w below)))
+pub by_order : (k : Bool) (x y : Operand) (s : Store) (cs : List Value) (go : Value → Value → List Value → Moved) → lies_above x y ≡ k → with_values x y s cs go ≡ (if k then with_value x s cs (λ v above. with_value y s above (λ w below. go v w below)) else with_value y s cs (λ w above. with_value x s above (λ v below. go v w below)))
 by_order k x y s cs go q =
     ap (λ (b : Bool). if b then with_value x s cs (λ v above. with_value y s above (λ w below. go v w below)) else with_value y s cs (λ w above. with_value x s above (λ v below. go v w below))) q
 

@@ -14,6 +14,7 @@ pub mod Noting
 pub mod Assigning
 pub mod Attributes
 pub mod Changing
+pub mod Receiving
 pub mod Loops
 pub mod Looping
 pub mod Ranging

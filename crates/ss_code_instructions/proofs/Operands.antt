@@ -115,7 +115,7 @@ less_not : (n : ℕ) → nat_lt (suc n) n ≡ false
 less_not zero = refl
 less_not (suc n) = less_not n
 
-not_above : (t : Site) (a b : Expression) → lies_above (operand t a) (operand (after t a) b) ≡ false
+pub not_above : (t : Site) (a b : Expression) → lies_above (operand t a) (operand (after t a) b) ≡ false
 not_above t a b = by (leaf a) refl (leaf b)
   where
     of_leaf : (e : Expression) (x : Operand) (y : Operand) → leaf e ≡ Some x → lies_above x y ≡ false
