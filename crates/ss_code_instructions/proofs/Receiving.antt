@@ -6,7 +6,7 @@ use Rattle.ss_base.specs.declared.layout.Mode.{Mode}
 use Rattle.ss_base.specs.declared.layout.Mode.TheVariants.{Integer}
 use Rattle.ss_base.specs.declared.value.Value.{Value}
 use Rattle.ss_world.specs.State.{created}
-use Rattle.ss_input.specs.Words.{value_given}
+use Rattle.ss_meaning.specs.Words.{value_given}
 use Rattle.ss_program.specs.declared.expression.Variable.{Variable}
 use Rattle.ss_program.specs.declared.statement.CountedClass.{CountedClass}
 use Rattle.ss_program.specs.Program.{Expression, Clock, Place, ToVariable, ToAttribute, ToCount, Target}
