@@ -12,7 +12,7 @@ use Rattle.ss_meaning.specs.Store.{Store, put, opened, yielded}
 use Rattle.ss_meaning.specs.Entities.{entity, attribute, time_of, made_one, made_all, without}
 use Rattle.ss_meaning.specs.Places.{noted_variable, put_attribute, noted_attribute, assignable_count}
 use Rattle.ss_meaning.specs.Sets.{member, known_owner, of_set, of_member, is_none, is_empty, is_in, put_in_set, taken_from_set, taken_at, noted_count, Walk, walk_begun, walk_begun_at, walk_on}
-use Rattle.ss_meaning.specs.Events.{clock, time_at, AtTime, Later, made_notice, filed_notice, rescheduled, unscheduled, Coming, next_event, event_begun}
+use Rattle.ss_meaning.specs.Events.{clock, time_at, AtTime, Later, made_notice, filed_notice, rescheduled, unscheduled, is_awaited}
 use Rattle.ss_meaning.specs.Statistics.{figure, mean, reset}
 use Rattle.ss_meaning.specs.Loops.{range_of, indices}
 use Rattle.ss_meaning.specs.Statements.{read_value}
@@ -25,6 +25,7 @@ use Rattle.ss_meaning.specs.Expressions.{unless}
 use Rattle.ss_code_instructions.specs.Running.{Underway, Lands, TicksAt, goes_back, start, after_one_step, steps}
 use Rattle.ss_code_instructions.specs.Laws.{AreSteps, StepsAreBounded}
 use Rattle.ss_code_instructions.specs.Translation.{place, code_of, main_code, main_scope, first_site, block_code, all_routines, all_events}
+use Rattle.ss_code_instructions.proofs.Landing.{jumps_land}
 use Rattle.ss_code_instructions.proofs.Calling.{Calls, act_calls}
 use Rattle.ss_code_instructions.proofs.Moving.{Every, did_any, fit_any, if_every, high, block, number, value, values, bearer, position, three, walk}
 
