@@ -15,6 +15,7 @@ pub mod Assigning
 pub mod Attributes
 pub mod Changing
 pub mod Receiving
+pub mod Letting
 pub mod Loops
 pub mod Looping
 pub mod Ranging
