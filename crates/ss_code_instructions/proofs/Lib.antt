@@ -16,6 +16,7 @@ pub mod Attributes
 pub mod Changing
 pub mod Receiving
 pub mod Letting
+pub mod Plain
 pub mod Loops
 pub mod Looping
 pub mod Ranging
