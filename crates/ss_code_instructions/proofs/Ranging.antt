@@ -23,7 +23,7 @@ use Rattle.ss_code_instructions.specs.States.{Frame, MachineState, Moved, To, St
 use Rattle.ss_code_instructions.specs.Machine.{Code, act, is_due, has_item, next_item}
 use Rattle.ss_code_instructions.specs.Translation.{Site, height, above, place, forget_to, noted_code, next, expression_code, number_loop, turns_code, step_code, range_code, for_code}
 use Rattle.ss_code_instructions.proofs.Keeping.{Only, Same, put_same}
-use Rattle.ss_code_instructions.proofs.Steps.{HasAt, has_front, has_back, Comes, Reaches, here, at, arrive, join}
+use Rattle.ss_code_instructions.proofs.Steps.{HasAt, has_front, has_back, Comes, Reaches, here, free, reaches_on, at, arrive, join}
 use Rattle.ss_code_instructions.proofs.Parts.{Within, within_on, Leads, onwards, ticked, did_leads, tick_run, at_the_height, Lands, Runs, same, done, put_on, seq, seq_look, alike, look_lands}
 use Rattle.ss_code_instructions.proofs.Parts.{above as above_cells}
 use Rattle.ss_code_instructions.proofs.Expressions.{value_runs}
@@ -247,3 +247,55 @@ indices_rise class s = by (is_permanent (class_at class s))
     by : (b : Bool) → Only Rises (where_fit b (Ok (record { first = pos 1; limit = pos (made_count class s); step = pos 1 })))
     by true = refl
     by false = tt
+
+-- ## The whole FOR
+
+module _ (code : Code) (n : ℕ) (t : Site) (x : Variable) (turn : List Placed) (m : Part Turn) (found : ℕ) (fits : Sited code t) (r : Lands code n (height (number_loop t)) same turn (leads found) done m) (one : length (forget_to t (number_loop t)) ≡ 1) where
+  abbrev turns : List Placed
+  turns = turns_code (number_loop t) (height t) x turn (i.Next (height t))
+
+  turns_long : length turns ≡ length (noted_code (number_loop t) x ++ turn) + 2
+  turns_long = omega (arith, length-append (noted_code (number_loop t) x) (turn ++ place (number_loop t) (i.Next (height t) (1 + length (noted_code (number_loop t) x) + length turn)) ∷ []), length-append turn (place (number_loop t) (i.Next (height t) (1 + length (noted_code (number_loop t) x) + length turn)) ∷ []), length-append (noted_code (number_loop t) x) turn)
+
+  -- the turns, from the range in its cells
+  after_begin : (b : Range) → Rises b → (p end : ℕ) (cells : List Value) (frames : List Frame) (w : World) → length cells ≡ height t → HasAt code.places p (turns ++ forget_to t (number_loop t)) → p + length turns ≡ end + 1 → HasAt code.places (end + found) (forget_to t (number_loop t)) → Within code n w → Reaches code (at (past (length turns) (has_item b.first b.limit) p) (hold_range b cells) frames w) (arrive (λ b w'. at (past_loop found b end) cells frames w') frames (over_items (visit t.line x m) (range_items (suc n) b) w))
+  after_begin b up p end cells frames w high has len found_has in_ =
+      let last : List Placed = place (number_loop t) (i.Next (height t) (1 + length (noted_code (number_loop t) x) + length turn)) ∷ [] in
+      let h0 = has_front code.places p turns (forget_to t (number_loop t)) has in
+      let h1 = subst (HasAt code.places (p + 1)) (sym (append_assoc (noted_code (number_loop t) x) turn last)) h0.1 in
+      let h2 = subst (λ j. HasAt code.places j (forget_to t (number_loop t))) len (has_back code.places p turns (forget_to t (number_loop t)) has) in
+      let size : p + 1 + length (noted_code (number_loop t) x ++ turn) ≡ end = omega (arith, len, turns_long) in
+      subst (λ k. Reaches code (at (past k (has_item b.first b.limit) p) (hold_range b cells) frames w) (arrive (λ b w'. at (past_loop found b end) cells frames w') frames (over_items (visit t.line x m) (range_items (suc n) b) w))) (sym turns_long)
+      (ranged_run code n t x turn m found fits r b up p end cells frames w high (h0.0, h1) size one h2 found_has in_)
+
+  join_rises : (l : Line) (f : Store → OkOr Range Trouble) → ((s : Store) → Only Rises (f s)) → (s : MachineState) (k : Range → World → MachineState) (k' : Bool → World → MachineState) (frames : List Frame) (w : World) (g : Range → Part Bool) → Reaches code s (arrive k frames (look l f w)) → ((b : Range) → Rises b → Reaches code (k b w) (arrive k' frames (g b w))) → Reaches code s (arrive k' frames (outcome_then (look l f w) g))
+  join_rises l f rises s k k' frames w g reach h = by (f w.store) (rises w.store) reach
+    where
+      by : (o : OkOr Range Trouble) → Only Rises o → Reaches code s (arrive k frames (looked l o w)) → Reaches code s (arrive k' frames (outcome_then (looked l o w) g))
+      by (Ok b) up reach = reaches_on reach (h b up)
+      by (Err (Fails kind)) up reach = reach
+      by (Err Misfit) up reach = free
+
+  pub each_run : (class p end : ℕ) (cells : List Value) (frames : List Frame) (w : World) → length cells ≡ height t → HasAt code.places p (for_code t (Each x class) turn) → p + length (for_code t (Each x class) turn) ≡ end + 2 → HasAt code.places (end + found) (forget_to t (number_loop t)) → Within code n w → Reaches code (at p cells frames w) (arrive (λ b w'. at (past_loop found b end) cells frames w') frames (over n t.line (Each x class) m w))
+  each_run class p end cells frames w high has len found_has in_ =
+      let size : p + 1 + length turns ≡ end + 1 = omega (arith, len, length-append turns (forget_to t (number_loop t)), one) in
+      join_rises t.line (indices class) (indices_rise class) (at p cells frames w) (λ (b : Range) w'. at (past (length turns) (has_item b.first b.limit) (p + 1)) (hold_range b cells) frames w') (λ b w'. at (past_loop found b end) cells frames w') frames w (λ b. over_items (visit t.line x m) (range_items (suc n) b))
+      ((class_lands code n t (length turns) class).by p cells frames w high (has.0, tt) in_)
+      (λ b up. after_begin b up (p + 1) end cells frames w high has.1 size found_has in_)
+
+  pub numbers_run : (a b : Expression) (c : Option Expression) (p end : ℕ) (cells : List Value) (frames : List Frame) (w : World) → length cells ≡ height t → HasAt code.places p (for_code t (Numbers x a b c) turn) → p + length (for_code t (Numbers x a b c) turn) ≡ end + 2 → HasAt code.places (end + found) (forget_to t (number_loop t)) → Within code n w → Reaches code (at p cells frames w) (arrive (λ b w'. at (past_loop found b end) cells frames w') frames (over n t.line (Numbers x a b c) m w))
+  numbers_run a b c p end cells frames w high has len found_has in_ =
+      let ca : List Placed = expression_code t (next t) a in
+      let cb : List Placed = expression_code (above t Integer) (next (above t Integer)) b in
+      let cc_ : List Placed = step_code (above (above t Integer) Integer) c in
+      let begin : Placed = place (number_loop t) (i.Begin (height t) (length turns)) in
+      let rest : List Placed = turns ++ forget_to t (number_loop t) in
+      let front : List Placed = ca ++ (cb ++ (cc_ ++ begin ∷ [])) in
+      let shape : (ca ++ (cb ++ cc_)) ++ (begin ∷ rest) ≡ front ++ rest =
+          append_assoc ca (cb ++ cc_) (begin ∷ rest) ∙ ap (λ k. ca ++ k) (append_assoc cb cc_ (begin ∷ rest) ∙ ap (λ k. cb ++ k) (sym (append_assoc cc_ (begin ∷ []) rest)) ∙ sym (append_assoc cb (cc_ ++ begin ∷ []) rest)) ∙ sym (append_assoc ca (cb ++ (cc_ ++ begin ∷ [])) rest) in
+      let h = subst (HasAt code.places p) shape has in
+      let long : length (for_code t (Numbers x a b c) turn) ≡ length front + length rest = ap length shape ∙ length-append front rest in
+      let size : p + length front + length turns ≡ end + 1 = omega (arith, len, long, length-append turns (forget_to t (number_loop t)), one) in
+      join_rises t.line (range a b c) (range_rises a b c) (at p cells frames w) (λ (b : Range) w'. at (past (length turns) (has_item b.first b.limit) (p + length front)) (hold_range b cells) frames w') (λ b w'. at (past_loop found b end) cells frames w') frames w (λ b. over_items (visit t.line x m) (range_items (suc n) b))
+      ((range_lands code n t (length turns) a b c).by p cells frames w high (has_front code.places p front rest h) in_)
+      (λ b up. after_begin b up (p + length front) end cells frames w high (has_back code.places p front rest h) size found_has in_)
