@@ -8,7 +8,7 @@ use Rattle.ss_program.specs.declared.expression.Sign.TheVariants.{Plus}
 use Rattle.ss_program.specs.declared.expression.Operator.TheVariants as operators
 use Rattle.ss_program.specs.declared.condition.Relation.TheVariants.{Less}
 use Rattle.ss_program.specs.declared.head.GuardKind.TheVariants as guards
-use Rattle.ss_program.specs.declared.sections.Subject.TheVariants.{OfVariable, OfAttribute, OfCount}
+use Rattle.ss_program.specs.declared.sections.Subject.TheVariants.{OfVariable, OfCount}
 use Rattle.ss_program.specs.declared.sections.Weighting.TheVariants.{Tally}
 use Rattle.ss_program.specs.declared.statement.End.TheVariants as ends
 use Rattle.ss_program.specs.Program.{Expression, Constant, Fetch, Attribute, Calculate, Compare, Numbers, Members, AtEnd, TheSystem, Entity, ToVariable, ToAttribute, ByDiscipline, At, Statement, Let, Change, Call, If, Loop, For, File, RemoveEnd, ScheduleNew, Simulate, Read, Routine, Program}
@@ -132,26 +132,26 @@ pub code_of_an_event : instructions an_event ≡
     ∷ i.Leave ∷ []
 code_of_an_event = refl
 
--- where statistics watch X, RANK and how many are in QUEUE, what is assigned is noted, and what that needs stays
+-- A statistic watches X, and one how many are in QUEUE. READ X, FOR X = 1 TO 3, FILE JOB IN QUEUE(Y), REMOVE THE FIRST X FROM QUEUE(RANK), SCHEDULE A BELL
+-- CALLED X AT 5: what X takes lies in a cell before; FILE and REMOVE are as without statistics
 abbrev watched : Program
 watched = record (workshop 1
     (Read (line 3) (record { place = ToVariable (Global 0); mode = Integer } ∷ [])
-    ∷ Let (line 4) (ToAttribute job 0 (Attribute job 0 (global job))) (num (pos 3))
+    ∷ For (line 4) (Numbers (Global 0) (num (pos 1)) (num (pos 3)) None) [] (block [])
     ∷ File (line 5) queue (global job) ByDiscipline (Entity (local 0))
-    ∷ RemoveEnd (line 6) ends.First queue (ToVariable (Global job)) (Entity (Attribute job 0 (global job)))
-    ∷ RemoveEnd (line 7) ends.Last queue (ToVariable (Global job)) (Entity (global job)) ∷ [])) {
-  statistics = record { subject = OfVariable 0; weighting = Tally } ∷ record { subject = OfAttribute job 0; weighting = Tally }
-      ∷ record { subject = OfCount queue; weighting = Tally } ∷ [];
+    ∷ RemoveEnd (line 6) ends.First queue (ToVariable (Global 0)) (Entity (Attribute job 0 (global job)))
+    ∷ ScheduleNew (line 7) bell (ToVariable (Global 0)) [] (At (num (pos 5))) ∷ [])) {
+  statistics = record { subject = OfVariable 0; weighting = Tally } ∷ record { subject = OfCount queue; weighting = Tally } ∷ [];
 }
 
 pub code_of_watched : instructions watched ≡
-    i.Read Integer (Into (Global 0)) ∷ i.NoteVariable 0
-    ∷ i.Attribute job 0 (Held (Global job)) (Onto 0) ∷ i.SetAttribute job 0 (Stays 0) (number (pos 3)) ∷ i.NoteAttribute job 0 (Stays 0) ∷ i.Forget 1
-    ∷ i.File Last queue (Held (Global job)) (Some (Held (Local 0))) ∷ i.NoteCount queue (Some (Held (Local 0)))
-    ∷ i.Attribute job 0 (Held (Global job)) (Onto 0) ∷ i.RemoveEnd ends.First queue (Some (Stays 0)) (Into (Global job))
-    ∷ i.NoteCount queue (Some (Stays 0)) ∷ i.Forget 1
-    ∷ i.RemoveEnd ends.Last queue (Some (Held (Global job))) (Onto 0) ∷ i.NoteCount queue (Some (Held (Global job)))
-    ∷ i.Move (Taken 0) (Into (Global job))
+    i.Read Integer (Onto 0) ∷ i.Keep (Taken 0) (Global 0)
+    ∷ i.Move (number (pos 1)) (Onto 0) ∷ i.Move (number (pos 3)) (Onto 1) ∷ i.Move (number (pos 1)) (Onto 2)
+    ∷ i.Begin 0 3 ∷ i.Turn ∷ i.Keep (Stays 0) (Global 0) ∷ i.Next 0 2 ∷ i.Forget 3
+    ∷ i.File Last queue (Held (Global job)) (Some (Held (Local 0)))
+    ∷ i.Attribute job 0 (Held (Global job)) (Onto 0) ∷ i.RemoveEnd ends.First queue (Some (Taken 0)) (Onto 0) ∷ i.Keep (Taken 0) (Global 0)
+    ∷ i.At (number (pos 5)) (Onto 0) ∷ i.MakeNotice bell 0 0 (Onto 1) ∷ i.Keep (Taken 1) (Global 0)
+    ∷ i.FileNotice bell (Held (Global 0)) (Taken 0)
     ∷ i.Leave
     ∷ i.Leave ∷ []
 code_of_watched = refl

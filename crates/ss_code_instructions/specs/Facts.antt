@@ -3,6 +3,7 @@ use Rattle.std.specs.Prelude.{ℕ, ◌==◌, Bool, true, false, not, ◌&&◌, L
 use Rattle.ss_program.specs.declared.expression.Variable.{Variable}
 use Rattle.ss_program.specs.declared.expression.Variable.TheVariants.{Global, Local}
 use Rattle.ss_program.specs.declared.sections.Subject.{Subject}
+use Rattle.ss_program.specs.declared.sections.Subject.TheVariants.{OfVariable}
 use Rattle.ss_program.specs.declared.sections.Statistic.{Statistic}
 use Rattle.ss_program.specs.Program.{Expression, Constant, Fetch, Attribute, OfSet, OfMember, TimeOf, FigureOf, Signed, Absolute, Calculate, SetOwner, TheSystem, Entity, Position, ByDiscipline, AsFirst, AsLast, BeforeMember, AfterMember}
 use Rattle.ss_meaning.specs.Histories.{same_subject}
@@ -11,6 +12,11 @@ use Rattle.ss_meaning.specs.Histories.{same_subject}
 abbrev pub watch : List Statistic → Subject → Bool
 watch [] subject = false
 watch (s ∷ ss) subject = if same_subject s.subject subject then true else watch ss subject
+
+-- the statistics watch a variable; none watches a local one
+abbrev pub is_watched : List Statistic → Variable → Bool
+is_watched ss (Global k) = watch ss (OfVariable k)
+is_watched ss (Local k) = false
 
 -- a constant and a variable are operands as they are; their evaluation has no fault
 abbrev pub is_leaf : Expression → Bool
@@ -69,8 +75,3 @@ looks_first class x _ = false
 abbrev pub must_look : (class : ℕ) → (reference value : Expression) → Bool
 must_look class (Fetch x) e = if is_leaf e then false else not (looks_first class x e)
 must_look class _ e = not (is_leaf e)
-
--- the owner of a set is this variable
-abbrev pub is_owner : Variable → Option Expression → Bool
-is_owner x None = false
-is_owner x (Some e) = is_fetch_of x e

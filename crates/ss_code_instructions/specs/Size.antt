@@ -7,10 +7,8 @@ use Rattle.ss_program.specs.declared.head.GuardKind.TheVariants as guards
 use Rattle.ss_program.specs.declared.head.PhraseKind.{PhraseKind}
 use Rattle.ss_program.specs.declared.head.PhraseKind.TheVariants as kinds
 use Rattle.ss_program.specs.declared.statement.CountedClass.{CountedClass}
-use Rattle.ss_program.specs.declared.sections.Subject.{Subject}
-use Rattle.ss_program.specs.declared.sections.Subject.TheVariants.{OfVariable, OfAttribute, OfCount}
 use Rattle.ss_program.specs.Program.{Expression, Constant, Fetch, Attribute, OfSystemSet, OfSet, OfMember, Clock, TimeOf, Figure, FigureOf, Signed, Absolute, Calculate, SetOwner, TheSystem, Entity, Test, Compare, DataEnded, Empty, Member, Condition, Head, Numbers, Members, Each, Start, AtEnd, From, After, Phrase, Guard, Place, ToVariable, ToAttribute, ToCount, Target, Position, ByDiscipline, AsFirst, AsLast, BeforeMember, AfterMember, When, At, In, Now, Restart, Item, AValue, AMean, AMeanOf, Statement, Let, Change, Call, Return, Stop, Read, Simulate, If, Loop, For, Find, Create, CreateEvery, Destroy, File, RemoveEnd, Remove, ScheduleNew, Schedule, Cancel, Reset, Print, Skip, Block, Done, Then, Routine, Event, Program}
-use Rattle.ss_code_instructions.specs.Facts.{watch, must_look, is_owner, expression_of, may_fault, beside}
+use Rattle.ss_code_instructions.specs.Facts.{is_watched, must_look, expression_of, may_fault, beside}
 
 -- one where something is so, and else none
 abbrev pub one_if : Bool → ℕ
@@ -61,10 +59,6 @@ abbrev pub any_size : Option Expression → ℕ
 any_size None = 0
 any_size (Some e) = operand_size e
 
-abbrev pub any_cells : Option Expression → ℕ
-any_cells None = 0
-any_cells (Some e) = operand_cells e
-
 -- ## Conditions
 
 abbrev pub test_size : Test → ℕ
@@ -104,49 +98,36 @@ abbrev pub phrases_size : List Phrase → (turn : ℕ) → ℕ
 phrases_size [] turn = turn
 phrases_size (x ∷ xs) turn = phrase_size x.kind x.condition + phrases_size xs turn
 
--- ## Assignments: a statistic that watches what is assigned takes an instruction, and what stayed for it another one
+-- ## Assignments: a variable that a statistic watches takes an instruction more
 
 module _ (p : Program) where
-  abbrev pub noted_size : Variable → ℕ
-  noted_size (Global k) = one_if (watch p.statistics (OfVariable k))
-  noted_size (Local k) = 0
-
-  -- where the entity or the owner takes so many cells
-  abbrev pub attribute_size : (class field cells : ℕ) → ℕ
-  attribute_size class field cells = if watch p.statistics (OfAttribute class field) then 2 + cells else 1
-
-  abbrev pub set_size : (set cells : ℕ) → ℕ
-  set_size set cells = if watch p.statistics (OfCount set) then 2 + cells else 1
-
-  abbrev pub count_size : CountedClass → ℕ
-  count_size c = 2 + noted_size (Global c.variable)
+  abbrev pub kept_size : Variable → ℕ
+  kept_size x = one_if (is_watched p.statistics x)
 
   abbrev pub let_size : Place → Expression → ℕ
-  let_size (ToVariable x) e = expression_size e + noted_size x
-  let_size (ToAttribute class field r) e =
-      looked_size (must_look class r e) r + (operand_size e + attribute_size class field (operand_cells r))
-  let_size (ToCount c) e = operand_size e + count_size c
+  let_size (ToVariable x) e = expression_size e + kept_size x
+  let_size (ToAttribute class field r) e = looked_size (must_look class r e) r + (operand_size e + 1)
+  let_size (ToCount c) e = operand_size e + 2
 
   abbrev pub change_size : Place → Expression → ℕ
-  change_size (ToVariable x) e = operand_size e + 1 + noted_size x
-  change_size (ToAttribute class field r) e =
-      operand_size e + (operand_size r + attribute_size class field (operand_cells r))
-  change_size (ToCount c) e = operand_size e + 1 + count_size c
+  change_size (ToVariable x) e = operand_size e + 1 + kept_size x
+  change_size (ToAttribute class field r) e = operand_size e + (operand_size r + 1)
+  change_size (ToCount c) e = operand_size e + 1 + 2
 
   -- a place that takes what so many instructions leave
   abbrev pub to_place_size : Place → (source : ℕ) → ℕ
-  to_place_size (ToVariable x) source = source + noted_size x
-  to_place_size (ToAttribute class field r) source = looked_size true r + (source + attribute_size class field (operand_cells r))
-  to_place_size (ToCount c) source = source + count_size c
+  to_place_size (ToVariable x) source = source + kept_size x
+  to_place_size (ToAttribute class field r) source = looked_size true r + (source + 1)
+  to_place_size (ToCount c) source = source + 2
 
   abbrev pub reads_size : List Target → ℕ
   reads_size [] = 0
   reads_size (t ∷ ts) = to_place_size t.place 1 + reads_size ts
 
   abbrev pub give_size : Place → ℕ
-  give_size (ToVariable x) = 1 + noted_size x
-  give_size (ToAttribute class field r) = operand_size r + attribute_size class field (operand_cells r)
-  give_size (ToCount c) = count_size c
+  give_size (ToVariable x) = 1
+  give_size (ToAttribute class field r) = operand_size r + 1
+  give_size (ToCount c) = 2
 
   abbrev pub gives_size : List Place → ℕ
   gives_size [] = 0
@@ -155,7 +136,7 @@ module _ (p : Program) where
   -- ## Loops
 
   abbrev pub turns_size : Variable → (turn : ℕ) → ℕ
-  turns_size x turn = 1 + (noted_size x + (turn + 1))
+  turns_size x turn = 1 + kept_size x + (turn + 1)
 
   abbrev pub step_size : Option Expression → ℕ
   step_size None = 1
@@ -190,67 +171,36 @@ module _ (p : Program) where
   beside_size looked None = 0
   beside_size looked (Some e) = looked_size looked e
 
-  abbrev pub file_size : (set : ℕ) → Expression → (beside owner : Option Expression) → ℕ
-  file_size set e y o =
-      looked_size (if may_fault y then true else may_fault o) e + (beside_size (may_fault o) y + (any_size o
-      + set_size set (any_cells o)))
+  abbrev pub file_size : Expression → (beside owner : Option Expression) → ℕ
+  file_size e y o = looked_size (if may_fault y then true else may_fault o) e + (beside_size (may_fault o) y + (any_size o + 1))
 
-  abbrev pub remove_size : (set : ℕ) → Expression → (owner : Option Expression) → ℕ
-  remove_size set e o = looked_size (may_fault o) e + (any_size o + set_size set (any_cells o))
+  abbrev pub remove_size : Expression → (owner : Option Expression) → ℕ
+  remove_size e o = looked_size (may_fault o) e + (any_size o + 1)
 
-  abbrev pub place_size : Place → ℕ
-  place_size (ToVariable x) = 0
-  place_size (ToAttribute class field r) = looked_size true r
-  place_size (ToCount c) = 0
-
-  abbrev pub place_cells : Place → ℕ
-  place_cells (ToVariable x) = 0
-  place_cells (ToAttribute class field r) = operand_cells r
-  place_cells (ToCount c) = 0
-
-  abbrev pub assign_size : Place → ℕ
-  assign_size (ToVariable x) = 1 + noted_size x
-  assign_size (ToAttribute class field r) = 1 + one_if (watch p.statistics (OfAttribute class field))
-  assign_size (ToCount c) = count_size c
-
-  abbrev pub removed_in_cell_size : Place → (owner : Option Expression) → ℕ
-  removed_in_cell_size t o = place_size t + (any_size o + (2 + (assign_size t + one_if_some (place_cells t + any_cells o))))
-
-  abbrev pub removed_size : Place → (owner : Option Expression) → ℕ
-  removed_size (ToVariable x) o =
-      if is_owner x o then removed_in_cell_size (ToVariable x) o else any_size o + (2 + (noted_size x + one_if_some (any_cells o)))
-  removed_size (ToAttribute class field r) o = removed_in_cell_size (ToAttribute class field r) o
-  removed_size (ToCount c) o = removed_in_cell_size (ToCount c) o
-
-  abbrev pub remove_end_size : (set : ℕ) → Place → (owner : Option Expression) → ℕ
-  remove_end_size set t o = if watch p.statistics (OfCount set) then removed_size t o else to_place_size t (any_size o + 1)
+  abbrev pub remove_end_size : Place → (owner : Option Expression) → ℕ
+  remove_end_size t o = to_place_size t (any_size o + 1)
 
   abbrev pub when_size : When → ℕ
   when_size (At e) = operand_size e + 1
   when_size (In e) = operand_size e + 1
   when_size Now = 1
 
-  abbrev pub given_size : (class field : ℕ) → List Expression → ℕ
-  given_size class field [] = 0
-  given_size class field (e ∷ es) = one_if (watch p.statistics (OfAttribute class field)) + given_size class (field + 1) es
+  abbrev pub place_size : Place → ℕ
+  place_size (ToVariable x) = 0
+  place_size (ToAttribute class field r) = looked_size true r
+  place_size (ToCount c) = 0
 
-  abbrev pub name_size : Place → ℕ
-  name_size (ToVariable x) = noted_size x
-  name_size (ToAttribute class field r) = assign_size (ToAttribute class field r)
-  name_size (ToCount c) = assign_size (ToCount c)
+  -- a notice is made, assigned, and filed; a reference in a cell is forgotten
+  abbrev pub notice_size : Place → ℕ
+  notice_size (ToVariable x) = 1 + kept_size x + 1
+  notice_size (ToAttribute class field r) = 3 + operand_cells r
+  notice_size (ToCount c) = 1 + (2 + 1)
 
-  abbrev pub schedule_new_size : (class : ℕ) → Place → List Expression → When → ℕ
-  schedule_new_size class t given when =
-      place_size t + (values_size given + (when_size when + (1 + (given_size class 0 given + (name_size t + (1 + one_if_some (place_cells t)))))))
+  abbrev pub schedule_new_size : Place → List Expression → When → ℕ
+  schedule_new_size t given when = place_size t + (values_size given + (when_size when + notice_size t))
 
-  -- what so many notes take, where a reference stays for them in so many cells
-  abbrev pub renewed_size : (notes cells : ℕ) → ℕ
-  renewed_size zero cells = 1
-  renewed_size (suc n) cells = 1 + (suc n + one_if_some cells)
-
-  abbrev pub schedule_size : (class : ℕ) → Expression → List Expression → When → ℕ
-  schedule_size class e given when =
-      looked_size true e + (values_size given + (when_size when + renewed_size (given_size class 0 given) (operand_cells e)))
+  abbrev pub schedule_size : Expression → List Expression → When → ℕ
+  schedule_size e given when = looked_size true e + (values_size given + (when_size when + 1))
 
   abbrev pub restarts_size : List Restart → ℕ
   restarts_size [] = 0
@@ -300,10 +250,6 @@ module _ (p : Program) where
   -- each section ends with a return
   abbrev pub section_size : Block → ℕ
   section_size body = block_size body + 1
-
-  abbrev pub saved_size : Option ℕ → ℕ
-  saved_size None = 0
-  saved_size (Some k) = noted_size (Global k)
 
   abbrev pub routines_size : List Routine → ℕ
   routines_size [] = 0

@@ -18,8 +18,6 @@ use Rattle.ss_program.specs.declared.head.PhraseKind.{PhraseKind}
 use Rattle.ss_program.specs.declared.head.PhraseKind.TheVariants as kinds
 use Rattle.ss_program.specs.declared.statement.End.{End}
 use Rattle.ss_program.specs.declared.statement.CountedClass.{CountedClass}
-use Rattle.ss_program.specs.declared.sections.Subject.{Subject}
-use Rattle.ss_program.specs.declared.sections.Subject.TheVariants.{OfVariable, OfAttribute, OfCount}
 use Rattle.ss_program.specs.Program.{Expression, Constant, Fetch, Attribute, OfSystemSet, OfSet, OfMember, Clock, TimeOf, Figure, FigureOf, Signed, Absolute, Calculate, SetOwner, TheSystem, Entity, Test, Compare, DataEnded, Empty, Member, Condition, Head, Numbers, Members, Each, Start, AtEnd, From, After, Phrase, Guard, Place, ToVariable, ToAttribute, ToCount, Target, Position, ByDiscipline, AsFirst, AsLast, BeforeMember, AfterMember, When, At, In, Now, Restart, Item, AValue, AMean, AMeanOf, Statement, Let, Change, Call, Return, Stop, Read, Simulate, If, Loop, For, Find, Create, CreateEvery, Destroy, File, RemoveEnd, Remove, ScheduleNew, Schedule, Cancel, Reset, Print, Skip, Block, Done, Then, Routine, Event, Program}
 use Rattle.ss_program.specs.WellTyped.{Scope, mode_at, field_mode}
 use Rattle.ss_meaning.specs.Values.{operator_of}
@@ -28,7 +26,7 @@ use Rattle.ss_code_instructions.specs.Instructions as i
 use Rattle.ss_code_instructions.specs.Instructions.{Operand, Bearer, Filing, Instruction, Placed, ItemKind, Lines, EntryPoint}
 use Rattle.ss_code_instructions.specs.Instructions.{Target as To}
 use Rattle.ss_code_instructions.specs.Machine.{Code}
-use Rattle.ss_code_instructions.specs.Facts.{watch, must_look, is_owner, expression_of, may_fault, beside}
+use Rattle.ss_code_instructions.specs.Facts.{is_watched, must_look, expression_of, may_fault, beside}
 
 -- ## Where code is made
 
@@ -70,8 +68,9 @@ forget_to t u = forget u (height u - height t)
 
 -- ## What the preamble says
 
-abbrev pub is_watched : Site → Subject → Bool
-is_watched t subject = watch t.scope.program.statistics subject
+-- a statistic watches a variable
+abbrev pub is_kept : Site → Variable → Bool
+is_kept t x = is_watched t.scope.program.statistics x
 
 -- where the discipline of a set files a member
 abbrev pub filing_by : Option Discipline → Filing
@@ -135,13 +134,6 @@ stay (i.Taken h) = i.Stays h
 stay (i.Stays h) = i.Stays h
 stay (i.Constant v) = i.Constant v
 stay (i.Held x) = i.Held x
-
--- whether an operand is taken from a cell
-abbrev pub is_cell : Operand → Bool
-is_cell (i.Taken h) = true
-is_cell (i.Stays h) = false
-is_cell (i.Constant v) = false
-is_cell (i.Held x) = false
 
 -- ## Expressions
 
@@ -217,14 +209,6 @@ bearer_cells t (Some e) = operand_cells t e
 abbrev pub after_bearer : Site → Option Expression → Site
 after_bearer t o = with_cells t (bearer_cells t o)
 
-abbrev pub bearer_stays : Bearer → Bearer
-bearer_stays None = None
-bearer_stays (Some x) = Some (stay x)
-
-abbrev pub is_bearer_cell : Bearer → Bool
-is_bearer_cell None = false
-is_bearer_cell (Some x) = is_cell x
-
 -- an owner, and the instruction that reads it
 abbrev pub with_owner : Site → SetOwner → (Bearer → Instruction) → List Placed
 with_owner t o make = bearer_code t (expression_of o) ++ place (after_bearer t (expression_of o)) (make (bearer t (expression_of o))) ∷ []
@@ -276,52 +260,45 @@ loop_code t gs body =
     guards_code t (length body + length (guards_code t 1 gs) + 2) gs
     ++ (place t i.Turn ∷ (body ++ (guards_code t 1 gs ++ (place t (i.Repeat (length body + length (guards_code t 1 gs) + 1)) ∷ []))))
 
--- ## Assignments
+-- ## Assignments: a plain variable is a target; one that a statistic watches takes its value by a Keep
 
--- a variable was assigned: where a statistic watches it, that is noted
-abbrev pub noted_code : Site → Variable → List Placed
-noted_code t (Global k) = if is_watched t (OfVariable k) then place t (i.NoteVariable k) ∷ [] else []
-noted_code t (Local k) = []
+-- a variable takes the value that some code leaves at a target
+abbrev pub variable_code : Site → Variable → (source : To → List Placed) → List Placed
+variable_code t x source =
+    if is_kept t x then source (next t) ++ place (above t Integer) (i.Keep (i.Taken (height t)) x) ∷ [] else source (i.Into x)
 
--- N. of a permanent class is assigned an operand, at a site that leaves another one
-abbrev pub count_code : (t u : Site) → CountedClass → Operand → List Placed
-count_code t u c from =
-    place u (i.LookCount c.class) ∷ (place u (i.Move from (i.Into (Global c.variable))) ∷ noted_code t (Global c.variable))
+-- a variable takes an operand
+abbrev pub assignment : Site → Variable → Operand → Instruction
+assignment t x from = if is_kept t x then i.Keep from x else i.Move from (i.Into x)
 
--- an attribute is set or changed by an instruction with two operands, at a site that leaves another one. Where a statistic watches it that is noted.
--- So an entity that is in a cell stays until then, and with it what may lie above it
-abbrev pub attribute_code : (t u : Site) → (class field : ℕ) → (make : Operand → Operand → Instruction) → (entity value : Operand) → List Placed
-attribute_code t u class field make x y =
-    if is_watched t (OfAttribute class field)
-    then (if is_cell x then place u (make (stay x) (stay y)) ∷ (place u (i.NoteAttribute class field (stay x)) ∷ forget_to t u)
-    else place u (make x y) ∷ (place t (i.NoteAttribute class field x) ∷ []))
-    else place u (make x y) ∷ []
+-- N. of a permanent class takes an operand
+abbrev pub count_code : Site → CountedClass → Operand → List Placed
+count_code t c from = place t (i.LookCount c.class) ∷ (place t (assignment t (Global c.variable) from) ∷ [])
 
 -- LET: a reference is looked at where the value may fault, but where that begins with the same look
 abbrev pub let_code : Site → Place → Expression → List Placed
-let_code t (ToVariable x) e = expression_code t (i.Into x) e ++ noted_code t x
+let_code t (ToVariable x) e = variable_code t x (λ to. expression_code t to e)
 let_code t (ToAttribute class field r) e =
-    entity_code t (must_look class r e) class r ++ (operand_code (after t r) e
-    ++ attribute_code t (after (after t r) e) class field (i.SetAttribute class field) (operand t r) (operand (after t r) e))
-let_code t (ToCount c) e = operand_code t e ++ count_code t (after t e) c (operand t e)
+    entity_code t (must_look class r e) class r ++ with_operand (after t r) e (i.SetAttribute class field (operand t r))
+let_code t (ToCount c) e = operand_code t e ++ count_code (after t e) c (operand t e)
 
 -- ADD and SUBTRACT: the value comes first
 abbrev pub change_code : Site → Sign → Place → Expression → List Placed
-change_code t sign (ToVariable x) e = with_operand t e (λ y. i.Calculate (operator_of sign) (i.Held x) y (i.Into x)) ++ noted_code t x
+change_code t sign (ToVariable x) e =
+    variable_code t x (λ to. with_operand t e (λ y. i.Calculate (operator_of sign) (i.Held x) y to))
 change_code t sign (ToAttribute class field r) e =
-    operand_code t e ++ (operand_code (after t e) r
-    ++ attribute_code t (after (after t e) r) class field (i.ChangeAttribute sign class field) (operand (after t e) r) (operand t e))
+    operand_code t e ++ with_operand (after t e) r (λ x. i.ChangeAttribute sign class field x (operand t e))
 change_code t sign (ToCount c) e =
     with_operand t e (λ y. i.Calculate (operator_of sign) (i.Held (Global c.variable)) y (next t))
-    ++ count_code t (above t Integer) c (i.Taken (height t))
+    ++ count_code (above t Integer) c (i.Taken (height t))
 
 -- a place takes the value that some code leaves at a target; its reference is looked at before
 abbrev pub to_place_code : Site → Place → Mode → (source : Site → To → List Placed) → List Placed
-to_place_code t (ToVariable x) m source = source t (i.Into x) ++ noted_code t x
+to_place_code t (ToVariable x) m source = variable_code t x (source t)
 to_place_code t (ToAttribute class field r) m source =
     entity_code t true class r ++ (source (after t r) (next (after t r))
-    ++ attribute_code t (above (after t r) m) class field (i.SetAttribute class field) (operand t r) (i.Taken (height (after t r))))
-to_place_code t (ToCount c) m source = source t (next t) ++ count_code t (above t m) c (i.Taken (height t))
+    ++ place (above (after t r) m) (i.SetAttribute class field (operand t r) (i.Taken (height (after t r)))) ∷ [])
+to_place_code t (ToCount c) m source = source t (next t) ++ count_code (above t m) c (i.Taken (height t))
 
 abbrev pub reads_code : Site → List Target → List Placed
 reads_code t [] = []
@@ -337,12 +314,10 @@ with_results t ps = with_cells t (results_cells t ps)
 
 -- a place takes the value in the topmost cell
 abbrev pub give_code : (t : Site) → Place → List Placed
-give_code t (ToVariable x) =
-    place (above t (place_mode t.scope (ToVariable x))) (i.Move (i.Taken (height t)) (i.Into x)) ∷ noted_code t x
+give_code t (ToVariable x) = place (above t (place_mode t.scope (ToVariable x))) (assignment t x (i.Taken (height t))) ∷ []
 give_code t (ToAttribute class field r) =
-    let u : Site = above t (place_mode t.scope (ToAttribute class field r)) in
-    operand_code u r ++ attribute_code t (after u r) class field (i.SetAttribute class field) (operand u r) (i.Taken (height t))
-give_code t (ToCount c) = count_code t (above t Integer) c (i.Taken (height t))
+    with_operand (above t (place_mode t.scope (ToAttribute class field r))) r (λ x. i.SetAttribute class field x (i.Taken (height t)))
+give_code t (ToCount c) = count_code (above t Integer) c (i.Taken (height t))
 
 abbrev pub gives_code : Site → List Place → List Placed
 gives_code t [] = []
@@ -389,10 +364,14 @@ loop_cells t (Members x set o start reverse) = (walk_loop t o).cells
 abbrev pub in_loop : Site → Head → Site
 in_loop t head = with_cells t (loop_cells t head)
 
--- the tick of an item or a member, which a variable is assigned; the turn; and on to the next one
+-- the tick of an item or a member, which a variable is assigned
+abbrev pub take_code : Site → (cell : ℕ) → Variable → List Placed
+take_code u h x = if is_kept u x then place u i.Turn ∷ (place u (i.Keep (i.Stays h) x) ∷ []) else place u (i.Take h x) ∷ []
+
+-- that; the turn; and on to the next one
 abbrev pub turns_code : Site → (cell : ℕ) → Variable → (turn : List Placed) → (again : ℕ → Instruction) → List Placed
 turns_code u h x turn again =
-    place u (i.Take h x) ∷ (noted_code u x ++ (turn ++ (place u (again (1 + length (noted_code u x) + length turn)) ∷ [])))
+    take_code u h x ++ (turn ++ (place u (again (length (take_code u h x) + length turn)) ∷ []))
 
 -- the first number, the limit and the step
 abbrev pub step_code : Site → Option Expression → List Placed
@@ -441,100 +420,34 @@ find_code t head ps found none =
 
 -- ## Sets
 
--- a set is changed by an instruction, at a site that leaves another one. Where a statistic watches how many members it has, that is noted. So an
--- owner that is in a cell stays until then, and with it what lies below it
-abbrev pub set_code : (t u : Site) → (set : ℕ) → (owner : Bearer) → (make : (Operand → Operand) → Instruction) → List Placed
-set_code t u set o make =
-    if is_watched t (OfCount set)
-    then (if is_bearer_cell o then place u (make stay) ∷ (place u (i.NoteCount set (bearer_stays o)) ∷ forget_to t u)
-    else place u (make (λ x. x)) ∷ (place t (i.NoteCount set o) ∷ []))
-    else place u (make (λ x. x)) ∷ []
-
-abbrev pub bearer_as : (Operand → Operand) → Bearer → Bearer
-bearer_as keep None = None
-bearer_as keep (Some x) = Some (keep x)
-
 -- the member beside which another one is filed
 abbrev pub beside_code : Site → (looked : Bool) → (set : ℕ) → Option Expression → List Placed
 beside_code t looked set None = []
 beside_code t looked set (Some e) = member_code t looked set e
 
-abbrev pub filing : Site → (set : ℕ) → (Operand → Operand) → Position → Filing
-filing t set keep ByDiscipline = filing_by (slice_get t.scope.program.disciplines set)
-filing t set keep AsFirst = i.First
-filing t set keep AsLast = i.Last
-filing t set keep (BeforeMember e) = i.Before (keep (operand t e))
-filing t set keep (AfterMember e) = i.After (keep (operand t e))
+abbrev pub filing : Site → (set : ℕ) → Position → Filing
+filing t set ByDiscipline = filing_by (slice_get t.scope.program.disciplines set)
+filing t set AsFirst = i.First
+filing t set AsLast = i.Last
+filing t set (BeforeMember e) = i.Before (operand t e)
+filing t set (AfterMember e) = i.After (operand t e)
 
 -- FILE: the member, the one beside it, the owner; a member is looked at where one of those after it may fault
 abbrev pub file_code : Site → (set : ℕ) → Expression → Position → SetOwner → List Placed
 file_code t set e position o =
     let y : Option Expression = beside position in
-    let o : Option Expression = expression_of o in
     let t1 : Site = after t e in
-    let t2 : Site = after_bearer t1 y in
-    member_code t (if may_fault y then true else may_fault o) set e ++ (beside_code t1 (may_fault o) set y ++ (bearer_code t2 o
-    ++ set_code t (after_bearer t2 o) set (bearer t2 o)
-    (λ keep. i.File (filing t1 set keep position) set (keep (operand t e)) (bearer_as keep (bearer t2 o)))))
+    member_code t (if may_fault y then true else may_fault (expression_of o)) set e
+    ++ (beside_code t1 (may_fault (expression_of o)) set y
+    ++ with_owner (after_bearer t1 y) o (i.File (filing t1 set position) set (operand t e)))
 
 -- REMOVE: the member, the owner
 abbrev pub remove_code : Site → (set : ℕ) → Expression → SetOwner → List Placed
-remove_code t set e o =
-    let o : Option Expression = expression_of o in
-    let t1 : Site = after t e in
-    member_code t (may_fault o) set e ++ (bearer_code t1 o
-    ++ set_code t (after_bearer t1 o) set (bearer t1 o) (λ keep. i.Remove set (keep (operand t e)) (bearer_as keep (bearer t1 o))))
-
--- ## Places that are assigned while what lies in cells stays
-
--- a place is resolved, and its reference looked at
-abbrev pub place_code : Site → Place → List Placed
-place_code t (ToVariable x) = []
-place_code t (ToAttribute class field r) = entity_code t true class r
-place_code t (ToCount c) = []
-
-abbrev pub place_cells : Site → Place → List Mode
-place_cells t (ToVariable x) = t.cells
-place_cells t (ToAttribute class field r) = operand_cells t r
-place_cells t (ToCount c) = t.cells
-
-abbrev pub after_place : Site → Place → Site
-after_place t p = with_cells t (place_cells t p)
-
--- it is assigned an operand at a site u, which is v once the operand was read
-abbrev pub assign_code : (t u v : Site) → Place → Operand → List Placed
-assign_code t u v (ToVariable x) from = place u (i.Move from (i.Into x)) ∷ noted_code v x
-assign_code t u v (ToAttribute class field r) from =
-    place u (i.SetAttribute class field (stay (operand t r)) from)
-    ∷ (if is_watched t (OfAttribute class field) then place v (i.NoteAttribute class field (stay (operand t r))) ∷ [] else [])
-assign_code t u v (ToCount c) from = count_code v u c from
-
--- a member is removed from a set that a statistic watches: it lies in a cell until the number of members is noted
-abbrev pub removed_in_cell_code : Site → End → (set : ℕ) → Place → (owner : Option Expression) → List Placed
-removed_in_cell_code t end set p o =
-    let t1 : Site = after_place t p in
-    let t2 : Site = after_bearer t1 o in
-    let u : Site = above t2 Integer in
-    place_code t p ++ (bearer_code t1 o
-    ++ (place t2 (i.RemoveEnd end set (bearer_stays (bearer t1 o)) (next t2))
-    ∷ (place u (i.NoteCount set (bearer_stays (bearer t1 o))) ∷ (assign_code t u t2 p (i.Taken (height t2)) ++ forget_to t t2))))
-
--- or it goes to its variable at once, unless that holds the owner
-abbrev pub removed_code : Site → End → (set : ℕ) → Place → (owner : Option Expression) → List Placed
-removed_code t end set (ToVariable x) o =
-    let u : Site = after_bearer t o in
-    if is_owner x o then removed_in_cell_code t end set (ToVariable x) o
-    else bearer_code t o ++ (place u (i.RemoveEnd end set (bearer_stays (bearer t o)) (i.Into x))
-    ∷ (place u (i.NoteCount set (bearer_stays (bearer t o))) ∷ (noted_code u x ++ forget_to t u)))
-removed_code t end set (ToAttribute class field r) o = removed_in_cell_code t end set (ToAttribute class field r) o
-removed_code t end set (ToCount c) o = removed_in_cell_code t end set (ToCount c) o
+remove_code t set e o = member_code t (may_fault (expression_of o)) set e ++ with_owner (after t e) o (i.Remove set (operand t e))
 
 -- REMOVE FIRST and REMOVE LAST
 abbrev pub remove_end_code : Site → End → (set : ℕ) → Place → SetOwner → List Placed
-remove_end_code t end set p o =
-    let o : Option Expression = expression_of o in
-    if is_watched t (OfCount set) then removed_code t end set p o
-    else to_place_code t p Integer (λ t to. bearer_code t o ++ place (after_bearer t o) (i.RemoveEnd end set (bearer t o) to) ∷ [])
+remove_end_code t end set p o = to_place_code t p Integer (λ t to. with_owner t o (λ o. i.RemoveEnd end set o to))
 
 -- ## Entities
 
@@ -550,64 +463,49 @@ when_code t (At e) = with_operand t e (λ x. i.At x (next t))
 when_code t (In e) = with_operand t e (λ x. i.In x (next t))
 when_code t Now = place t (i.Clock (next t)) ∷ []
 
--- a notice was given its first attributes, from a number on: where statistics watch them, that is noted
-abbrev pub given_code : Site → (class field : ℕ) → List Expression → Operand → List Placed
-given_code t class field [] x = []
-given_code t class field (e ∷ es) x =
-    (if is_watched t (OfAttribute class field) then place t (i.NoteAttribute class field x) ∷ [] else []) ++ given_code t class (field + 1) es x
+-- the place of a new notice is resolved, and its reference looked at
+abbrev pub place_code : Site → Place → List Placed
+place_code t (ToVariable x) = []
+place_code t (ToAttribute class field r) = entity_code t true class r
+place_code t (ToCount c) = []
 
--- where the number of a new notice goes: to a variable at once, or to a new cell above its time, where it stays until the notice is filed
-abbrev pub notice_target : Site → Place → To
-notice_target t (ToVariable x) = i.Into x
-notice_target t (ToAttribute class field r) = next t
-notice_target t (ToCount c) = next t
+abbrev pub place_cells : Site → Place → List Mode
+place_cells t (ToVariable x) = t.cells
+place_cells t (ToAttribute class field r) = operand_cells t r
+place_cells t (ToCount c) = t.cells
 
-abbrev pub notice_operand : Site → Place → Operand
-notice_operand t (ToVariable x) = i.Held x
-notice_operand t (ToAttribute class field r) = i.Taken (height t)
-notice_operand t (ToCount c) = i.Taken (height t)
+abbrev pub after_place : Site → Place → Site
+after_place t p = with_cells t (place_cells t p)
 
-abbrev pub notice_cells : Site → Place → List Mode
-notice_cells t (ToVariable x) = t.cells
-notice_cells t (ToAttribute class field r) = Integer ∷ t.cells
-notice_cells t (ToCount c) = Integer ∷ t.cells
+-- A notice is made, assigned to its place, and filed. Its time is in the topmost cell of u. A variable has its number at once; otherwise that stays
+-- above the time until the notice is filed
+abbrev pub notice_code : (t u : Site) → (class : ℕ) → Place → (make : To → Placed) → List Placed
+notice_code t u class (ToVariable x) make =
+    variable_code u x (λ to. make to ∷ []) ++ place u (i.FileNotice class (i.Held x) (i.Taken (height t))) ∷ []
+notice_code t u class (ToAttribute c field r) make =
+    let v : Site = above u Integer in
+    let t1 : Site = after t r in
+    make (next u) ∷ (place v (i.SetAttribute c field (stay (operand t r)) (i.Stays (height u)))
+    ∷ (place v (i.FileNotice class (i.Taken (height u)) (i.Taken (height t1))) ∷ forget_to t t1))
+notice_code t u class (ToCount c) make =
+    let v : Site = above u Integer in
+    make (next u) ∷ (count_code v c (i.Stays (height u)) ++ place v (i.FileNotice class (i.Taken (height u)) (i.Taken (height t))) ∷ [])
 
-abbrev pub with_notice : Site → Place → Site
-with_notice t p = with_cells t (notice_cells t p)
-
--- it is assigned to its place, unless it is there already
-abbrev pub name_code : (t u : Site) → Place → Operand → List Placed
-name_code t u (ToVariable x) from = noted_code u x
-name_code t u (ToAttribute class field r) from = assign_code t u u (ToAttribute class field r) from
-name_code t u (ToCount c) from = assign_code t u u (ToCount c) from
-
--- SCHEDULE A: the place, the values, the time; the notice is made, what it was given is noted, it is assigned, and filed
+-- SCHEDULE A: the place, the values, the time; and the notice
 abbrev pub schedule_new_code : Site → (class : ℕ) → Place → List Expression → When → List Placed
 schedule_new_code t class p given when =
     let t1 : Site = after_place t p in
     let t2 : Site = after_values t1 given in
-    let u : Site = above t1 Integer in
-    let v : Site = with_notice u p in
-    let x : Operand = notice_operand u p in
     place_code t p ++ (values_code t1 given ++ (when_code t2 when
-    ++ (place (above t2 Integer) (i.MakeNotice class (height t1) (length given) (notice_target u p))
-    ∷ (given_code v class 0 given (stay x) ++ (name_code t v p (stay x)
-    ++ (place v (i.FileNotice class x (i.Taken (height t1))) ∷ forget_to t t1))))))
-
--- a notice is filed again; where anything is noted of what it was given, it stays until then
-abbrev pub renewed_code : (t u : Site) → (class given : ℕ) → Operand → (notes end : List Placed) → List Placed
-renewed_code t u class given x [] end = place u (i.Reschedule class x (height t) given) ∷ []
-renewed_code t u class given x (n ∷ ns) end = place u (i.Reschedule class (stay x) (height t) given) ∷ ((n ∷ ns) ++ end)
+    ++ notice_code t (above t1 Integer) class p (λ to. place (above t2 Integer) (i.MakeNotice class (height t1) (length given) to))))
 
 -- SCHEDULE THE: the notice, the values, the time
 abbrev pub schedule_code : Site → (class : ℕ) → Expression → List Expression → When → List Placed
 schedule_code t class e given when =
     let t1 : Site = after t e in
     let t2 : Site = after_values t1 given in
-    let x : Operand = operand t e in
-    let notes : List Placed = given_code t1 class 0 given (stay x) in
     entity_code t true class e ++ (values_code t1 given ++ (when_code t2 when
-    ++ renewed_code t1 (above t2 Integer) class (length given) x notes (forget_to t t1)))
+    ++ place (above t2 Integer) (i.Reschedule class (operand t e) (height t1) (length given)) ∷ []))
 
 -- ## Statistics
 
@@ -726,16 +624,11 @@ first_site s = record { scope = s; line = no_line; cells = [] }
 abbrev pub section_code : Scope → ℕ → Block → List Placed
 section_code s first body = block_code (first_site s) first body ++ place (first_site s) i.Leave ∷ []
 
--- the variable in which the notice of an event is saved was assigned as the event began
-abbrev pub saved_code : Site → Option ℕ → List Placed
-saved_code t None = []
-saved_code t (Some k) = noted_code t (Global k)
-
 abbrev pub routine_code : Program → ℕ → Routine → List Placed
 routine_code p first r = section_code (routine_scope p r) first r.body
 
 abbrev pub event_code : Program → ℕ → Event → List Placed
-event_code p first e = saved_code (at_line (first_site (event_scope p e)) e.line) e.saved ++ section_code (event_scope p e) first e.body
+event_code p first e = section_code (event_scope p e) first e.body
 
 -- the routines, and the events' routines, after so many PRINTs
 abbrev pub routines_code : Program → ℕ → List Routine → List Placed

@@ -30,6 +30,7 @@ back_text place back = numbered (codes "back to") (place - back)
 -- the instruction at a place
 abbrev pub detail : (place : ℕ) → Instruction → List ℕ
 detail p (i.Move from to) = with_parts (codes "move") (operand_text from ∷ target_text to ∷ [])
+detail p (i.Keep from x) = with_parts (codes "keep") (operand_text from ∷ target_text (i.Into x) ∷ [])
 detail p (i.Calculate op left right to) = with_parts (codes "calculate") (operator_word op ∷ operand_text left ∷ operand_text right ∷ target_text to ∷ [])
 detail p (i.Absolute of to) = with_parts (codes "absolute") (operand_text of ∷ target_text to ∷ [])
 detail p (i.Clock to) = with_parts (codes "clock") (target_text to ∷ [])
@@ -46,9 +47,6 @@ detail p (i.LookCount class) = with_parts (codes "look count") (class_text class
 detail p (i.SetAttribute class field x from) = with_parts (codes "set attribute") (attribute_text class field ∷ operand_text x ∷ operand_text from ∷ [])
 detail p (i.ChangeAttribute sign class field x by) =
     with_parts (codes "change attribute") (sign_word sign ∷ attribute_text class field ∷ operand_text x ∷ operand_text by ∷ [])
-detail p (i.NoteVariable k) = with_parts (codes "note variable") (variable_text (variables.Global k) ∷ [])
-detail p (i.NoteAttribute class field x) = with_parts (codes "note attribute") (attribute_text class field ∷ operand_text x ∷ [])
-detail p (i.NoteCount set owner) = with_parts (codes "note count") (set_text set ∷ bearer_text owner ∷ [])
 detail p (i.Reset j of) = with_parts (codes "reset") (statistic_text j ∷ bearer_text of ∷ [])
 detail p (i.Jump skip) = with_parts (codes "jump") (numbered (codes "to") (p + 1 + skip) ∷ [])
 detail p (i.Unless relation left right skip) = with_parts (codes "unless") (operand_text left ∷ relation_word relation ∷ operand_text right ∷ else_text p skip ∷ [])

@@ -29,11 +29,11 @@ use Rattle.ss_program.specs.Program.{Program}
 use Rattle.ss_program.specs.WellTyped.{WellTyped, mode_at, field_mode, kind_of_class as kind_said, is_created_singly, GoodSubject, GoodCount}
 use Rattle.ss_meaning.specs.Values.{if_ok, turned, due, sure, where_fit, unless_fault, number_of, same_mode}
 use Rattle.ss_meaning.specs.Store.{Store, with_heap, fetched, put_at, put}
-use Rattle.ss_meaning.specs.Histories.{noted, noted_there, ending}
+use Rattle.ss_meaning.specs.Histories.{noted, ending}
 use Rattle.ss_meaning.specs.Entities.{class_at, field_at, entity, attribute, time_of, comes_singly, is_single, is_permanent, with_new, made_one, with_all, made_all, with_none, gone, without}
-use Rattle.ss_meaning.specs.Places.{Spot, InVariable, InAttribute, InCount, held, is_of_mode, noted_variable, assigned_variable, put_attribute, noted_attribute, assigned_attribute, assignable_count, assigned_count, written}
+use Rattle.ss_meaning.specs.Places.{Spot, InVariable, InAttribute, InCount, held, is_of_mode, assigned_variable, assigned_attribute, assigned_count, written}
 use Rattle.ss_meaning.specs.Fitting.{Hold, Lives, IsNotice, HistoriesFit, Fits}
-use Rattle.ss_meaning.proofs.Fine.{Fine, Sane, There, Any, fine_then, fine_turned, due_fine, any_due, sure_fine, fit_fine, unless_fine, sane_then}
+use Rattle.ss_meaning.proofs.Fine.{Fine, Sane, There, fine_then, fine_turned, due_fine, any_due, sure_fine, fit_fine, unless_fine}
 use Rattle.ss_meaning.proofs.Lists.{every_get}
 use Rattle.ss_meaning.proofs.Heaps.{Changed, Created, Filled, Gone, IsEntityAs, entity_known, entity_lives, value_sane, assigned_sane, created_sane, created_all_sane, destroyed_sane}
 use Rattle.ss_meaning.proofs.Kept.{Noteworthy, number_fine, fit_gone}
@@ -219,67 +219,34 @@ module _ (p : Program) (typed : WellTyped p) (ms : List Mode) where
   locals_fit : (s : Store) (vs : List Value) → Fits p ms s → Hold vs ms → Fits p ms (record s { locals = vs })
   locals_fit s vs f h = record { sound = record { globals = f.sound.globals; scene = f.sound.scene }; locals = h }
 
-  -- what a global variable holds is noted
-  pub variable_noted_fine : (b : Bool) (x : Variable) (m : Mode) (s : Store) → mode_at (record { program = p; locals = ms; is_main = b }) x ≡ Some m → Fits p ms s → Fine (Fits p ms) (noted_variable x s)
-  variable_noted_fine b (Global k) m s q f =
-      fine_then (Fits p ms) (sure (fetched (Global k) s)) (λ v. noted (OfVariable k) (pos 0) v s)
-      (sure_fine (λ v. mode_of v ≡ m) (fetched (Global k) s) (held_there s.globals p.globals k m f.sound.globals q)) (λ v g.
-      noted_fine p ms (OfVariable k) (pos 0) v s (variable_noted k m v q g) refl f)
-  variable_noted_fine b (Local k) m s q f = f
-
-  pub put_fine : (b : Bool) (x : Variable) (m : Mode) (v : Value) (s : Store) → mode_at (record { program = p; locals = ms; is_main = b }) x ≡ Some m → mode_of v ≡ m → Fits p ms s → Fine (Fits p ms) (put x v s)
-  put_fine b (Global k) m v s q g f =
-      fine_turned (Fits p ms) (λ vs. record s { globals = vs }) (put_at s.globals k v) (put_at_fine s.globals p.globals k m v f.sound.globals q g) (λ vs h. globals_fit s vs f h)
-  put_fine b (Local k) m v s q g f =
-      fine_turned (Fits p ms) (λ vs. record s { locals = vs }) (put_at s.locals k v) (put_at_fine s.locals ms k m v f.locals q g) (λ vs h. locals_fit s vs f h)
+  pub global_fine : (k : ℕ) (m : Mode) (v : Value) (s : Store) → slice_get p.globals k ≡ Some m → mode_of v ≡ m → Fits p ms s → Fine (Fits p ms) (assigned_variable (Global k) v s)
+  global_fine k m v s q g f =
+      fine_then (Fits p ms) (put (Global k) v s) (noted (OfVariable k) (pos 0) v)
+      (fine_turned (Fits p ms) (λ vs. record s { globals = vs }) (put_at s.globals k v) (put_at_fine s.globals p.globals k m v f.sound.globals q g) (λ vs h. globals_fit s vs f h)) (λ t ft.
+      noted_fine p ms (OfVariable k) (pos 0) v t (variable_noted k m v q g) refl ft)
 
   pub variable_fine : (b : Bool) (x : Variable) (m : Mode) (v : Value) (s : Store) → mode_at (record { program = p; locals = ms; is_main = b }) x ≡ Some m → mode_of v ≡ m → Fits p ms s → Fine (Fits p ms) (assigned_variable x v s)
-  variable_fine b x m v s q g f =
-      fine_then (Fits p ms) (put x v s) (noted_variable x) (put_fine b x m v s q g f) (λ t ft. variable_noted_fine b x m t q ft)
-
-  pub global_fine : (k : ℕ) (m : Mode) (v : Value) (s : Store) → slice_get p.globals k ≡ Some m → mode_of v ≡ m → Fits p ms s → Fine (Fits p ms) (assigned_variable (Global k) v s)
-  global_fine k m v s q g f = variable_fine true (Global k) m v s q g f
+  variable_fine b (Global k) m v s q g f = global_fine k m v s q g f
+  variable_fine b (Local k) m v s q g f =
+      fine_turned (Fits p ms) (λ vs. record s { locals = vs }) (put_at s.locals k v) (put_at_fine s.locals ms k m v f.locals q g) (λ vs h. locals_fit s vs f h)
 
   of_mode : (s : Store) (c k : ℕ) (m : Mode) (v : Value) → Fits p ms s → HasField p c k m → mode_of v ≡ m → is_of_mode v (field_at c k s) ≡ true
   of_mode s c k m v f q g = ap (is_of_mode v) (field_here s c k m f q) ∙ ap (λ n. same_mode n m) g ∙ same_is m
 
-  pub attribute_put_fine : (c k : ℕ) (m : Mode) (x v : Value) (s : Store) → field_mode p c k ≡ Some m → mode_of x ≡ Integer → mode_of v ≡ m → Fits p ms s → Fine (Fits p ms) (put_attribute c k x v s)
-  attribute_put_fine c k m x v s q gx gv f =
-      let there : HasField p c k m = field_said p c k m q in
-      fine_then (Fits p ms) (entity c x s) (λ n. where_fit (is_of_mode v (field_at c k s)) (turned (with_heap s) (due (assigned s.scene.heap c k n v)))) (entity_fine c there.class x s there.there gx f) (λ n r.
-      fit_fine (Fits p ms) (is_of_mode v (field_at c k s)) (turned (with_heap s) (due (assigned s.scene.heap c k n v))) (of_mode s c k m v f there gv)
-      (fine_turned (Fits p ms) (with_heap s) (due (assigned s.scene.heap c k n v))
-      (due_fine (Changed s.scene.heap) (assigned s.scene.heap c k n v) (assigned_sane s.scene.heap c k n v m f.sound.scene.heap (field_here s c k m f there) gv)) (λ h g.
-      heap_fits p ms s h f g)))
-
-  value_lives : (h : State) (c k : ℕ) (n : ℤ) → Sane (λ (v : Value). Lives h c n) (value_in h c k n)
-  value_lives h c k n = sane_then (λ (v : Value). Lives h c n) (entity_in h c n) (λ r. _) (entity_known h c n) (λ r q. entity_lives h c n r q)
-
-  there_fine : (c k : ℕ) (m : Mode) (n : ℤ) (s : Store) → field_mode p c k ≡ Some m → Fits p ms s → (r : Result Value FaultKind) → Sane (λ v. mode_of v ≡ m) r → Sane (λ (v : Value). Lives s.scene.heap c n) r → Fine (Fits p ms) (noted_there (OfAttribute c k) n r s)
-  there_fine c k m n s q f (Ok v) g l = noted_fine p ms (OfAttribute c k) n v s (attribute_noted c k m v q g) l f
-  there_fine c k m n s q f (Err kind) g l = f
-
-  pub attribute_noted_fine : (c k : ℕ) (m : Mode) (x : Value) (s : Store) → field_mode p c k ≡ Some m → mode_of x ≡ Integer → Fits p ms s → Fine (Fits p ms) (noted_attribute c k x s)
-  attribute_noted_fine c k m x s q gx f =
-      let there : HasField p c k m = field_said p c k m q in
-      fine_then (Fits p ms) (number_of x) (λ n. noted_there (OfAttribute c k) n (value_in s.scene.heap c k n) s) (number_fine x gx) (λ n u.
-      there_fine c k m n s q f (value_in s.scene.heap c k n) (value_sane s.scene.heap c k n m f.sound.scene.heap (field_here s c k m f there)) (value_lives s.scene.heap c k n))
-
   pub attribute_assigned_fine : (c k : ℕ) (m : Mode) (x v : Value) (s : Store) → field_mode p c k ≡ Some m → mode_of x ≡ Integer → mode_of v ≡ m → Fits p ms s → Fine (Fits p ms) (assigned_attribute c k x v s)
   attribute_assigned_fine c k m x v s q gx gv f =
-      fine_then (Fits p ms) (put_attribute c k x v s) (noted_attribute c k x) (attribute_put_fine c k m x v s q gx gv f) (λ t ft.
-      attribute_noted_fine c k m x t q gx ft)
-
-  assignable_fine : (c : ℕ) (s : Store) → kind_said p c ≡ Some Permanent → Fits p ms s → Fine Any (assignable_count c s)
-  assignable_fine c s q f =
-      fit_fine Any (is_permanent (class_at c s)) (unless_fault (is_made s.scene.heap c) CreatedTwice (Ok tt)) (permanent_here s c f q)
-      (unless_fine Any (is_made s.scene.heap c) CreatedTwice (Ok tt) (λ free. tt))
+      let there : HasField p c k m = field_said p c k m q in
+      fine_then (Fits p ms) (entity c x s) (λ n. where_fit (is_of_mode v (field_at c k s)) (if_ok (due (assigned s.scene.heap c k n v)) (λ h. noted (OfAttribute c k) n v (with_heap s h)))) (entity_fine c there.class x s there.there gx f) (λ n r.
+      fit_fine (Fits p ms) (is_of_mode v (field_at c k s)) (if_ok (due (assigned s.scene.heap c k n v)) (λ h. noted (OfAttribute c k) n v (with_heap s h))) (of_mode s c k m v f there gv)
+      (fine_then (Fits p ms) (due (assigned s.scene.heap c k n v)) (λ h. noted (OfAttribute c k) n v (with_heap s h))
+      (due_fine (Changed s.scene.heap) (assigned s.scene.heap c k n v) (assigned_sane s.scene.heap c k n v m f.sound.scene.heap (field_here s c k m f there) gv)) (λ h g.
+      noted_fine p ms (OfAttribute c k) n v (with_heap s h) (attribute_noted c k m v q gv) (lives_on s.scene.heap h c n g.1 r.1) (heap_fits p ms s h f g))))
 
   pub count_fine : (count : CountedClass) (v : Value) (s : Store) → Contains p.counts count → mode_of v ≡ Integer → Fits p ms s → Fine (Fits p ms) (assigned_count count v s)
   count_fine count v s c g f =
       let good : GoodCount p count = count_said count c in
-      fine_then (Fits p ms) (assignable_count count.class s) (λ _. assigned_variable (Global count.variable) v s) (assignable_fine count.class s good.0 f) (λ u free.
-      global_fine count.variable Integer v s good.1 g f)
+      fit_fine (Fits p ms) (is_permanent (class_at count.class s)) (unless_fault (is_made s.scene.heap count.class) CreatedTwice (assigned_variable (Global count.variable) v s)) (permanent_here s count.class f good.0)
+      (unless_fine (Fits p ms) (is_made s.scene.heap count.class) CreatedTwice (assigned_variable (Global count.variable) v s) (λ free. global_fine count.variable Integer v s good.1 g f))
 
   -- a place that was looked at takes values of a mode
   abbrev pub SpotTakes : Bool → Spot → Mode → Type 0

@@ -29,8 +29,8 @@ use Rattle.ss_program.specs.WellTyped.{WellTyped, field_mode, fields_of, kind_of
 use Rattle.ss_meaning.specs.Values.{if_ok, turned, due, sure, unless_fault, number_of}
 use Rattle.ss_meaning.specs.Store.{Notices, Store, with_heap, with_pending}
 use Rattle.ss_meaning.specs.Entities.{entity, attribute, made_one}
-use Rattle.ss_meaning.specs.Places.{put_attribute, noted_attribute}
-use Rattle.ss_meaning.specs.Events.{Moment, AtTime, Later, AtOnce, not_past, time_at, endowed, noted_attributes, with_notice_time, prepared, made_notice, Ranked, ranked_from, ranked, ties_of, filed_notice, rescheduled, unscheduled, is_awaited, Beginning, attributes_given, saved_or_gone, noted_saved, Coming, at_event, ranked_as, coming_as, coming_with, next_event, event_begun}
+use Rattle.ss_meaning.specs.Places.{assigned_attribute}
+use Rattle.ss_meaning.specs.Events.{Moment, AtTime, Later, AtOnce, not_past, time_at, endowed, with_notice_time, prepared, made_notice, Ranked, ranked_from, ranked, ties_of, filed_notice, rescheduled, unscheduled, is_awaited, Beginning, attributes_given, saved_or_gone, Coming, at_event, ranked_as, coming_as, coming_with, next_event, event_begun}
 use Rattle.ss_meaning.specs.Meaning.{said_of}
 use Rattle.ss_meaning.specs.Fitting.{Hold, class_of_record, LivesAs, Lives, IsNotice, Fits}
 use Rattle.ss_meaning.proofs.Fine.{Fine, Sane, There, Any, fine_then, fine_turned, due_fine, any_due, sure_fine, unless_fine}
@@ -38,7 +38,7 @@ use Rattle.ss_meaning.proofs.Lists.{every_get, every_both, every_filter}
 use Rattle.ss_meaning.proofs.Heaps.{Changed, timed_sane}
 use Rattle.ss_meaning.proofs.Kept.{number_fine}
 use Rattle.ss_meaning.proofs.Stores.{heap_fits}
-use Rattle.ss_meaning.proofs.Entities.{contains_get, class_said, entity_fine, attribute_fine, made_one_fine, gone_fine, attribute_put_fine, attribute_noted_fine, put_fine, variable_noted_fine}
+use Rattle.ss_meaning.proofs.Entities.{contains_get, class_said, entity_fine, attribute_fine, made_one_fine, gone_fine, attribute_assigned_fine, global_fine}
 
 -- ## Lists
 
@@ -178,14 +178,8 @@ module _ (p : Program) (typed : WellTyped p) (ms : List Mode) where
   endowed_fine c k x (v ∷ vs) (n ∷ ns) s h g m f =
       let here : mode_of v ≡ n = cc in
       let rest : Hold vs ns = cc in
-      fine_then (Fits p ms) (put_attribute c k x v s) (endowed c (k + 1) x vs) (attribute_put_fine p typed ms c k n x v s (first_field c k n ns g) m here f) (λ t ft.
+      fine_then (Fits p ms) (assigned_attribute c k x v s) (endowed c (k + 1) x vs) (attribute_assigned_fine p typed ms c k n x v s (first_field c k n ns g) m here f) (λ t ft.
       endowed_fine c (k + 1) x vs ns t rest (later_fields c k n ns g) m ft)
-
-  pub attributes_noted_fine : (c k : ℕ) (x : Value) (ns : List Mode) (s : Store) → FieldsAre c k ns → mode_of x ≡ Integer → Fits p ms s → Fine (Fits p ms) (noted_attributes c k (length ns) x s)
-  attributes_noted_fine c k x [] s g m f = f
-  attributes_noted_fine c k x (n ∷ ns) s g m f =
-      fine_then (Fits p ms) (noted_attribute c k x s) (noted_attributes c (k + 1) (length ns) x) (attribute_noted_fine p typed ms c k n x s (first_field c k n ns g) m f) (λ t ft.
-      attributes_noted_fine c (k + 1) x ns t (later_fields c k n ns g) m ft)
 
   with_time_fine : (x : Value) (t : ℤ) (s : Store) → mode_of x ≡ Integer → Fits p ms s → Fine (Fits p ms) (with_notice_time x t s)
   with_time_fine x t s m f =
@@ -332,12 +326,8 @@ module _ (p : Program) (typed : WellTyped p) (ms : List Mode) where
       fine_turned (λ vs. Hold vs (n ∷ ns)) (λ vs. v ∷ vs) (attributes_given c (k + 1) (length ns) x s) (attributes_fine c (k + 1) ns x s (later_fields c k n ns g) m f) (λ vs hs. let all : Hold (v ∷ vs) (n ∷ ns) = cc in all))
 
   saved_fine : (o : Option ℕ) (c : ℕ) (n : ℤ) (s : Store) → IfSome o (λ k. (slice_get p.globals k ≡ Some Integer) × IsPlain p (Global k)) → kind_said p c ≡ Some Notice → Every (λ (e : PendingNotice). n ≡ e.notice → ⊥) s.scene.pending.entries → Fits p ms s → Fine (Fits p ms) (saved_or_gone o c (Whole n) s)
-  saved_fine (Some k) c n s h q a f = put_fine p typed ms true (Global k) Integer (Whole n) s h.0 refl f
+  saved_fine (Some k) c n s h q a f = global_fine p typed ms k Integer (Whole n) s h.0 refl f
   saved_fine None c n s h q a f = gone_fine p typed ms c n s (alone c q) a f
-
-  pub saved_noted_fine : (o : Option ℕ) (s : Store) → IfSome o (λ k. (slice_get p.globals k ≡ Some Integer) × IsPlain p (Global k)) → Fits p ms s → Fine (Fits p ms) (noted_saved o s)
-  saved_noted_fine (Some k) s h f = variable_noted_fine p typed ms true (Global k) Integer s h.0 f
-  saved_noted_fine None s h f = f
 
   -- an event as it begins, by its routine
   pub record BegunAs (b : Beginning) : Type 0 where

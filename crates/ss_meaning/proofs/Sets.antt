@@ -4,7 +4,6 @@ use Rattle.std.specs.Prelude.{slice_get, ◌&&◌, Result, is_some, not, if◌th
 use Rattle.std.proofs.lemmas.Bool.{lt-ltb}
 use Rattle.std.specs.List.{AllZip, list_all}
 use Rattle.std.specs.Option.{option_map}
-use Rattle.ss_base.specs.declared.fault.FaultKind.{FaultKind}
 use Rattle.ss_base.specs.declared.fault.FaultKind.TheVariants.{NotFiled}
 use Rattle.ss_base.specs.declared.layout.Mode.{Mode}
 use Rattle.ss_base.specs.declared.layout.Mode.TheVariants.{Integer}
@@ -37,9 +36,9 @@ use Rattle.ss_program.specs.WellTyped.{WellTyped, IsSet, IsOwned, owner_of_set, 
 use Rattle.ss_stats.specs.History.{History, sum_of, mean_of}
 use Rattle.ss_meaning.specs.Values.{Trouble, Misfit, Fails, if_ok, turned, due, sure, where_fit, unless_fault, number_of}
 use Rattle.ss_meaning.specs.Store.{Store, with_heap, with_histories, fetched}
-use Rattle.ss_meaning.specs.Histories.{noted, noted_there, history_of_subject, folded, figure_kept, mean_kept, renewed}
+use Rattle.ss_meaning.specs.Histories.{noted, history_of_subject, folded, figure_kept, mean_kept, renewed}
 use Rattle.ss_meaning.specs.Entities.{entity}
-use Rattle.ss_meaning.specs.Sets.{set_at, member, owner_as, owner_by_layout, owner_number, known_owner, set_answer, of_set, is_one, of_member, is_none, is_empty, is_in, count_value, noted_count, is_field, is_fit, Filing, ByRule, Foremost, Hindmost, JustBefore, JustAfter, filed_by, beside_known, put_in_set, filed_in, taken_from_set, removed_from, end_removed, without_member, taken_at, removed_at, outset, beside, begun, coming, from_or_after, begun_at, Walk, walk_to, walk_begun, walk_begun_at, or_gone, goes_on, walk_on}
+use Rattle.ss_meaning.specs.Sets.{set_at, member, owner_as, owner_by_layout, owner_number, known_owner, set_answer, of_set, is_one, of_member, is_none, is_empty, is_in, recounted, is_field, is_fit, Filing, ByRule, Foremost, Hindmost, JustBefore, JustAfter, filed_by, filed_in, removed_from, end_removed, removed_at, outset, beside, begun, coming, from_or_after, begun_at, or_gone, goes_on}
 use Rattle.ss_meaning.specs.Statistics.{subject_of, bearer, present, figure, mean, reset}
 use Rattle.ss_meaning.specs.Fitting.{HeapFits, Lives, BearsBy, Bears, Fits}
 use Rattle.ss_meaning.proofs.Fine.{Fine, Sane, There, Any, fine_then, fine_turned, fine_weaker, due_fine, any_due, sure_fine, fit_fine, unless_fine, sane_then}
@@ -149,14 +148,11 @@ module _ (p : Program) (typed : WellTyped p) (ms : List Mode) where
   count_bears h set o z =
       sane_then (λ n. Bears h (OfCount set) o) (owner h set o) (λ n. Ok (pos (length (members_of h.lists set n)))) (owner_bears h (owner_kind h.layout set) o z) (λ m b. b)
 
-  there_fine : (set : ℕ) (m : ℤ) (s : Store) → Fits p ms s → (r : Result ℤ FaultKind) → Sane (λ (n : ℤ). Bears s.scene.heap (OfCount set) m) r → Fine (Fits p ms) (noted_there (OfCount set) m (count_value r) s)
-  there_fine set m s f (Ok n) b = noted_fine p ms (OfCount set) m (Whole n) s (λ j t q e. refl) b f
-  there_fine set m s f (Err kind) b = f
-
-  pub count_noted_fine : (set : ℕ) (o : Option Value) (s : Store) → OwnerOk set o → Fits p ms s → Fine (Fits p ms) (noted_count set o s)
-  count_noted_fine set o s q f =
-      fine_then (Fits p ms) (owner_number set o s) (λ m. noted_there (OfCount set) m (count_value (count_in s.scene.heap set m)) s) (owner_number_fine set o s q f) (λ m y.
-      there_fine set m s f (count_in s.scene.heap set m) (count_bears s.scene.heap set m y))
+  pub recounted_fine : (set : ℕ) (o : ℤ) (s : Store) (h : State) → IsOwnerNumber s.scene.heap set o → Fits p ms s → Changed s.scene.heap h → Fine (Fits p ms) (recounted set o s h)
+  recounted_fine set o s h z f g =
+      fine_then (Fits p ms) (due (count_in h set o)) (λ n. noted (OfCount set) o (Whole n) (with_heap s h))
+      (due_fine (λ n. Bears h (OfCount set) o) (count_in h set o) (count_bears h set o (λ e. z (ap (λ l. owner_kind l set) (sym g.1.layout) ∙ e)))) (λ n b.
+      noted_fine p ms (OfCount set) o (Whole n) (with_heap s h) (λ j t q e. refl) b (heap_fits p ms s h f g))
 
   discipline_at : (sets : List SetLayout) (ds : List Discipline) (k : ℕ) (t : SetLayout) → AllZip (GoodDiscipline p) sets ds → slice_get sets k ≡ Some t → There (GoodDiscipline p t) (slice_get ds k)
   discipline_at [] ds k t h q = absurd cc
@@ -198,49 +194,28 @@ module _ (p : Program) (typed : WellTyped p) (ms : List Mode) where
       fine_then (Changed s.scene.heap) (member set y s) (λ k. due (filed_after s.scene.heap set o x k)) (member_fine set y s q g f) (λ k e.
       due_fine (Changed s.scene.heap) (filed_after s.scene.heap set o x k) (after_sane s.scene.heap set o x k f.sound.scene.heap))
 
-  beside_fine : (filing : Filing) (set : ℕ) (s : Store) → FilingOk filing → IsSet p set → Fits p ms s → Fine Any (beside_known filing set s)
-  beside_fine ByRule set s g q f = tt
-  beside_fine Foremost set s g q f = tt
-  beside_fine Hindmost set s g q f = tt
-  beside_fine (JustBefore y) set s g q f = fine_turned Any (λ _. tt) (member set y s) (member_fine set y s q g f) (λ n z. tt)
-  beside_fine (JustAfter y) set s g q f = fine_turned Any (λ _. tt) (member set y s) (member_fine set y s q g f) (λ n z. tt)
-
-  pub put_in_set_fine : (filing : Filing) (set : ℕ) (x : Value) (o : Option Value) (s : Store) → FilingOk filing → mode_of x ≡ Integer → OwnerOk set o → Fits p ms s → Fine (Fits p ms) (put_in_set filing set x o s)
-  put_in_set_fine filing set x o s k g q f =
-      fine_then (Fits p ms) (member set x s) (λ n. if_ok (beside_known filing set s) (λ _. if_ok (owner_number set o s) (λ m. turned (with_heap s) (filed_by filing set m n s)))) (member_fine set x s (set_of set o q) g f) (λ n z.
-      fine_then (Fits p ms) (beside_known filing set s) (λ _. if_ok (owner_number set o s) (λ m. turned (with_heap s) (filed_by filing set m n s))) (beside_fine filing set s k (set_of set o q) f) (λ u v.
-      fine_then (Fits p ms) (owner_number set o s) (λ m. turned (with_heap s) (filed_by filing set m n s)) (owner_number_fine set o s q f) (λ m y.
-      fine_turned (Fits p ms) (with_heap s) (filed_by filing set m n s) (filed_by_fine filing set m n s k (set_of set o q) f) (λ h c. heap_fits p ms s h f c))))
-
   pub filed_in_fine : (filing : Filing) (set : ℕ) (x : Value) (o : Option Value) (s : Store) → FilingOk filing → mode_of x ≡ Integer → OwnerOk set o → Fits p ms s → Fine (Fits p ms) (filed_in filing set x o s)
   filed_in_fine filing set x o s k g q f =
-      fine_then (Fits p ms) (put_in_set filing set x o s) (noted_count set o) (put_in_set_fine filing set x o s k g q f) (λ t ft. count_noted_fine set o t q ft)
-
-  pub taken_from_set_fine : (set : ℕ) (x : Value) (o : Option Value) (s : Store) → mode_of x ≡ Integer → OwnerOk set o → Fits p ms s → Fine (Fits p ms) (taken_from_set set x o s)
-  taken_from_set_fine set x o s g q f =
-      fine_then (Fits p ms) (member set x s) (λ n. if_ok (owner_number set o s) (λ m. turned (with_heap s) (due (removed s.scene.heap set m n)))) (member_fine set x s (set_of set o q) g f) (λ n z.
-      fine_then (Fits p ms) (owner_number set o s) (λ m. turned (with_heap s) (due (removed s.scene.heap set m n))) (owner_number_fine set o s q f) (λ m y.
-      fine_turned (Fits p ms) (with_heap s) (due (removed s.scene.heap set m n)) (due_fine (Changed s.scene.heap) (removed s.scene.heap set m n) (removed_sane s.scene.heap set m n f.sound.scene.heap)) (λ h c.
-      heap_fits p ms s h f c)))
+      fine_then (Fits p ms) (member set x s) (λ n. if_ok (owner_number set o s) (λ m. if_ok (filed_by filing set m n s) (recounted set m s))) (member_fine set x s (set_of set o q) g f) (λ n z.
+      fine_then (Fits p ms) (owner_number set o s) (λ m. if_ok (filed_by filing set m n s) (recounted set m s)) (owner_number_fine set o s q f) (λ m y.
+      fine_then (Fits p ms) (filed_by filing set m n s) (recounted set m s) (filed_by_fine filing set m n s k (set_of set o q) f) (λ h c. recounted_fine set m s h y f c)))
 
   pub removed_from_fine : (set : ℕ) (x : Value) (o : Option Value) (s : Store) → mode_of x ≡ Integer → OwnerOk set o → Fits p ms s → Fine (Fits p ms) (removed_from set x o s)
   removed_from_fine set x o s g q f =
-      fine_then (Fits p ms) (taken_from_set set x o s) (noted_count set o) (taken_from_set_fine set x o s g q f) (λ t ft. count_noted_fine set o t q ft)
+      fine_then (Fits p ms) (member set x s) (λ n. if_ok (owner_number set o s) (λ m. if_ok (due (removed s.scene.heap set m n)) (recounted set m s))) (member_fine set x s (set_of set o q) g f) (λ n z.
+      fine_then (Fits p ms) (owner_number set o s) (λ m. if_ok (due (removed s.scene.heap set m n)) (recounted set m s)) (owner_number_fine set o s q f) (λ m y.
+      fine_then (Fits p ms) (due (removed s.scene.heap set m n)) (recounted set m s) (due_fine (Changed s.scene.heap) (removed s.scene.heap set m n) (removed_sane s.scene.heap set m n f.sound.scene.heap)) (λ h c.
+      recounted_fine set m s h y f c)))
 
   end_sane : (end : End) (h : State) (set : ℕ) (o : ℤ) → HeapFits h → Sane (λ r. Changed h r.1) (end_removed end h set o)
   end_sane ends.First h set o f = first_removed_sane h set o f
   end_sane ends.Last h set o f = last_removed_sane h set o f
 
-  pub taken_at_fine : (end : End) (set : ℕ) (o : Option Value) (s : Store) → OwnerOk set o → Fits p ms s → Fine (λ b. (mode_of b.0 ≡ Integer) × Fits p ms b.1) (taken_at end set o s)
-  taken_at_fine end set o s q f =
-      fine_then (λ b. (mode_of b.0 ≡ Integer) × Fits p ms b.1) (owner_number set o s) (λ m. turned (without_member s) (due (end_removed end s.scene.heap set m))) (owner_number_fine set o s q f) (λ m y.
-      fine_turned (λ b. (mode_of b.0 ≡ Integer) × Fits p ms b.1) (without_member s) (due (end_removed end s.scene.heap set m)) (due_fine (λ r. Changed s.scene.heap r.1) (end_removed end s.scene.heap set m) (end_sane end s.scene.heap set m f.sound.scene.heap)) (λ r c.
-      (refl, heap_fits p ms s r.1 f c)))
-
   pub removed_at_fine : (end : End) (set : ℕ) (o : Option Value) (s : Store) → OwnerOk set o → Fits p ms s → Fine (λ b. (mode_of b.0 ≡ Integer) × Fits p ms b.1) (removed_at end set o s)
   removed_at_fine end set o s q f =
-      fine_then (λ b. (mode_of b.0 ≡ Integer) × Fits p ms b.1) (taken_at end set o s) (λ b. turned (λ t. (b.0, t)) (noted_count set o b.1)) (taken_at_fine end set o s q f) (λ b g.
-      fine_turned (λ b. (mode_of b.0 ≡ Integer) × Fits p ms b.1) (λ t. (b.0, t)) (noted_count set o b.1) (count_noted_fine set o b.1 q g.1) (λ t ft. (g.0, ft)))
+      fine_then (λ b. (mode_of b.0 ≡ Integer) × Fits p ms b.1) (owner_number set o s) (λ m. if_ok (due (end_removed end s.scene.heap set m)) (λ r. turned (λ t. (Whole r.0, t)) (recounted set m s r.1))) (owner_number_fine set o s q f) (λ m y.
+      fine_then (λ b. (mode_of b.0 ≡ Integer) × Fits p ms b.1) (due (end_removed end s.scene.heap set m)) (λ r. turned (λ t. (Whole r.0, t)) (recounted set m s r.1)) (due_fine (λ r. Changed s.scene.heap r.1) (end_removed end s.scene.heap set m) (end_sane end s.scene.heap set m f.sound.scene.heap)) (λ r c.
+      fine_turned (λ b. (mode_of b.0 ≡ Integer) × Fits p ms b.1) (λ t. (Whole r.0, t)) (recounted set m s r.1) (recounted_fine set m s r.1 y f c) (λ t g. (refl, g))))
 
   -- ## Going over members
 
@@ -273,25 +248,6 @@ module _ (p : Program) (typed : WellTyped p) (ms : List Mode) where
       by : (b : Bool) → Fine Any (if b then Ok false else or_gone (is_in set (Whole x) o s))
       by true = tt
       by false = or_gone_fine (is_in set (Whole x) o s) (is_in_fine set (Whole x) o s refl q f)
-
-  walk_to_fine : (reverse : Bool) (set : ℕ) (x : ℤ) (s : Store) → IsSet p set → Fits p ms s → Fine Any (walk_to reverse set x s)
-  walk_to_fine reverse set x s q f = by (is_none x)
-    where
-      by : (b : Bool) → Fine Any (if b then Ok (record { member = pos 0; next = pos 0 }) else turned (λ y. record { member = x; next = y }) (coming reverse set x s))
-      by true = tt
-      by false = fine_turned Any (λ y. record { member = x; next = y }) (coming reverse set x s) (coming_fine reverse set x s q f) (λ y u. tt)
-
-  pub walk_begun_fine : (reverse : Bool) (set : ℕ) (o : Option Value) (s : Store) → OwnerOk set o → Fits p ms s → Fine Any (walk_begun reverse set o s)
-  walk_begun_fine reverse set o s q f =
-      fine_then Any (begun reverse set o s) (λ x. walk_to reverse set x s) (begun_fine reverse set o s q f) (λ x u. walk_to_fine reverse set x s (set_of set o q) f)
-
-  pub walk_begun_at_fine : (reverse after : Bool) (set : ℕ) (y : Value) (o : Option Value) (s : Store) → mode_of y ≡ Integer → OwnerOk set o → Fits p ms s → Fine Any (walk_begun_at reverse after set y o s)
-  walk_begun_at_fine reverse after set y o s g q f =
-      fine_then Any (begun_at reverse after set y o s) (λ x. walk_to reverse set x s) (begun_at_fine reverse after set y o s g q f) (λ x u. walk_to_fine reverse set x s (set_of set o q) f)
-
-  pub walk_on_fine : (reverse : Bool) (set : ℕ) (o : Option Value) (k : Walk) (s : Store) → OwnerOk set o → Fits p ms s → Fine Any (walk_on reverse set o k s)
-  walk_on_fine reverse set o k s q f =
-      fine_then Any (goes_on set k.next o s) (λ _. walk_to reverse set k.next s) (goes_on_fine set k.next o s q f) (λ b u. walk_to_fine reverse set k.next s (set_of set o q) f)
 
   -- ## Statistics
 

@@ -1,5 +1,5 @@
 -- Loops and statements of a well-typed program don't go wrong, and keep stores that fit.
-use Rattle.std.proofs.Common.{◌≡◌, ℕ, zero, suc, ◌+◌, Bool, true, false, List, [], ◌∷◌, length, Option, Some, None, Ok, Err, ℤ, pos, refl, sym, ap, ◌∙◌, subst}
+use Rattle.std.proofs.Common.{◌≡◌, ℕ, zero, suc, ◌+◌, Bool, true, false, List, [], ◌∷◌, length, Option, Some, None, Ok, Err, ℤ, pos, refl, sym, ap, ◌∙◌}
 use Rattle.std.specs.Prelude.{Result, slice_get, map, sum, take, ◌==◌, int_lt, Contains, if◌then◌else◌}
 use Rattle.std.specs.List.{AllByRecursion as Every, AllZip, flat_map}
 use Rattle.std.specs.Option.{IfSome}
@@ -22,24 +22,24 @@ use Rattle.ss_program.specs.declared.head.PhraseKind.TheVariants as kinds
 use Rattle.ss_program.specs.declared.statement.End.{End}
 use Rattle.ss_program.specs.declared.statement.CountedClass.{CountedClass}
 use Rattle.ss_program.specs.Program.{Expression, SetOwner, Head, Numbers, Members, Each, Start, AtEnd, From, After, Phrase, Guard, Place, ToVariable, Target, Position, When, Restart, Item, Statement, Let, Change, Call, Return, Stop, Read, Simulate, If, Loop, For, Find, Create, CreateEvery, Destroy, File, RemoveEnd, Remove, ScheduleNew, Schedule, Cancel, Reset, Print, Skip, Block, Done, Then, Routine, Program}
-use Rattle.ss_program.specs.WellTyped.{Scope, WellTyped, HasMode, OwnerFits, GoodCondition, TakesMode, GoodStart, GoodHead, GoodPhrase, GoodPosition, GoodWhen, GoodGiven, HaveModes, GoodRestart, GoodPrint, Good, GoodBlock, kind_of_class as kind_said}
+use Rattle.ss_program.specs.WellTyped.{Scope, WellTyped, HasMode, OwnerFits, GoodCondition, TakesMode, GoodStart, GoodHead, GoodPhrase, GoodPosition, GoodWhen, GoodGiven, GoodRestart, GoodPrint, Good, GoodBlock, kind_of_class as kind_said}
 use Rattle.ss_meaning.specs.Values.{if_ok, turned, due, sure, unless_fault, number_of, calculated, operator_of, take_all, lines_with, printed, empty_lines}
 use Rattle.ss_meaning.specs.Store.{Store}
 use Rattle.ss_meaning.specs.Entities.{class_at, is_permanent, made_count, made_one, made_all, without}
 use Rattle.ss_meaning.specs.Places.{InVariable, held}
-use Rattle.ss_meaning.specs.Sets.{is_none, Walk, walk_begun, walk_begun_at, walk_on, filed_in, removed_from, removed_at}
-use Rattle.ss_meaning.specs.Events.{noted_attributes, made_notice, filed_notice, rescheduled, unscheduled, is_awaited}
+use Rattle.ss_meaning.specs.Sets.{is_none, begun, begun_at, coming, goes_on, filed_in, removed_from, removed_at}
+use Rattle.ss_meaning.specs.Events.{made_notice, filed_notice, rescheduled, unscheduled, is_awaited}
 use Rattle.ss_meaning.specs.Statistics.{reset}
 use Rattle.ss_meaning.specs.Expressions.{value, values, shown_items as items_meant, value_if_any, entity_value, member_value, owner_value, owner_looked_at, spot, filing, time_value, holds, all_pass}
 use Rattle.ss_meaning.specs.Parts.{World, Returned, Stopped, Faulted, OutOfTicks, Wrong, Outcome, WentOn, Left, Part, outcome_then, choose, look, get, tick_from, Again, Over, go_on, loop}
-use Rattle.ss_meaning.specs.Loops.{Turn, GoesOn, EndsLoop, IsFound, phrase, phrases, visit, range_items, after_turn, over_items, step_number, range_of, range, indices, Outset, from_member, loop_outset, at_member, next_member, member_turn, over, guarded}
-use Rattle.ss_meaning.specs.Statements.{give_to, give_each, change_by, with_input, read_value, read_each, print, create_every, file, remove, remove_end, note_given, schedule_new, schedule, next_due, event_turn, simulate, restart_each, Calls, effect, effects}
+use Rattle.ss_meaning.specs.Loops.{Turn, GoesOn, EndsLoop, IsFound, phrase, phrases, visit, range_items, after_turn, over_items, step_number, range_of, range, indices, Outset, from_member, loop_outset, next_member, member_turn, over, guarded}
+use Rattle.ss_meaning.specs.Statements.{give_to, give_each, change_by, with_input, read_value, read_each, print, create_every, file, remove, remove_end, schedule_new, schedule, next_due, event_turn, simulate, restart_each, Calls, effect, effects}
 use Rattle.ss_meaning.specs.Fitting.{Hold, Fits}
 use Rattle.ss_meaning.proofs.Fine.{Fine, There, Any, fine_then, fine_turned, sure_fine, fit_fine, unless_fine}
 use Rattle.ss_meaning.proofs.Kept.{number_fine}
 use Rattle.ss_meaning.proofs.Entities.{SpotTakes, permanent_here, made_one_fine, made_all_fine, without_fine, held_fine}
-use Rattle.ss_meaning.proofs.Sets.{OwnerOk, FilingOk, walk_begun_fine, walk_begun_at_fine, walk_on_fine, filed_in_fine, removed_from_fine, removed_at_fine, set_of, AskedStatistic, reset_fine}
-use Rattle.ss_meaning.proofs.Events.{FieldsAre, fields_are, attributes_noted_fine, made_notice_fine, filed_notice_fine, rescheduled_fine, unscheduled_fine}
+use Rattle.ss_meaning.proofs.Sets.{OwnerOk, FilingOk, begun_fine, begun_at_fine, coming_fine, goes_on_fine, filed_in_fine, removed_from_fine, removed_at_fine, set_of, AskedStatistic, reset_fine}
+use Rattle.ss_meaning.proofs.Events.{FieldsAre, fields_are, made_notice_fine, filed_notice_fine, rescheduled_fine, unscheduled_fine}
 use Rattle.ss_meaning.proofs.Expressions.{HasMode_is, AllTaken, calculated_fine, value_fine, values_fine, items_fine, entity_value_fine, member_value_fine, owner_value_fine, owner_looked_at_fine, set_of_owner, spot_fine, filing_fine, time_value_fine, holds_fine, all_pass_fine, asked_alone, asked_of}
 use Rattle.ss_meaning.proofs.Parts.{Kept, Safe, safe_then, safe_went, safe_look, safe_change, safe_get, safe_write, safe_send, safe_tick, safe_choose, safe_loop}
 
@@ -142,26 +142,25 @@ module _ (p : Program) (typed : WellTyped p) (ms : List Mode) (b : Bool) where
 
   from_fine : (after reverse : Bool) (set : ℕ) (owner : SetOwner) (e : Expression) → OwnerFits here set owner → HasMode here e Integer → (s : Store) → Fits p ms s → Fine (OutsetOk set) (from_member after reverse set owner e s)
   from_fine after reverse set owner e q h s f =
-      fine_then (OutsetOk set) (owner_looked_at set owner s) (λ o. if_ok (member_value set e s) (λ y. turned (λ x. record { first = x; owner = o }) (walk_begun_at reverse after set y o s))) (owner_looked_at_fine p typed ms b set owner q s f) (λ o g.
-      fine_then (OutsetOk set) (member_value set e s) (λ y. turned (λ x. record { first = x; owner = o }) (walk_begun_at reverse after set y o s)) (member_value_fine p typed ms b set e (set_of_owner p typed ms b set owner q) h s f) (λ y k.
-      fine_turned (OutsetOk set) (λ x. record { first = x; owner = o }) (walk_begun_at reverse after set y o s) (walk_begun_at_fine p typed ms reverse after set y o s k g f) (λ x u. g)))
+      fine_then (OutsetOk set) (owner_looked_at set owner s) (λ o. if_ok (member_value set e s) (λ y. turned (λ x. record { first = x; owner = o }) (begun_at reverse after set y o s))) (owner_looked_at_fine p typed ms b set owner q s f) (λ o g.
+      fine_then (OutsetOk set) (member_value set e s) (λ y. turned (λ x. record { first = x; owner = o }) (begun_at reverse after set y o s)) (member_value_fine p typed ms b set e (set_of_owner p typed ms b set owner q) h s f) (λ y k.
+      fine_turned (OutsetOk set) (λ x. record { first = x; owner = o }) (begun_at reverse after set y o s) (begun_at_fine p typed ms reverse after set y o s k g f) (λ x u. g)))
 
   outset_fine : (start : Start) (reverse : Bool) (set : ℕ) (owner : SetOwner) → GoodStart here start → OwnerFits here set owner → (s : Store) → Fits p ms s → Fine (OutsetOk set) (loop_outset start reverse set owner s)
   outset_fine AtEnd reverse set owner h q s f =
-      fine_then (OutsetOk set) (owner_value owner s) (λ o. turned (λ x. record { first = x; owner = o }) (walk_begun reverse set o s)) (owner_value_fine p typed ms b set owner q s f) (λ o g.
-      fine_turned (OutsetOk set) (λ x. record { first = x; owner = o }) (walk_begun reverse set o s) (walk_begun_fine p typed ms reverse set o s g f) (λ x u. g))
+      fine_then (OutsetOk set) (owner_value owner s) (λ o. turned (λ x. record { first = x; owner = o }) (begun reverse set o s)) (owner_value_fine p typed ms b set owner q s f) (λ o g.
+      fine_turned (OutsetOk set) (λ x. record { first = x; owner = o }) (begun reverse set o s) (begun_fine p typed ms reverse set o s g f) (λ x u. g))
   outset_fine (From e) reverse set owner h q s f = from_fine false reverse set owner e q h s f
   outset_fine (After e) reverse set owner h q s f = from_fine true reverse set owner e q h s f
 
-  next_safe : (l : Line) (set : ℕ) (reverse : Bool) (o : Option Value) (k : Walk) (t : Turn) → OwnerOk p typed ms set o → Safe p ms Any (next_member l set reverse o k t)
-  next_safe l set reverse o k GoesOn q =
-      safe_then {P = Any} (safe_look l (walk_on reverse set o k) (λ s f. walk_on_fine p typed ms reverse set o k s q f)) (λ j u.
-      safe_choose (is_none j.member) (safe_went (Over false) tt) (safe_went (Again j) tt))
-  next_safe l set reverse o k EndsLoop q = record { by = λ w fits. (tt, fits) }
-  next_safe l set reverse o k IsFound q = record { by = λ w fits. (tt, fits) }
+  next_safe : (l : Line) (set : ℕ) (o : Option Value) (x : ℤ) (t : Turn) → OwnerOk p typed ms set o → Safe p ms Any (next_member l set o x t)
+  next_safe l set o x GoesOn q = safe_then {P = Any} (safe_look l (goes_on set x o) (λ s f. goes_on_fine p typed ms set x o s q f)) (λ c u. safe_choose c (safe_went (Again x) tt) (safe_went (Over false) tt))
+  next_safe l set o x EndsLoop q = record { by = λ w fits. (tt, fits) }
+  next_safe l set o x IsFound q = record { by = λ w fits. (tt, fits) }
 
-  member_safe : (l : Line) (set : ℕ) (reverse : Bool) (o : Option Value) (go : ℤ → Part Turn) → OwnerOk p typed ms set o → ((v : ℤ) → Safe p ms Any (go v)) → (k : Walk) → Safe p ms Any (member_turn l set reverse o go k)
-  member_safe l set reverse o go q h k = safe_then {P = Any} (h k.member) (λ t v. next_safe l set reverse o k t q)
+  member_safe : (l : Line) (set : ℕ) (reverse : Bool) (o : Option Value) (go : ℤ → Part Turn) → OwnerOk p typed ms set o → ((v : ℤ) → Safe p ms Any (go v)) → (x : ℤ) → Safe p ms Any (member_turn l set reverse o go x)
+  member_safe l set reverse o go q h x =
+      safe_then {P = Any} (safe_look l (coming reverse set x) (λ s f. coming_fine p typed ms reverse set x s (set_of p typed ms set o q) f)) (λ n u. safe_then {P = Any} (h x) (λ t v. next_safe l set o n t q))
 
   pub over_safe : (n : ℕ) (l : Line) (head : Head) (turn : Part Turn) → GoodHead here head → Safe p ms Any turn → Safe p ms Any (over n l head turn)
   over_safe n l (Numbers x a c d) turn g h =
@@ -170,7 +169,7 @@ module _ (p : Program) (typed : WellTyped p) (ms : List Mode) (b : Bool) where
       safe_then {P = Any} (safe_look l (indices class) (indices_fine class g.1)) (λ r u. items_safe (visit l x turn) (range_items (suc n) r) (visit_safe l x turn g.0 h))
   over_safe n l (Members x set owner start reverse) turn g h =
       safe_then {P = OutsetOk set} (safe_look l (loop_outset start reverse set owner) (outset_fine start reverse set owner g.2 g.1)) (λ o q.
-      safe_choose (is_none o.first.member) (safe_went false tt) (safe_loop (member_safe l set reverse o.owner (visit l x turn) q (visit_safe l x turn g.0 h)) n o.first))
+      safe_choose (is_none o.first) (safe_went false tt) (safe_loop (member_safe l set reverse o.owner (visit l x turn) q (visit_safe l x turn g.0 h)) n o.first))
 
   pub guarded_safe : (n : ℕ) (l : Line) (gs : List Guard) (body : Part (Unit {0})) → Every (λ (g : Guard). GoodCondition here g.condition) gs → Safe p ms Any body → Safe p ms Any (guarded n l gs body)
   guarded_safe n l gs body g h =
@@ -255,27 +254,14 @@ module _ (p : Program) (typed : WellTyped p) (ms : List Mode) (b : Bool) where
   given_fields : (c : ℕ) (given : List Expression) (g : GoodGiven here c given) → FieldsAre p typed ms c 0 (take (length given) g.1.0)
   given_fields c given g = fields_are p typed ms c (length given) g.1.0 g.1.1
 
-  as_many : (es : List Expression) (ns : List Mode) → HaveModes here es ns → length es ≡ length ns
-  as_many [] [] h = refl
-  as_many [] (n ∷ ns) h = absurd h
-  as_many (e ∷ es) [] h = absurd h
-  as_many (e ∷ es) (n ∷ ns) h = ap suc (as_many es ns h.1)
-
-  note_safe : (l : Line) (c : ℕ) (given : List Expression) (x : Value) → GoodGiven here c given → HasMode_is Integer x → Safe p ms Any (note_given l c (length given) x)
-  note_safe l c given x g m =
-      safe_change l (noted_attributes c 0 (length given) x) (λ s f.
-      subst (λ k. Fine (Fits p ms) (noted_attributes c 0 k x s)) (sym (as_many given (take (length given) g.1.0) g.1.2))
-      (attributes_noted_fine p typed ms c 0 x (take (length given) g.1.0) s (given_fields c given g) m f))
-
   schedule_new_safe : (l : Line) (c : ℕ) (t : Place) (given : List Expression) (when : When) → GoodGiven here c given → TakesMode here t Integer → GoodWhen here when → Safe p ms Any (schedule_new l c t given when)
   schedule_new_safe l c t given when g h k =
       safe_then {P = λ x. SpotTakes p typed ms b x Integer} (safe_look l (spot t) (spot_fine p typed ms b t Integer h)) (λ x q.
       safe_then {P = λ vs. Hold vs (take (length given) g.1.0)} (safe_look l (values given) (values_fine p typed ms b given (take (length given) g.1.0) g.1.2)) (λ vs y.
       safe_then {P = Any} (safe_look l (time_value when) (time_value_fine p typed ms b when k)) (λ time u.
       safe_then {P = HasMode_is Integer} (safe_get l (made_notice c vs time) Integer (λ s f. made_notice_fine p typed ms c vs (take (length given) g.1.0) time s g.0 y (given_fields c given g) f)) (λ n m.
-      safe_then {P = Any} (note_safe l c given n g m) (λ u v.
       safe_then {P = Any} (safe_write typed b l x Integer n q m) (λ u v.
-      safe_change l (filed_notice c n time) (λ s f. filed_notice_fine p typed ms c n time s g.0 m f)))))))
+      safe_change l (filed_notice c n time) (λ s f. filed_notice_fine p typed ms c n time s g.0 m f))))))
 
   schedule_safe : (l : Line) (c : ℕ) (e : Expression) (given : List Expression) (when : When) → GoodGiven here c given → HasMode here e Integer → GoodWhen here when → Safe p ms Any (schedule l c e given when)
   schedule_safe l c e given when g h k =
@@ -283,8 +269,7 @@ module _ (p : Program) (typed : WellTyped p) (ms : List Mode) (b : Bool) where
       safe_then {P = HasMode_is Integer} (safe_look l (entity_value c e) (entity_value_fine p typed ms b c cl.0 e cl.1 h)) (λ x m.
       safe_then {P = λ vs. Hold vs (take (length given) g.1.0)} (safe_look l (values given) (values_fine p typed ms b given (take (length given) g.1.0) g.1.2)) (λ vs y.
       safe_then {P = Any} (safe_look l (time_value when) (time_value_fine p typed ms b when k)) (λ time u.
-      safe_then {P = Any} (safe_change l (rescheduled c x vs time) (λ s f. rescheduled_fine p typed ms c x vs (take (length given) g.1.0) time s g.0 y (given_fields c given g) m f)) (λ u v.
-      note_safe l c given x g m))))
+      safe_change l (rescheduled c x vs time) (λ s f. rescheduled_fine p typed ms c x vs (take (length given) g.1.0) time s g.0 y (given_fields c given g) m f))))
 
   restart_of : (k : ℕ) (e : Option Expression) → GoodRestart here k e → (s : Store) → Fits p ms s → Fine (AskedStatistic p typed ms k) (value_if_any e s)
   restart_of k None g s f = asked_alone p typed ms b k g

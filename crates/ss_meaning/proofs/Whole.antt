@@ -21,18 +21,18 @@ use Rattle.ss_program.specs.WellTyped.{WellTyped, GoodRoutine, GoodEvent, GoodBl
 use Rattle.ss_meaning.specs.Values.{same_mode}
 use Rattle.ss_meaning.specs.Store.{Column, Store, prepended, first_values, taken_by_modes, appended, opened, front, yielded}
 use Rattle.ss_meaning.specs.Histories.{home, no_history, no_histories, starting}
-use Rattle.ss_meaning.specs.Events.{Beginning, Coming, next_event, event_begun, noted_saved, is_awaited}
-use Rattle.ss_meaning.specs.Parts.{World, Returned, Stopped, Faulted, OutOfTicks, Wrong, Outcome, WentOn, Left, Part, outcome_then, needed, change, take_tick}
+use Rattle.ss_meaning.specs.Events.{Beginning, Coming, next_event, event_begun, is_awaited}
+use Rattle.ss_meaning.specs.Parts.{World, Returned, Stopped, Faulted, OutOfTicks, Wrong, Outcome, WentOn, Left, Part, outcome_then, needed, take_tick}
 use Rattle.ss_meaning.specs.Statements.{Calls, effects}
-use Rattle.ss_meaning.specs.Meaning.{with_locals, go_back, come_back, enclosed, routine_called, event_body, event_routine, begin, event_taken, calls, WentWrong, run_of, first_store, first_world, meaning}
+use Rattle.ss_meaning.specs.Meaning.{with_locals, go_back, come_back, enclosed, routine_called, event_routine, begin, event_taken, calls, WentWrong, run_of, first_store, first_world, meaning}
 use Rattle.ss_meaning.specs.Fitting.{Hold, made, LivesAs, BearsBy, Has, Sound, Fits}
 use Rattle.ss_meaning.specs.Laws.{FitsAfter}
 use Rattle.ss_meaning.proofs.Fine.{There, Any}
 use Rattle.ss_meaning.proofs.Lists.{every_get}
 use Rattle.ss_meaning.proofs.Kept.{KeepsColumn, starting_kept}
 use Rattle.ss_meaning.proofs.Stores.{same_is}
-use Rattle.ss_meaning.proofs.Events.{ComingAs, next_event_there, BegunAs, begun_fine, saved_noted_fine}
-use Rattle.ss_meaning.proofs.Parts.{Kept as Stays, Safe, safe_then, safe_looked, safe_change, safe_tick}
+use Rattle.ss_meaning.proofs.Events.{ComingAs, next_event_there, BegunAs, begun_fine}
+use Rattle.ss_meaning.proofs.Parts.{Kept as Stays, Safe, safe_then, safe_looked, safe_tick}
 use Rattle.ss_meaning.proofs.Statements.{CallsSafe, block_safe}
 
 -- ## Variables of routines
@@ -140,7 +140,7 @@ module _ (p : Program) (typed : WellTyped p) where
 
   event_safe : (n : ℕ) (h : Calls) → CallsSafe p h → (ms : List Mode) (k : ℕ) (e : Event) (vs : List Value) → slice_get p.events k ≡ Some e → Hold vs e.given → Safe p ms Any (event_routine (Some e) h n vs)
   event_safe n h ok ms k e vs there q =
-      safe_then {P = Any} (enclosed_safe p ms e.given e.others Any (event_body e h n) vs 0 q nothing body) (λ us u. record { by = λ w fits. (tt, fits) })
+      safe_then {P = Any} (enclosed_safe p ms e.given e.others Any (effects h n e.body) vs 0 q nothing body) (λ us u. record { by = λ w fits. (tt, fits) })
     where
       good : GoodEvent p e
       good = every_get (GoodEvent p) p.events k e typed.events there
@@ -155,10 +155,8 @@ module _ (p : Program) (typed : WellTyped p) where
               weaker (Some us) h = tt
               weaker None h = absurd h
 
-      body : Safe p (e.given ++ e.others) Any (event_body e h n)
-      body =
-          safe_then {P = Any} (safe_change e.line (noted_saved e.saved) (λ s f. saved_noted_fine p typed (e.given ++ e.others) e.saved s good.saved f)) (λ u v.
-          block_safe p typed (e.given ++ e.others) false h ok n e.body good.body)
+      body : Safe p (e.given ++ e.others) Any (effects h n e.body)
+      body = block_safe p typed (e.given ++ e.others) false h ok n e.body good.body
 
   taken_kept : (n : ℕ) (h : Calls) → CallsSafe p h → (ms : List Mode) (w : World) → Fits p ms w.store → is_awaited w.store ≡ true → Stays p ms Any (event_taken p.events h n w)
   taken_kept n h ok ms w fits a = by (next_event w.store) (next_event_there p typed ms w.store a fits)

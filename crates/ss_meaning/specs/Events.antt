@@ -11,9 +11,9 @@ use Rattle.ss_world.specs.declared.ties.Tie.{Tie}
 use Rattle.ss_world.specs.PendingList.{is_pending, scheduled, cancelled, next, after_next}
 use Rattle.ss_program.specs.declared.expression.Variable.TheVariants.{Global}
 use Rattle.ss_meaning.specs.Values.{Trouble, if_ok, turned, due, sure, unless_fault, number_of}
-use Rattle.ss_meaning.specs.Store.{Notices, Store, with_heap, with_pending, put}
+use Rattle.ss_meaning.specs.Store.{Notices, Store, with_heap, with_pending}
 use Rattle.ss_meaning.specs.Entities.{entity, attribute, made_one, gone}
-use Rattle.ss_meaning.specs.Places.{noted_variable, put_attribute, noted_attribute}
+use Rattle.ss_meaning.specs.Places.{assigned_variable, assigned_attribute}
 
 -- ## Time
 
@@ -38,15 +38,10 @@ time_at AtOnce s = Ok s.scene.time
 
 -- ## Scheduling
 
--- the store with values of the attributes from a number on
+-- the attributes from a number on are assigned values in turn
 abbrev pub endowed : (class field : ℕ) → (x : Value) → List Value → Store → Result Store Trouble
 endowed class field x [] s = Ok s
-endowed class field x (v ∷ vs) s = if_ok (put_attribute class field x v s) (endowed class (field + 1) x vs)
-
--- the store once the histories of so many attributes from a number on noted their values
-abbrev pub noted_attributes : (class field count : ℕ) → (x : Value) → Store → Result Store Trouble
-noted_attributes class field zero x s = Ok s
-noted_attributes class field (suc k) x s = if_ok (noted_attribute class field x s) (noted_attributes class (field + 1) k x)
+endowed class field x (v ∷ vs) s = if_ok (assigned_attribute class field x v s) (endowed class (field + 1) x vs)
 
 -- the store once TIME.A of a notice is set
 abbrev pub with_notice_time : (x : Value) → (time : ℤ) → Store → Result Store Trouble
@@ -115,13 +110,8 @@ attributes_given class field (suc k) x s =
 
 -- a notice is saved in a global variable, or it is destroyed
 abbrev pub saved_or_gone : Option ℕ → (class : ℕ) → (x : Value) → Store → Result Store Trouble
-saved_or_gone (Some k) class x s = put (Global k) x s
+saved_or_gone (Some k) class x s = assigned_variable (Global k) x s
 saved_or_gone None class x s = gone class x s
-
--- the store once the histories of the variable noted that
-abbrev pub noted_saved : Option ℕ → Store → Result Store Trouble
-noted_saved (Some k) s = noted_variable (Global k) s
-noted_saved None s = Ok s
 
 -- what comes next: what the program says of its class, the notice, and the store once it was taken out and TIME.V is its time
 pub record Coming : Type 0 where

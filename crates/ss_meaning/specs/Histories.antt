@@ -1,7 +1,6 @@
 -- The histories that statistics are taken of: how they start, what they note, and what is read of them.
 use Rattle.std.specs.Prelude.{ℕ, zero, suc, ◌==◌, Bool, true, false, ◌&&◌, List, [], ◌∷◌, map, ℤ, pos, int_le, Option, Some, None, Result, Ok, Err, slice_get, if◌then◌else◌}
 use Rattle.std.specs.Ordering.{int_eq}
-use Rattle.ss_base.specs.declared.fault.FaultKind.{FaultKind}
 use Rattle.ss_base.specs.declared.fault.FaultKind.TheVariants.{Overflow}
 use Rattle.ss_base.specs.declared.value.Value.{Value}
 use Rattle.ss_base.specs.declared.value.Value.TheVariants.{Whole}
@@ -116,11 +115,6 @@ all_noting subject x now v (s ∷ ss) (c ∷ cs) =
 abbrev pub noted : Subject → (entity : ℤ) → Value → Store → Result Store Trouble
 noted subject x v s =
     turned (with_histories s) (all_noting subject x s.scene.time v s.scene.setting.statistics s.scene.histories)
-
--- a number that is there is noted; what is not there has no history
-abbrev pub noted_there : Subject → (entity : ℤ) → Result Value FaultKind → Store → Result Store Trouble
-noted_there subject x (Ok v) s = noted subject x v s
-noted_there subject x (Err kind) s = Ok s
 
 -- ## What is read of a history, and starting it afresh
 

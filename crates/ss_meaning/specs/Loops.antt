@@ -13,7 +13,7 @@ use Rattle.ss_meaning.specs.Values.{Trouble, if_ok, turned, where_fit, unless_fa
 use Rattle.ss_meaning.specs.Store.{Store}
 use Rattle.ss_meaning.specs.Entities.{class_at, is_permanent, made_count}
 use Rattle.ss_meaning.specs.Places.{InVariable}
-use Rattle.ss_meaning.specs.Sets.{is_none, Walk, walk_begun, walk_begun_at, walk_on}
+use Rattle.ss_meaning.specs.Sets.{is_none, begun, begun_at, coming, goes_on}
 use Rattle.ss_meaning.specs.Expressions.{value, value_if_any, member_value, owner_value, owner_looked_at, holds, all_pass}
 use Rattle.ss_meaning.specs.Parts.{Part, WentOn, outcome_then, choose, look, write, take_tick, Next, Again, Over, loop}
 
@@ -92,38 +92,36 @@ indices class s = where_fit (is_permanent (class_at class s)) (Ok (record { firs
 
 -- ## FOR over the members of a set
 
--- where a walk begins, and whose set it goes over
+-- the member that comes first, and whose set it is
 pub record Outset : Type 0 where
-  pub first : Walk
+  pub first : ℤ
   pub owner : Option Value
 
 abbrev pub from_member : (after reverse : Bool) → (set : ℕ) → SetOwner → Expression → Store → Result Outset Trouble
 from_member after reverse set owner e s =
     if_ok (owner_looked_at set owner s) (λ o. if_ok (member_value set e s) (λ y.
-    turned (λ k. record { first = k; owner = o }) (walk_begun_at reverse after set y o s)))
+    turned (λ x. record { first = x; owner = o }) (begun_at reverse after set y o s)))
 
 abbrev pub loop_outset : Start → (reverse : Bool) → (set : ℕ) → SetOwner → Store → Result Outset Trouble
 loop_outset AtEnd reverse set owner s =
-    if_ok (owner_value owner s) (λ o. turned (λ k. record { first = k; owner = o }) (walk_begun reverse set o s))
+    if_ok (owner_value owner s) (λ o. turned (λ x. record { first = x; owner = o }) (begun reverse set o s))
 loop_outset (From e) reverse set owner s = from_member false reverse set owner e s
 loop_outset (After e) reverse set owner s = from_member true reverse set owner e s
 
--- another turn where the walk is at a member
-abbrev pub at_member : Walk → Part (Next Walk Bool)
-at_member k = choose (is_none k.member) (WentOn (Over false)) (WentOn (Again k))
+-- the next member, which was fixed before
+abbrev pub next_member : Line → (set : ℕ) → Option Value → (next : ℤ) → Turn → Part (Next ℤ Bool)
+next_member l set o x GoesOn w = outcome_then (look l (goes_on set x o) w) (λ b. choose b (WentOn (Again x)) (WentOn (Over false)))
+next_member l set o x EndsLoop w = WentOn (Over false) w
+next_member l set o x IsFound w = WentOn (Over true) w
 
--- what follows the turn of a member: the next one, which was fixed before, or the end of the loop
-abbrev pub next_member : Line → (set : ℕ) → (reverse : Bool) → Option Value → Walk → Turn → Part (Next Walk Bool)
-next_member l set reverse o k GoesOn w = outcome_then (look l (walk_on reverse set o k) w) at_member
-next_member l set reverse o k EndsLoop w = WentOn (Over false) w
-next_member l set reverse o k IsFound w = WentOn (Over true) w
-
-abbrev pub member_turn : Line → (set : ℕ) → (reverse : Bool) → Option Value → (go : ℤ → Part Turn) → Walk → Part (Next Walk Bool)
-member_turn l set reverse o go k w = outcome_then (go k.member w) (next_member l set reverse o k)
+-- the turn of a member: the one after it is fixed as the turn begins
+abbrev pub member_turn : Line → (set : ℕ) → (reverse : Bool) → Option Value → (go : ℤ → Part Turn) → ℤ → Part (Next ℤ Bool)
+member_turn l set reverse o go x w =
+    outcome_then (look l (coming reverse set x) w) (λ next w. outcome_then (go x w) (next_member l set o next))
 
 abbrev pub over_members : ℕ → Line → (set : ℕ) → (reverse : Bool) → (go : ℤ → Part Turn) → Outset → Part Bool
 over_members n l set reverse go b =
-    choose (is_none b.first.member) (WentOn false) (loop n (member_turn l set reverse b.owner go) b.first)
+    choose (is_none b.first) (WentOn false) (loop n (member_turn l set reverse b.owner go) b.first)
 
 -- ## FOR, and loops led by WHILE or UNTIL
 

@@ -18,8 +18,8 @@ use Rattle.ss_world.specs.PendingList.{none_pending}
 use Rattle.ss_program.specs.Program.{Routine, Event, Program}
 use Rattle.ss_meaning.specs.Store.{Notices, Setting, Scene, Store, first_values, opened, yielded}
 use Rattle.ss_meaning.specs.Histories.{no_histories, started}
-use Rattle.ss_meaning.specs.Events.{Beginning, Coming, next_event, event_begun, noted_saved}
-use Rattle.ss_meaning.specs.Parts.{World, Exit, Returned, Stopped, Faulted, OutOfTicks, Wrong, Outcome, WentOn, Left, Part, outcome_then, then_nothing, looked, needed, change, take_tick}
+use Rattle.ss_meaning.specs.Events.{Beginning, Coming, next_event, event_begun}
+use Rattle.ss_meaning.specs.Parts.{World, Exit, Returned, Stopped, Faulted, OutOfTicks, Wrong, Outcome, WentOn, Left, Part, outcome_then, then_nothing, looked, needed, take_tick}
 use Rattle.ss_meaning.specs.Statements.{Calls, effects}
 
 -- ## Routines
@@ -54,13 +54,9 @@ routine_called (Some r) h n vs count w =
 
 -- ## Events
 
--- where the notice was saved in a variable, its histories note that, and then comes the body
-abbrev pub event_body : Event → Calls → ℕ → Part (Unit {0})
-event_body e h n w = outcome_then (change e.line (noted_saved e.saved) w) (λ _. effects h n e.body)
-
 abbrev pub event_routine : Option Event → Calls → ℕ → List Value → Part (Unit {0})
 event_routine None h n vs w = Left Wrong w
-event_routine (Some e) h n vs w = then_nothing (enclosed e.given e.others (event_body e h n) vs 0 w)
+event_routine (Some e) h n vs w = then_nothing (enclosed e.given e.others (effects h n e.body) vs 0 w)
 
 -- an event begins, at the line of its routine, and then comes the body
 abbrev pub begin : Coming → (Beginning → Part (Unit {0})) → Part (Unit {0})

@@ -24,7 +24,7 @@ use Rattle.ss_program.specs.declared.statement.End.{End}
 use Rattle.ss_program.specs.declared.statement.End.TheVariants as ends
 use Rattle.ss_meaning.specs.Values.{Trouble, Fails, Misfit, if_ok, turned, due, sure, where_fit, unless_fault, number_of}
 use Rattle.ss_meaning.specs.Store.{Store, with_heap}
-use Rattle.ss_meaning.specs.Histories.{noted_there}
+use Rattle.ss_meaning.specs.Histories.{noted}
 
 -- ## Members and owners
 
@@ -92,15 +92,9 @@ is_in set x o s = if_ok (member set x s) (λ n. if_ok (owner_number set o s) (λ
 
 -- ## Filing and removing
 
--- how many members the set of an owner has, as a value
-abbrev pub count_value : Result ℤ FaultKind → Result Value FaultKind
-count_value (Ok n) = Ok (Whole n)
-count_value (Err kind) = Err kind
-
--- the store once the histories of N. of the set of an owner noted that
-abbrev pub noted_count : (set : ℕ) → Option Value → Store → Result Store Trouble
-noted_count set o s =
-    if_ok (owner_number set o s) (λ m. noted_there (OfCount set) m (count_value (count_in s.scene.heap set m)) s)
+-- the store with other entities, once N. of the set of an owner has changed, which its histories note
+abbrev pub recounted : (set : ℕ) → (owner : ℤ) → Store → State → Result Store Trouble
+recounted set o s h = if_ok (due (count_in h set o)) (λ n. noted (OfCount set) o (Whole n) (with_heap s h))
 
 abbrev pub is_field : Layout → ℕ → RankKey → Bool
 is_field l class key = nat_lt key.field (length (modes_of l class))
@@ -129,48 +123,25 @@ filed_by Hindmost set o x s = due (filed_last s.scene.heap set o x)
 filed_by (JustBefore y) set o x s = if_ok (member set y s) (λ k. due (filed_before s.scene.heap set o x k))
 filed_by (JustAfter y) set o x s = if_ok (member set y s) (λ k. due (filed_after s.scene.heap set o x k))
 
--- the member beside which another one is filed must be there
-abbrev pub beside_known : Filing → (set : ℕ) → Store → Result (Unit {0}) Trouble
-beside_known ByRule set s = Ok tt
-beside_known Foremost set s = Ok tt
-beside_known Hindmost set s = Ok tt
-beside_known (JustBefore y) set s = turned (λ _. tt) (member set y s)
-beside_known (JustAfter y) set s = turned (λ _. tt) (member set y s)
-
--- the store with x as a member of the set of an owner
-abbrev pub put_in_set : Filing → (set : ℕ) → Value → Option Value → Store → Result Store Trouble
-put_in_set filing set x o s =
-    if_ok (member set x s) (λ n. if_ok (beside_known filing set s) (λ _. if_ok (owner_number set o s) (λ m.
-    turned (with_heap s) (filed_by filing set m n s))))
-
--- x is filed in the set of an owner, and the histories note that
+-- the store once x is a member of the set of an owner
 abbrev pub filed_in : Filing → (set : ℕ) → Value → Option Value → Store → Result Store Trouble
-filed_in filing set x o s = if_ok (put_in_set filing set x o s) (noted_count set o)
+filed_in filing set x o s =
+    if_ok (member set x s) (λ n. if_ok (owner_number set o s) (λ m. if_ok (filed_by filing set m n s) (recounted set m s)))
 
--- the store without x in the set of an owner
-abbrev pub taken_from_set : (set : ℕ) → Value → Option Value → Store → Result Store Trouble
-taken_from_set set x o s =
-    if_ok (member set x s) (λ n. if_ok (owner_number set o s) (λ m. turned (with_heap s) (due (removed s.scene.heap set m n))))
-
--- x is removed from the set of an owner, and the histories note that
+-- the store once x is out of the set of an owner
 abbrev pub removed_from : (set : ℕ) → Value → Option Value → Store → Result Store Trouble
-removed_from set x o s = if_ok (taken_from_set set x o s) (noted_count set o)
+removed_from set x o s =
+    if_ok (member set x s) (λ n. if_ok (owner_number set o s) (λ m. if_ok (due (removed s.scene.heap set m n)) (recounted set m s)))
 
 abbrev pub end_removed : End → State → ℕ → ℤ → Result (ℤ × State) FaultKind
 end_removed ends.First h set o = first_removed h set o
 end_removed ends.Last h set o = last_removed h set o
 
--- a member, and the store without it in its set
-abbrev pub without_member : Store → ℤ × State → Value × Store
-without_member s r = (Whole r.0, with_heap s r.1)
-
--- the member at an end of the set of an owner, and the store without it there
-abbrev pub taken_at : End → (set : ℕ) → Option Value → Store → Result (Value × Store) Trouble
-taken_at end set o s = if_ok (owner_number set o s) (λ m. turned (without_member s) (due (end_removed end s.scene.heap set m)))
-
--- the member at an end, which is removed, and the histories note that
+-- the member at an end of the set of an owner, and the store once it is out
 abbrev pub removed_at : End → (set : ℕ) → Option Value → Store → Result (Value × Store) Trouble
-removed_at end set o s = if_ok (taken_at end set o s) (λ b. turned (λ t. (b.0, t)) (noted_count set o b.1))
+removed_at end set o s =
+    if_ok (owner_number set o s) (λ m. if_ok (due (end_removed end s.scene.heap set m)) (λ r.
+    turned (λ t. (Whole r.0, t)) (recounted set m s r.1)))
 
 -- ## Going over members: from the first on or, in reverse, from the last backwards
 
@@ -199,23 +170,6 @@ abbrev pub begun_at : (reverse after : Bool) → (set : ℕ) → Value → Optio
 begun_at reverse after set x o s =
     if_ok (is_in set x o s) (λ b. unless_fault (not b) NotFiled (if_ok (number_of x) (λ n. from_or_after reverse after set n s)))
 
--- where a walk over members is: at a member, and the one that comes after it, which is fixed as the walk gets to the member; 0 is none
-pub record Walk : Type 0 where
-  pub member : ℤ
-  pub next : ℤ
-
--- a walk gets to a member; at no member it is over
-abbrev pub walk_to : (reverse : Bool) → (set : ℕ) → (x : ℤ) → Store → Result Walk Trouble
-walk_to reverse set x s =
-    if is_none x then Ok (record { member = pos 0; next = pos 0 }) else turned (λ y. record { member = x; next = y }) (coming reverse set x s)
-
--- a walk begins: with the first member, or with a member or the one after it
-abbrev pub walk_begun : (reverse : Bool) → (set : ℕ) → Option Value → Store → Result Walk Trouble
-walk_begun reverse set o s = if_ok (begun reverse set o s) (λ x. walk_to reverse set x s)
-
-abbrev pub walk_begun_at : (reverse after : Bool) → (set : ℕ) → Value → Option Value → Store → Result Walk Trouble
-walk_begun_at reverse after set y o s = if_ok (begun_at reverse after set y o s) (λ x. walk_to reverse set x s)
-
 abbrev pub or_gone : Result Bool Trouble → Result Bool Trouble
 or_gone (Ok true) = Ok true
 or_gone (Ok false) = Err (Fails LoopMemberGone)
@@ -225,7 +179,3 @@ or_gone (Err Misfit) = Err Misfit
 -- whether a loop goes on with the member that was fixed before: not where there was none; one that is gone since is the fault LOOP MEMBER GONE
 abbrev pub goes_on : (set : ℕ) → (x : ℤ) → Option Value → Store → Result Bool Trouble
 goes_on set x o s = if is_none x then Ok false else or_gone (is_in set (Whole x) o s)
-
--- a walk goes on to the member that was fixed before
-abbrev pub walk_on : (reverse : Bool) → (set : ℕ) → Option Value → Walk → Store → Result Walk Trouble
-walk_on reverse set o k s = if_ok (goes_on set k.next o s) (λ _. walk_to reverse set k.next s)

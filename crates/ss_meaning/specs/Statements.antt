@@ -13,7 +13,7 @@ use Rattle.ss_meaning.specs.Store.{Store}
 use Rattle.ss_meaning.specs.Entities.{made_one, made_all, without}
 use Rattle.ss_meaning.specs.Places.{held}
 use Rattle.ss_meaning.specs.Sets.{filed_in, removed_from, removed_at}
-use Rattle.ss_meaning.specs.Events.{noted_attributes, made_notice, filed_notice, rescheduled, unscheduled, is_awaited}
+use Rattle.ss_meaning.specs.Events.{made_notice, filed_notice, rescheduled, unscheduled, is_awaited}
 use Rattle.ss_meaning.specs.Statistics.{reset}
 use Rattle.ss_meaning.specs.Expressions.{value, values, shown_items, value_if_any, entity_value, member_value, owner_value, spot, filing, time_value, holds}
 use Rattle.ss_meaning.specs.Parts.{Returned, Stopped, Wrong, WentOn, Left, Part, outcome_then, then_nothing, choose, look, change, get, write, send, Next, Again, Over, loop}
@@ -80,22 +80,17 @@ remove_end l end set owner w = outcome_then (look l (owner_value owner) w) (λ o
 
 -- ## Events
 
--- the histories of so many first attributes of a notice note what it was given
-abbrev pub note_given : Line → (class count : ℕ) → (x : Value) → Part (Unit {0})
-note_given l class count x = change l (noted_attributes class 0 count x)
-
--- the place, the values, the time, the notice with its attributes, which histories note; it is written, and then filed among those that are pending
+-- the place, the values, the time, the notice with its attributes; it is written, and then filed among those that are pending
 abbrev pub schedule_new : Line → (class : ℕ) → Place → List Expression → When → Part (Unit {0})
 schedule_new l class t given when w =
     outcome_then (look l (spot t) w) (λ p w. outcome_then (look l (values given) w) (λ vs w. outcome_then (look l (time_value when) w) (λ time w.
-    outcome_then (get l (made_notice class vs time) w) (λ x w. outcome_then (note_given l class (length given) x w) (λ _ w.
-    outcome_then (write l p x w) (λ _. change l (filed_notice class x time)))))))
+    outcome_then (get l (made_notice class vs time) w) (λ x w. outcome_then (write l p x w) (λ _. change l (filed_notice class x time))))))
 
 -- the notice, the values, the time
 abbrev pub schedule : Line → (class : ℕ) → Expression → List Expression → When → Part (Unit {0})
 schedule l class e given when w =
     outcome_then (look l (entity_value class e) w) (λ x w. outcome_then (look l (values given) w) (λ vs w.
-    outcome_then (look l (time_value when) w) (λ time w. outcome_then (change l (rescheduled class x vs time) w) (λ _. note_given l class (length given) x))))
+    outcome_then (look l (time_value when) w) (λ time. change l (rescheduled class x vs time))))
 
 abbrev pub cancel : Line → (class : ℕ) → Expression → Part (Unit {0})
 cancel l class e w = outcome_then (look l (value e) w) (λ x. change l (unscheduled class x))
