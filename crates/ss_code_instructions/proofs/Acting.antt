@@ -1,16 +1,15 @@
 -- No instruction changes what the program says once and for all.
-use Rattle.std.proofs.Common.{◌≡◌, ℕ, ◌+◌, ◌==◌, Bool, true, false, List, [], ◌∷◌, length, Some, Ok, Err, ℤ, refl, ◌∙◌}
+use Rattle.std.proofs.Common.{ℕ, ◌+◌, ◌==◌, Bool, true, false, List, [], ◌∷◌, length, Some, Ok, Err, ℤ, refl, ◌∙◌}
 use Rattle.std.specs.Prelude.{Result, int_lt, pos, ◌+ℤ◌, slice_get}
 use Rattle.ss_base.specs.declared.line.Line.{Line}
 use Rattle.ss_base.specs.declared.value.Value.{Value}
 use Rattle.ss_base.specs.declared.value.Value.TheVariants.{Whole}
-use Rattle.ss_program.specs.declared.expression.Variable.TheVariants.{Global}
 use Rattle.ss_meaning.specs.Words.{is_ended}
 use Rattle.ss_meaning.specs.Values.{Trouble, if_ok, turned, due, where_fit, number_of, calculated, absolute, related, printed, empty_lines}
-use Rattle.ss_meaning.specs.Store.{Store, put, opened, yielded}
+use Rattle.ss_meaning.specs.Store.{Store, opened, yielded}
 use Rattle.ss_meaning.specs.Entities.{entity, attribute, time_of, made_one, made_all, without}
-use Rattle.ss_meaning.specs.Places.{noted_variable, put_attribute, noted_attribute, assignable_count}
-use Rattle.ss_meaning.specs.Sets.{member, known_owner, of_set, of_member, is_none, is_empty, is_in, put_in_set, taken_from_set, taken_at, noted_count, Walk, walk_begun, walk_begun_at, walk_on}
+use Rattle.ss_meaning.specs.Places.{assigned_variable, assigned_attribute}
+use Rattle.ss_meaning.specs.Sets.{member, known_owner, of_set, of_member, is_none, is_empty, is_in, filed_in, removed_from, removed_at, begun, begun_at, goes_on}
 use Rattle.ss_meaning.specs.Events.{clock, time_at, AtTime, Later, made_notice, filed_notice, rescheduled, unscheduled, Beginning, Coming, next_event, event_begun}
 use Rattle.ss_meaning.specs.Statistics.{figure, mean, reset}
 use Rattle.ss_meaning.specs.Loops.{range_of, indices}
@@ -18,8 +17,8 @@ use Rattle.ss_meaning.specs.Statements.{read_value}
 use Rattle.ss_code_instructions.specs.Instructions.{Taken, Target, Into, Onto, Instruction, EntryPoint}
 use Rattle.ss_code_instructions.specs.Instructions as i
 use Rattle.ss_code_instructions.specs.States.{Called, ARoutine, AnEvent, Frame, Core, Moved, Stuck, did, back_if, cell_at, take_off, Written, put_to, deliver_with, onward}
-use Rattle.ss_code_instructions.specs.Machine.{Code, changed_attribute, walk_cells, has_item, next_item, walk_further, values_shown, cells_of_kinds, enter, leave, take_event, act}
-use Rattle.ss_code_instructions.proofs.Keeping.{Only, Same, SameWith, ComingSame, BeginningSame, each, then_only, made, made_from, put_same, variable_noted_same, attribute_put_same, attribute_noted_same, changed_same, made_one_same, made_all_same, without_same, filed_same, removed_same, end_same, count_noted_same, notice_same, pending_same, again_same, cancelled_same, read_same, reset_same, event_same, begun_same}
+use Rattle.ss_code_instructions.specs.Machine.{Code, changed_attribute, assignable_count, Walk, walk_at, walk_cells, has_item, next_item, walk_further, values_shown, cells_of_kinds, enter, leave, take_event, act}
+use Rattle.ss_code_instructions.proofs.Keeping.{Only, Same, SameWith, ComingSame, BeginningSame, each, then_only, made, made_from, variable_same, attribute_same, changed_same, made_one_same, made_all_same, without_same, filed_same, removed_same, end_same, notice_same, pending_same, again_same, cancelled_same, read_same, reset_same, event_same, begun_same}
 use Rattle.ss_code_instructions.proofs.Moving.{Every, did_only, did_any, fit_any, fit_where, if_every, high, block, number, value, values, bearer, position, three, walk}
 
 -- in a state that an instruction leads to the program says the same
@@ -34,7 +33,7 @@ module _ (s : Store) where
   WrittenSame w = Same s w.store
 
   put_to_same : (to : Target) (v : Value) (cells : List Value) (t : Store) → Same s t → Only WrittenSame (put_to to v cells t)
-  put_to_same (Into x) v cells t p = made_from WrittenSame (Same t) _ (put x v t) (put_same x v t) (λ u q. q ∙ p)
+  put_to_same (Into x) v cells t p = made_from WrittenSame (Same t) _ (assigned_variable x v t) (variable_same x v t) (λ u q. q ∙ p)
   put_to_same (Onto h) v cells t p = fits (length cells == h)
     where
       fits : (b : Bool) → Only WrittenSame (where_fit b (Ok (record { cells = v ∷ cells; store = t })))
@@ -79,6 +78,7 @@ taking code h n c p =
 
 pub act_keeps : (code : Code) (l : Line) (x : Instruction) (c : Core) → Keeps c.store (act code l x c)
 act_keeps code l (i.Move from to) c = value (Saying c.store) from c.store c.cells _ (λ v below. computes l to (Ok v) below c)
+act_keeps code l (i.Keep from x) c = value (Saying c.store) from c.store c.cells _ (λ v below. changes l (assigned_variable x v c.store) below c (variable_same x v c.store))
 act_keeps code l (i.Calculate op left right to) c = values (Saying c.store) left right c.store c.cells _ (λ x y below. computes l to (calculated op x y) below c)
 act_keeps code l (i.Absolute x to) c = value (Saying c.store) x c.store c.cells _ (λ x below. computes l to (absolute x) below c)
 act_keeps code l (i.Clock to) c = computes l to (Ok (clock c.store)) c.cells c
@@ -93,12 +93,9 @@ act_keeps code l (i.LookOwner set owner) c = bearer (Saying c.store) owner c.sto
 act_keeps code l (i.LookMean j x) c = bearer (Saying c.store) x c.store c.cells _ (λ x below. did_any (Saying c.store) l (mean j x c.store) _ (λ n. refl))
 act_keeps code l (i.LookCount class) c = did_any (Saying c.store) l (assignable_count class c.store) _ (λ n. refl)
 act_keeps code l (i.SetAttribute class field x from) c =
-    values (Saying c.store) x from c.store c.cells _ (λ x v below. changes l (put_attribute class field x v c.store) below c (attribute_put_same class field x v c.store))
+    values (Saying c.store) x from c.store c.cells _ (λ x v below. changes l (assigned_attribute class field x v c.store) below c (attribute_same class field x v c.store))
 act_keeps code l (i.ChangeAttribute sign class field x by) c =
     values (Saying c.store) x by c.store c.cells _ (λ x y below. changes l (changed_attribute sign class field x y c.store) below c (changed_same sign class field x y c.store))
-act_keeps code l (i.NoteVariable k) c = changes l (noted_variable (Global k) c.store) c.cells c (variable_noted_same (Global k) c.store)
-act_keeps code l (i.NoteAttribute class field x) c = value (Saying c.store) x c.store c.cells _ (λ x below. changes l (noted_attribute class field x c.store) below c (attribute_noted_same class field x c.store))
-act_keeps code l (i.NoteCount set owner) c = bearer (Saying c.store) owner c.store c.cells _ (λ o below. changes l (noted_count set o c.store) below c (count_noted_same set o c.store))
 act_keeps code l (i.Reset j x) c = bearer (Saying c.store) x c.store c.cells _ (λ x below. changes l (reset j x c.store) below c (reset_same j x c.store))
 act_keeps code l (i.Jump skip) c = refl
 act_keeps code l (i.Unless relation left right skip) c = values (Saying c.store) left right c.store c.cells _ (λ x y below. fit_any (Saying c.store) (related relation x y) _ (λ b. refl))
@@ -110,14 +107,14 @@ act_keeps code l i.Turn c = refl
 act_keeps code l (i.Repeat back) c = refl
 act_keeps code l (i.Begin h skip) c = three (Saying c.store) h c.cells _ (λ item limit step below. did_any (Saying c.store) l (range_of (Whole item) (Whole limit) (Some (Whole step))) _ (λ r. refl))
 act_keeps code l (i.BeginClass class h skip) c = high (Saying c.store) h c.cells _ (did_any (Saying c.store) l (indices class c.store) _ (λ r. refl))
-act_keeps code l (i.Take h x) c = fit_any (Saying c.store) (cell_at h c.cells) _ (λ v. changes l (put x v c.store) c.cells c (put_same x v c.store))
+act_keeps code l (i.Take h x) c = fit_any (Saying c.store) (cell_at h c.cells) _ (λ v. changes l (assigned_variable x v c.store) c.cells c (variable_same x v c.store))
 act_keeps code l (i.Next h back) c = three (Saying c.store) h c.cells _ (λ item limit step below. next_keeps back item limit step below c)
 act_keeps code l (i.BeginSet reverse set owner h skip) c =
-    bearer (Saying c.store) owner c.store c.cells _ (λ o below. high (Saying c.store) h below _ (did_any (Saying c.store) l (walk_begun reverse set o c.store) _ (λ k. refl)))
+    bearer (Saying c.store) owner c.store c.cells _ (λ o below. high (Saying c.store) h below _ (did_any (Saying c.store) l (if_ok (begun reverse set o c.store) (λ x. walk_at reverse set x c.store)) _ (λ k. refl)))
 act_keeps code l (i.BeginAt reverse after set owner h skip) c =
-    value (Saying c.store) (Taken h) c.store c.cells _ (λ y above. bearer (Saying c.store) owner c.store above _ (λ o below. did_any (Saying c.store) l (walk_begun_at reverse after set y o c.store) _ (λ k. refl)))
+    value (Saying c.store) (Taken h) c.store c.cells _ (λ y above. bearer (Saying c.store) owner c.store above _ (λ o below. did_any (Saying c.store) l (if_ok (begun_at reverse after set y o c.store) (λ x. walk_at reverse set x c.store)) _ (λ k. refl)))
 act_keeps code l (i.NextMember reverse set owner h back) c =
-    walk (Saying c.store) h c.cells _ (λ k above. bearer (Saying c.store) owner c.store above _ (λ o below. did_any (Saying c.store) l (walk_on reverse set o k c.store) _ (λ k'. further_keeps back k k' below c)))
+    walk (Saying c.store) h c.cells _ (λ k above. bearer (Saying c.store) owner c.store above _ (λ o below. did_any (Saying c.store) l (if_ok (goes_on set k.next o c.store) (λ _. walk_at reverse set k.next c.store)) _ (λ k'. further_keeps back k k' below c)))
 act_keeps code l (i.Forget count) c = fit_any (Saying c.store) (take_off count c.cells []) _ (λ b. refl)
 act_keeps code l (i.Call routine h) c =
     fit_any (Saying c.store) (slice_get code.routines routine) _ (λ e. block (Saying c.store) (length e.given) h c.cells _ (λ vs below. entering e (ARoutine routine) vs below c c.store refl))
@@ -128,11 +125,11 @@ act_keeps code l (i.CreateAll counted) c = changes l (made_all counted c.store) 
 act_keeps code l (i.Destroy class x) c = value (Saying c.store) x c.store c.cells _ (λ x below. changes l (without class x c.store) below c (without_same class x c.store))
 act_keeps code l (i.File filing set x owner) c =
     bearer (Saying c.store) owner c.store c.cells _ (λ o over. position (Saying c.store) filing c.store over _ (λ f above. value (Saying c.store) x c.store above _ (λ x below.
-    changes l (put_in_set f set x o c.store) below c (filed_same f set x o c.store))))
+    changes l (filed_in f set x o c.store) below c (filed_same f set x o c.store))))
 act_keeps code l (i.Remove set x owner) c =
-    bearer (Saying c.store) owner c.store c.cells _ (λ o above. value (Saying c.store) x c.store above _ (λ x below. changes l (taken_from_set set x o c.store) below c (removed_same set x o c.store)))
+    bearer (Saying c.store) owner c.store c.cells _ (λ o above. value (Saying c.store) x c.store above _ (λ x below. changes l (removed_from set x o c.store) below c (removed_same set x o c.store)))
 act_keeps code l (i.RemoveEnd end set owner to) c =
-    bearer (Saying c.store) owner c.store c.cells _ (λ o below. delivers c.store l to (taken_at end set o c.store) below c (end_same end set o c.store))
+    bearer (Saying c.store) owner c.store c.cells _ (λ o below. delivers c.store l to (removed_at end set o c.store) below c (end_same end set o c.store))
 act_keeps code l (i.At time to) c = value (Saying c.store) time c.store c.cells _ (λ v below. computes l to (turned Whole (time_at (AtTime v) c.store)) below c)
 act_keeps code l (i.In units to) c = value (Saying c.store) units c.store c.cells _ (λ v below. computes l to (turned Whole (time_at (Later v) c.store)) below c)
 act_keeps code l (i.MakeNotice class h given to) c =

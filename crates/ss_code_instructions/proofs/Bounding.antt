@@ -5,25 +5,24 @@ use Rattle.std.specs.Prelude.{Result, int_lt, ◌+ℤ◌, slice_get}
 use Rattle.ss_base.specs.declared.line.Line.{Line}
 use Rattle.ss_base.specs.declared.value.Value.{Value}
 use Rattle.ss_base.specs.declared.value.Value.TheVariants.{Whole}
-use Rattle.ss_program.specs.declared.expression.Variable.TheVariants.{Global}
 use Rattle.ss_meaning.specs.Words.{is_ended}
 use Rattle.ss_meaning.specs.Values.{Trouble, if_ok, turned, due, number_of, calculated, absolute, related, printed, empty_lines}
-use Rattle.ss_meaning.specs.Store.{Store, put, opened, yielded}
+use Rattle.ss_meaning.specs.Store.{Store, yielded}
 use Rattle.ss_meaning.specs.Entities.{entity, attribute, time_of, made_one, made_all, without}
-use Rattle.ss_meaning.specs.Places.{noted_variable, put_attribute, noted_attribute, assignable_count}
-use Rattle.ss_meaning.specs.Sets.{member, known_owner, of_set, of_member, is_none, is_empty, is_in, put_in_set, taken_from_set, taken_at, noted_count, Walk, walk_begun, walk_begun_at, walk_on}
+use Rattle.ss_meaning.specs.Places.{assigned_variable, assigned_attribute}
+use Rattle.ss_meaning.specs.Sets.{member, known_owner, of_set, of_member, is_none, is_empty, is_in, filed_in, removed_from, removed_at, begun, begun_at, goes_on}
 use Rattle.ss_meaning.specs.Events.{clock, time_at, AtTime, Later, made_notice, filed_notice, rescheduled, unscheduled, is_awaited}
 use Rattle.ss_meaning.specs.Statistics.{figure, mean, reset}
 use Rattle.ss_meaning.specs.Loops.{range_of, indices}
 use Rattle.ss_meaning.specs.Statements.{read_value}
 use Rattle.ss_code_instructions.specs.Instructions.{Taken, Target, Instruction, Placed}
 use Rattle.ss_code_instructions.specs.Instructions as i
-use Rattle.ss_code_instructions.specs.States.{Called, ARoutine, AnEvent, Frame, Core, MachineState, Done, Breaks, Moved, To, Sends, Rest, Stuck, did, back_if, cell_at, take_off, deliver_with, put_to, onward, onward_if, back_if}
-use Rattle.ss_code_instructions.specs.Machine.{Code, changed_attribute, walk_cells, has_item, next_item, walk_further, values_shown, cells_of_kinds, leave, act, is_due, Stepped, Goes, Over, NoStep, with_rest, when_due, step_at, step}
+use Rattle.ss_code_instructions.specs.States.{Frame, Core, MachineState, Done, Breaks, Moved, To, Sends, Rest, Stuck, did, back_if, take_off, deliver_with, put_to, onward, onward_if, back_if}
+use Rattle.ss_code_instructions.specs.Machine.{Code, changed_attribute, assignable_count, Walk, walk_at, walk_cells, has_item, next_item, walk_further, values_shown, cells_of_kinds, leave, act, is_due, Stepped, Goes, Over, NoStep, with_rest, when_due, step_at, step}
 use Rattle.ss_program.specs.Program.{Program}
 use Rattle.ss_meaning.specs.Expressions.{unless}
-use Rattle.ss_code_instructions.specs.Running.{Underway, Lands, TicksAt, goes_back, start, after_one_step, steps}
-use Rattle.ss_code_instructions.specs.Laws.{AreSteps, StepsAreBounded}
+use Rattle.ss_code_instructions.specs.Running.{Underway, Lands, goes_back, start, after_one_step, steps}
+use Rattle.ss_code_instructions.specs.Laws.{StepsAreBounded}
 use Rattle.ss_code_instructions.specs.Translation.{place, code_of, main_code, main_scope, first_site, block_code, all_routines, all_events}
 use Rattle.ss_code_instructions.proofs.Landing.{jumps_land}
 use Rattle.ss_code_instructions.proofs.Calling.{Calls, act_calls}
@@ -73,6 +72,7 @@ further_way back old new below c =
 
 act_way : (code : Code) (l : Line) (x : Instruction) (c : Core) → is_due x ≡ false → Every (Way (goes_back x) c) (act code l x c)
 act_way code l (i.Move from to) c calm = value (Way None c) from c.store c.cells _ (λ v below. computes l to (Ok v) below c)
+act_way code l (i.Keep from x) c calm = value (Way None c) from c.store c.cells _ (λ v below. changes l (assigned_variable x v c.store) below c)
 act_way code l (i.Calculate op left right to) c calm = values (Way None c) left right c.store c.cells _ (λ x y below. computes l to (calculated op x y) below c)
 act_way code l (i.Absolute x to) c calm = value (Way None c) x c.store c.cells _ (λ x below. computes l to (absolute x) below c)
 act_way code l (i.Clock to) c calm = computes l to (Ok (clock c.store)) c.cells c
@@ -87,12 +87,9 @@ act_way code l (i.LookOwner set owner) c calm = bearer (Way None c) owner c.stor
 act_way code l (i.LookMean j x) c calm = bearer (Way None c) x c.store c.cells _ (λ x below. did_any (Way None c) l (mean j x c.store) _ (λ n. inl (ahead c, refl)))
 act_way code l (i.LookCount class) c calm = did_any (Way None c) l (assignable_count class c.store) _ (λ n. inl (ahead c, refl))
 act_way code l (i.SetAttribute class field x from) c calm =
-    values (Way None c) x from c.store c.cells _ (λ x v below. changes l (put_attribute class field x v c.store) below c)
+    values (Way None c) x from c.store c.cells _ (λ x v below. changes l (assigned_attribute class field x v c.store) below c)
 act_way code l (i.ChangeAttribute sign class field x by) c calm =
     values (Way None c) x by c.store c.cells _ (λ x y below. changes l (changed_attribute sign class field x y c.store) below c)
-act_way code l (i.NoteVariable k) c calm = changes l (noted_variable (Global k) c.store) c.cells c
-act_way code l (i.NoteAttribute class field x) c calm = value (Way None c) x c.store c.cells _ (λ x below. changes l (noted_attribute class field x c.store) below c)
-act_way code l (i.NoteCount set owner) c calm = bearer (Way None c) owner c.store c.cells _ (λ o below. changes l (noted_count set o c.store) below c)
 act_way code l (i.Reset j x) c calm = bearer (Way None c) x c.store c.cells _ (λ x below. changes l (reset j x c.store) below c)
 act_way code l (i.Jump skip) c calm = skips c skip false c.cells
 act_way code l (i.Unless relation left right skip) c calm = values (Way None c) left right c.store c.cells _ (λ x y below. fit_any (Way None c) (related relation x y) _ (λ b. skips c skip b below))
@@ -107,11 +104,11 @@ act_way code l (i.BeginClass class h skip) c calm = high (Way None c) h c.cells 
 act_way code l (i.Take h x) c calm = absurd cc
 act_way code l (i.Next h back) c calm = three (Way (Some back) c) h c.cells _ (λ item limit step below. next_way back item limit step below c)
 act_way code l (i.BeginSet reverse set owner h skip) c calm =
-    bearer (Way None c) owner c.store c.cells _ (λ o below. high (Way None c) h below _ (did_any (Way None c) l (walk_begun reverse set o c.store) _ (λ k. skips c skip (not (is_none k.member)) (walk_cells k below))))
+    bearer (Way None c) owner c.store c.cells _ (λ o below. high (Way None c) h below _ (did_any (Way None c) l (if_ok (begun reverse set o c.store) (λ x. walk_at reverse set x c.store)) _ (λ k. skips c skip (not (is_none k.member)) (walk_cells k below))))
 act_way code l (i.BeginAt reverse after set owner h skip) c calm =
-    value (Way None c) (Taken h) c.store c.cells _ (λ y above. bearer (Way None c) owner c.store above _ (λ o below. did_any (Way None c) l (walk_begun_at reverse after set y o c.store) _ (λ k. skips c skip (not (is_none k.member)) (walk_cells k below))))
+    value (Way None c) (Taken h) c.store c.cells _ (λ y above. bearer (Way None c) owner c.store above _ (λ o below. did_any (Way None c) l (if_ok (begun_at reverse after set y o c.store) (λ x. walk_at reverse set x c.store)) _ (λ k. skips c skip (not (is_none k.member)) (walk_cells k below))))
 act_way code l (i.NextMember reverse set owner h back) c calm =
-    walk (Way (Some back) c) h c.cells _ (λ k above. bearer (Way (Some back) c) owner c.store above _ (λ o below. did_any (Way (Some back) c) l (walk_on reverse set o k c.store) _ (λ k'. further_way back k k' below c)))
+    walk (Way (Some back) c) h c.cells _ (λ k above. bearer (Way (Some back) c) owner c.store above _ (λ o below. did_any (Way (Some back) c) l (if_ok (goes_on set k.next o c.store) (λ _. walk_at reverse set k.next c.store)) _ (λ k'. further_way back k k' below c)))
 act_way code l (i.Forget count) c calm = fit_any (Way None c) (take_off count c.cells []) _ (λ b. inl (ahead c, refl))
 act_way code l (i.Call routine h) c calm = absurd cc
 act_way code l i.Leave c calm = leaving c.frames c refl
@@ -121,11 +118,11 @@ act_way code l (i.CreateAll counted) c calm = changes l (made_all counted c.stor
 act_way code l (i.Destroy class x) c calm = value (Way None c) x c.store c.cells _ (λ x below. changes l (without class x c.store) below c)
 act_way code l (i.File filing set x owner) c calm =
     bearer (Way None c) owner c.store c.cells _ (λ o over. position (Way None c) filing c.store over _ (λ f above. value (Way None c) x c.store above _ (λ x below.
-    changes l (put_in_set f set x o c.store) below c)))
+    changes l (filed_in f set x o c.store) below c)))
 act_way code l (i.Remove set x owner) c calm =
-    bearer (Way None c) owner c.store c.cells _ (λ o above. value (Way None c) x c.store above _ (λ x below. changes l (taken_from_set set x o c.store) below c))
+    bearer (Way None c) owner c.store c.cells _ (λ o above. value (Way None c) x c.store above _ (λ x below. changes l (removed_from set x o c.store) below c))
 act_way code l (i.RemoveEnd end set owner to) c calm =
-    bearer (Way None c) owner c.store c.cells _ (λ o below. delivers l to (taken_at end set o c.store) below c)
+    bearer (Way None c) owner c.store c.cells _ (λ o below. delivers l to (removed_at end set o c.store) below c)
 act_way code l (i.At time to) c calm = value (Way None c) time c.store c.cells _ (λ v below. computes l to (turned Whole (time_at (AtTime v) c.store)) below c)
 act_way code l (i.In units to) c calm = value (Way None c) units c.store c.cells _ (λ v below. computes l to (turned Whole (time_at (Later v) c.store)) below c)
 act_way code l (i.MakeNotice class h given to) c calm =

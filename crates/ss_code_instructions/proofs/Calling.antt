@@ -4,13 +4,12 @@ use Rattle.std.specs.Prelude.{Result, int_lt, ◌+ℤ◌, slice_get}
 use Rattle.ss_base.specs.declared.line.Line.{Line}
 use Rattle.ss_base.specs.declared.value.Value.{Value}
 use Rattle.ss_base.specs.declared.value.Value.TheVariants.{Whole}
-use Rattle.ss_program.specs.declared.expression.Variable.TheVariants.{Global}
 use Rattle.ss_meaning.specs.Words.{is_ended}
 use Rattle.ss_meaning.specs.Values.{Trouble, if_ok, turned, due, number_of, calculated, absolute, related, printed, empty_lines}
-use Rattle.ss_meaning.specs.Store.{Store, put, opened, yielded}
+use Rattle.ss_meaning.specs.Store.{Store, opened, yielded}
 use Rattle.ss_meaning.specs.Entities.{entity, attribute, time_of, made_one, made_all, without}
-use Rattle.ss_meaning.specs.Places.{noted_variable, put_attribute, noted_attribute, assignable_count}
-use Rattle.ss_meaning.specs.Sets.{member, known_owner, of_set, of_member, is_none, is_empty, is_in, put_in_set, taken_from_set, taken_at, noted_count, Walk, walk_begun, walk_begun_at, walk_on}
+use Rattle.ss_meaning.specs.Places.{assigned_variable, assigned_attribute}
+use Rattle.ss_meaning.specs.Sets.{member, known_owner, of_set, of_member, is_none, is_empty, is_in, filed_in, removed_from, removed_at, begun, begun_at, goes_on}
 use Rattle.ss_meaning.specs.Events.{clock, time_at, AtTime, Later, made_notice, filed_notice, rescheduled, unscheduled, Coming, next_event, event_begun}
 use Rattle.ss_meaning.specs.Statistics.{figure, mean, reset}
 use Rattle.ss_meaning.specs.Loops.{range_of, indices}
@@ -18,7 +17,7 @@ use Rattle.ss_meaning.specs.Statements.{read_value}
 use Rattle.ss_code_instructions.specs.Instructions.{Taken, Target, Instruction, Placed, EntryPoint}
 use Rattle.ss_code_instructions.specs.Instructions as i
 use Rattle.ss_code_instructions.specs.States.{Called, ARoutine, AnEvent, Frame, Core, MachineState, Done, Breaks, Moved, To, Sends, Rest, Stuck, did, back_if, cell_at, take_off, deliver_with, put_to, onward}
-use Rattle.ss_code_instructions.specs.Machine.{Code, changed_attribute, walk_cells, has_item, next_item, walk_further, values_shown, cells_of_kinds, enter, leave, take_event, act, is_due, Goes, with_rest, when_due, step_at, step}
+use Rattle.ss_code_instructions.specs.Machine.{Code, changed_attribute, assignable_count, Walk, walk_at, walk_cells, has_item, next_item, walk_further, values_shown, cells_of_kinds, enter, leave, take_event, act, is_due, Goes, with_rest, when_due, step_at, step}
 use Rattle.ss_code_instructions.specs.Laws.{CallsAreLike, TicksAndCalls}
 use Rattle.ss_code_instructions.proofs.Moving.{Every, did_any, fit_any, if_every, high, block, number, value, values, bearer, position, three, walk}
 
@@ -63,6 +62,7 @@ taking code h n c =
 
 pub act_calls : (code : Code) (l : Line) (x : Instruction) (c : Core) → Every (Calls (is_due x) c) (act code l x c)
 act_calls code l (i.Move from to) c = value (Calls false c) from c.store c.cells _ (λ v below. computes l to (Ok v) below c)
+act_calls code l (i.Keep from x) c = value (Calls false c) from c.store c.cells _ (λ v below. changes false l (assigned_variable x v c.store) below c)
 act_calls code l (i.Calculate op left right to) c = values (Calls false c) left right c.store c.cells _ (λ x y below. computes l to (calculated op x y) below c)
 act_calls code l (i.Absolute x to) c = value (Calls false c) x c.store c.cells _ (λ x below. computes l to (absolute x) below c)
 act_calls code l (i.Clock to) c = computes l to (Ok (clock c.store)) c.cells c
@@ -77,12 +77,9 @@ act_calls code l (i.LookOwner set owner) c = bearer (Calls false c) owner c.stor
 act_calls code l (i.LookMean j x) c = bearer (Calls false c) x c.store c.cells _ (λ x below. did_any (Calls false c) l (mean j x c.store) _ (λ n. inl refl))
 act_calls code l (i.LookCount class) c = did_any (Calls false c) l (assignable_count class c.store) _ (λ n. inl refl)
 act_calls code l (i.SetAttribute class field x from) c =
-    values (Calls false c) x from c.store c.cells _ (λ x v below. changes false l (put_attribute class field x v c.store) below c)
+    values (Calls false c) x from c.store c.cells _ (λ x v below. changes false l (assigned_attribute class field x v c.store) below c)
 act_calls code l (i.ChangeAttribute sign class field x by) c =
     values (Calls false c) x by c.store c.cells _ (λ x y below. changes false l (changed_attribute sign class field x y c.store) below c)
-act_calls code l (i.NoteVariable k) c = changes false l (noted_variable (Global k) c.store) c.cells c
-act_calls code l (i.NoteAttribute class field x) c = value (Calls false c) x c.store c.cells _ (λ x below. changes false l (noted_attribute class field x c.store) below c)
-act_calls code l (i.NoteCount set owner) c = bearer (Calls false c) owner c.store c.cells _ (λ o below. changes false l (noted_count set o c.store) below c)
 act_calls code l (i.Reset j x) c = bearer (Calls false c) x c.store c.cells _ (λ x below. changes false l (reset j x c.store) below c)
 act_calls code l (i.Jump skip) c = inl refl
 act_calls code l (i.Unless relation left right skip) c = values (Calls false c) left right c.store c.cells _ (λ x y below. fit_any (Calls false c) (related relation x y) _ (λ b. inl refl))
@@ -94,14 +91,14 @@ act_calls code l i.Turn c = inl refl
 act_calls code l (i.Repeat back) c = inl refl
 act_calls code l (i.Begin h skip) c = three (Calls false c) h c.cells _ (λ item limit step below. did_any (Calls false c) l (range_of (Whole item) (Whole limit) (Some (Whole step))) _ (λ r. inl refl))
 act_calls code l (i.BeginClass class h skip) c = high (Calls false c) h c.cells _ (did_any (Calls false c) l (indices class c.store) _ (λ r. inl refl))
-act_calls code l (i.Take h x) c = fit_any (Calls true c) (cell_at h c.cells) _ (λ v. changes true l (put x v c.store) c.cells c)
+act_calls code l (i.Take h x) c = fit_any (Calls true c) (cell_at h c.cells) _ (λ v. changes true l (assigned_variable x v c.store) c.cells c)
 act_calls code l (i.Next h back) c = three (Calls false c) h c.cells _ (λ item limit step below. next_calls back item limit step below c)
 act_calls code l (i.BeginSet reverse set owner h skip) c =
-    bearer (Calls false c) owner c.store c.cells _ (λ o below. high (Calls false c) h below _ (did_any (Calls false c) l (walk_begun reverse set o c.store) _ (λ k. inl refl)))
+    bearer (Calls false c) owner c.store c.cells _ (λ o below. high (Calls false c) h below _ (did_any (Calls false c) l (if_ok (begun reverse set o c.store) (λ x. walk_at reverse set x c.store)) _ (λ k. inl refl)))
 act_calls code l (i.BeginAt reverse after set owner h skip) c =
-    value (Calls false c) (Taken h) c.store c.cells _ (λ y above. bearer (Calls false c) owner c.store above _ (λ o below. did_any (Calls false c) l (walk_begun_at reverse after set y o c.store) _ (λ k. inl refl)))
+    value (Calls false c) (Taken h) c.store c.cells _ (λ y above. bearer (Calls false c) owner c.store above _ (λ o below. did_any (Calls false c) l (if_ok (begun_at reverse after set y o c.store) (λ x. walk_at reverse set x c.store)) _ (λ k. inl refl)))
 act_calls code l (i.NextMember reverse set owner h back) c =
-    walk (Calls false c) h c.cells _ (λ k above. bearer (Calls false c) owner c.store above _ (λ o below. did_any (Calls false c) l (walk_on reverse set o k c.store) _ (λ k'. further_calls back k k' below c)))
+    walk (Calls false c) h c.cells _ (λ k above. bearer (Calls false c) owner c.store above _ (λ o below. did_any (Calls false c) l (if_ok (goes_on set k.next o c.store) (λ _. walk_at reverse set k.next c.store)) _ (λ k'. further_calls back k k' below c)))
 act_calls code l (i.Forget count) c = fit_any (Calls false c) (take_off count c.cells []) _ (λ b. inl refl)
 act_calls code l (i.Call routine h) c =
     fit_any (Calls true c) (slice_get code.routines routine) _ (λ e. block (Calls true c) (length e.given) h c.cells _ (λ vs below. entering e (ARoutine routine) vs below c c.store))
@@ -112,11 +109,11 @@ act_calls code l (i.CreateAll counted) c = changes false l (made_all counted c.s
 act_calls code l (i.Destroy class x) c = value (Calls false c) x c.store c.cells _ (λ x below. changes false l (without class x c.store) below c)
 act_calls code l (i.File filing set x owner) c =
     bearer (Calls false c) owner c.store c.cells _ (λ o over. position (Calls false c) filing c.store over _ (λ f above. value (Calls false c) x c.store above _ (λ x below.
-    changes false l (put_in_set f set x o c.store) below c)))
+    changes false l (filed_in f set x o c.store) below c)))
 act_calls code l (i.Remove set x owner) c =
-    bearer (Calls false c) owner c.store c.cells _ (λ o above. value (Calls false c) x c.store above _ (λ x below. changes false l (taken_from_set set x o c.store) below c))
+    bearer (Calls false c) owner c.store c.cells _ (λ o above. value (Calls false c) x c.store above _ (λ x below. changes false l (removed_from set x o c.store) below c))
 act_calls code l (i.RemoveEnd end set owner to) c =
-    bearer (Calls false c) owner c.store c.cells _ (λ o below. delivers l to (taken_at end set o c.store) below c)
+    bearer (Calls false c) owner c.store c.cells _ (λ o below. delivers l to (removed_at end set o c.store) below c)
 act_calls code l (i.At time to) c = value (Calls false c) time c.store c.cells _ (λ v below. computes l to (turned Whole (time_at (AtTime v) c.store)) below c)
 act_calls code l (i.In units to) c = value (Calls false c) units c.store c.cells _ (λ v below. computes l to (turned Whole (time_at (Later v) c.store)) below c)
 act_calls code l (i.MakeNotice class h given to) c =

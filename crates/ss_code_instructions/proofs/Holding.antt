@@ -6,6 +6,7 @@ use Rattle.ss_code_instructions.specs.Laws.{HoldsFour}
 
 pub holds_four : HoldsFour
 holds_four (i.Move from to) = omega arith
+holds_four (i.Keep from x) = omega arith
 holds_four (i.Calculate op left right to) = omega arith
 holds_four (i.Absolute of to) = omega arith
 holds_four (i.Clock to) = omega arith
@@ -21,9 +22,6 @@ holds_four (i.LookMean j of) = omega arith
 holds_four (i.LookCount class) = omega arith
 holds_four (i.SetAttribute class field x from) = omega arith
 holds_four (i.ChangeAttribute sign class field x by) = omega arith
-holds_four (i.NoteVariable k) = omega arith
-holds_four (i.NoteAttribute class field x) = omega arith
-holds_four (i.NoteCount set owner) = omega arith
 holds_four (i.Reset j of) = omega arith
 holds_four (i.Jump skip) = omega arith
 holds_four (i.Unless relation left right skip) = omega arith

@@ -1,17 +1,18 @@
 -- No operation changes what the program says once and for all.
-use Rattle.std.proofs.Common.{◌≡◌, ℕ, zero, suc, ◌+◌, Bool, true, false, List, [], ◌∷◌, Option, Some, None, Ok, Err, ℤ, pos, refl, ◌∙◌}
-use Rattle.std.specs.Prelude.{Result, int_lt, if◌then◌else◌}
+use Rattle.std.proofs.Common.{◌≡◌, ℕ, ◌+◌, Bool, true, false, List, [], ◌∷◌, Option, Some, None, Ok, Err, ℤ, pos, refl, ◌∙◌}
+use Rattle.std.specs.Prelude.{Result, int_lt}
 use Rattle.ss_base.specs.declared.fault.FaultKind.{FaultKind}
 use Rattle.ss_base.specs.declared.fault.FaultKind.TheVariants.{Scheduled, AlreadyScheduled, PastTime}
 use Rattle.ss_base.specs.declared.layout.Mode.{Mode}
 use Rattle.ss_base.specs.declared.value.Value.{Value}
-use Rattle.ss_world.specs.State.{State, notice, value_in, assigned, created, created_all, destroyed, timed}
+use Rattle.ss_base.specs.declared.value.Value.TheVariants.{Whole}
+use Rattle.ss_world.specs.State.{State, notice, assigned, created, created_all, destroyed, timed}
 use Rattle.ss_world.specs.Sets.{count_in, removed}
 use Rattle.ss_world.specs.PendingList.{is_pending, scheduled, cancelled, next}
 use Rattle.ss_meaning.specs.Words.{value_given}
 use Rattle.ss_program.specs.declared.sections.Subject.{Subject}
 use Rattle.ss_program.specs.declared.sections.Subject.TheVariants.{OfVariable, OfAttribute, OfCount}
-use Rattle.ss_meaning.specs.Histories.{all_noting, noted, noted_there, renewed}
+use Rattle.ss_meaning.specs.Histories.{all_noting, noted, renewed}
 use Rattle.ss_program.specs.declared.expression.Sign.{Sign}
 use Rattle.ss_program.specs.declared.expression.Variable.{Variable}
 use Rattle.ss_program.specs.declared.expression.Variable.TheVariants.{Global, Local}
@@ -20,8 +21,8 @@ use Rattle.ss_program.specs.declared.statement.End.{End}
 use Rattle.ss_meaning.specs.Values.{Trouble, if_ok, turned, due, sure, where_fit, unless_fault, number_of, calculated, operator_of}
 use Rattle.ss_meaning.specs.Store.{Store, with_heap, with_pending, with_histories, fetched, put_at, put}
 use Rattle.ss_meaning.specs.Entities.{class_at, field_at, entity, attribute, is_single, is_permanent, with_new, made_one, with_all, made_all, with_none, gone, without}
-use Rattle.ss_meaning.specs.Places.{is_of_mode, noted_variable, put_attribute, noted_attribute}
-use Rattle.ss_meaning.specs.Sets.{Filing, member, owner_number, filed_by, beside_known, put_in_set, taken_from_set, end_removed, without_member, taken_at, count_value, noted_count}
+use Rattle.ss_meaning.specs.Places.{is_of_mode, assigned_variable, assigned_attribute}
+use Rattle.ss_meaning.specs.Sets.{Filing, member, owner_number, recounted, filed_by, filed_in, removed_from, end_removed, removed_at}
 use Rattle.ss_meaning.specs.Events.{Ranked, ranked, ties_of, attributes_given, with_notice_time, endowed, prepared, made_notice, filed_notice, rescheduled, unscheduled, saved_or_gone, Beginning, Coming, coming_as, coming_with, ranked_as, next_event, event_begun}
 use Rattle.ss_meaning.specs.Statistics.{subject_of, bearer, present, reset}
 use Rattle.ss_meaning.specs.Statements.{with_input, read_value}
@@ -76,27 +77,23 @@ noted_same : (subject : Subject) (n : ℤ) (v : Value) (s : Store) → Only (Sam
 noted_same subject n v s =
     made (Same s) (with_histories s) (all_noting subject n s.scene.time v s.scene.setting.statistics s.scene.histories) (λ hs. refl)
 
-pub put_same : (x : Variable) (v : Value) (s : Store) → Only (Same s) (put x v s)
+put_same : (x : Variable) (v : Value) (s : Store) → Only (Same s) (put x v s)
 put_same (Global k) v s = made (Same s) (λ vs. record s { globals = vs }) (put_at s.globals k v) (λ vs. refl)
 put_same (Local k) v s = made (Same s) (λ vs. record s { locals = vs }) (put_at s.locals k v) (λ vs. refl)
 
-pub variable_noted_same : (x : Variable) (s : Store) → Only (Same s) (noted_variable x s)
-variable_noted_same (Global k) s = each (Same s) (sure (fetched (Global k) s)) _ (λ v. noted_same (OfVariable k) (pos 0) v s)
-variable_noted_same (Local k) s = refl
+pub variable_same : (x : Variable) (v : Value) (s : Store) → Only (Same s) (assigned_variable x v s)
+variable_same (Global k) v s =
+    then_only (Same s) (Same s) (put (Global k) v s) (noted (OfVariable k) (pos 0) v) (put_same (Global k) v s) (λ t p.
+    same_on s t (noted (OfVariable k) (pos 0) v t) p (noted_same (OfVariable k) (pos 0) v t))
+variable_same (Local k) v s = put_same (Local k) v s
 
-there_same : (subject : Subject) (n : ℤ) (r : Result Value FaultKind) (s : Store) → Only (Same s) (noted_there subject n r s)
-there_same subject n (Ok v) s = noted_same subject n v s
-there_same subject n (Err kind) s = refl
-
-pub attribute_put_same : (class field : ℕ) (x v : Value) (s : Store) → Only (Same s) (put_attribute class field x v s)
-attribute_put_same class field x v s =
-    each (Same s) (entity class x s) _ (λ n. fitting (Same s) (is_of_mode v (field_at class field s)) _ (made (Same s) (with_heap s) (due (assigned s.scene.heap class field n v)) (λ h. refl)))
-
-pub attribute_noted_same : (class field : ℕ) (x : Value) (s : Store) → Only (Same s) (noted_attribute class field x s)
-attribute_noted_same class field x s = each (Same s) (number_of x) _ (λ n. there_same (OfAttribute class field) n (value_in s.scene.heap class field n) s)
+pub attribute_same : (class field : ℕ) (x v : Value) (s : Store) → Only (Same s) (assigned_attribute class field x v s)
+attribute_same class field x v s =
+    each (Same s) (entity class x s) _ (λ n. fitting (Same s) (is_of_mode v (field_at class field s)) _
+    (each (Same s) (due (assigned s.scene.heap class field n v)) _ (λ h. noted_same (OfAttribute class field) n v (with_heap s h))))
 
 pub changed_same : (sign : Sign) (class field : ℕ) (x y : Value) (s : Store) → Only (Same s) (changed_attribute sign class field x y s)
-changed_same sign class field x y s = each (Same s) (attribute class field x s) _ (λ v. each (Same s) (calculated (operator_of sign) v y) _ (λ w. attribute_put_same class field x w s))
+changed_same sign class field x y s = each (Same s) (attribute class field x s) _ (λ v. each (Same s) (calculated (operator_of sign) v y) _ (λ w. attribute_same class field x w s))
 
 pub made_one_same : (class : ℕ) (s : Store) → Only (SameWith {A = Value} s) (made_one class s)
 made_one_same class s = fitting (SameWith s) (is_single (class_at class s)) _ (made (SameWith s) (with_new class s) (due (created s.scene.heap class)) (λ b. refl))
@@ -113,25 +110,26 @@ gone_same class x s =
 pub without_same : (class : ℕ) (x : Value) (s : Store) → Only (Same s) (without class x s)
 without_same class x s = each (Same s) (entity class x s) _ (λ n. unless (Same s) (is_pending n s.scene.pending.entries) Scheduled (gone class x s) (gone_same class x s))
 
-pub filed_same : (f : Filing) (set : ℕ) (x : Value) (o : Option Value) (s : Store) → Only (Same s) (put_in_set f set x o s)
+recounted_same : (set : ℕ) (owner : ℤ) (s : Store) (h : State) → Only (Same s) (recounted set owner s h)
+recounted_same set owner s h = each (Same s) (due (count_in h set owner)) _ (λ n. noted_same (OfCount set) owner (Whole n) (with_heap s h))
+
+pub filed_same : (f : Filing) (set : ℕ) (x : Value) (o : Option Value) (s : Store) → Only (Same s) (filed_in f set x o s)
 filed_same f set x o s =
-    each (Same s) (member set x s) _ (λ n. each (Same s) (beside_known f set s) _ (λ u. each (Same s) (owner_number set o s) _ (λ m.
-    made (Same s) (with_heap s) (filed_by f set m n s) (λ h. refl))))
+    each (Same s) (member set x s) _ (λ n. each (Same s) (owner_number set o s) _ (λ m. each (Same s) (filed_by f set m n s) _ (λ h. recounted_same set m s h)))
 
-pub removed_same : (set : ℕ) (x : Value) (o : Option Value) (s : Store) → Only (Same s) (taken_from_set set x o s)
+pub removed_same : (set : ℕ) (x : Value) (o : Option Value) (s : Store) → Only (Same s) (removed_from set x o s)
 removed_same set x o s =
-    each (Same s) (member set x s) _ (λ n. each (Same s) (owner_number set o s) _ (λ m. made (Same s) (with_heap s) (due (removed s.scene.heap set m n)) (λ h. refl)))
+    each (Same s) (member set x s) _ (λ n. each (Same s) (owner_number set o s) _ (λ m. each (Same s) (due (removed s.scene.heap set m n)) _ (λ h. recounted_same set m s h)))
 
-pub end_same : (end : End) (set : ℕ) (o : Option Value) (s : Store) → Only (SameWith {A = Value} s) (taken_at end set o s)
-end_same end set o s = each (SameWith s) (owner_number set o s) _ (λ m. made (SameWith s) (without_member s) (due (end_removed end s.scene.heap set m)) (λ r. refl))
-
-pub count_noted_same : (set : ℕ) (o : Option Value) (s : Store) → Only (Same s) (noted_count set o s)
-count_noted_same set o s = each (Same s) (owner_number set o s) _ (λ m. there_same (OfCount set) m (count_value (count_in s.scene.heap set m)) s)
+pub end_same : (end : End) (set : ℕ) (o : Option Value) (s : Store) → Only (SameWith {A = Value} s) (removed_at end set o s)
+end_same end set o s =
+    each (SameWith s) (owner_number set o s) _ (λ m. each (SameWith s) (due (end_removed end s.scene.heap set m)) _ (λ r.
+    made_from (SameWith s) (Same s) (λ t. (Whole r.0, t)) (recounted set m s r.1) (recounted_same set m s r.1) (λ t q. q)))
 
 endowed_same : (class field : ℕ) (x : Value) (vs : List Value) (s : Store) → Only (Same s) (endowed class field x vs s)
 endowed_same class field x [] s = refl
 endowed_same class field x (v ∷ vs) s =
-    then_only (Same s) (Same s) (put_attribute class field x v s) (endowed class (field + 1) x vs) (attribute_put_same class field x v s) (λ t p.
+    then_only (Same s) (Same s) (assigned_attribute class field x v s) (endowed class (field + 1) x vs) (attribute_same class field x v s) (λ t p.
     same_on s t (endowed class (field + 1) x vs t) p (endowed_same class (field + 1) x vs t))
 
 timed_same : (x : Value) (time : ℤ) (s : Store) → Only (Same s) (with_notice_time x time s)
@@ -186,7 +184,7 @@ pub event_same : (s : Store) → Where (ComingSame s) (next_event s)
 event_same s = next_same (next s.scene.pending) s
 
 saved_same : (saved : Option ℕ) (class : ℕ) (x : Value) (s : Store) → Only (Same s) (saved_or_gone saved class x s)
-saved_same (Some k) class x s = put_same (Global k) x s
+saved_same (Some k) class x s = variable_same (Global k) x s
 saved_same None class x s = gone_same class x s
 
 abbrev pub BeginningSame : Store → Beginning → Type 0

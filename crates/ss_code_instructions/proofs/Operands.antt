@@ -1,23 +1,24 @@
 -- What an instruction finds in its operands, and what it leaves at its target.
-use Rattle.std.proofs.Common.{◌≡◌, ℕ, zero, suc, ◌+◌, ◌==◌, Bool, true, false, List, [], ◌∷◌, ◌++◌, length, Option, Some, None, Ok, Err, refl, sym, ap, ◌∙◌, subst, arith, length-append, if◌then◌else◌}
+use Rattle.std.proofs.Common.{◌≡◌, ℕ, zero, suc, ◌+◌, Bool, false, List, [], ◌∷◌, ◌++◌, length, Option, Some, None, Ok, Err, refl, sym, ap, ◌∙◌, subst, arith, if◌then◌else◌}
 use Rattle.std.proofs.lemmas.Bool.{eq-eqb}
-use Rattle.std.specs.Prelude.{nat_lt, slice_get, Result as OkOr}
+use Rattle.std.specs.Prelude.{nat_lt, Result as OkOr}
 use Rattle.ss_base.specs.declared.fault.FaultKind.{FaultKind}
 use Rattle.ss_base.specs.declared.line.Line.{Line}
 use Rattle.ss_base.specs.declared.layout.Mode.{Mode}
 use Rattle.ss_base.specs.declared.value.Value.{Value}
 use Rattle.ss_program.specs.Program.{Expression, Constant, Fetch, Attribute, OfSystemSet, OfSet, OfMember, Clock, TimeOf, Figure, FigureOf, Signed, Absolute, Calculate}
-use Rattle.ss_meaning.specs.Values.{Trouble, Fails, Misfit, if_ok, turned, sure, where_fit}
-use Rattle.ss_meaning.specs.Store.{Store, fetched, put}
+use Rattle.ss_meaning.specs.Values.{Trouble, Fails, Misfit, turned, sure, where_fit}
+use Rattle.ss_meaning.specs.Store.{Store, fetched}
+use Rattle.ss_meaning.specs.Places.{assigned_variable}
 use Rattle.ss_meaning.specs.Expressions.{value}
-use Rattle.ss_meaning.specs.Parts.{World, WentOn, Part, outcome_then, looked, look, settle, change, settle_with, get}
-use Rattle.ss_code_instructions.specs.Instructions.{Operand, Held, Taken, Stays, Bearer, Target, Into, Onto, Instruction, Placed}
+use Rattle.ss_meaning.specs.Parts.{World, WentOn, Part, outcome_then, looked, look, settle, change, settle_with}
+use Rattle.ss_code_instructions.specs.Instructions.{Operand, Held, Taken, Stays, Target, Into, Onto, Placed}
 use Rattle.ss_code_instructions.specs.Instructions as i
-use Rattle.ss_code_instructions.specs.States.{Frame, MachineState, Moved, To, did, fit, at_height, core_at, with_topmost, or_zero, with_value, with_values, lies_above, with_bearer, put_to, deliver, deliver_with, onward}
-use Rattle.ss_code_instructions.specs.Machine.{Code, act, is_due}
-use Rattle.ss_code_instructions.specs.Translation.{Site, height, place, leaf, or_cell, or_in_cell, operand, operand_cells, after, unless_leaf, operand_code, expression_code, next}
-use Rattle.ss_code_instructions.proofs.Steps.{HasAt, has_front, has_back, Goal, Comes, Reaches, here, free, reaches_on, Kept, at, arrive, join}
-use Rattle.ss_code_instructions.proofs.Parts.{Within, within_on, Leads, onwards, writes, ends, breaks, whatever, step_leads, did_leads, at_the_height, Lands, Runs, same, put_on, went}
+use Rattle.ss_code_instructions.specs.States.{Frame, MachineState, Moved, did, core_at, or_zero, with_value, with_values, lies_above, deliver, deliver_with, onward}
+use Rattle.ss_code_instructions.specs.Machine.{Code}
+use Rattle.ss_code_instructions.specs.Translation.{Site, height, place, leaf, or_cell, or_in_cell, operand, after, unless_leaf, operand_code, expression_code, next}
+use Rattle.ss_code_instructions.proofs.Steps.{HasAt, has_front, has_back, Comes, Reaches, here, free, reaches_on, at, arrive}
+use Rattle.ss_code_instructions.proofs.Parts.{Within, Leads, onwards, breaks, whatever, at_the_height, Runs, same, put_on, went}
 
 -- ## Targets
 
@@ -33,7 +34,7 @@ Tops (Onto k) h = h ≡ k
 
 -- a value goes to a target, as a part of a program
 abbrev pub put_part : Line → Target → Value → Part (Unit {0})
-put_part l (Into x) v w = change l (put x v) w
+put_part l (Into x) v w = change l (assigned_variable x v) w
 put_part l (Onto h) v w = WentOn tt w
 
 abbrev pub put_then : Line → Target → Value → Part Value
@@ -43,7 +44,7 @@ put_then l to v w = outcome_then (put_part l to v w) (λ _. WentOn v)
 pub delivers : (code : Code) (l : Line) (to : Target) (r : OkOr (Value × Store) Trouble) (p : ℕ) (cells cells0 : List Value) (frames : List Frame) (w : World) → Tops to (length cells) → Leads code w (deliver_with l to r cells (core_at p cells0 frames w.store)) (arrive (λ v w'. at (p + 1) (on to v cells) frames w') frames (outcome_then (outcome_then (looked l r w) settle_with) (put_then l to)))
 delivers code l to (Err (Fails kind)) p cells cells0 frames w h = breaks
 delivers code l to (Err Misfit) p cells cells0 frames w h = whatever
-delivers code l (Into x) (Ok b) p cells cells0 frames w h = written (put x b.0 b.1)
+delivers code l (Into x) (Ok b) p cells cells0 frames w h = written (assigned_variable x b.0 b.1)
   where
     written : (o : OkOr Store Trouble) → Leads code w (did l (turned (λ t. record { cells = cells; store = t }) o) (λ q. onward q.cells (core_at p cells0 frames w.store) q.store)) (arrive (λ v w'. at (p + 1) cells frames w') frames (outcome_then (outcome_then (looked l o (record w { store = b.1 })) settle) (λ _. WentOn b.0)))
     written (Ok t) = onwards here

@@ -1,8 +1,7 @@
 -- Small programs with their code, worked out by hand from the language's rules and the table of instructions.
-use Rattle.std.specs.Prelude.{◌≡◌, ℕ, List, [], ◌∷◌, map, length, ℤ, pos, codes, Option, Some, None, true, false, refl}
+use Rattle.std.specs.Prelude.{◌≡◌, ℕ, List, [], ◌∷◌, map, length, ℤ, pos, codes, Some, None, false, refl}
 use Rattle.ss_base.specs.declared.value.Value.TheVariants.{Whole}
 use Rattle.ss_base.specs.declared.layout.Mode.TheVariants.{Integer}
-use Rattle.ss_base.specs.declared.layout.Discipline.TheVariants.{Fifo}
 use Rattle.ss_program.specs.declared.expression.Variable.TheVariants.{Global, Local}
 use Rattle.ss_program.specs.declared.expression.Sign.TheVariants.{Plus}
 use Rattle.ss_program.specs.declared.expression.Operator.TheVariants as operators
@@ -11,11 +10,10 @@ use Rattle.ss_program.specs.declared.head.GuardKind.TheVariants as guards
 use Rattle.ss_program.specs.declared.sections.Subject.TheVariants.{OfVariable, OfCount}
 use Rattle.ss_program.specs.declared.sections.Weighting.TheVariants.{Tally}
 use Rattle.ss_program.specs.declared.statement.End.TheVariants as ends
-use Rattle.ss_program.specs.Program.{Expression, Constant, Fetch, Attribute, Calculate, Compare, Numbers, Members, AtEnd, TheSystem, Entity, ToVariable, ToAttribute, ByDiscipline, At, Statement, Let, Change, Call, If, Loop, For, File, RemoveEnd, ScheduleNew, Simulate, Read, Routine, Program}
-use Rattle.ss_meaning.specs.Building.{line, num, global, local, to_local, block, only, print_line, program_of_main, workshop_by, workshop, job, queue, pool, bell}
+use Rattle.ss_program.specs.Program.{Constant, Attribute, Calculate, Compare, Numbers, Members, AtEnd, Entity, ToVariable, ToAttribute, ByDiscipline, At, Let, Change, Call, If, Loop, For, File, RemoveEnd, ScheduleNew, Simulate, Read, Program}
+use Rattle.ss_meaning.specs.Building.{line, num, global, local, to_local, block, only, print_line, program_of_main, workshop, job, queue, bell}
 use Rattle.ss_code_instructions.specs.Instructions.{Instruction, Placed, Held, Taken, Stays, Into, Onto, Last}
 use Rattle.ss_code_instructions.specs.Instructions as i
-use Rattle.ss_code_instructions.specs.Machine.{Code}
 use Rattle.ss_code_instructions.specs.Translation.{code_of}
 
 abbrev instruction_of : Placed → Instruction

@@ -1,5 +1,5 @@
 -- How an instruction is written in a listing: what it is called, and what it works on.
-use Rattle.std.specs.Prelude.{ℕ, ◌+◌, ◌-◌, Bool, true, false, List, [], ◌∷◌, ◌++◌, length, replicate, codes}
+use Rattle.std.specs.Prelude.{ℕ, ◌+◌, ◌-◌, List, [], ◌∷◌, ◌++◌, length, replicate, codes}
 use Rattle.ss_program.specs.declared.expression.Variable.TheVariants as variables
 use Rattle.ss_code_instructions.specs.Instructions.{Instruction}
 use Rattle.ss_code_instructions.specs.Instructions as i

@@ -1,5 +1,5 @@
 -- The listing of a model of four lines.
-use Rattle.std.specs.Prelude.{◌≡◌, List, [], ◌∷◌, ◌++◌, pos, codes, refl}
+use Rattle.std.specs.Prelude.{◌≡◌, [], ◌∷◌, ◌++◌, pos, codes, refl}
 use Rattle.ss_program.specs.declared.expression.Operator.TheVariants as operators
 use Rattle.ss_program.specs.Program.{Calculate, Program}
 use Rattle.ss_meaning.specs.Building.{num, print_line, program_of_main}

@@ -1,6 +1,5 @@
 -- The text that shows the code of a program.
 use Rattle.std.specs.Prelude.{ℕ, zero, suc, ◌+◌, List, [], ◌∷◌, ◌++◌, codes, decimal}
-use Rattle.ss_base.specs.declared.line.Line.{Line}
 use Rattle.ss_code_instructions.specs.Instructions.{Placed}
 use Rattle.ss_code_instructions.specs.Machine.{Code}
 use Rattle.ss_code_listing.specs.Details.{padded, detail}
