@@ -1,103 +1,97 @@
--- The code of assignments.
-use Rattle.std.proofs.Common.{◌≡◌, ℕ, zero, suc, ◌+◌, ◌-◌, Bool, true, false, List, [], ◌∷◌, ◌++◌, length, Option, Some, None, Ok, Err, ℤ, pos, refl, sym, ap, ◌∙◌, subst, arith, length-append}
+-- The code of assignments to variables, and to N. of a permanent class.
+use Rattle.std.proofs.Common.{◌≡◌, ℕ, ◌+◌, Bool, true, false, List, [], ◌∷◌, ◌++◌, length, Some, Ok, Err, refl, subst, arith}
 use Rattle.std.specs.Prelude.{Result as OkOr, slice_get, if◌then◌else◌}
+use Rattle.ss_base.specs.declared.fault.FaultKind.TheVariants.{CreatedTwice}
 use Rattle.ss_base.specs.declared.line.Line.{Line}
-use Rattle.ss_base.specs.declared.layout.Mode.{Mode}
+use Rattle.ss_base.specs.declared.layout.Mode.TheVariants.{Integer}
 use Rattle.ss_base.specs.declared.value.Value.{Value}
+use Rattle.ss_world.specs.State.{is_made}
 use Rattle.ss_program.specs.declared.expression.Variable.{Variable}
-use Rattle.ss_program.specs.declared.expression.Variable.TheVariants.{Global, Local}
+use Rattle.ss_program.specs.declared.expression.Variable.TheVariants.{Global}
 use Rattle.ss_program.specs.declared.statement.CountedClass.{CountedClass}
-use Rattle.ss_program.specs.declared.sections.Subject.TheVariants.{OfVariable, OfAttribute, OfCount}
-use Rattle.ss_program.specs.Program.{Expression, Place, ToVariable, ToAttribute, ToCount}
-use Rattle.ss_meaning.specs.Values.{Trouble, Fails, Misfit, if_ok, turned}
-use Rattle.ss_meaning.specs.Store.{Store, put}
-use Rattle.ss_meaning.specs.Entities.{entity}
-use Rattle.ss_meaning.specs.Places.{Spot, InVariable, InAttribute, InCount, noted_variable, assigned_variable, put_attribute, noted_attribute, assigned_attribute, assignable_count, assigned_count, written}
-use Rattle.ss_meaning.specs.Expressions.{value, looked_at, entity_value, spot}
-use Rattle.ss_meaning.specs.Parts.{World, WentOn, Left, Outcome, Part, outcome_then, looked, look, settle, change, write}
-use Rattle.ss_meaning.specs.Statements.{give_to}
-use Rattle.ss_code_instructions.specs.Instructions.{Operand, Target, Into, Onto, Instruction, Placed}
+use Rattle.ss_meaning.specs.Values.{Trouble, Fails, Misfit, turned, where_fit, unless_fault}
+use Rattle.ss_meaning.specs.Store.{Store}
+use Rattle.ss_meaning.specs.Entities.{class_at, is_permanent}
+use Rattle.ss_meaning.specs.Places.{InVariable, InCount, assigned_variable}
+use Rattle.ss_meaning.specs.Parts.{World, WentOn, Left, Outcome, Part, outcome_then, looked, settle, write}
+use Rattle.ss_code_instructions.specs.Instructions.{Operand, Target, Into, Placed}
 use Rattle.ss_code_instructions.specs.Instructions as i
-use Rattle.ss_code_instructions.specs.States.{Frame, MachineState, Moved, did, core_at, with_value, with_values, onward, deliver}
-use Rattle.ss_code_instructions.specs.Machine.{Code, act, is_due}
-use Rattle.ss_code_instructions.specs.Translation.{Site, height, with_cells, place, leaf, operand, operand_cells, after, operand_code, expression_code, next, noted_code, count_code, let_code}
-use Rattle.ss_code_instructions.proofs.Steps.{HasAt, has_front, has_back, Goal, Comes, Reaches, here, free, reaches_on, Kept, at, arrive, join}
-use Rattle.ss_code_instructions.proofs.Parts.{Within, within_on, Leads, onwards, breaks, whatever, step_leads, did_leads, Lands, Runs, same, done, put_on, went, seq, alike, none}
-use Rattle.ss_code_instructions.proofs.Operands.{on, Tops, put_then, computes, held, reads, Evaluates, one_join}
-use Rattle.ss_code_instructions.proofs.Expressions.{Leaves, leaves, evaluates}
-use Rattle.ss_code_instructions.proofs.Noting.{Sited, noted_runs}
+use Rattle.ss_code_instructions.specs.States.{Frame, MachineState, Moved, did, core_at, with_value, onward, deliver}
+use Rattle.ss_code_instructions.specs.Machine.{Code, assignable_count}
+use Rattle.ss_code_instructions.specs.Translation.{Site, height, above, place, next, is_kept, variable_code, assignment, count_code}
+use Rattle.ss_code_instructions.proofs.Steps.{HasAt, Reaches, here, at, arrive}
+use Rattle.ss_code_instructions.proofs.Parts.{Leads, onwards, breaks, whatever, step_leads, did_leads, at_the_height, Runs, same, done, put_on, went, seq, alike, change_runs}
+use Rattle.ss_code_instructions.proofs.Operands.{on, Tops, put_then}
 
--- a part that leads where another one leads
-pub alike_goal : {A : Type 0} {code : Code} {n h : ℕ} {before : List Value → List Value} {c : List Placed} {land : A → ℕ → ℕ} {after : A → List Value → List Value} {m m' : Part A} → ((k : A → World → MachineState) (frames : List Frame) (w : World) → arrive k frames (m w) ≡ arrive k frames (m' w)) → Lands code n h before c land after m → Lands code n h before c land after m'
-alike_goal {code = code} {before = before} {c = c} {land = land} {after = after} e r = record {
-  by = λ p cells frames w high has in_. subst (Reaches code (at p (before cells) frames w)) (e (λ a w'. at (land a (p + length c)) (after a cells) frames w') frames w) (r.by p cells frames w high has in_);
-}
-
--- two changes of the store, one after the other, lead where one leads that makes both
-pub changed_twice : {B : Type 0} (l : Line) (r : OkOr Store Trouble) (f : Store → OkOr Store Trouble) (k : B → World → MachineState) (frames : List Frame) (go : Unit {0} → Part B) (w : World) → arrive k frames (outcome_then (outcome_then (outcome_then (looked l r w) settle) (λ _. change l f)) go) ≡ arrive k frames (outcome_then (outcome_then (looked l (if_ok r f) w) settle) go)
-changed_twice l (Err (Fails kind)) f k frames go w = refl
-changed_twice l (Err Misfit) f k frames go w = refl
-changed_twice l (Ok s) f k frames go w = second (f s)
+-- a part whose value is written, and then is no longer needed
+written_goal : {code : Code} (s : MachineState) (k : World → MachineState) (frames : List Frame) (o : Outcome Value) (f : Value → Part (Unit {0})) → Reaches code s (arrive (λ v. k) frames (outcome_then o (λ v w. outcome_then (f v w) (λ _. WentOn v)))) → Reaches code s (arrive (λ u. k) frames (outcome_then o f))
+written_goal s k frames (Left e w) f r = r
+written_goal {code} s k frames (WentOn v w) f r = by (f v w) r
   where
-    second : (o : OkOr Store Trouble) → arrive k frames (outcome_then (outcome_then (looked l o (record w { store = s })) settle) go) ≡ arrive k frames (outcome_then (outcome_then (looked l o w) settle) go)
-    second (Ok t) = refl
-    second (Err (Fails kind)) = refl
-    second (Err Misfit) = refl
+    by : (q : Outcome (Unit {0})) → Reaches code s (arrive (λ (v : Value). k) frames (outcome_then q (λ _. WentOn v))) → Reaches code s (arrive (λ u. k) frames q)
+    by (WentOn u w) r = r
+    by (Left e w) r = r
+
+module _ (code : Code) where
+  -- an instruction that changes the store, and what follows
+  pub change_leads : {B : Type 0} (l : Line) (r : OkOr Store Trouble) (go : Store → Moved) (w : World) (k : B → World → MachineState) (frames : List Frame) (f : Unit {0} → Part B) → ((s : Store) → r ≡ Ok s → Leads code w (go s) (arrive k frames (f tt (record w { store = s })))) → Leads code w (did l r go) (arrive k frames (outcome_then (outcome_then (looked l r w) settle) f))
+  change_leads l (Ok s) go w k frames f h = h s refl
+  change_leads l (Err (Fails kind)) go w k frames f h = breaks
+  change_leads l (Err Misfit) go w k frames f h = whatever
+
+  -- an operand goes to a variable
+  pub assigns : (u : Site) (x : Variable) (from : Operand) (v : Value) (q : ℕ) (cells0 cells : List Value) (frames : List Frame) (w : World) → ((go : Value → List Value → Moved) → with_value from w.store cells0 go ≡ go v cells) → slice_get code.places q ≡ Some (place u (assignment u x from)) → Reaches code (at q cells0 frames w) (arrive (λ o w'. at (q + 1) cells frames w') frames (write u.line (InVariable x) v w))
+  assigns u x from v q cells0 cells frames w reads has = by (is_kept u x) has
+    where
+      moved : (r : OkOr Store Trouble) → Leads code w (did u.line (turned (λ t. record { cells = cells; store = t }) r) (λ b. onward b.cells (core_at q cells0 frames w.store) b.store)) (arrive (λ o w'. at (q + 1) cells frames w') frames (outcome_then (looked u.line r w) settle))
+      moved (Ok t) = onwards here
+      moved (Err (Fails kind)) = breaks
+      moved (Err Misfit) = whatever
+
+      by : (b : Bool) → slice_get code.places q ≡ Some (place u (if b then i.Keep from x else i.Move from (Into x))) → Reaches code (at q cells0 frames w) (arrive (λ o w'. at (q + 1) cells frames w') frames (write u.line (InVariable x) v w))
+      by true has =
+          step_leads code (place u (i.Keep from x)) (core_at q cells0 frames w.store) w _ _ has refl
+          (reads (λ v below. did u.line (assigned_variable x v w.store) (λ s. onward below (core_at q cells0 frames w.store) s)))
+          (did_leads code u.line (assigned_variable x v w.store) (λ s. onward cells (core_at q cells0 frames w.store) s) w (λ o w'. at (q + 1) cells frames w') frames settle (λ s done_. onwards here))
+      by false has =
+          step_leads code (place u (i.Move from (Into x))) (core_at q cells0 frames w.store) w _ _ has refl
+          (reads (λ v below. deliver u.line (Into x) (Ok v) below (core_at q cells0 frames w.store)))
+          (moved (assigned_variable x v w.store))
+
+  -- an operand goes to N. of a permanent class
+  pub count_run : (u : Site) (c : CountedClass) (from : Operand) (v : Value) (q : ℕ) (cells0 cells : List Value) (frames : List Frame) (w : World) → ((go : Value → List Value → Moved) → with_value from w.store cells0 go ≡ go v cells) → HasAt code.places q (count_code u c from) → Reaches code (at q cells0 frames w) (arrive (λ o w'. at (q + 2) cells frames w') frames (write u.line (InCount c) v w))
+  count_run u c from v q cells0 cells frames w reads has =
+      step_leads code (place u (i.LookCount c.class)) (core_at q cells0 frames w.store) w _ _ has.0 refl refl
+      (subst (λ o. Leads code w (did u.line (assignable_count c.class w.store) (λ _. onward cells0 (core_at q cells0 frames w.store) w.store)) (arrive ends frames o)) (after_look (is_permanent (class_at c.class w.store)) (is_made w.store.scene.heap c.class))
+      (did_leads code u.line (assignable_count c.class w.store) (λ _. onward cells0 (core_at q cells0 frames w.store) w.store) w ends frames (λ _. write u.line (InVariable (Global c.variable)) v) (λ a r.
+      onwards
+      (subst (λ j. Reaches code (at (q + 1) cells0 frames w) (arrive (λ o w'. at j cells frames w') frames (write u.line (InVariable (Global c.variable)) v w))) two
+      (assigns u (Global c.variable) from v (q + 1) cells0 cells frames w reads has.1.0)))))
+    where
+      abbrev ends : Unit {0} → World → MachineState
+      ends o w' = at (q + 2) cells frames w'
+
+      two : q + 1 + 1 ≡ q + 2
+      two = omega arith
+
+      after_look : (p m : Bool) → outcome_then (looked u.line (where_fit p (unless_fault m CreatedTwice (Ok tt))) w) (λ (_ : Unit {0}). write u.line (InVariable (Global c.variable)) v) ≡ outcome_then (looked u.line (where_fit p (unless_fault m CreatedTwice (assigned_variable (Global c.variable) v w.store))) w) settle
+      after_look false m = refl
+      after_look true true = refl
+      after_look true false = refl
 
 module _ (code : Code) (n : ℕ) where
-  -- ## Variables
-
-  -- a value goes to a variable, and statistics note that
-  pub to_variable_runs : (t : Site) (x : Variable) (c : List Placed) (m : Part Value) → Sited code t → Runs code n (height t) same c (on (Into x)) (λ w. outcome_then (m w) (put_then t.line (Into x))) → Runs code n (height t) same (c ++ noted_code t x) done (λ w. outcome_then (m w) (write t.line (InVariable x)))
-  to_variable_runs t x c m fits r =
-      alike_goal (λ k frames w. goals k frames (m w))
-      (seq code n (height t) {mid = λ v cells. cells} r (λ v. noted_runs code n t x fits))
+  -- a variable takes the value that some code leaves at a target
+  pub variable_runs : (t : Site) (x : Variable) (source : Target → List Placed) (m : Part Value) → ((to : Target) → Tops to (height t) → Runs code n (height t) same (source to) (on to) (λ w. outcome_then (m w) (put_then t.line to))) → Runs code n (height t) same (variable_code t x source) done (λ w. outcome_then (m w) (write t.line (InVariable x)))
+  variable_runs t x source m runs = by (is_kept t x)
     where
-      goals : (k : Unit {0} → World → MachineState) (frames : List Frame) (o : Outcome Value) → arrive k frames (outcome_then (outcome_then o (put_then t.line (Into x))) (λ v. change t.line (noted_variable x))) ≡ arrive k frames (outcome_then o (write t.line (InVariable x)))
-      goals k frames (Left e w) = refl
-      goals k frames (WentOn v w) =
-          ap (arrive k frames) (drop (change t.line (put x v) w))
-          ∙ ap (arrive k frames) (sym (went (outcome_then (change t.line (put x v) w) (λ _. change t.line (noted_variable x)))))
-          ∙ changed_twice t.line (put x v w.store) (noted_variable x) k frames WentOn w
-          ∙ ap (arrive k frames) (went (change t.line (assigned_variable x v) w))
-        where
-          drop : (o : Outcome (Unit {0})) → outcome_then (outcome_then o (λ _. WentOn v)) (λ _. change t.line (noted_variable x)) ≡ outcome_then o (λ _. change t.line (noted_variable x))
-          drop (WentOn u w) = refl
-          drop (Left e w) = refl
+      kept : (v : Value) → Runs code n (height t) (put_on v) (place (above t Integer) (i.Keep (i.Taken (height t)) x) ∷ []) done (write t.line (InVariable x) v)
+      kept v =
+          change_runs code n (height t) (place (above t Integer) (i.Keep (i.Taken (height t)) x)) (put_on v) done (assigned_variable x v) refl (λ p cells frames s h.
+          at_the_height (height t) cells (did t.line (assigned_variable x v s) (λ u. onward cells (core_at p (v ∷ cells) frames s) u)) h)
 
-  -- ## N. of a permanent class
-
-  -- an operand is moved to a variable that may be assigned
-  moves_in : (t : Site) (us : List Mode) (x : Variable) (from : Operand) (v : Value) (q : ℕ) (cells0 cells : List Value) (frames : List Frame) (w : World) → Sited code t → Within code n w → length cells ≡ height t → ((go : Value → List Value → Moved) → with_value from w.store cells0 go ≡ go v cells) → HasAt code.places q (place (with_cells t us) (i.Move from (Into x)) ∷ noted_code t x) → Reaches code (at q cells0 frames w) (arrive (λ u w'. at (q + 1 + length (noted_code t x)) cells frames w') frames (write t.line (InVariable x) v w))
-  moves_in t us x from v q cells0 cells frames w fits in_ high reads has =
-      subst (Reaches code (at q cells0 frames w)) (goals (λ u w'. at (q + 1 + length (noted_code t x)) cells frames w'))
-      (join (at q cells0 frames w) (λ v w'. at (q + 1) cells frames w') (λ u w'. at (q + 1 + length (noted_code t x)) cells frames w') frames (outcome_then (looked t.line (Ok v) w) (put_then t.line (Into x))) (λ v. change t.line (noted_variable x))
-      (step_leads code (place (with_cells t us) (i.Move from (Into x))) (core_at q cells0 frames w.store) w _ _ has.0 refl
-      (reads (λ v below. deliver t.line (Into x) (Ok v) below (core_at q cells0 frames w.store)))
-      (computes code t.line (Into x) (Ok v) q cells cells0 frames w tt))
-      (λ v w' k. (noted_runs code n t x fits).by (q + 1) cells frames w' high has.1 (within_on in_ k)))
-    where
-      goals : (k : Unit {0} → World → MachineState) → arrive k frames (outcome_then (outcome_then (looked t.line (Ok v) w) (put_then t.line (Into x))) (λ v. change t.line (noted_variable x))) ≡ arrive k frames (write t.line (InVariable x) v w)
-      goals k =
-          ap (arrive k frames) (drop (change t.line (put x v) w))
-          ∙ ap (arrive k frames) (sym (went (outcome_then (change t.line (put x v) w) (λ _. change t.line (noted_variable x)))))
-          ∙ changed_twice t.line (put x v w.store) (noted_variable x) k frames WentOn w
-          ∙ ap (arrive k frames) (went (change t.line (assigned_variable x v) w))
-        where
-          drop : (o : Outcome (Unit {0})) → outcome_then (outcome_then o (λ _. WentOn v)) (λ _. change t.line (noted_variable x)) ≡ outcome_then o (λ _. change t.line (noted_variable x))
-          drop (WentOn u w) = refl
-          drop (Left e w) = refl
-
-  pub count_run : (t : Site) (us : List Mode) (c : CountedClass) (from : Operand) (v : Value) (q : ℕ) (cells0 cells : List Value) (frames : List Frame) (w : World) → Sited code t → Within code n w → length cells ≡ height t → ((go : Value → List Value → Moved) → with_value from w.store cells0 go ≡ go v cells) → HasAt code.places q (count_code t (with_cells t us) c from) → Reaches code (at q cells0 frames w) (arrive (λ u w'. at (q + length (count_code t (with_cells t us) c from)) cells frames w') frames (write t.line (InCount c) v w))
-  count_run t us c from v q cells0 cells frames w fits in_ high reads has =
-      step_leads code (place (with_cells t us) (i.LookCount c.class)) (core_at q cells0 frames w.store) w _ _ has.0 refl refl
-      (subst (λ o. Leads code w (did t.line (assignable_count c.class w.store) (λ _. onward cells0 (core_at q cells0 frames w.store) w.store)) (arrive (λ u w'. at (q + length (count_code t (with_cells t us) c from)) cells frames w') frames o)) (after_look (assignable_count c.class w.store))
-      (did_leads code t.line (assignable_count c.class w.store) _ w (λ u w'. at (q + length (count_code t (with_cells t us) c from)) cells frames w') frames (λ _. write t.line (InVariable (Global c.variable)) v) (λ a r.
-      onwards
-      (subst (λ j. Reaches code (at (q + 1) cells0 frames w) (arrive (λ u w'. at j cells frames w') frames (write t.line (InVariable (Global c.variable)) v w))) (let len : q + 1 + 1 + length (noted_code t (Global c.variable)) ≡ q + length (count_code t (with_cells t us) c from) = omega arith in len)
-      (moves_in t us (Global c.variable) from v (q + 1) cells0 cells frames w fits in_ high reads has.1)))))
-    where
-      after_look : (r : OkOr (Unit {0}) Trouble) → outcome_then (looked t.line r w) (λ _. write t.line (InVariable (Global c.variable)) v) ≡ outcome_then (looked t.line (if_ok r (λ _. assigned_variable (Global c.variable) v w.store)) w) settle
-      after_look (Ok u) = refl
-      after_look (Err (Fails kind)) = refl
-      after_look (Err Misfit) = refl
+      by : (b : Bool) → Runs code n (height t) same (if b then source (next t) ++ place (above t Integer) (i.Keep (i.Taken (height t)) x) ∷ [] else source (Into x)) done (λ w. outcome_then (m w) (write t.line (InVariable x)))
+      by true = seq code n (height t) {mid = put_on} (alike code n (height t) (λ w. went (m w)) (runs (next t) refl)) kept
+      by false = record {
+        by = λ p cells frames w high has in_.
+            written_goal (at p cells frames w) (λ w'. at (p + length (source (Into x))) cells frames w') frames (m w) (write t.line (InVariable x)) ((runs (Into x) tt).by p cells frames w high has in_);
+      }

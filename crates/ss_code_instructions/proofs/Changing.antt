@@ -1,6 +1,6 @@
 -- The code of ADD and SUBTRACT where an attribute is changed: the value lies below the reference.
 use Rattle.std.proofs.Common.{◌≡◌, ℕ, zero, suc, ◌+◌, Bool, true, false, List, [], ◌∷◌, ◌++◌, length, Option, Some, None, Ok, Err, ℤ, refl, sym, ap, ◌∙◌, subst, arith, length-append}
-use Rattle.std.specs.Prelude.{nat_lt, slice_get, Result as OkOr, if◌then◌else◌}
+use Rattle.std.specs.Prelude.{nat_lt, Result as OkOr, if◌then◌else◌}
 use Rattle.ss_base.specs.declared.line.Line.{Line}
 use Rattle.ss_base.specs.declared.value.Value.{Value}
 use Rattle.ss_program.specs.declared.expression.Sign.{Sign}
@@ -8,22 +8,20 @@ use Rattle.ss_program.specs.Program.{Expression, Constant, Fetch, Attribute, OfS
 use Rattle.ss_meaning.specs.Values.{Trouble, Fails, Misfit, if_ok, turned, calculated, operator_of}
 use Rattle.ss_meaning.specs.Store.{Store}
 use Rattle.ss_meaning.specs.Entities.{entity, attribute}
-use Rattle.ss_meaning.specs.Places.{InAttribute, held as held_at, put_attribute, noted_attribute}
+use Rattle.ss_meaning.specs.Places.{InAttribute, held as held_at, assigned_attribute}
 use Rattle.ss_meaning.specs.Expressions.{value, looked_at, spot}
-use Rattle.ss_meaning.specs.Parts.{World, Part, outcome_then, looked, look, settle, change, write}
+use Rattle.ss_meaning.specs.Parts.{World, outcome_then, looked, look, settle, change, write}
 use Rattle.ss_meaning.specs.Statements.{change_by}
-use Rattle.ss_code_instructions.specs.Instructions.{Operand, Held, Taken, Stays, Placed}
+use Rattle.ss_code_instructions.specs.Instructions.{Operand, Held, Taken, Placed}
 use Rattle.ss_code_instructions.specs.Instructions as i
-use Rattle.ss_code_instructions.specs.States.{Frame, MachineState, Moved, with_value, with_values, lies_above}
+use Rattle.ss_code_instructions.specs.States.{MachineState, Moved, with_value, with_values, lies_above}
 use Rattle.ss_code_instructions.specs.Machine.{Code, changed_attribute}
-use Rattle.ss_code_instructions.specs.Translation.{Site, height, leaf, or_cell, or_in_cell, expression_mode, operand, after, operand_code, stay, attribute_code, change_code}
-use Rattle.ss_code_instructions.proofs.Steps.{HasAt, Reaches, at, arrive}
-use Rattle.ss_code_instructions.proofs.Parts.{Within, Runs, same, done}
+use Rattle.ss_code_instructions.specs.Translation.{Site, height, leaf, or_cell, or_in_cell, expression_mode, operand, after, operand_code, place, change_code}
+use Rattle.ss_code_instructions.proofs.Steps.{Reaches, at, arrive}
+use Rattle.ss_code_instructions.proofs.Parts.{Runs, same, done}
 use Rattle.ss_code_instructions.proofs.Operands.{held, held_height, leaf_reads, reads, one_join}
 use Rattle.ss_code_instructions.proofs.Expressions.{evaluates}
-use Rattle.ss_code_instructions.proofs.Noting.{Sited}
-use Rattle.ss_code_instructions.proofs.Members.{stay_reads}
-use Rattle.ss_code_instructions.proofs.Attributes.{Both, changed_steady, stays_low, low_constant, low_held, under_reads, leaf_after, held_onto, count_held, attribute_run, assigned_goal, err_first}
+use Rattle.ss_code_instructions.proofs.Attributes.{low_constant, low_held, err_first, two_change}
 
 less_so : (n : ℕ) → nat_lt n (suc n) ≡ true
 less_so zero = refl
@@ -66,7 +64,7 @@ by_order k x y s cs go q =
     ap (λ (b : Bool). if b then with_value x s cs (λ v above. with_value y s above (λ w below. go v w below)) else with_value y s cs (λ w above. with_value x s above (λ v below. go v w below))) q
 
 -- the value first, and then the reference
-takes_over : (t : Site) (e r : Expression) (z v : Value) (s : Store) (cells : List Value) (go : Value → Value → List Value → Moved) → length cells ≡ height t → value e s ≡ Ok z → value r s ≡ Ok v → with_values (operand (after t e) r) (operand t e) s (held (leaf r) v (held (leaf e) z cells)) go ≡ go v z cells
+pub takes_over : (t : Site) (e r : Expression) (z v : Value) (s : Store) (cells : List Value) (go : Value → Value → List Value → Moved) → length cells ≡ height t → value e s ≡ Ok z → value r s ≡ Ok v → with_values (operand (after t e) r) (operand t e) s (held (leaf r) v (held (leaf e) z cells)) go ≡ go v z cells
 takes_over t e r z v s cells go h q p = by (leaf r) refl (leaf e) refl
   where
     -- where the value is read first, and the reference after it
@@ -100,58 +98,44 @@ takes_over t e r z v s cells go h q p = by (leaf r) refl (leaf e) refl
         ∙ reads (after t e) r v s (held (leaf e) z cells) (λ v above. with_value (operand t e) s above (λ w below. go v w below)) (held_height t e z cells h) p
         ∙ reads t e z s cells (λ w below. go v w below) h q
 
-pub both_over : (t : Site) (e r : Expression) (z v : Value) (s : Store) (cells : List Value) → length cells ≡ height t → value e s ≡ Ok z → value r s ≡ Ok v → Both t (after (after t e) r).cells (operand (after t e) r) (operand t e) v z s (held (leaf r) v (held (leaf e) z cells)) cells
-both_over t e r z v s cells h q p = record {
-  takes = λ go. takes_over t e r z v s cells go h q p;
-  keeps = λ go.
-      by_order false (stay (operand (after t e) r)) (stay (operand t e)) s (held (leaf r) v (held (leaf e) z cells)) go (stays_low (operand (after t e) r) (stay (operand t e)))
-      ∙ under_reads t e (leaf r) z v s s cells (λ w above. with_value (stay (operand (after t e) r)) s above (λ v below. go v w below)) h q refl refl
-      ∙ stay_reads (after t e) r v s (held (leaf e) z cells) (λ v below. go v z below) (held_height t e z cells h) p;
-  later = λ u g l go. under_reads (after t e) r (Some (i.Constant z)) v z s u (held (leaf e) z cells) go (held_height t e z cells h) p g l;
-  reads_on = λ c u g l go. leaf_after (after t e) r v s u cells go c p g l;
-  more = held (leaf r) v (held (leaf e) z []);
-  lies = held_onto (leaf r) v (held (leaf e) z []) cells ∙ ap (held (leaf r) v) (held_onto (leaf e) z [] cells);
-  count = count_held (leaf r) (leaf e) _ _ t.cells v z;
-}
-
 module _ (code : Code) (n : ℕ) where
-  -- what the instruction does leads where the meaning's look, sum and write do
-  change_goal : (l : Line) (sign : Sign) (class field : ℕ) (v z : Value) (k : Unit {0} → World → MachineState) (frames : List Frame) (w : World) (m : OkOr ℤ Trouble) → entity class v w.store ≡ m → arrive k frames (outcome_then (change l (changed_attribute sign class field v z) w) (λ _. change l (noted_attribute class field v))) ≡ arrive k frames (outcome_then (looked l (turned (InAttribute class field) (turned (λ n. v) m)) w) (λ p w. outcome_then (look l (λ s. if_ok (held_at p s) (λ x. calculated (operator_of sign) x z)) w) (write l p)))
-  change_goal l sign class field v z k frames w (Err t) e =
-      ap (λ r. arrive k frames (outcome_then (outcome_then (looked l r w) settle) (λ _. change l (noted_attribute class field v)))) (err_first (attribute class field v w.store) _ t (err_first (entity class v w.store) _ t e))
+  -- what the instruction does is what the meaning's look, sum and write do
+  change_is : (l : Line) (sign : Sign) (class field : ℕ) (v z : Value) (w : World) (m : OkOr ℤ Trouble) → entity class v w.store ≡ m → change l (changed_attribute sign class field v z) w ≡ outcome_then (looked l (turned (InAttribute class field) (turned (λ n. v) m)) w) (λ p w. outcome_then (look l (λ s. if_ok (held_at p s) (λ x. calculated (operator_of sign) x z)) w) (write l p))
+  change_is l sign class field v z w (Err t) e =
+      ap (λ r. outcome_then (looked l r w) settle) (err_first (attribute class field v w.store) _ t (err_first (entity class v w.store) _ t e))
       ∙ fails t
     where
-      fails : (t : Trouble) → arrive k frames (outcome_then (outcome_then (looked l (Err t) w) settle) (λ _. change l (noted_attribute class field v))) ≡ arrive k frames (outcome_then (looked l (turned (InAttribute class field) (turned (λ (n : ℤ). v) (Err t))) w) (λ p w. outcome_then (look l (λ s. if_ok (held_at p s) (λ x. calculated (operator_of sign) x z)) w) (write l p)))
+      fails : (t : Trouble) → outcome_then (looked l (Err t) w) settle ≡ outcome_then (looked l (turned (InAttribute class field) (turned (λ (n : ℤ). v) (Err t))) w) (λ p w. outcome_then (look l (λ s. if_ok (held_at p s) (λ x. calculated (operator_of sign) x z)) w) (write l p))
       fails (Fails kind) = refl
       fails Misfit = refl
-  change_goal l sign class field v z k frames w (Ok n) e = of (attribute class field v w.store)
+  change_is l sign class field v z w (Ok n) e = of (attribute class field v w.store)
     where
-      sum : (r : OkOr Value Trouble) → arrive k frames (outcome_then (outcome_then (looked l (if_ok r (λ u. put_attribute class field v u w.store)) w) settle) (λ _. change l (noted_attribute class field v))) ≡ arrive k frames (outcome_then (looked l r w) (write l (InAttribute class field v)))
-      sum (Ok u) = assigned_goal code n l class field v u k frames w
+      sum : (r : OkOr Value Trouble) → outcome_then (looked l (if_ok r (λ u. assigned_attribute class field v u w.store)) w) settle ≡ outcome_then (looked l r w) (write l (InAttribute class field v))
+      sum (Ok u) = refl
       sum (Err (Fails kind)) = refl
       sum (Err Misfit) = refl
 
-      of : (a : OkOr Value Trouble) → arrive k frames (outcome_then (outcome_then (looked l (if_ok a (λ x. if_ok (calculated (operator_of sign) x z) (λ u. put_attribute class field v u w.store))) w) settle) (λ _. change l (noted_attribute class field v))) ≡ arrive k frames (outcome_then (looked l (if_ok a (λ x. calculated (operator_of sign) x z)) w) (write l (InAttribute class field v)))
+      of : (a : OkOr Value Trouble) → outcome_then (looked l (if_ok a (λ x. if_ok (calculated (operator_of sign) x z) (λ u. assigned_attribute class field v u w.store))) w) settle ≡ outcome_then (looked l (if_ok a (λ x. calculated (operator_of sign) x z)) w) (write l (InAttribute class field v))
       of (Ok x) = sum (calculated (operator_of sign) x z)
       of (Err (Fails kind)) = refl
       of (Err Misfit) = refl
 
-  reference_then : (l : Line) (sign : Sign) (class field : ℕ) (z : Value) (k : Unit {0} → World → MachineState) (frames : List Frame) (w : World) (r : OkOr Value Trouble) → arrive k frames (outcome_then (looked l r w) (λ v w. outcome_then (change l (changed_attribute sign class field v z) w) (λ _. change l (noted_attribute class field v)))) ≡ arrive k frames (outcome_then (looked l (turned (InAttribute class field) (if_ok r (looked_at (λ x. entity class x w.store)))) w) (λ p w. outcome_then (look l (λ s. if_ok (held_at p s) (λ x. calculated (operator_of sign) x z)) w) (write l p)))
-  reference_then l sign class field z k frames w (Ok v) = change_goal l sign class field v z k frames w (entity class v w.store) refl
-  reference_then l sign class field z k frames w (Err (Fails kind)) = refl
-  reference_then l sign class field z k frames w (Err Misfit) = refl
+  reference_then : (l : Line) (sign : Sign) (class field : ℕ) (z : Value) (w : World) (r : OkOr Value Trouble) → outcome_then (looked l r w) (λ v. change l (changed_attribute sign class field v z)) ≡ outcome_then (looked l (turned (InAttribute class field) (if_ok r (looked_at (λ x. entity class x w.store)))) w) (λ p w. outcome_then (look l (λ s. if_ok (held_at p s) (λ x. calculated (operator_of sign) x z)) w) (write l p))
+  reference_then l sign class field z w (Ok v) = change_is l sign class field v z w (entity class v w.store) refl
+  reference_then l sign class field z w (Err (Fails kind)) = refl
+  reference_then l sign class field z w (Err Misfit) = refl
 
-  pub change_attribute_runs : (t : Site) (sign : Sign) (class field : ℕ) (r e : Expression) → Sited code t → Runs code n (height t) same (change_code t sign (ToAttribute class field r) e) done (change_by t.line sign (ToAttribute class field r) e)
-  change_attribute_runs t sign class field r e fits = record {
+  pub change_attribute_runs : (t : Site) (sign : Sign) (class field : ℕ) (r e : Expression) → Runs code n (height t) same (change_code t sign (ToAttribute class field r) e) done (change_by t.line sign (ToAttribute class field r) e)
+  change_attribute_runs t sign class field r e = record {
     by = λ p cells frames w high has in_.
         let ce : List Placed = operand_code t e in
         let cr : List Placed = operand_code (after t e) r in
-        let last : List Placed = attribute_code t (after (after t e) r) class field (i.ChangeAttribute sign class field) (operand (after t e) r) (operand t e) in
-        let end : p + length ce + length cr + length last ≡ p + length (ce ++ (cr ++ last)) = omega (arith, length-append ce (cr ++ last), length-append cr last) in
-        let ends : Unit {0} → World → MachineState = λ o w'. at (p + length (ce ++ (cr ++ last))) cells frames w' in
-        one_join code n t e (evaluates code n t e) (cr ++ last) ends (λ z w. outcome_then (look t.line (spot (ToAttribute class field r)) w) (λ q w. outcome_then (look t.line (λ s. if_ok (held_at q s) (λ x. calculated (operator_of sign) x z)) w) (write t.line q))) p cells frames w high has in_ (λ z found_z has'.
-        subst (Reaches code (at (p + length ce) (held (leaf e) z cells) frames w)) (reference_then t.line sign class field z ends frames w (value r w.store))
-        (one_join code n (after t e) r (evaluates code n (after t e) r) last ends (λ v w. outcome_then (change t.line (changed_attribute sign class field v z) w) (λ _. change t.line (noted_attribute class field v))) (p + length ce) (held (leaf e) z cells) frames w (held_height t e z cells high) has' in_ (λ v found_v has''.
-        subst (λ j. Reaches code (at (p + length ce + length cr) (held (leaf r) v (held (leaf e) z cells)) frames w) (arrive (λ o w'. at j cells frames w') frames (outcome_then (change t.line (changed_attribute sign class field v z) w) (λ _. change t.line (noted_attribute class field v))))) end
-        (attribute_run code n t (after (after t e) r).cells class field (i.ChangeAttribute sign class field) (changed_attribute sign class field) (operand (after t e) r) (operand t e) v z (p + length ce + length cr) (held (leaf r) v (held (leaf e) z cells)) cells frames w fits in_ (both_over t e r z v w.store cells high found_z found_v) (changed_steady sign class field v z w.store) (λ a b. refl) (λ a b p cs s. refl) has''))));
+        let last : Placed = place (after (after t e) r) (i.ChangeAttribute sign class field (operand (after t e) r) (operand t e)) in
+        let end : p + length ce + length cr + 1 ≡ p + length (ce ++ (cr ++ last ∷ [])) = omega (arith, length-append ce (cr ++ last ∷ []), length-append cr (last ∷ [])) in
+        let ends : Unit {0} → World → MachineState = λ o w'. at (p + length (ce ++ (cr ++ last ∷ []))) cells frames w' in
+        one_join code n t e (evaluates code n t e) (cr ++ last ∷ []) ends (λ z w. outcome_then (look t.line (spot (ToAttribute class field r)) w) (λ q w. outcome_then (look t.line (λ s. if_ok (held_at q s) (λ x. calculated (operator_of sign) x z)) w) (write t.line q))) p cells frames w high has in_ (λ z found_z has'.
+        subst (λ o. Reaches code (at (p + length ce) (held (leaf e) z cells) frames w) (arrive ends frames o)) (reference_then t.line sign class field z w (value r w.store))
+        (one_join code n (after t e) r (evaluates code n (after t e) r) (last ∷ []) ends (λ v. change t.line (changed_attribute sign class field v z)) (p + length ce) (held (leaf e) z cells) frames w (held_height t e z cells high) has' in_ (λ v found_v has''.
+        subst (λ j. Reaches code (at (p + length ce + length cr) (held (leaf r) v (held (leaf e) z cells)) frames w) (arrive (λ o w'. at j cells frames w') frames (change t.line (changed_attribute sign class field v z) w))) end
+        (two_change code n last (operand (after t e) r) (operand t e) (changed_attribute sign class field) v z (p + length ce + length cr) (held (leaf r) v (held (leaf e) z cells)) cells frames w refl refl (λ go. takes_over t e r z v w.store cells go high found_z found_v) has''.0))));
   }

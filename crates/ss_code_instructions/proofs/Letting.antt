@@ -1,6 +1,5 @@
 -- LET, ADD and SUBTRACT, for each place that they assign.
-use Rattle.std.proofs.Common.{◌≡◌, ℕ, ◌+◌, Bool, true, false, List, [], ◌∷◌, ◌++◌, length, Option, Some, None, Ok, Err, refl, sym, ap, ◌∙◌, subst, arith, length-append}
-use Rattle.std.specs.Prelude.{slice_get, Result as OkOr}
+use Rattle.std.proofs.Common.{◌≡◌, ℕ, ◌+◌, List, [], ◌∷◌, ◌++◌, length, Option, Some, None, refl, sym, subst, arith, length-append}
 use Rattle.ss_base.specs.declared.layout.Mode.TheVariants.{Integer}
 use Rattle.ss_base.specs.declared.value.Value.{Value}
 use Rattle.ss_program.specs.declared.expression.Sign.{Sign}
@@ -9,41 +8,40 @@ use Rattle.ss_program.specs.declared.expression.Variable.TheVariants.{Global}
 use Rattle.ss_program.specs.declared.statement.CountedClass.{CountedClass}
 use Rattle.ss_program.specs.Program.{Expression, Place, ToVariable, ToAttribute, ToCount}
 use Rattle.ss_meaning.specs.Values.{if_ok, sure, calculated, operator_of}
-use Rattle.ss_meaning.specs.Store.{Store, fetched}
+use Rattle.ss_meaning.specs.Store.{fetched}
 use Rattle.ss_meaning.specs.Places.{InVariable, InCount}
 use Rattle.ss_meaning.specs.Expressions.{value}
 use Rattle.ss_meaning.specs.Parts.{World, Part, outcome_then, looked, look, write}
 use Rattle.ss_meaning.specs.Statements.{give_to, change_by}
-use Rattle.ss_code_instructions.specs.Instructions.{Operand, Held, Taken, Into, Onto, Placed, Target as To}
+use Rattle.ss_code_instructions.specs.Instructions.{Held, Taken, Placed, Target as To}
 use Rattle.ss_code_instructions.specs.Instructions as i
 use Rattle.ss_code_instructions.specs.States.{Frame, MachineState, or_zero, core_at, with_value, deliver}
 use Rattle.ss_code_instructions.specs.Machine.{Code}
-use Rattle.ss_code_instructions.specs.Translation.{Site, height, with_cells, above, place, leaf, operand, operand_cells, after, operand_code, with_operand, expression_code, next, noted_code, count_code, let_code, change_code}
-use Rattle.ss_code_instructions.proofs.Steps.{HasAt, has_front, has_back, Reaches, free, at, arrive, join}
-use Rattle.ss_code_instructions.proofs.Parts.{Within, within_on, Leads, whatever, step_leads, at_the_height, Runs, same, done, went, then_then, alike}
+use Rattle.ss_code_instructions.specs.Translation.{Site, height, above, place, leaf, operand, after, operand_code, with_operand, expression_code, next, count_code, let_code, change_code}
+use Rattle.ss_code_instructions.proofs.Steps.{has_front, has_back, Reaches, at, arrive, join}
+use Rattle.ss_code_instructions.proofs.Parts.{Leads, whatever, step_leads, at_the_height, Runs, same, done, went, then_then, alike}
 use Rattle.ss_code_instructions.proofs.Operands.{on, Tops, put_then, computes, held, reads, one_join}
 use Rattle.ss_code_instructions.proofs.Expressions.{leaves, evaluates}
-use Rattle.ss_code_instructions.proofs.Noting.{Sited}
-use Rattle.ss_code_instructions.proofs.Assigning.{to_variable_runs, count_run}
+use Rattle.ss_code_instructions.proofs.Assigning.{variable_runs, count_run}
 use Rattle.ss_code_instructions.proofs.Attributes.{let_attribute_runs}
 use Rattle.ss_code_instructions.proofs.Changing.{change_attribute_runs}
 
 module _ (code : Code) (n : ℕ) where
-  let_count_runs : (t : Site) (c : CountedClass) (e : Expression) → Sited code t → Runs code n (height t) same (let_code t (ToCount c) e) done (give_to t.line (ToCount c) (look t.line (value e)))
-  let_count_runs t c e fits = record {
+  let_count_runs : (t : Site) (c : CountedClass) (e : Expression) → Runs code n (height t) same (let_code t (ToCount c) e) done (give_to t.line (ToCount c) (look t.line (value e)))
+  let_count_runs t c e = record {
     by = λ p cells frames w high has in_.
         let ce : List Placed = operand_code t e in
-        let last : List Placed = count_code t (after t e) c (operand t e) in
-        let end : p + length ce + length last ≡ p + length (ce ++ last) = omega (arith, length-append ce last) in
+        let last : List Placed = count_code (after t e) c (operand t e) in
+        let end : p + length ce + 2 ≡ p + length (ce ++ last) = omega (arith, length-append ce last) in
         one_join code n t e (evaluates code n t e) last (λ o w'. at (p + length (ce ++ last)) cells frames w') (write t.line (InCount c)) p cells frames w high has in_ (λ v found has'.
         subst (λ j. Reaches code (at (p + length ce) (held (leaf e) v cells) frames w) (arrive (λ o w'. at j cells frames w') frames (write t.line (InCount c) v w))) end
-        (count_run code n t (operand_cells t e) c (operand t e) v (p + length ce) (held (leaf e) v cells) cells frames w fits in_ high (λ go. reads t e v w.store cells go high found) has'));
+        (count_run code (after t e) c (operand t e) v (p + length ce) (held (leaf e) v cells) cells frames w (λ go. reads t e v w.store cells go high found) has'));
   }
 
-  pub let_runs : (t : Site) (p : Place) (e : Expression) → Sited code t → Runs code n (height t) same (let_code t p e) done (give_to t.line p (look t.line (value e)))
-  let_runs t (ToVariable x) e fits = to_variable_runs code n t x (expression_code t (Into x) e) (look t.line (value e)) fits (leaves code n t (Into x) tt e)
-  let_runs t (ToAttribute class field r) e fits = let_attribute_runs code n t class field r e fits
-  let_runs t (ToCount c) e fits = let_count_runs t c e fits
+  pub let_runs : (t : Site) (p : Place) (e : Expression) → Runs code n (height t) same (let_code t p e) done (give_to t.line p (look t.line (value e)))
+  let_runs t (ToVariable x) e = variable_runs code n t x (λ to. expression_code t to e) (look t.line (value e)) (λ to tops. leaves code n t to tops e)
+  let_runs t (ToAttribute class field r) e = let_attribute_runs code n t class field r e
+  let_runs t (ToCount c) e = let_count_runs t c e
 
   -- ## ADD and SUBTRACT
 
@@ -70,25 +68,25 @@ module _ (code : Code) (n : ℕ) where
       sum_leads None y p cells cells0 frames w h = whatever
       sum_leads (Some v) y p cells cells0 frames w h = computes code t.line to (calculated (operator_of sign) v y) p cells cells0 frames w h
 
-  change_count_runs : (t : Site) (sign : Sign) (c : CountedClass) (e : Expression) → Sited code t → Runs code n (height t) same (change_code t sign (ToCount c) e) done (change_by t.line sign (ToCount c) e)
-  change_count_runs t sign c e fits =
+  change_count_runs : (t : Site) (sign : Sign) (c : CountedClass) (e : Expression) → Runs code n (height t) same (change_code t sign (ToCount c) e) done (change_by t.line sign (ToCount c) e)
+  change_count_runs t sign c e =
       alike code n (height t) (λ w. then_then (look t.line (value e) w) (λ y. look t.line (λ s. if_ok (sure (fetched (Global c.variable) s)) (λ v. calculated (operator_of sign) v y))) (write t.line (InCount c)))
       (record {
         by = λ p cells frames w high has in_.
             let ce : List Placed = with_operand t e (λ y. i.Calculate (operator_of sign) (Held (Global c.variable)) y (next t)) in
-            let last : List Placed = count_code t (above t Integer) c (Taken (height t)) in
-            let end : p + length ce + length last ≡ p + length (ce ++ last) = omega (arith, length-append ce last) in
+            let last : List Placed = count_code (above t Integer) c (Taken (height t)) in
+            let end : p + length ce + 2 ≡ p + length (ce ++ last) = omega (arith, length-append ce last) in
             join (at p cells frames w) (λ v w'. at (p + length ce) (v ∷ cells) frames w') (λ o w'. at (p + length (ce ++ last)) cells frames w') frames (sum_part t sign (Global c.variable) e w) (write t.line (InCount c))
             (subst (λ o. Reaches code (at p cells frames w) (arrive (λ v w'. at (p + length ce) (v ∷ cells) frames w') frames o)) (went (sum_part t sign (Global c.variable) e w))
             ((sum_runs t sign (Global c.variable) e (next t) refl).by p cells frames w high (has_front code.places p ce last has) in_))
             (λ v w' k.
             subst (λ j. Reaches code (at (p + length ce) (v ∷ cells) frames w') (arrive (λ o w'. at j cells frames w') frames (write t.line (InCount c) v w'))) end
-            (count_run code n t (Integer ∷ t.cells) c (Taken (height t)) v (p + length ce) (v ∷ cells) cells frames w' fits (within_on in_ k) high (λ go. at_the_height (height t) cells (go v cells) high) (has_back code.places p ce last has)));
+            (count_run code (above t Integer) c (Taken (height t)) v (p + length ce) (v ∷ cells) cells frames w' (λ go. at_the_height (height t) cells (go v cells) high) (has_back code.places p ce last has)));
       })
 
-  pub change_runs_at : (t : Site) (sign : Sign) (p : Place) (e : Expression) → Sited code t → Runs code n (height t) same (change_code t sign p e) done (change_by t.line sign p e)
-  change_runs_at t sign (ToVariable x) e fits =
+  pub change_runs_at : (t : Site) (sign : Sign) (p : Place) (e : Expression) → Runs code n (height t) same (change_code t sign p e) done (change_by t.line sign p e)
+  change_runs_at t sign (ToVariable x) e =
       alike code n (height t) (λ w. then_then (look t.line (value e) w) (λ y. look t.line (λ s. if_ok (sure (fetched x s)) (λ v. calculated (operator_of sign) v y))) (write t.line (InVariable x)))
-      (to_variable_runs code n t x (with_operand t e (λ y. i.Calculate (operator_of sign) (Held x) y (Into x))) (sum_part t sign x e) fits (sum_runs t sign x e (Into x) tt))
-  change_runs_at t sign (ToAttribute class field r) e fits = change_attribute_runs code n t sign class field r e fits
-  change_runs_at t sign (ToCount c) e fits = change_count_runs t sign c e fits
+      (variable_runs code n t x (λ to. with_operand t e (λ y. i.Calculate (operator_of sign) (Held x) y to)) (sum_part t sign x e) (λ to tops. sum_runs t sign x e to tops))
+  change_runs_at t sign (ToAttribute class field r) e = change_attribute_runs code n t sign class field r e
+  change_runs_at t sign (ToCount c) e = change_count_runs t sign c e
