@@ -64,7 +64,7 @@ by_order k x y s cs go q =
     ap (λ (b : Bool). if b then with_value x s cs (λ v above. with_value y s above (λ w below. go v w below)) else with_value y s cs (λ w above. with_value x s above (λ v below. go v w below))) q
 
 -- the value first, and then the reference
-pub takes_over : (t : Site) (e r : Expression) (z v : Value) (s : Store) (cells : List Value) (go : Value → Value → List Value → Moved) → length cells ≡ height t → value e s ≡ Ok z → value r s ≡ Ok v → with_values (operand (after t e) r) (operand t e) s (held (leaf r) v (held (leaf e) z cells)) go ≡ go v z cells
+takes_over : (t : Site) (e r : Expression) (z v : Value) (s : Store) (cells : List Value) (go : Value → Value → List Value → Moved) → length cells ≡ height t → value e s ≡ Ok z → value r s ≡ Ok v → with_values (operand (after t e) r) (operand t e) s (held (leaf r) v (held (leaf e) z cells)) go ≡ go v z cells
 takes_over t e r z v s cells go h q p = by (leaf r) refl (leaf e) refl
   where
     -- where the value is read first, and the reference after it

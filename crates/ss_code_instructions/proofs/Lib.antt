@@ -11,7 +11,9 @@ pub mod Looking
 pub mod Members
 pub mod Conditions
 pub mod Noting
+pub mod Forgetting
 pub mod Assigning
+pub mod Taking
 pub mod Attributes
 pub mod Changing
 pub mod Receiving

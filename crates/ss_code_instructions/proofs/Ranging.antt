@@ -1,7 +1,7 @@
 -- The code of a FOR over numbers, and over the entities of a permanent class.
 use Rattle.std.proofs.Common.{◌≡◌, ℕ, zero, suc, ◌+◌, ◌-◌, ◌≤◌, Bool, true, false, List, [], ◌∷◌, ◌++◌, length, Option, Some, None, Ok, Err, ℤ, pos, refl, sym, ap, ◌∙◌, subst, arith, length-append, append_assoc}
-use Rattle.std.proofs.lemmas.Bool.{eq-eqb, ne_eqb}
-use Rattle.std.specs.Prelude.{slice_get, ◌==◌, int_le, int_lt, ◌+ℤ◌, Result as OkOr, if◌then◌else◌}
+use Rattle.std.proofs.lemmas.Bool.{ne_eqb}
+use Rattle.std.specs.Prelude.{slice_get, int_le, int_lt, ◌+ℤ◌, Result as OkOr, if◌then◌else◌}
 use Rattle.std.specs.Int.{int_min}
 use Rattle.ss_base.specs.declared.fault.FaultKind.TheVariants.{LoopStep}
 use Rattle.ss_base.specs.declared.line.Line.{Line}
@@ -10,25 +10,25 @@ use Rattle.ss_base.specs.declared.value.Value.{Value}
 use Rattle.ss_base.specs.declared.value.Value.TheVariants.{Whole, Text}
 use Rattle.ss_program.specs.declared.expression.Variable.{Variable}
 use Rattle.ss_program.specs.Program.{Expression, Constant, Numbers, Each}
-use Rattle.ss_meaning.specs.Values.{Trouble, Fails, Misfit, if_ok, turned, where_fit, unless_fault, number_of}
-use Rattle.ss_meaning.specs.Store.{Store, put}
+use Rattle.ss_meaning.specs.Values.{Trouble, Fails, Misfit, if_ok, turned, where_fit, unless_fault}
+use Rattle.ss_meaning.specs.Store.{Store}
 use Rattle.ss_meaning.specs.Entities.{class_at, is_permanent, made_count}
-use Rattle.ss_meaning.specs.Places.{InVariable, noted_variable, assigned_variable}
 use Rattle.ss_meaning.specs.Expressions.{value, value_if_any}
 use Rattle.ss_meaning.specs.Loops.{Turn, GoesOn, EndsLoop, IsFound, visit, greatest, Range, items_from, range_items, after_turn, over_items, step_number, range_of, range, indices, over}
-use Rattle.ss_meaning.specs.Parts.{World, WentOn, Left, Part, outcome_then, looked, look, settle, change, write}
+use Rattle.ss_meaning.specs.Parts.{World, Part, outcome_then, looked, look}
 use Rattle.ss_code_instructions.specs.Instructions.{Placed}
 use Rattle.ss_code_instructions.specs.Instructions as i
-use Rattle.ss_code_instructions.specs.States.{Frame, MachineState, Moved, To, Stuck, did, fit, cell_at, at_height, core_at, past, onward, onward_if, backwards, back_if}
-use Rattle.ss_code_instructions.specs.Machine.{Code, act, is_due, has_item, next_item}
-use Rattle.ss_code_instructions.specs.Translation.{Site, height, above, place, forget_to, noted_code, next, expression_code, number_loop, turns_code, step_code, range_code, for_code}
-use Rattle.ss_code_instructions.proofs.Keeping.{Only, Same, put_same}
-use Rattle.ss_code_instructions.proofs.Steps.{HasAt, has_front, has_back, Comes, Reaches, here, free, reaches_on, at, arrive, join}
-use Rattle.ss_code_instructions.proofs.Parts.{Within, within_on, Leads, onwards, ticked, did_leads, tick_run, at_the_height, Lands, Runs, same, done, put_on, seq, seq_look, alike, look_lands}
+use Rattle.ss_code_instructions.specs.States.{Frame, MachineState, To, Stuck, did, cell_at, core_at, past, onward_if, back_if}
+use Rattle.ss_code_instructions.specs.Machine.{Code, act, has_item, next_item}
+use Rattle.ss_code_instructions.specs.Translation.{Site, height, above, place, forget_to, next, expression_code, number_loop, take_code, turns_code, step_code, for_code}
+use Rattle.ss_code_instructions.proofs.Keeping.{Only}
+use Rattle.ss_code_instructions.proofs.Steps.{HasAt, has_front, has_back, Comes, Reaches, free, reaches_on, at, arrive, join}
+use Rattle.ss_code_instructions.proofs.Parts.{Within, within_on, at_the_height, Lands, same, done, put_on, seq_look, alike, look_lands}
 use Rattle.ss_code_instructions.proofs.Parts.{above as above_cells}
 use Rattle.ss_code_instructions.proofs.Expressions.{value_runs}
-use Rattle.ss_code_instructions.proofs.Noting.{Sited, forget_run, noted_runs}
+use Rattle.ss_code_instructions.proofs.Forgetting.{forget_run}
 use Rattle.ss_code_instructions.proofs.Members.{top_cell}
+use Rattle.ss_code_instructions.proofs.Taking.{visit_run}
 use Rattle.ss_code_instructions.proofs.Looping.{leads, past_loop, leap}
 
 -- the step of a FOR is at least 1
@@ -59,34 +59,23 @@ module _ (limit step : ℤ) where
   one_more : (k : ℕ) (item : ℤ) → int_le item limit ≡ true → items_from (suc k) limit step item ≡ item ∷ items_from k limit step (item +ℤ step)
   one_more k item q = ap (λ b. if b then item ∷ items_from k limit step (item +ℤ step) else []) q
 
--- an assignment to the variable, its note and the turn lead where a visit does
-visit_goal : {B : Type 0} (l : Line) (x : Variable) (v : ℤ) (m : Part Turn) (g : Turn → Part B) (k : B → World → MachineState) (frames : List Frame) (w : World) → arrive k frames (outcome_then (looked l (put x (Whole v) w.store) w) (λ s w. outcome_then (outcome_then (change l (noted_variable x) (record w { store = s })) (λ _. m)) g)) ≡ arrive k frames (outcome_then (visit l x m v w) g)
-visit_goal l x v m g k frames w = by (put x (Whole v) w.store)
-  where
-    noted : (s : Store) (r : OkOr Store Trouble) → arrive k frames (outcome_then (outcome_then (outcome_then (looked l r (record w { store = s })) settle) (λ _. m)) g) ≡ arrive k frames (outcome_then (outcome_then (outcome_then (looked l r w) settle) (λ _. m)) g)
-    noted s (Ok u) = refl
-    noted s (Err (Fails kind)) = refl
-    noted s (Err Misfit) = refl
+module _ (code : Code) (n : ℕ) (t : Site) (x : Variable) (turn : List Placed) (m : Part Turn) (found : ℕ) (r : Lands code n (height (number_loop t)) same turn (leads found) done m) where
+  -- what takes an item, and how far it goes back from the next one
+  abbrev take_ : List Placed
+  take_ = take_code (number_loop t) (height t) x
 
-    by : (r : OkOr Store Trouble) → arrive k frames (outcome_then (looked l r w) (λ s w. outcome_then (outcome_then (change l (noted_variable x) (record w { store = s })) (λ _. m)) g)) ≡ arrive k frames (outcome_then (outcome_then (outcome_then (looked l (if_ok r (noted_variable x)) w) settle) (λ _. m)) g)
-    by (Ok s) = noted s (noted_variable x s)
-    by (Err (Fails kind)) = refl
-    by (Err Misfit) = refl
-
-module _ (code : Code) (n : ℕ) (t : Site) (x : Variable) (turn : List Placed) (m : Part Turn) (found : ℕ) (fits : Sited code t) (r : Lands code n (height (number_loop t)) same turn (leads found) done m) where
-  -- the note of the item, and the turn
-  abbrev body : List Placed
-  body = noted_code (number_loop t) x ++ turn
+  abbrev far : ℕ
+  far = length take_ + length turn
 
   abbrev next_place : Placed
-  next_place = place (number_loop t) (i.Next (height t) (1 + length (noted_code (number_loop t) x) + length turn))
+  next_place = place (number_loop t) (i.Next (height t) far)
 
-  body_lands : Lands code n (height (number_loop t)) same body (leads found) done (λ w. outcome_then (change t.line (noted_variable x) w) (λ _. m))
-  body_lands = seq code n (height (number_loop t)) {mid = λ v cells. cells} (noted_runs code n (number_loop t) x fits) (λ _. r)
+  module _ (step limit : ℤ) (rises : int_lt step (pos 1) ≡ false) (p end : ℕ) (cells : List Value) (frames : List Frame) (high : length cells ≡ height t) (has : HasAt code.places p (take_ ++ (turn ++ (next_place ∷ [])))) (len : p + length take_ + length turn ≡ end) (one : length (forget_to t (number_loop t)) ≡ 1) (over_has : HasAt code.places (end + 1) (forget_to t (number_loop t))) (found_has : HasAt code.places (end + found) (forget_to t (number_loop t))) where
+    turn_has : HasAt code.places (p + length take_) (turn ++ (next_place ∷ []))
+    turn_has = has_back code.places p take_ (turn ++ (next_place ∷ [])) has
 
-  module _ (step limit : ℤ) (rises : int_lt step (pos 1) ≡ false) (p end : ℕ) (cells : List Value) (frames : List Frame) (high : length cells ≡ height t) (has : HasAt code.places p (place (number_loop t) (i.Take (height t) x) ∷ (body ++ (next_place ∷ [])))) (len : p + 1 + length body ≡ end) (one : length (forget_to t (number_loop t)) ≡ 1) (over_has : HasAt code.places (end + 1) (forget_to t (number_loop t))) (found_has : HasAt code.places (end + found) (forget_to t (number_loop t))) where
     next_has : slice_get code.places end ≡ Some next_place
-    next_has = subst (λ j. slice_get code.places j ≡ Some next_place) len (has_back code.places (p + 1) body (next_place ∷ []) has.1).0
+    next_has = subst (λ j. slice_get code.places j ≡ Some next_place) len (has_back code.places (p + length take_) turn (next_place ∷ []) turn_has).0
 
     -- what the FOR keeps goes
     forget : (q to : ℕ) (item : ℤ) (w : World) → HasAt code.places q (forget_to t (number_loop t)) → q + 1 ≡ to → Reaches code (at q (hold_item step limit item cells) frames w) (Comes (at to cells frames w))
@@ -97,10 +86,10 @@ module _ (code : Code) (n : ℕ) (t : Site) (x : Variable) (turn : List Placed) 
         (forget_run code n (number_loop t) (height (number_loop t) - height t) q (Whole step ∷ Whole limit ∷ Whole item ∷ []) cells frames w three h)
 
     -- where the next instruction leads
-    nexts : (item : ℤ) (b : Bool) → has_item (item +ℤ step) limit ≡ b → (w : World) → act code t.line next_place.instruction (core_at end (hold_item step limit item cells) frames w.store) ≡ (if b then back_if (1 + length (noted_code (number_loop t) x) + length turn) true (hold_item step limit (item +ℤ step) cells) (core_at end (hold_item step limit item cells) frames w.store) else back_if (1 + length (noted_code (number_loop t) x) + length turn) false (hold_item step limit item cells) (core_at end (hold_item step limit item cells) frames w.store))
+    nexts : (item : ℤ) (b : Bool) → has_item (item +ℤ step) limit ≡ b → (w : World) → act code t.line next_place.instruction (core_at end (hold_item step limit item cells) frames w.store) ≡ (if b then back_if far true (hold_item step limit (item +ℤ step) cells) (core_at end (hold_item step limit item cells) frames w.store) else back_if far false (hold_item step limit item cells) (core_at end (hold_item step limit item cells) frames w.store))
     nexts item b q w =
         let c = core_at end (hold_item step limit item cells) frames w.store in
-        let back = 1 + length (noted_code (number_loop t) x) + length turn in
+        let back = far in
         at_the_height (height t) cells (next_item back item limit step cells c) high
         ∙ ap (λ (a : Bool). if a then Stuck else (if has_item (item +ℤ step) limit then back_if back true (hold_item step limit (item +ℤ step) cells) c else back_if back false (hold_item step limit item cells) c)) rises
         ∙ ap (λ (a : Bool). if a then back_if back true (hold_item step limit (item +ℤ step) cells) c else back_if back false (hold_item step limit item cells) c) q
@@ -117,8 +106,8 @@ module _ (code : Code) (n : ℕ) (t : Site) (x : Variable) (turn : List Placed) 
 
     next_run : (k : ℕ) → ItemsRun k → (item : ℤ) (w : World) → suc w.ticks ≤ k → Within code n w → (b : Bool) → has_item (item +ℤ step) limit ≡ b → Reaches code (at end (hold_item step limit item cells) frames w) (arrive ends frames (later k (item +ℤ step) w))
     next_run k again item w lek in_ true q =
-        let back : end - (1 + length (noted_code (number_loop t) x) + length turn) ≡ p = omega (arith, len, length-append (noted_code (number_loop t) x) turn) in
-        leap code next_place end (end - (1 + length (noted_code (number_loop t) x) + length turn)) p (hold_item step limit item cells) (hold_item step limit (item +ℤ step) cells) frames w _ next_has refl (nexts item true q w) back
+        let back : end - far ≡ p = omega (arith, len) in
+        leap code next_place end (end - far) p (hold_item step limit item cells) (hold_item step limit (item +ℤ step) cells) frames w _ next_has refl (nexts item true q w) back
         (again (item +ℤ step) w q lek in_)
     next_run k again item w lek in_ false q =
         let last : end + 1 + 1 ≡ end + 2 = omega arith in
@@ -132,43 +121,29 @@ module _ (code : Code) (n : ℕ) (t : Site) (x : Variable) (turn : List Placed) 
     after_run k again EndsLoop item w lek in_ = let last : end + 1 + 1 ≡ end + 2 = omega arith in forget (end + 1) (end + 2) item w over_has last
     after_run k again IsFound item w lek in_ = forget (end + found) (end + found + 1) item w found_has refl
 
-    put_says : (w : World) (v : Value) (s : Store) → put x v w.store ≡ Ok s → Within code n w → s.scene.setting ≡ code.setting
-    put_says w v s q in_ = (subst (Only (Same w.store)) q (put_same x v w.store)) ∙ in_.says
-
     pub items_run : (k : ℕ) → ItemsRun k
     items_run zero item w q lek in_ = absurd (omega (arith, lek))
     items_run (suc k) item w q lek in_ =
         let h = hold_item step limit item cells in
-        let c = core_at p h frames w.store in
+        let higher : length h ≡ height (number_loop t) = ap (λ j. suc (suc (suc j))) high in
         subst (λ is. Reaches code (at p h frames w) (arrive ends frames (over_items (visit t.line x m) is w))) (sym (one_more (int_min limit greatest) step k item q))
-        (tick_run code {A = Bool} (place (number_loop t) (i.Take (height t) x)) c frames w ends (λ w. outcome_then (visit t.line x m item w) (λ a. after_turn a (later k (item +ℤ step)))) has.0 refl (λ j e.
-        subst (λ mv. Leads code (ticked j w) mv (arrive ends frames (outcome_then (visit t.line x m item (ticked j w)) (λ a. after_turn a (later k (item +ℤ step)))))) (sym (ap (λ o. fit o (λ v. did t.line (put x v w.store) (λ s. onward h c s))) (item_cell (height t) step limit item cells high)))
-        (subst (Leads code (ticked j w) (did t.line (put x (Whole item) w.store) (λ s. onward h c s))) (visit_goal t.line x item m (λ a. after_turn a (later k (item +ℤ step))) ends frames (ticked j w))
-        (did_leads code t.line (put x (Whole item) w.store) (λ s. onward h c s) (ticked j w) ends frames (λ s w. outcome_then (outcome_then (change t.line (noted_variable x) (record w { store = s })) (λ _. m)) (λ a. after_turn a (later k (item +ℤ step)))) (λ s done_.
-        onwards (turn_run k (items_run k) item s (record (ticked j w) { store = s }) refl
-        (let fewer : suc j ≤ k = omega (arith, e, lek) in fewer)
-        (record { ticks = (let few : j ≤ n = omega (arith, e, in_.ticks) in few); says = put_says w (Whole item) s done_ in_ })))))))
-      where
-        turn_run : (k : ℕ) → ItemsRun k → (item : ℤ) (s : Store) (w : World) → w.store ≡ s → suc w.ticks ≤ k → Within code n w → Reaches code (at (p + 1) (hold_item step limit item cells) frames w) (arrive ends frames (outcome_then (outcome_then (change t.line (noted_variable x) w) (λ _. m)) (λ a. after_turn a (later k (item +ℤ step)))))
-        turn_run k again item s w same_ lek in_ =
-            let h = hold_item step limit item cells in
-            let higher : length h ≡ height (number_loop t) = ap (λ j. suc (suc (suc j))) high in
-            join (at (p + 1) h frames w) (λ a w'. at (leads found a end) h frames w') ends frames (outcome_then (change t.line (noted_variable x) w) (λ _. m)) (λ a. after_turn a (later k (item +ℤ step)))
-            (subst (λ j. Reaches code (at (p + 1) h frames w) (arrive (λ a w'. at (leads found a j) h frames w') frames (outcome_then (change t.line (noted_variable x) w) (λ _. m)))) len
-            (body_lands.by (p + 1) h frames w higher (has_front code.places (p + 1) body (next_place ∷ []) has.1) in_))
-            (λ a w' kept. after_run k again a item w' (let fewer : suc w'.ticks ≤ k = omega (arith, kept.fewer, lek) in fewer) (within_on in_ kept))
+        (visit_run code n (number_loop t) (height t) x item m (λ a. after_turn a (later k (item +ℤ step))) p h frames w ends (item_cell (height t) step limit item cells high) (has_front code.places p take_ (turn ++ (next_place ∷ [])) has) in_ (λ w' fewer in'.
+        join (at (p + length take_) h frames w') (λ a w'. at (leads found a end) h frames w') ends frames (m w') (λ a. after_turn a (later k (item +ℤ step)))
+        (subst (λ j. Reaches code (at (p + length take_) h frames w') (arrive (λ a w'. at (leads found a j) h frames w') frames (m w'))) len
+        (r.by (p + length take_) h frames w' higher (has_front code.places (p + length take_) turn (next_place ∷ []) turn_has) in'))
+        (λ a w'' kept. after_run k (items_run k) a item w'' (let few : suc w''.ticks ≤ k = omega (arith, kept.fewer, fewer, lek) in few) (within_on in' kept))))
 
   -- from the range in its cells
-  pub ranged_run : (b : Range) → Rises b → (p end : ℕ) (cells : List Value) (frames : List Frame) (w : World) → length cells ≡ height t → HasAt code.places p (place (number_loop t) (i.Take (height t) x) ∷ (body ++ (next_place ∷ []))) → p + 1 + length body ≡ end → length (forget_to t (number_loop t)) ≡ 1 → HasAt code.places (end + 1) (forget_to t (number_loop t)) → HasAt code.places (end + found) (forget_to t (number_loop t)) → Within code n w → Reaches code (at (past (length body + 2) (has_item b.first b.limit) p) (hold_range b cells) frames w) (arrive (λ b w'. at (past_loop found b end) cells frames w') frames (over_items (visit t.line x m) (range_items (suc n) b) w))
+  pub ranged_run : (b : Range) → Rises b → (p end : ℕ) (cells : List Value) (frames : List Frame) (w : World) → length cells ≡ height t → HasAt code.places p (take_ ++ (turn ++ (next_place ∷ []))) → p + length take_ + length turn ≡ end → length (forget_to t (number_loop t)) ≡ 1 → HasAt code.places (end + 1) (forget_to t (number_loop t)) → HasAt code.places (end + found) (forget_to t (number_loop t)) → Within code n w → Reaches code (at (past (far + 1) (has_item b.first b.limit) p) (hold_range b cells) frames w) (arrive (λ b w'. at (past_loop found b end) cells frames w') frames (over_items (visit t.line x m) (range_items (suc n) b) w))
   ranged_run b up p end cells frames w high has len one f1 f2 in_ = sides (has_item b.first b.limit) refl
     where
-      sides : (a : Bool) → has_item b.first b.limit ≡ a → Reaches code (at (past (length body + 2) a p) (hold_range b cells) frames w) (arrive (λ b w'. at (past_loop found b end) cells frames w') frames (over_items (visit t.line x m) (range_items (suc n) b) w))
+      sides : (a : Bool) → has_item b.first b.limit ≡ a → Reaches code (at (past (far + 1) a p) (hold_range b cells) frames w) (arrive (λ b w'. at (past_loop found b end) cells frames w') frames (over_items (visit t.line x m) (range_items (suc n) b) w))
       sides true q = items_run b.step b.limit up p end cells frames high has len one f1 f2 (suc n) b.first w q (let few : suc w.ticks ≤ suc n = omega (arith, in_.ticks) in few) in_
       sides false q =
-          let e : end + 1 ≡ p + (length body + 2) = omega (arith, len) in
-          let last : p + (length body + 2) + 1 ≡ end + 2 = omega (arith, len) in
-          subst (λ is. Reaches code (at (p + (length body + 2)) (hold_range b cells) frames w) (arrive (λ b w'. at (past_loop found b end) cells frames w') frames (over_items (visit t.line x m) is w))) (sym (no_more (int_min b.limit greatest) b.step (suc n) b.first q))
-          (forget b.step b.limit up p end cells frames high has len one f1 f2 (p + (length body + 2)) (end + 2) b.first w (subst (λ j. HasAt code.places j (forget_to t (number_loop t))) e f1) last)
+          let e : end + 1 ≡ p + (far + 1) = omega (arith, len) in
+          let last : p + (far + 1) + 1 ≡ end + 2 = omega (arith, len) in
+          subst (λ is. Reaches code (at (p + (far + 1)) (hold_range b cells) frames w) (arrive (λ b w'. at (past_loop found b end) cells frames w') frames (over_items (visit t.line x m) is w))) (sym (no_more (int_min b.limit greatest) b.step (suc n) b.first q))
+          (forget b.step b.limit up p end cells frames high has len one f1 f2 (p + (far + 1)) (end + 2) b.first w (subst (λ j. HasAt code.places j (forget_to t (number_loop t))) e f1) last)
 
 -- ## The numbers of a FOR, and the look at them
 
@@ -250,23 +225,24 @@ indices_rise class s = by (is_permanent (class_at class s))
 
 -- ## The whole FOR
 
-module _ (code : Code) (n : ℕ) (t : Site) (x : Variable) (turn : List Placed) (m : Part Turn) (found : ℕ) (fits : Sited code t) (r : Lands code n (height (number_loop t)) same turn (leads found) done m) (one : length (forget_to t (number_loop t)) ≡ 1) where
+module _ (code : Code) (n : ℕ) (t : Site) (x : Variable) (turn : List Placed) (m : Part Turn) (found : ℕ) (r : Lands code n (height (number_loop t)) same turn (leads found) done m) (one : length (forget_to t (number_loop t)) ≡ 1) where
   abbrev turns : List Placed
   turns = turns_code (number_loop t) (height t) x turn (i.Next (height t))
 
-  turns_long : length turns ≡ length (noted_code (number_loop t) x ++ turn) + 2
-  turns_long = omega (arith, length-append (noted_code (number_loop t) x) (turn ++ place (number_loop t) (i.Next (height t) (1 + length (noted_code (number_loop t) x) + length turn)) ∷ []), length-append turn (place (number_loop t) (i.Next (height t) (1 + length (noted_code (number_loop t) x) + length turn)) ∷ []), length-append (noted_code (number_loop t) x) turn)
+  turns_long : length turns ≡ length (take_code (number_loop t) (height t) x) + length turn + 1
+  turns_long =
+      let head : List Placed = take_code (number_loop t) (height t) x in
+      let last : List Placed = place (number_loop t) (i.Next (height t) (length head + length turn)) ∷ [] in
+      omega (arith, length-append head (turn ++ last), length-append turn last)
 
   -- the turns, from the range in its cells
   after_begin : (b : Range) → Rises b → (p end : ℕ) (cells : List Value) (frames : List Frame) (w : World) → length cells ≡ height t → HasAt code.places p (turns ++ forget_to t (number_loop t)) → p + length turns ≡ end + 1 → HasAt code.places (end + found) (forget_to t (number_loop t)) → Within code n w → Reaches code (at (past (length turns) (has_item b.first b.limit) p) (hold_range b cells) frames w) (arrive (λ b w'. at (past_loop found b end) cells frames w') frames (over_items (visit t.line x m) (range_items (suc n) b) w))
   after_begin b up p end cells frames w high has len found_has in_ =
-      let last : List Placed = place (number_loop t) (i.Next (height t) (1 + length (noted_code (number_loop t) x) + length turn)) ∷ [] in
       let h0 = has_front code.places p turns (forget_to t (number_loop t)) has in
-      let h1 = subst (HasAt code.places (p + 1)) (sym (append_assoc (noted_code (number_loop t) x) turn last)) h0.1 in
       let h2 = subst (λ j. HasAt code.places j (forget_to t (number_loop t))) len (has_back code.places p turns (forget_to t (number_loop t)) has) in
-      let size : p + 1 + length (noted_code (number_loop t) x ++ turn) ≡ end = omega (arith, len, turns_long) in
+      let size : p + length (take_code (number_loop t) (height t) x) + length turn ≡ end = omega (arith, len, turns_long) in
       subst (λ k. Reaches code (at (past k (has_item b.first b.limit) p) (hold_range b cells) frames w) (arrive (λ b w'. at (past_loop found b end) cells frames w') frames (over_items (visit t.line x m) (range_items (suc n) b) w))) (sym turns_long)
-      (ranged_run code n t x turn m found fits r b up p end cells frames w high (h0.0, h1) size one h2 found_has in_)
+      (ranged_run code n t x turn m found r b up p end cells frames w high h0 size one h2 found_has in_)
 
   join_rises : (l : Line) (f : Store → OkOr Range Trouble) → ((s : Store) → Only Rises (f s)) → (s : MachineState) (k : Range → World → MachineState) (k' : Bool → World → MachineState) (frames : List Frame) (w : World) (g : Range → Part Bool) → Reaches code s (arrive k frames (look l f w)) → ((b : Range) → Rises b → Reaches code (k b w) (arrive k' frames (g b w))) → Reaches code s (arrive k' frames (outcome_then (look l f w) g))
   join_rises l f rises s k k' frames w g reach h = by (f w.store) (rises w.store) reach
