@@ -1,11 +1,10 @@
 -- The code of a program has as many instructions as its size says.
-use Rattle.std.proofs.Common.{◌≡◌, ℕ, zero, suc, ◌+◌, ◌-◌, Bool, true, false, not, List, [], ◌∷◌, ◌++◌, length, Option, Some, None, refl, sym, ap, ◌∙◌, subst, arith, length-append}
+use Rattle.std.proofs.Common.{◌≡◌, ℕ, zero, suc, ◌+◌, ◌-◌, Bool, true, false, List, [], ◌∷◌, ◌++◌, length, Option, Some, None, refl, ap, ◌∙◌, arith, length-append}
 use Rattle.std.specs.Prelude.{if◌then◌else◌}
-use Rattle.ss_base.specs.declared.line.Line.{Line}
 use Rattle.ss_base.specs.declared.layout.Mode.{Mode}
 use Rattle.ss_base.specs.declared.layout.Mode.TheVariants.{Integer}
 use Rattle.ss_program.specs.declared.expression.Variable.{Variable}
-use Rattle.ss_program.specs.declared.expression.Variable.TheVariants.{Global, Local}
+use Rattle.ss_program.specs.declared.expression.Variable.TheVariants.{Global}
 use Rattle.ss_program.specs.declared.head.GuardKind.{GuardKind}
 use Rattle.ss_program.specs.declared.head.GuardKind.TheVariants as guards
 use Rattle.ss_program.specs.declared.head.PhraseKind.{PhraseKind}
@@ -13,23 +12,19 @@ use Rattle.ss_program.specs.declared.head.PhraseKind.TheVariants as kinds
 use Rattle.ss_program.specs.declared.statement.CountedClass.{CountedClass}
 use Rattle.ss_program.specs.declared.statement.End.{End}
 use Rattle.ss_program.specs.declared.expression.Sign.{Sign}
-use Rattle.ss_program.specs.declared.sections.Subject.{Subject}
-use Rattle.ss_program.specs.declared.sections.Subject.TheVariants.{OfVariable, OfAttribute, OfCount}
-use Rattle.ss_program.specs.declared.sections.Statistic.{Statistic}
 use Rattle.ss_program.specs.Program.{Expression, Constant, Fetch, Attribute, OfSystemSet, OfSet, OfMember, Clock, TimeOf, Figure, FigureOf, Signed, Absolute, Calculate, SetOwner, TheSystem, Entity, Test, Compare, DataEnded, Empty, Member, Condition, Head, Numbers, Members, Each, Start, AtEnd, From, After, Phrase, Guard, Place, ToVariable, ToAttribute, ToCount, Target, Position, When, At, In, Now, Restart, Item, AValue, AMean, AMeanOf, Statement, Let, Change, Call, Return, Stop, Read, Simulate, If, Loop, For, Find, Create, CreateEvery, Destroy, File, RemoveEnd, Remove, ScheduleNew, Schedule, Cancel, Reset, Print, Skip, Block, Done, Then, Routine, Event, Program}
 use Rattle.ss_program.specs.WellTyped.{Scope}
 use Rattle.std.specs.Prelude.{pos}
 use Rattle.ss_base.specs.declared.value.Value.TheVariants.{Whole}
 use Rattle.ss_meaning.specs.Values.{operator_of}
-use Rattle.ss_meaning.specs.Histories.{same_subject}
-use Rattle.ss_code_instructions.specs.Instructions.{Operand, Bearer, Instruction, Placed, Onto}
+use Rattle.ss_code_instructions.specs.Instructions.{Operand, Bearer, Instruction, Placed}
 use Rattle.ss_code_instructions.specs.Instructions as i
 use Rattle.ss_code_instructions.specs.Instructions.{Target as To}
 use Rattle.ss_code_instructions.specs.Translation as t
 use Rattle.ss_code_instructions.specs.Translation.{Site, height, place, leaf, operand, after, next, expression_code, operand_code}
-use Rattle.ss_code_instructions.specs.Facts.{watch, must_look, is_owner, expression_of, may_fault, beside}
+use Rattle.ss_code_instructions.specs.Facts.{must_look, expression_of, may_fault, beside}
 use Rattle.ss_code_instructions.specs.Size as z
-use Rattle.ss_code_instructions.specs.Size.{expression_size, operand_size, code_size}
+use Rattle.ss_code_instructions.specs.Size.{expression_size, operand_size}
 use Rattle.ss_code_instructions.specs.Laws.{HasSize}
 
 -- ## Expressions
@@ -83,10 +78,6 @@ operand_length s e = leaf_length e (expression_code s (next s) e) (expression_si
 -- an instruction in front
 pub front : (x : Placed) (c : List Placed) (n : ℕ) → length c ≡ n → length (x ∷ c) ≡ 1 + n
 front x c n q = ap suc q
-
-where_length : (b : Bool) (c d : List Placed) (m n : ℕ) → length c ≡ m → length d ≡ n → length (if b then c else d) ≡ (if b then m else n)
-where_length true c d m n p q = p
-where_length false c d m n p q = q
 
 with_length : (s : Site) (e : Expression) (make : Operand → Instruction) → length (t.with_operand s e make) ≡ operand_size e + 1
 with_length s e make = one_length s e (expression_code s (next s) e) make (expression_size e) (expression_length s (next s) e)
@@ -170,7 +161,7 @@ loop_length s gs body n q =
     let r : Placed = place s (i.Repeat (length body + length g + 1)) in
     omega (arith, length-append (t.guards_code s (length body + length g + 2) gs) (place s i.Turn ∷ (body ++ (g ++ (r ∷ [])))), length-append body (g ++ (r ∷ [])), length-append g (r ∷ []), guards_length s 1 gs, guards_length s (length body + length g + 2) gs, q)
 
--- ## What is noted, and what stays
+-- ## Cells that stay
 
 -- an operand takes a cell, or none
 operand_height : (s : Site) (e : Expression) → height (after s e) ≡ height s + z.operand_cells e
@@ -188,14 +179,21 @@ operand_height s (Signed sign e) = omega arith
 operand_height s (Absolute e) = omega arith
 operand_height s (Calculate op a b) = omega arith
 
-bearer_height : (s : Site) (o : Option Expression) → height (t.after_bearer s o) ≡ height s + z.any_cells o
-bearer_height s None = omega arith
-bearer_height s (Some e) = operand_height s e
-
-place_height : (s : Site) (p : Place) → height (t.after_place s p) ≡ height s + z.place_cells s.scope.program p
-place_height s (ToVariable x) = omega arith
-place_height s (ToAttribute class field r) = operand_height s r
-place_height s (ToCount c) = omega arith
+-- at most one
+one_cell : (e : Expression) → z.one_if_some (z.operand_cells e) ≡ z.operand_cells e
+one_cell (Constant v) = refl
+one_cell (Fetch x) = refl
+one_cell (Attribute class field e) = refl
+one_cell (OfSystemSet query set) = refl
+one_cell (OfSet query set e) = refl
+one_cell (OfMember query set e) = refl
+one_cell Clock = refl
+one_cell (TimeOf e) = refl
+one_cell (Figure fold j) = refl
+one_cell (FigureOf fold j e) = refl
+one_cell (Signed sign e) = refl
+one_cell (Absolute e) = refl
+one_cell (Calculate op a b) = refl
 
 forget_length : (u : Site) (k n : ℕ) → k ≡ n → length (t.forget u k) ≡ z.one_if_some n
 forget_length u zero zero q = refl
@@ -207,94 +205,40 @@ forget_length u (suc k) (suc n) q = refl
 forget_to_length : (s u : Site) (n : ℕ) → height u ≡ height s + n → length (t.forget_to s u) ≡ z.one_if_some n
 forget_to_length s u n q = forget_length u (height u - height s) n (omega (arith, q))
 
-noted_length : (s : Site) (x : Variable) → length (t.noted_code s x) ≡ z.noted_size s.scope.program x
-noted_length s (Global k) = by (t.is_watched s (OfVariable k))
-  where
-    by : (b : Bool) → length (if b then place s (i.NoteVariable k) ∷ [] else []) ≡ z.one_if b
-    by true = refl
-    by false = refl
-noted_length s (Local k) = refl
-
-note_length : (b : Bool) (x : Placed) → length (if b then x ∷ [] else []) ≡ z.one_if b
-note_length true x = refl
-note_length false x = refl
-
-count_length : (s u : Site) (c : CountedClass) (from : Operand) → length (t.count_code s u c from) ≡ z.count_size s.scope.program c
-count_length s u c from = omega (arith, noted_length s (Global c.variable))
-
--- an operand in a cell takes it
-cell_size : (s : Site) (e : Expression) → z.one_if (t.is_cell (operand s e)) ≡ z.operand_cells e
-cell_size s (Constant v) = refl
-cell_size s (Fetch x) = refl
-cell_size s (Attribute class field e) = refl
-cell_size s (OfSystemSet query set) = refl
-cell_size s (OfSet query set e) = refl
-cell_size s (OfMember query set e) = refl
-cell_size s Clock = refl
-cell_size s (TimeOf e) = refl
-cell_size s (Figure fold j) = refl
-cell_size s (FigureOf fold j e) = refl
-cell_size s (Signed sign e) = refl
-cell_size s (Absolute e) = refl
-cell_size s (Calculate op a b) = refl
-
-bearer_size : (s : Site) (o : Option Expression) → z.one_if (t.is_bearer_cell (t.bearer s o)) ≡ z.any_cells o
-bearer_size s None = refl
-bearer_size s (Some e) = cell_size s e
-
--- a change, a note of it, and an end where something stayed
-noting_length : (b k : Bool) (s u : Site) (x1 x2 y1 y2 x3 : Placed) (c n : ℕ) → z.one_if k ≡ c → height u ≡ height s + (c + n) → length (if b then (if k then x1 ∷ (x2 ∷ t.forget_to s u) else y1 ∷ (y2 ∷ [])) else x3 ∷ []) ≡ (if b then 2 + c else 1)
-noting_length false k s u x1 x2 y1 y2 x3 c n p q = refl
-noting_length true true s u x1 x2 y1 y2 x3 c n p q =
-    let higher : height u ≡ height s + suc n = omega (arith, p, q) in
-    let forgotten : length (t.forget_to s u) ≡ 1 = forget_to_length s u (suc n) higher in
-    omega (arith, p, forgotten)
-noting_length true false s u x1 x2 y1 y2 x3 c n p q = omega (arith, p)
-
-attribute_length : (s u : Site) (class field : ℕ) (make : Operand → Operand → Instruction) (x y : Operand) (c n : ℕ) → z.one_if (t.is_cell x) ≡ c → height u ≡ height s + (c + n) → length (t.attribute_code s u class field make x y) ≡ z.attribute_size s.scope.program class field c
-attribute_length s u class field make x y c n p q =
-    noting_length (t.is_watched s (OfAttribute class field)) (t.is_cell x) s u (place u (make (t.stay x) (t.stay y))) (place u (i.NoteAttribute class field (t.stay x))) (place u (make x y)) (place s (i.NoteAttribute class field x)) (place u (make x y)) c n p q
-
-set_length : (s u : Site) (set : ℕ) (o : Bearer) (make : (Operand → Operand) → Instruction) (c n : ℕ) → z.one_if (t.is_bearer_cell o) ≡ c → height u ≡ height s + (c + n) → length (t.set_code s u set o make) ≡ z.set_size s.scope.program set c
-set_length s u set o make c n p q =
-    noting_length (t.is_watched s (OfCount set)) (t.is_bearer_cell o) s u (place u (make t.stay)) (place u (i.NoteCount set (t.bearer_stays o))) (place u (make (λ x. x))) (place s (i.NoteCount set o)) (place u (make (λ x. x))) c n p q
-
 -- ## Assignments
 
+-- a variable takes what so many instructions leave
+variable_length : (s : Site) (x : Variable) (source : To → List Placed) (n : ℕ) → ((to : To) → length (source to) ≡ n) → length (t.variable_code s x source) ≡ n + z.kept_size s.scope.program x
+variable_length s x source n q = by (t.is_kept s x)
+  where
+    by : (b : Bool) → length (if b then source (next s) ++ place (t.above s Integer) (i.Keep (i.Taken (height s)) x) ∷ [] else source (i.Into x)) ≡ n + z.one_if b
+    by true = after_code (source (next s)) (place (t.above s Integer) (i.Keep (i.Taken (height s)) x)) n (q (next s))
+    by false = omega (arith, q (i.Into x))
+
 let_length : (s : Site) (p : Place) (e : Expression) → length (t.let_code s p e) ≡ z.let_size s.scope.program p e
-let_length s (ToVariable x) e = both_codes (expression_code s (i.Into x) e) (t.noted_code s x) (expression_size e) (z.noted_size s.scope.program x) (expression_length s (i.Into x) e) (noted_length s x)
+let_length s (ToVariable x) e = variable_length s x (λ to. expression_code s to e) (expression_size e) (λ to. expression_length s to e)
 let_length s (ToAttribute class field r) e =
-    let u : Site = after (after s r) e in
-    let c = t.attribute_code s u class field (i.SetAttribute class field) (operand s r) (operand (after s r) e) in
-    both_codes (t.entity_code s (must_look class r e) class r) (operand_code (after s r) e ++ c) (z.looked_size (must_look class r e) r) (operand_size e + z.attribute_size s.scope.program class field (z.operand_cells r))
-    (looked_length s (must_look class r e) r (i.LookEntity class))
-    (both_codes (operand_code (after s r) e) c (operand_size e) (z.attribute_size s.scope.program class field (z.operand_cells r)) (operand_length (after s r) e)
-    (attribute_length s u class field (i.SetAttribute class field) (operand s r) (operand (after s r) e) (z.operand_cells r) (z.operand_cells e) (cell_size s r) (omega (arith, operand_height s r, operand_height (after s r) e))))
-let_length s (ToCount c) e = both_codes (operand_code s e) (t.count_code s (after s e) c (operand s e)) (operand_size e) (z.count_size s.scope.program c) (operand_length s e) (count_length s (after s e) c (operand s e))
+    both_codes (t.entity_code s (must_look class r e) class r) (t.with_operand (after s r) e (i.SetAttribute class field (operand s r))) (z.looked_size (must_look class r e) r) (operand_size e + 1)
+    (looked_length s (must_look class r e) r (i.LookEntity class)) (with_length (after s r) e (i.SetAttribute class field (operand s r)))
+let_length s (ToCount c) e = both_codes (operand_code s e) (t.count_code (after s e) c (operand s e)) (operand_size e) 2 (operand_length s e) refl
 
 change_length : (s : Site) (sign : Sign) (p : Place) (e : Expression) → length (t.change_code s sign p e) ≡ z.change_size s.scope.program p e
 change_length s sign (ToVariable x) e =
-    let make : Operand → Instruction = λ y. i.Calculate (operator_of sign) (i.Held x) y (i.Into x) in
-    both_codes (t.with_operand s e make) (t.noted_code s x) (operand_size e + 1) (z.noted_size s.scope.program x) (with_length s e make) (noted_length s x)
+    variable_length s x (λ to. t.with_operand s e (λ y. i.Calculate (operator_of sign) (i.Held x) y to)) (operand_size e + 1) (λ to. with_length s e (λ y. i.Calculate (operator_of sign) (i.Held x) y to))
 change_length s sign (ToAttribute class field r) e =
-    let u : Site = after (after s e) r in
-    let c = t.attribute_code s u class field (i.ChangeAttribute sign class field) (operand (after s e) r) (operand s e) in
-    both_codes (operand_code s e) (operand_code (after s e) r ++ c) (operand_size e) (operand_size r + z.attribute_size s.scope.program class field (z.operand_cells r)) (operand_length s e)
-    (both_codes (operand_code (after s e) r) c (operand_size r) (z.attribute_size s.scope.program class field (z.operand_cells r)) (operand_length (after s e) r)
-    (attribute_length s u class field (i.ChangeAttribute sign class field) (operand (after s e) r) (operand s e) (z.operand_cells r) (z.operand_cells e) (cell_size (after s e) r) (omega (arith, operand_height s e, operand_height (after s e) r))))
+    let make : Operand → Instruction = λ x. i.ChangeAttribute sign class field x (operand s e) in
+    both_codes (operand_code s e) (t.with_operand (after s e) r make) (operand_size e) (operand_size r + 1) (operand_length s e) (with_length (after s e) r make)
 change_length s sign (ToCount c) e =
     let make : Operand → Instruction = λ y. i.Calculate (operator_of sign) (i.Held (Global c.variable)) y (next s) in
-    both_codes (t.with_operand s e make) (t.count_code s (t.above s Integer) c (i.Taken (height s))) (operand_size e + 1) (z.count_size s.scope.program c) (with_length s e make) (count_length s (t.above s Integer) c (i.Taken (height s)))
+    both_codes (t.with_operand s e make) (t.count_code (t.above s Integer) c (i.Taken (height s))) (operand_size e + 1) 2 (with_length s e make) refl
 
 to_place_length : (s : Site) (p : Place) (m : Mode) (source : Site → To → List Placed) (n : ℕ) → ((u : Site) (to : To) → length (source u to) ≡ n) → length (t.to_place_code s p m source) ≡ z.to_place_size s.scope.program p n
-to_place_length s (ToVariable x) m source n q = both_codes (source s (i.Into x)) (t.noted_code s x) n (z.noted_size s.scope.program x) (q s (i.Into x)) (noted_length s x)
+to_place_length s (ToVariable x) m source n q = variable_length s x (source s) n (q s)
 to_place_length s (ToAttribute class field r) m source n q =
-    let u : Site = t.above (after s r) m in
-    let c = t.attribute_code s u class field (i.SetAttribute class field) (operand s r) (i.Taken (height (after s r))) in
-    both_codes (t.entity_code s true class r) (source (after s r) (next (after s r)) ++ c) (z.looked_size true r) (n + z.attribute_size s.scope.program class field (z.operand_cells r)) (looked_length s true r (i.LookEntity class))
-    (both_codes (source (after s r) (next (after s r))) c n (z.attribute_size s.scope.program class field (z.operand_cells r)) (q (after s r) (next (after s r)))
-    (attribute_length s u class field (i.SetAttribute class field) (operand s r) (i.Taken (height (after s r))) (z.operand_cells r) 1 (cell_size s r) (omega (arith, operand_height s r))))
-to_place_length s (ToCount c) m source n q = both_codes (source s (next s)) (t.count_code s (t.above s m) c (i.Taken (height s))) n (z.count_size s.scope.program c) (q s (next s)) (count_length s (t.above s m) c (i.Taken (height s)))
+    let set_ : Placed = place (t.above (after s r) m) (i.SetAttribute class field (operand s r) (i.Taken (height (after s r)))) in
+    both_codes (t.entity_code s true class r) (source (after s r) (next (after s r)) ++ set_ ∷ []) (z.looked_size true r) (n + 1) (looked_length s true r (i.LookEntity class))
+    (after_code (source (after s r) (next (after s r))) set_ n (q (after s r) (next (after s r))))
+to_place_length s (ToCount c) m source n q = both_codes (source s (next s)) (t.count_code (t.above s m) c (i.Taken (height s))) n 2 (q s (next s)) refl
 
 reads_length : (s : Site) (xs : List Target) → length (t.reads_code s xs) ≡ z.reads_size s.scope.program xs
 reads_length s [] = refl
@@ -303,12 +247,10 @@ reads_length s (x ∷ xs) =
     both_codes (t.to_place_code s x.place x.mode source) (t.reads_code s xs) (z.to_place_size s.scope.program x.place 1) (z.reads_size s.scope.program xs) (to_place_length s x.place x.mode source 1 (λ u to. refl)) (reads_length s xs)
 
 give_length : (s : Site) (p : Place) → length (t.give_code s p) ≡ z.give_size s.scope.program p
-give_length s (ToVariable x) = omega (arith, noted_length s x)
+give_length s (ToVariable x) = refl
 give_length s (ToAttribute class field r) =
-    let u : Site = t.above s (t.place_mode s.scope (ToAttribute class field r)) in
-    both_codes (operand_code u r) (t.attribute_code s (after u r) class field (i.SetAttribute class field) (operand u r) (i.Taken (height s))) (operand_size r) (z.attribute_size s.scope.program class field (z.operand_cells r)) (operand_length u r)
-    (attribute_length s (after u r) class field (i.SetAttribute class field) (operand u r) (i.Taken (height s)) (z.operand_cells r) 1 (cell_size u r) (omega (arith, operand_height u r)))
-give_length s (ToCount c) = count_length s (t.above s Integer) c (i.Taken (height s))
+    with_length (t.above s (t.place_mode s.scope (ToAttribute class field r))) r (λ x. i.SetAttribute class field x (i.Taken (height s)))
+give_length s (ToCount c) = refl
 
 gives_length : (s : Site) (ps : List Place) → length (t.gives_code s ps) ≡ z.gives_size s.scope.program ps
 gives_length s [] = refl
@@ -316,10 +258,17 @@ gives_length s (p ∷ ps) = both_codes (t.give_code (t.with_results s ps) p) (t.
 
 -- ## FOR
 
+take_length : (u : Site) (h : ℕ) (x : Variable) → length (t.take_code u h x) ≡ 1 + z.kept_size u.scope.program x
+take_length u h x = by (t.is_kept u x)
+  where
+    by : (b : Bool) → length (if b then place u i.Turn ∷ (place u (i.Keep (i.Stays h) x) ∷ []) else place u (i.Take h x) ∷ []) ≡ 1 + z.one_if b
+    by true = refl
+    by false = refl
+
 turns_length : (u : Site) (h : ℕ) (x : Variable) (turn : List Placed) (again : ℕ → Instruction) (n : ℕ) → length turn ≡ n → length (t.turns_code u h x turn again) ≡ z.turns_size u.scope.program x n
 turns_length u h x turn again n q =
-    let last : Placed = place u (again (1 + length (t.noted_code u x) + length turn)) in
-    omega (arith, length-append (t.noted_code u x) (turn ++ (last ∷ [])), length-append turn (last ∷ []), noted_length u x, q)
+    let last : Placed = place u (again (length (t.take_code u h x) + length turn)) in
+    omega (arith, length-append (t.take_code u h x) (turn ++ (last ∷ [])), length-append turn (last ∷ []), take_length u h x, q)
 
 step_length : (s : Site) (c : Option Expression) → length (t.step_code s c) ≡ z.step_size s.scope.program c
 step_length s None = refl
@@ -384,69 +333,30 @@ beside_length : (s : Site) (b : Bool) (set : ℕ) (y : Option Expression) → le
 beside_length s b set None = refl
 beside_length s b set (Some e) = looked_length s b e (i.LookMember set)
 
-file_length : (s : Site) (set : ℕ) (e : Expression) (position : Position) (o : SetOwner) → length (t.file_code s set e position o) ≡ z.file_size s.scope.program set e (beside position) (expression_of o)
+file_length : (s : Site) (set : ℕ) (e : Expression) (position : Position) (o : SetOwner) → length (t.file_code s set e position o) ≡ z.file_size s.scope.program e (beside position) (expression_of o)
 file_length s set e position o =
     let y : Option Expression = beside position in
     let x : Option Expression = expression_of o in
     let s1 : Site = after s e in
     let s2 : Site = t.after_bearer s1 y in
-    let u : Site = t.after_bearer s2 x in
-    let make : (Operand → Operand) → Instruction = λ keep. i.File (t.filing s1 set keep position) set (keep (operand s e)) (t.bearer_as keep (t.bearer s2 x)) in
-    let c = t.set_code s u set (t.bearer s2 x) make in
-    let look = if may_fault y then true else may_fault x in
-    let n = z.operand_cells e + z.any_cells y in
-    omega (arith, length-append (t.member_code s look set e) (t.beside_code s1 (may_fault x) set y ++ (t.bearer_code s2 x ++ c)), length-append (t.beside_code s1 (may_fault x) set y) (t.bearer_code s2 x ++ c), length-append (t.bearer_code s2 x) c,
-    looked_length s look e (i.LookMember set), beside_length s1 (may_fault x) set y, bearer_length s2 x, set_length s u set (t.bearer s2 x) make (z.any_cells x) n (bearer_size s2 x) (omega (arith, operand_height s e, bearer_height s1 y, bearer_height s2 x)))
+    let look : Bool = if may_fault y then true else may_fault x in
+    let make : Bearer → Instruction = i.File (t.filing s1 set position) set (operand s e) in
+    both_codes (t.member_code s look set e) (t.beside_code s1 (may_fault x) set y ++ t.with_owner s2 o make) (z.looked_size look e) (z.beside_size s.scope.program (may_fault x) y + (z.any_size x + 1)) (looked_length s look e (i.LookMember set))
+    (both_codes (t.beside_code s1 (may_fault x) set y) (t.with_owner s2 o make) (z.beside_size s.scope.program (may_fault x) y) (z.any_size x + 1) (beside_length s1 (may_fault x) set y) (owner_length s2 o make))
 
-remove_length : (s : Site) (set : ℕ) (e : Expression) (o : SetOwner) → length (t.remove_code s set e o) ≡ z.remove_size s.scope.program set e (expression_of o)
+remove_length : (s : Site) (set : ℕ) (e : Expression) (o : SetOwner) → length (t.remove_code s set e o) ≡ z.remove_size s.scope.program e (expression_of o)
 remove_length s set e o =
     let x : Option Expression = expression_of o in
-    let s1 : Site = after s e in
-    let u : Site = t.after_bearer s1 x in
-    let make : (Operand → Operand) → Instruction = λ keep. i.Remove set (keep (operand s e)) (t.bearer_as keep (t.bearer s1 x)) in
-    let c = t.set_code s u set (t.bearer s1 x) make in
-    omega (arith, length-append (t.member_code s (may_fault x) set e) (t.bearer_code s1 x ++ c), length-append (t.bearer_code s1 x) c,
-    looked_length s (may_fault x) e (i.LookMember set), bearer_length s1 x, set_length s u set (t.bearer s1 x) make (z.any_cells x) (z.operand_cells e) (bearer_size s1 x) (omega (arith, operand_height s e, bearer_height s1 x)))
+    both_codes (t.member_code s (may_fault x) set e) (t.with_owner (after s e) o (i.Remove set (operand s e))) (z.looked_size (may_fault x) e) (z.any_size x + 1) (looked_length s (may_fault x) e (i.LookMember set)) (owner_length (after s e) o (i.Remove set (operand s e)))
+
+remove_end_length : (s : Site) (end : End) (set : ℕ) (p : Place) (o : SetOwner) → length (t.remove_end_code s end set p o) ≡ z.remove_end_size s.scope.program p (expression_of o)
+remove_end_length s end set p o =
+    to_place_length s p Integer (λ v to. t.with_owner v o (λ x. i.RemoveEnd end set x to)) (z.any_size (expression_of o) + 1) (λ v to. owner_length v o (λ x. i.RemoveEnd end set x to))
 
 place_length : (s : Site) (p : Place) → length (t.place_code s p) ≡ z.place_size s.scope.program p
 place_length s (ToVariable x) = refl
 place_length s (ToAttribute class field r) = looked_length s true r (i.LookEntity class)
 place_length s (ToCount c) = refl
-
--- at sites of one program
-assign_length : (s u v : Site) (p : Place) (from : Operand) → v.scope.program ≡ s.scope.program → length (t.assign_code s u v p from) ≡ z.assign_size s.scope.program p
-assign_length s u v (ToVariable x) from q = omega (arith, noted_length v x, ap (λ p. z.noted_size p x) q)
-assign_length s u v (ToAttribute class field r) from q = ap suc (note_length (t.is_watched s (OfAttribute class field)) (place v (i.NoteAttribute class field (t.stay (operand s r)))))
-assign_length s u v (ToCount c) from q = count_length v u c from ∙ ap (λ p. z.count_size p c) q
-
-removed_in_cell_length : (s : Site) (end : End) (set : ℕ) (p : Place) (x : Option Expression) → length (t.removed_in_cell_code s end set p x) ≡ z.removed_in_cell_size s.scope.program p x
-removed_in_cell_length s end set p x =
-    let s1 : Site = t.after_place s p in
-    let s2 : Site = t.after_bearer s1 x in
-    let u : Site = t.above s2 Integer in
-    let assign = t.assign_code s u s2 p (i.Taken (height s2)) in
-    let tail = place s2 (i.RemoveEnd end set (t.bearer_stays (t.bearer s1 x)) (next s2)) ∷ (place u (i.NoteCount set (t.bearer_stays (t.bearer s1 x))) ∷ (assign ++ t.forget_to s s2)) in
-    omega (arith, length-append (t.place_code s p) (t.bearer_code s1 x ++ tail), length-append (t.bearer_code s1 x) tail, length-append assign (t.forget_to s s2), place_length s p, bearer_length s1 x, assign_length s u s2 p (i.Taken (height s2)) refl,
-    forget_to_length s s2 (z.place_cells s.scope.program p + z.any_cells x) (omega (arith, place_height s p, bearer_height s1 x)))
-
-removed_length : (s : Site) (end : End) (set : ℕ) (p : Place) (x : Option Expression) → length (t.removed_code s end set p x) ≡ z.removed_size s.scope.program p x
-removed_length s end set (ToVariable v) x =
-    let u : Site = t.after_bearer s x in
-    let tail = place u (i.RemoveEnd end set (t.bearer_stays (t.bearer s x)) (i.Into v)) ∷ (place u (i.NoteCount set (t.bearer_stays (t.bearer s x))) ∷ (t.noted_code u v ++ t.forget_to s u)) in
-    where_length (is_owner v x) (t.removed_in_cell_code s end set (ToVariable v) x) (t.bearer_code s x ++ tail)
-    (z.removed_in_cell_size s.scope.program (ToVariable v) x) (z.any_size x + (2 + (z.noted_size s.scope.program v + z.one_if_some (z.any_cells x))))
-    (removed_in_cell_length s end set (ToVariable v) x)
-    (omega (arith, length-append (t.bearer_code s x) tail, length-append (t.noted_code u v) (t.forget_to s u), bearer_length s x, noted_length u v, forget_to_length s u (z.any_cells x) (bearer_height s x)))
-removed_length s end set (ToAttribute class field r) x = removed_in_cell_length s end set (ToAttribute class field r) x
-removed_length s end set (ToCount c) x = removed_in_cell_length s end set (ToCount c) x
-
-remove_end_length : (s : Site) (end : End) (set : ℕ) (p : Place) (o : SetOwner) → length (t.remove_end_code s end set p o) ≡ z.remove_end_size s.scope.program set p (expression_of o)
-remove_end_length s end set p o =
-    let x : Option Expression = expression_of o in
-    let source : Site → To → List Placed = λ v to. t.bearer_code v x ++ place (t.after_bearer v x) (i.RemoveEnd end set (t.bearer v x) to) ∷ [] in
-    where_length (t.is_watched s (OfCount set)) (t.removed_code s end set p x) (t.to_place_code s p Integer source) (z.removed_size s.scope.program p x) (z.to_place_size s.scope.program p (z.any_size x + 1))
-    (removed_length s end set p x)
-    (to_place_length s p Integer source (z.any_size x + 1) (λ v to. after_code (t.bearer_code v x) (place (t.after_bearer v x) (i.RemoveEnd end set (t.bearer v x) to)) (z.any_size x) (bearer_length v x)))
 
 creates_length : (s : Site) (cs : List CountedClass) → length (t.creates_code s cs) ≡ length cs
 creates_length s [] = refl
@@ -459,47 +369,29 @@ when_length s (At e) = with_length s e (λ x. i.At x (next s))
 when_length s (In e) = with_length s e (λ x. i.In x (next s))
 when_length s Now = refl
 
-given_length : (s : Site) (class field : ℕ) (es : List Expression) (x : Operand) → length (t.given_code s class field es x) ≡ z.given_size s.scope.program class field es
-given_length s class field [] x = refl
-given_length s class field (e ∷ es) x =
-    let c = if t.is_watched s (OfAttribute class field) then place s (i.NoteAttribute class field x) ∷ [] else [] in
-    both_codes c (t.given_code s class (field + 1) es x) (z.one_if (t.is_watched s (OfAttribute class field))) (z.given_size s.scope.program class (field + 1) es)
-    (note_length (t.is_watched s (OfAttribute class field)) (place s (i.NoteAttribute class field x))) (given_length s class (field + 1) es x)
+notice_length : (s u : Site) (class : ℕ) (p : Place) (make : To → Placed) → u.scope.program ≡ s.scope.program → length (t.notice_code s u class p make) ≡ z.notice_size s.scope.program p
+notice_length s u class (ToVariable x) make q =
+    let file : Placed = place u (i.FileNotice class (i.Held x) (i.Taken (height s))) in
+    after_code (t.variable_code u x (λ to. make to ∷ [])) file (1 + z.kept_size s.scope.program x) (variable_length u x (λ to. make to ∷ []) 1 (λ to. refl) ∙ ap (λ p. 1 + z.kept_size p x) q)
+notice_length s u class (ToAttribute c field r) make q = ap (λ k. suc (suc (suc k))) (forget_to_length s (after s r) (z.operand_cells r) (operand_height s r) ∙ one_cell r)
+notice_length s u class (ToCount c) make q = refl
 
-name_length : (s u : Site) (p : Place) (from : Operand) → u.scope.program ≡ s.scope.program → length (t.name_code s u p from) ≡ z.name_size s.scope.program p
-name_length s u (ToVariable x) from q = noted_length u x ∙ ap (λ p. z.noted_size p x) q
-name_length s u (ToAttribute class field r) from q = assign_length s u u (ToAttribute class field r) from q
-name_length s u (ToCount c) from q = assign_length s u u (ToCount c) from q
-
-schedule_new_length : (s : Site) (class : ℕ) (p : Place) (given : List Expression) (when : When) → length (t.schedule_new_code s class p given when) ≡ z.schedule_new_size s.scope.program class p given when
+schedule_new_length : (s : Site) (class : ℕ) (p : Place) (given : List Expression) (when : When) → length (t.schedule_new_code s class p given when) ≡ z.schedule_new_size s.scope.program p given when
 schedule_new_length s class p given when =
     let s1 : Site = t.after_place s p in
     let s2 : Site = t.after_values s1 given in
-    let u : Site = t.above s1 Integer in
-    let v : Site = t.with_notice u p in
-    let x : Operand = t.notice_operand u p in
-    let file = place v (i.FileNotice class x (i.Taken (height s1))) ∷ t.forget_to s s1 in
-    let name = t.name_code s v p (t.stay x) ++ file in
-    let notes = t.given_code v class 0 given (t.stay x) ++ name in
-    let make = place (t.above s2 Integer) (i.MakeNotice class (height s1) (length given) (t.notice_target u p)) ∷ notes in
-    omega (arith, length-append (t.place_code s p) (t.values_code s1 given ++ (t.when_code s2 when ++ make)), length-append (t.values_code s1 given) (t.when_code s2 when ++ make), length-append (t.when_code s2 when) make, length-append (t.name_code s v p (t.stay x)) file, length-append (t.given_code v class 0 given (t.stay x)) name,
-    place_length s p, values_length s1 given, when_length s2 when, name_length s v p (t.stay x) refl, given_length v class 0 given (t.stay x), forget_to_length s s1 (z.place_cells s.scope.program p) (place_height s p))
+    let make : To → Placed = λ to. place (t.above s2 Integer) (i.MakeNotice class (height s1) (length given) to) in
+    let last = t.notice_code s (t.above s1 Integer) class p make in
+    omega (arith, length-append (t.place_code s p) (t.values_code s1 given ++ (t.when_code s2 when ++ last)), length-append (t.values_code s1 given) (t.when_code s2 when ++ last), length-append (t.when_code s2 when) last,
+    place_length s p, values_length s1 given, when_length s2 when, notice_length s (t.above s1 Integer) class p make refl)
 
-renewed_length : (s u : Site) (class given : ℕ) (x : Operand) (notes end : List Placed) (m n : ℕ) → length notes ≡ m → length end ≡ z.one_if_some n → length (t.renewed_code s u class given x notes end) ≡ z.renewed_size s.scope.program m n
-renewed_length s u class given x [] end zero n p q = refl
-renewed_length s u class given x [] end (suc m) n p q = absurd (omega (arith, p))
-renewed_length s u class given x (y ∷ ys) end zero n p q = absurd (omega (arith, p))
-renewed_length s u class given x (y ∷ ys) end (suc m) n p q = omega (arith, length-append (y ∷ ys) end, p, q)
-
-schedule_length : (s : Site) (class : ℕ) (e : Expression) (given : List Expression) (when : When) → length (t.schedule_code s class e given when) ≡ z.schedule_size s.scope.program class e given when
+schedule_length : (s : Site) (class : ℕ) (e : Expression) (given : List Expression) (when : When) → length (t.schedule_code s class e given when) ≡ z.schedule_size s.scope.program e given when
 schedule_length s class e given when =
     let s1 : Site = after s e in
     let s2 : Site = t.after_values s1 given in
-    let x : Operand = operand s e in
-    let notes = t.given_code s1 class 0 given (t.stay x) in
-    let tail = t.renewed_code s1 (t.above s2 Integer) class (length given) x notes (t.forget_to s s1) in
-    omega (arith, length-append (t.entity_code s true class e) (t.values_code s1 given ++ (t.when_code s2 when ++ tail)), length-append (t.values_code s1 given) (t.when_code s2 when ++ tail), length-append (t.when_code s2 when) tail,
-    looked_length s true e (i.LookEntity class), values_length s1 given, when_length s2 when, renewed_length s1 (t.above s2 Integer) class (length given) x notes (t.forget_to s s1) (z.given_size s.scope.program class 0 given) (z.operand_cells e) (given_length s1 class 0 given (t.stay x)) (forget_to_length s s1 (z.operand_cells e) (operand_height s e)))
+    let last = place (t.above s2 Integer) (i.Reschedule class (operand s e) (height s1) (length given)) ∷ [] in
+    omega (arith, length-append (t.entity_code s true class e) (t.values_code s1 given ++ (t.when_code s2 when ++ last)), length-append (t.values_code s1 given) (t.when_code s2 when ++ last), length-append (t.when_code s2 when) last,
+    looked_length s true e (i.LookEntity class), values_length s1 given, when_length s2 when)
 
 restarts_length : (s : Site) (rs : List Restart) → length (t.restarts_code s rs) ≡ z.restarts_size s.scope.program rs
 restarts_length s [] = refl
@@ -563,10 +455,6 @@ mutual
 section_length : (s : Scope) (first : ℕ) (b : Block) → length (t.section_code s first b) ≡ z.section_size s.program b
 section_length s first b = after_code (t.block_code (t.first_site s) first b) (place (t.first_site s) i.Leave) (z.block_size s.program b) (block_length (t.first_site s) first b)
 
-saved_length : (s : Site) (o : Option ℕ) → length (t.saved_code s o) ≡ z.saved_size s.scope.program o
-saved_length s None = refl
-saved_length s (Some k) = noted_length s (Global k)
-
 routines_length : (p : Program) (first : ℕ) (rs : List Routine) → length (t.routines_code p first rs) ≡ z.routines_size p rs
 routines_length p first [] = refl
 routines_length p first (r ∷ rs) =
@@ -575,10 +463,8 @@ routines_length p first (r ∷ rs) =
 events_length : (p : Program) (first : ℕ) (es : List Event) → length (t.events_code p first es) ≡ z.events_size p es
 events_length p first [] = refl
 events_length p first (e ∷ es) =
-    let s : Site = t.at_line (t.first_site (t.event_scope p e)) e.line in
-    both_codes (t.event_code p first e) (t.events_code p (first + length (t.block_prints e.body)) es) (z.saved_size p e.saved + z.section_size p e.body) (z.events_size p es)
-    (both_codes (t.saved_code s e.saved) (t.section_code (t.event_scope p e) first e.body) (z.saved_size p e.saved) (z.section_size p e.body) (saved_length s e.saved) (section_length (t.event_scope p e) first e.body))
-    (events_length p (first + length (t.block_prints e.body)) es)
+    both_codes (t.event_code p first e) (t.events_code p (first + length (t.block_prints e.body)) es) (z.section_size p e.body) (z.events_size p es)
+    (section_length (t.event_scope p e) first e.body) (events_length p (first + length (t.block_prints e.body)) es)
 
 pub has_size : HasSize
 has_size p =
