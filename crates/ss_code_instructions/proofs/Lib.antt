@@ -17,6 +17,7 @@ pub mod Taking
 pub mod Attributes
 pub mod Changing
 pub mod Receiving
+pub mod Removing
 pub mod Letting
 pub mod Plain
 pub mod Loops

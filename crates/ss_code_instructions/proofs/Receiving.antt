@@ -67,7 +67,7 @@ leaf_later (Calculate op a b) x v s u q r g l cells go = absurd cc
 abbrev pub Quietly : Part Value → Type 0
 Quietly m = (w w' : World) (z : Value) → m w ≡ WentOn z w' → Alike w.store w'.store
 
-get_quietly : (l : Line) (f : Store → OkOr (Value × Store) Trouble) → ((s : Store) → Only (λ (b : Value × Store). Alike s b.1) (f s)) → Quietly (get l f)
+pub get_quietly : (l : Line) (f : Store → OkOr (Value × Store) Trouble) → ((s : Store) → Only (λ (b : Value × Store). Alike s b.1) (f s)) → Quietly (get l f)
 get_quietly l f h w w' z e = by (f w.store) (h w.store) e
   where
     by : (r : OkOr (Value × Store) Trouble) → Only (λ (b : Value × Store). Alike w.store b.1) r → outcome_then (looked l r w) settle_with ≡ WentOn z w' → Alike w.store w'.store

@@ -22,7 +22,7 @@ use Rattle.ss_code_instructions.specs.Instructions as i
 use Rattle.ss_code_instructions.specs.Instructions.{Target as To}
 use Rattle.ss_code_instructions.specs.Translation as t
 use Rattle.ss_code_instructions.specs.Translation.{Site, height, place, leaf, operand, after, next, expression_code, operand_code}
-use Rattle.ss_code_instructions.specs.Facts.{must_look, expression_of, may_fault, beside}
+use Rattle.ss_code_instructions.specs.Facts.{must_look, needs_look, expression_of, may_fault, beside}
 use Rattle.ss_code_instructions.specs.Size as z
 use Rattle.ss_code_instructions.specs.Size.{expression_size, operand_size}
 use Rattle.ss_code_instructions.specs.Laws.{HasSize}
@@ -329,9 +329,9 @@ find_length s head ps found none' m n p q =
 
 -- ## Sets
 
-beside_length : (s : Site) (b : Bool) (set : ℕ) (y : Option Expression) → length (t.beside_code s b set y) ≡ z.beside_size s.scope.program b y
-beside_length s b set None = refl
-beside_length s b set (Some e) = looked_length s b e (i.LookMember set)
+beside_length : (s : Site) (set : ℕ) (y : Option Expression) → length (t.beside_code s set y) ≡ z.beside_size s.scope.program y
+beside_length s set None = refl
+beside_length s set (Some e) = looked_length s true e (i.LookMember set)
 
 file_length : (s : Site) (set : ℕ) (e : Expression) (position : Position) (o : SetOwner) → length (t.file_code s set e position o) ≡ z.file_size s.scope.program e (beside position) (expression_of o)
 file_length s set e position o =
@@ -339,10 +339,9 @@ file_length s set e position o =
     let x : Option Expression = expression_of o in
     let s1 : Site = after s e in
     let s2 : Site = t.after_bearer s1 y in
-    let look : Bool = if may_fault y then true else may_fault x in
     let make : Bearer → Instruction = i.File (t.filing s1 set position) set (operand s e) in
-    both_codes (t.member_code s look set e) (t.beside_code s1 (may_fault x) set y ++ t.with_owner s2 o make) (z.looked_size look e) (z.beside_size s.scope.program (may_fault x) y + (z.any_size x + 1)) (looked_length s look e (i.LookMember set))
-    (both_codes (t.beside_code s1 (may_fault x) set y) (t.with_owner s2 o make) (z.beside_size s.scope.program (may_fault x) y) (z.any_size x + 1) (beside_length s1 (may_fault x) set y) (owner_length s2 o make))
+    both_codes (t.member_code s (needs_look y x) set e) (t.beside_code s1 set y ++ t.with_owner s2 o make) (z.looked_size (needs_look y x) e) (z.beside_size s.scope.program y + (z.any_size x + 1)) (looked_length s (needs_look y x) e (i.LookMember set))
+    (both_codes (t.beside_code s1 set y) (t.with_owner s2 o make) (z.beside_size s.scope.program y) (z.any_size x + 1) (beside_length s1 set y) (owner_length s2 o make))
 
 remove_length : (s : Site) (set : ℕ) (e : Expression) (o : SetOwner) → length (t.remove_code s set e o) ≡ z.remove_size s.scope.program e (expression_of o)
 remove_length s set e o =

@@ -42,6 +42,11 @@ beside AsLast = None
 beside (BeforeMember e) = Some e
 beside (AfterMember e) = Some e
 
+-- whether a member that is filed is looked at before: where another one beside it is, or where the evaluation of the owner may fault
+abbrev pub needs_look : (beside owner : Option Expression) → Bool
+needs_look None o = may_fault o
+needs_look (Some e) o = true
+
 -- ## When a reference need not be looked at
 
 abbrev pub same_variable : Variable → Variable → Bool

@@ -1,12 +1,12 @@
 -- How many instructions the code of a program has, said without them. `code_size` is the number that a refusal of too long a program goes by.
-use Rattle.std.specs.Prelude.{ℕ, zero, suc, ◌+◌, Bool, true, false, List, [], ◌∷◌, length, Option, Some, None, if◌then◌else◌}
+use Rattle.std.specs.Prelude.{ℕ, zero, suc, ◌+◌, Bool, true, false, List, [], ◌∷◌, length, Option, Some, None}
 use Rattle.ss_program.specs.declared.expression.Variable.{Variable}
 use Rattle.ss_program.specs.declared.head.GuardKind.{GuardKind}
 use Rattle.ss_program.specs.declared.head.GuardKind.TheVariants as guards
 use Rattle.ss_program.specs.declared.head.PhraseKind.{PhraseKind}
 use Rattle.ss_program.specs.declared.head.PhraseKind.TheVariants as kinds
 use Rattle.ss_program.specs.Program.{Expression, Constant, Fetch, Attribute, OfSystemSet, OfSet, OfMember, Clock, TimeOf, Figure, FigureOf, Signed, Absolute, Calculate, SetOwner, TheSystem, Entity, Test, Compare, DataEnded, Empty, Member, Condition, Head, Numbers, Members, Each, Start, AtEnd, From, After, Phrase, Guard, Place, ToVariable, ToAttribute, ToCount, Target, When, At, In, Now, Restart, Item, AValue, AMean, AMeanOf, Statement, Let, Change, Call, Return, Stop, Read, Simulate, If, Loop, For, Find, Create, CreateEvery, Destroy, File, RemoveEnd, Remove, ScheduleNew, Schedule, Cancel, Reset, Print, Skip, Block, Done, Then, Routine, Event, Program}
-use Rattle.ss_code_instructions.specs.Facts.{is_watched, must_look, expression_of, may_fault, beside}
+use Rattle.ss_code_instructions.specs.Facts.{is_watched, must_look, needs_look, expression_of, may_fault, beside}
 
 -- one where something is so, and else none
 abbrev pub one_if : Bool → ℕ
@@ -165,12 +165,12 @@ module _ (p : Program) where
 
   -- ## Sets and events
 
-  abbrev pub beside_size : (looked : Bool) → Option Expression → ℕ
-  beside_size looked None = 0
-  beside_size looked (Some e) = looked_size looked e
+  abbrev pub beside_size : Option Expression → ℕ
+  beside_size None = 0
+  beside_size (Some e) = looked_size true e
 
   abbrev pub file_size : Expression → (beside owner : Option Expression) → ℕ
-  file_size e y o = looked_size (if may_fault y then true else may_fault o) e + (beside_size (may_fault o) y + (any_size o + 1))
+  file_size e y o = looked_size (needs_look y o) e + (beside_size y + (any_size o + 1))
 
   abbrev pub remove_size : Expression → (owner : Option Expression) → ℕ
   remove_size e o = looked_size (may_fault o) e + (any_size o + 1)

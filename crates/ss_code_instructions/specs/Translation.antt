@@ -25,7 +25,7 @@ use Rattle.ss_code_instructions.specs.Instructions as i
 use Rattle.ss_code_instructions.specs.Instructions.{Operand, Bearer, Filing, Instruction, Placed, ItemKind, Lines, EntryPoint}
 use Rattle.ss_code_instructions.specs.Instructions.{Target as To}
 use Rattle.ss_code_instructions.specs.Machine.{Code}
-use Rattle.ss_code_instructions.specs.Facts.{is_watched, must_look, expression_of, may_fault, beside}
+use Rattle.ss_code_instructions.specs.Facts.{is_watched, must_look, needs_look, expression_of, may_fault, beside}
 
 -- ## Where code is made
 
@@ -419,10 +419,10 @@ find_code t head ps found none =
 
 -- ## Sets
 
--- the member beside which another one is filed
-abbrev pub beside_code : Site → (looked : Bool) → (set : ℕ) → Option Expression → List Placed
-beside_code t looked set None = []
-beside_code t looked set (Some e) = member_code t looked set e
+-- the member beside which another one is filed is looked at
+abbrev pub beside_code : Site → (set : ℕ) → Option Expression → List Placed
+beside_code t set None = []
+beside_code t set (Some e) = member_code t true set e
 
 abbrev pub filing : Site → (set : ℕ) → Position → Filing
 filing t set ByDiscipline = filing_by (slice_get t.scope.program.disciplines set)
@@ -431,16 +431,15 @@ filing t set AsLast = i.Last
 filing t set (BeforeMember e) = i.Before (operand t e)
 filing t set (AfterMember e) = i.After (operand t e)
 
--- FILE: the member, the one beside it, the owner; a member is looked at where one of those after it may fault
+-- FILE: the member, the one beside it, the owner
 abbrev pub file_code : Site → (set : ℕ) → Expression → Position → SetOwner → List Placed
 file_code t set e position o =
     let y : Option Expression = beside position in
     let t1 : Site = after t e in
-    member_code t (if may_fault y then true else may_fault (expression_of o)) set e
-    ++ (beside_code t1 (may_fault (expression_of o)) set y
-    ++ with_owner (after_bearer t1 y) o (i.File (filing t1 set position) set (operand t e)))
+    member_code t (needs_look y (expression_of o)) set e
+    ++ (beside_code t1 set y ++ with_owner (after_bearer t1 y) o (i.File (filing t1 set position) set (operand t e)))
 
--- REMOVE: the member, the owner
+-- REMOVE: the member, which is looked at where the evaluation of the owner may fault; the owner
 abbrev pub remove_code : Site → (set : ℕ) → Expression → SetOwner → List Placed
 remove_code t set e o = member_code t (may_fault (expression_of o)) set e ++ with_owner (after t e) o (i.Remove set (operand t e))
 
