@@ -18,6 +18,7 @@ pub mod Attributes
 pub mod Changing
 pub mod Receiving
 pub mod Removing
+pub mod Placing
 pub mod Letting
 pub mod Plain
 pub mod Loops
