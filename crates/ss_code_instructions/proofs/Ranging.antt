@@ -127,7 +127,7 @@ module _ (code : Code) (n : ℕ) (t : Site) (x : Variable) (turn : List Placed) 
         let h = hold_item step limit item cells in
         let higher : length h ≡ height (number_loop t) = ap (λ j. suc (suc (suc j))) high in
         subst (λ is. Reaches code (at p h frames w) (arrive ends frames (over_items (visit t.line x m) is w))) (sym (one_more (int_min limit greatest) step k item q))
-        (visit_run code n (number_loop t) (height t) x item m (λ a. after_turn a (later k (item +ℤ step))) p h frames w ends (item_cell (height t) step limit item cells high) (has_front code.places p take_ (turn ++ (next_place ∷ [])) has) in_ (λ w' fewer in'.
+        (visit_run code n (number_loop t) (height t) x item m (λ a. after_turn a (later k (item +ℤ step))) (λ w. outcome_then (visit t.line x m item w) (λ a. after_turn a (later k (item +ℤ step)))) p h frames w ends (λ j. refl) (item_cell (height t) step limit item cells high) (has_front code.places p take_ (turn ++ (next_place ∷ [])) has) in_ (λ w' fewer in'.
         join (at (p + length take_) h frames w') (λ a w'. at (leads found a end) h frames w') ends frames (m w') (λ a. after_turn a (later k (item +ℤ step)))
         (subst (λ j. Reaches code (at (p + length take_) h frames w') (arrive (λ a w'. at (leads found a j) h frames w') frames (m w'))) len
         (r.by (p + length take_) h frames w' higher (has_front code.places (p + length take_) turn (next_place ∷ []) turn_has) in'))
