@@ -24,6 +24,7 @@ pub mod Plain
 pub mod Loops
 pub mod Looping
 pub mod Ranging
+pub mod Walking
 pub mod Pieces
 pub mod Holding
 pub mod Sizes
