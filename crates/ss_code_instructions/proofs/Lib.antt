@@ -21,6 +21,7 @@ pub mod Removing
 pub mod Placing
 pub mod Letting
 pub mod Plain
+pub mod Giving
 pub mod Loops
 pub mod Looping
 pub mod Ranging
