@@ -8,15 +8,15 @@ use ss_machine_frames::rows::Rows;
 use ss_machine_world::scene::Scene;
 use std::alloc::Global;
 
-/// What the machine works on, but for its code and where it is in that: the world below, the rows of values, the open calls,
+/// What the machine works on, but for its code and where it is in that: the rows of values, the open calls, the world below,
 /// and where memory comes from. Beside that the ticks that are left, the steps made in all, why the
-/// last one led nowhere, and the last fault: its kind, and its line where that is not the line of its instruction. The world comes first,
-/// so that its calls out of line take the pointer that there is.
+/// last one led nowhere, and the last fault: its kind, and its line where that is not the line of its instruction. The rows come first,
+/// so that an operand is reached by the pointer that there is.
 #[derive(Drop)]
 pub struct State {
-    pub scene: Scene,
     pub rows: Rows,
     pub frames: Frames,
+    pub scene: Scene,
     pub alloc: Global,
     pub ticks: u64,
     pub steps: u128,
