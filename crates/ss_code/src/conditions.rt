@@ -1,267 +1,257 @@
-//! The instructions of conditions.
-
-ghost use Rattle.std.specs.Prelude.{◌≡◌, ◌++◌, ◌+◌, ◌^◌, ◌<◌, ◌≤◌, length, map, Bool, IfOk, OnOk};
-ghost use Rattle.ss_program.specs.Program.{Empty as EmptyTest, Member as MemberTest};
-ghost use Rattle.ss_program.specs.View.{view_expression, view_owner, view_test, view_conjunction, view_condition, view_guard, view_phrase};
-ghost use Rattle.ss_code_instructions.specs.Translation.{test_code, tests_code, condition_code, negated_code, guard_code, guards_code, phrase_code, phrases_code};
+//! The code of conditions: it goes on where they hold, and jumps where they do not.
 
 use crate::backward::Backward;
-use crate::emit::{emit_expression, emit_member, emit_owner, put, system_owns};
-use ss_base::Line;
+use crate::error::CodeError;
+use crate::expressions::is_plain_owner;
+use crate::facts::expression_mode;
+use crate::generator::{Generator, Site};
+use crate::piece::{Piece, as_index};
+use ss_base::Mode;
+use ss_code_instructions::address::Address;
 use ss_code_instructions::instruction::Instruction;
-use ss_program::condition::{Condition, Conjunction, Test};
+use ss_program::condition::{Condition, Conjunction, Relation, Test};
 use ss_program::expression::{Expression, SetOwner};
 use ss_program::head::{Guard, GuardKind, Phrase, PhraseKind};
-use std::alloc::{AllocError, Global};
 
-// Whether a set has no member.
-fn emit_empty(
-    code: &mut Vec<Instruction>,
-    line: Line,
-    skip: usize,
-    negated: bool,
-    set: usize,
-    owner: &SetOwner,
-) -> Result<(), AllocError>
-    ensures { OnOk result (code.new.items ≡ code.old.items ++ test_code line skip (EmptyTest negated set (view_owner owner.now))) }
-{
-    emit_owner(code, line, owner)?;
-    put(
-        code,
-        Instruction::TestEmpty {
-            negated,
-            set,
-            system: system_owns(owner),
-            skip,
-            line,
-        },
-    )
+// Two numbers are compared.
+fn unless(relation: Relation, left: Address, right: Address, skip: u32) -> Instruction {
+    match relation {
+        Relation::Equal => Instruction::UnlessEqual { left, right, skip },
+        Relation::NotEqual => Instruction::UnlessNotEqual { left, right, skip },
+        Relation::Less => Instruction::UnlessLess { left, right, skip },
+        Relation::Greater => Instruction::UnlessGreater { left, right, skip },
+        Relation::LessOrEqual => Instruction::UnlessLessOrEqual { left, right, skip },
+        Relation::GreaterOrEqual => Instruction::UnlessGreaterOrEqual { left, right, skip },
+    }
 }
 
-// Whether an entity is in a set.
-fn emit_is_in(
-    code: &mut Vec<Instruction>,
-    line: Line,
-    skip: usize,
-    negated: bool,
-    set: usize,
-    member: &Expression,
-    owner: &SetOwner,
-) -> Result<(), AllocError>
-    ensures { OnOk result (code.new.items ≡ code.old.items ++ test_code line skip (MemberTest negated set (view_expression member.now) (view_owner owner.now))) }
-{
-    emit_member(code, line, set, member)?;
-    emit_owner(code, line, owner)?;
-    put(
-        code,
-        Instruction::TestMember {
-            negated,
-            set,
-            system: system_owns(owner),
-            skip,
-            line,
-        },
-    )
-}
+impl Generator<'_> {
+    // Two values are compared.
+    fn comparison(
+        &mut self,
+        code: &mut Piece,
+        site: Site,
+        skip: u32,
+        relation: Relation,
+        first: &Expression,
+        second: &Expression,
+    ) -> Result<(), CodeError> {
+        let mode = expression_mode(self.program, &self.locals, first);
+        let left = self.operand(code, site, first)?;
+        let right = self.operand(code, site.above(left.cells), second)?.address;
+        let left = left.address;
+        let instruction = match mode {
+            Mode::Integer => unless(relation, left, right, skip),
+            Mode::Alpha => Instruction::UnlessTexts {
+                left,
+                right,
+                skip,
+                relation,
+            },
+        };
+        code.put(site.line, instruction)?;
+        Ok(())
+    }
 
-// A test, which jumps where it does not hold.
-fn emit_test(
-    code: &mut Vec<Instruction>,
-    line: Line,
-    skip: usize,
-    test: &Test,
-) -> Result<(), AllocError>
-    ensures { OnOk result (code.new.items ≡ code.old.items ++ test_code line skip (view_test test.now)) }
-{
-    match test {
-        Test::Compare {
-            relation,
-            left,
-            right,
-        } => {
-            emit_expression(code, line, left)?;
-            emit_expression(code, line, right)?;
-            put(
-                code,
-                Instruction::Compare {
-                    relation: *relation,
-                    skip,
-                },
-            )
+    // Whether a set has no member.
+    fn emptiness(
+        &mut self,
+        code: &mut Piece,
+        site: Site,
+        skip: u32,
+        negated: bool,
+        set: usize,
+        owner: &SetOwner,
+    ) -> Result<(), CodeError> {
+        let owner = self.owner(code, site, owner)?.address;
+        code.put(
+            site.line,
+            Instruction::UnlessEmpty {
+                set: as_index(set)?,
+                owner,
+                skip,
+                negated,
+            },
+        )?;
+        Ok(())
+    }
+
+    // Whether an entity is in a set, with what jumps.
+    fn membership(
+        &mut self,
+        code: &mut Piece,
+        site: Site,
+        set: usize,
+        member: &Expression,
+        owner: &SetOwner,
+    ) -> Result<(Address, Address), CodeError> {
+        let member = self.member(code, site, set, member, !is_plain_owner(owner))?;
+        let owner = self.owner(code, site.above(member.cells), owner)?;
+        Ok((member.address, owner.address))
+    }
+
+    // A test, which jumps where it does not hold.
+    fn test(
+        &mut self,
+        code: &mut Piece,
+        site: Site,
+        skip: usize,
+        test: &Test,
+    ) -> Result<(), CodeError> {
+        let skip = as_index(skip)?;
+        match test {
+            Test::Compare {
+                relation,
+                left,
+                right,
+            } => self.comparison(code, site, skip, *relation, left, right),
+            Test::DataEnded { negated } => {
+                let negated = *negated;
+                code.put(site.line, Instruction::UnlessEnded { skip, negated })?;
+                Ok(())
+            }
+            Test::Empty {
+                negated,
+                set,
+                owner,
+            } => self.emptiness(code, site, skip, *negated, *set, owner),
+            Test::Member {
+                negated,
+                set,
+                member,
+                owner,
+            } => {
+                let (member, owner) = self.membership(code, site, *set, member, owner)?;
+                code.put(
+                    site.line,
+                    Instruction::UnlessMember {
+                        set: as_index(*set)?,
+                        member,
+                        owner,
+                        skip,
+                        negated: *negated,
+                    },
+                )?;
+                Ok(())
+            }
         }
-        Test::DataEnded { negated } => {
-            put(
-                code,
-                Instruction::TestData {
-                    negated: *negated,
-                    skip,
-                    line,
-                },
-            )
+    }
+
+    // Tests that all must hold, the last of them first.
+    fn tests(&mut self, site: Site, skip: usize, tests: &[Test]) -> Result<Piece, CodeError> {
+        let mut rest = Backward::new(self.alloc);
+        for i in (0..tests.len()).rev() {
+            let mut front = Piece::new(self.alloc);
+            let past = rest.len() + skip;
+            self.test(&mut front, site, past, &tests[i])?;
+            rest.put_before(front)?;
         }
-        Test::Empty {
-            negated,
-            set,
-            owner,
-        } => emit_empty(code, line, skip, *negated, *set, owner),
-        Test::Member {
-            negated,
-            set,
-            member,
-            owner,
-        } => emit_is_in(code, line, skip, *negated, *set, member, owner),
+        Ok(rest.into_piece())
     }
-}
 
-// Tests that all must hold, the last of them first.
-fn emit_tests(
-    alloc: Global,
-    line: Line,
-    skip: usize,
-    tests: &[Test],
-) -> Result<Vec<Instruction>, AllocError>
-    requires { skip ≤ 2 ^ 63 }
-    ensures { IfOk result (λ code. code.items ≡ tests_code line skip (map view_test tests.now)) }
-{
-    let mut rest = Backward::new(alloc);
-    for i in (0..tests.len()).rev() {
-        let mut front = Vec::new(alloc);
-        let past = rest.len() + skip;
-        emit_test(&mut front, line, past, &tests[i])?;
-        rest.put_before(front)?;
+    // A jump.
+    fn jump(&self, site: Site, skip: usize) -> Result<Piece, CodeError> {
+        let mut code = Piece::new(self.alloc);
+        let skip = as_index(skip)?;
+        code.put(site.line, Instruction::Jump { skip })?;
+        Ok(code)
     }
-    Ok(rest.in_order())
-}
 
-// Alternatives of which one must hold, the last of them first.
-fn emit_alternatives(
-    alloc: Global,
-    line: Line,
-    skip: usize,
-    alternatives: &[Conjunction],
-) -> Result<Vec<Instruction>, AllocError>
-    requires { skip ≤ 2 ^ 63 }
-    ensures { IfOk result (λ code. code.items ≡ condition_code line skip (map view_conjunction alternatives.now)) }
-{
-    let count = alternatives.len();
-    if count == 0 {
-        let mut code = Vec::new(alloc);
-        put(&mut code, Instruction::Jump { skip })?;
-        return Ok(code);
+    // Alternatives of which one must hold, the last of them first.
+    fn alternatives(
+        &mut self,
+        site: Site,
+        skip: usize,
+        alternatives: &[Conjunction],
+    ) -> Result<Piece, CodeError> {
+        let count = alternatives.len();
+        if count == 0 {
+            return self.jump(site, skip);
+        }
+        let last = self.tests(site, skip, &alternatives[count - 1].tests)?;
+        let mut rest = Backward::new(self.alloc);
+        rest.put_before(last)?;
+        for i in (0..count - 1).rev() {
+            let mut front = self.tests(site, 1, &alternatives[i].tests)?;
+            front.append(self.jump(site, rest.len())?)?;
+            rest.put_before(front)?;
+        }
+        Ok(rest.into_piece())
     }
-    let last = emit_tests(alloc, line, skip, &alternatives[count - 1].tests)?;
-    let mut rest = Backward::new(alloc);
-    rest.put_before(last)?;
-    for i in (0..count - 1).rev() {
-        let mut front = emit_tests(alloc, line, 1, &alternatives[i].tests)?;
-        put(&mut front, Instruction::Jump { skip: rest.len() })?;
-        rest.put_before(front)?;
+
+    /// A condition, which jumps where it does not hold.
+    pub(crate) fn condition(
+        &mut self,
+        site: Site,
+        skip: usize,
+        condition: &Condition,
+    ) -> Result<Piece, CodeError> {
+        self.alternatives(site, skip, &condition.alternatives)
     }
-    Ok(rest.in_order())
-}
 
-/// A condition, which jumps where it does not hold.
-pub fn emit_condition(
-    alloc: Global,
-    line: Line,
-    skip: usize,
-    condition: &Condition,
-) -> Result<Vec<Instruction>, AllocError>
-    requires { skip ≤ 2 ^ 63 }
-    ensures { IfOk result (λ code. code.items ≡ condition_code line skip (view_condition condition.now)) }
-{
-    emit_alternatives(alloc, line, skip, &condition.alternatives)
-}
-
-// A condition, which jumps where it holds.
-fn emit_negated(
-    alloc: Global,
-    line: Line,
-    skip: usize,
-    condition: &Condition,
-) -> Result<Vec<Instruction>, AllocError>
-    requires { skip ≤ 2 ^ 63 }
-    ensures { IfOk result (λ code. code.items ≡ negated_code line skip (view_condition condition.now)) }
-{
-    let mut code = emit_condition(alloc, line, 1, condition)?;
-    put(&mut code, Instruction::Jump { skip })?;
-    Ok(code)
-}
-
-fn emit_guard(
-    alloc: Global,
-    line: Line,
-    skip: usize,
-    kind: GuardKind,
-    condition: &Condition,
-) -> Result<Vec<Instruction>, AllocError>
-    requires { skip ≤ 2 ^ 63 }
-    ensures { IfOk result (λ code. code.items ≡ guard_code line skip kind (view_condition condition.now)) }
-{
-    match kind {
-        GuardKind::While => emit_condition(alloc, line, skip, condition),
-        GuardKind::Until => emit_negated(alloc, line, skip, condition),
+    // A condition, which jumps where it holds.
+    fn negated(
+        &mut self,
+        site: Site,
+        skip: usize,
+        condition: &Condition,
+    ) -> Result<Piece, CodeError> {
+        let mut code = self.condition(site, 1, condition)?;
+        code.append(self.jump(site, skip)?)?;
+        Ok(code)
     }
-}
 
-/// The guards of a loop before what follows them, the last of them first. Where one fails it goes on after that, or after
-/// so many instructions more.
-pub fn emit_guards(
-    alloc: Global,
-    line: Line,
-    more: usize,
-    guards: &[Guard],
-    following: Vec<Instruction>,
-) -> Result<Vec<Instruction>, AllocError>
-    requires { more ≤ 1 }
-    ensures { IfOk result (λ code. code.items ≡ guards_code line (length following.items + more) (map view_guard guards.now) ++ following.items) }
-{
-    let mut rest = Backward::new(alloc);
-    rest.put_before(following)?;
-    for i in (0..guards.len()).rev() {
-        let guard = &guards[i];
-        let past = rest.len() + more;
-        let front = emit_guard(alloc, line, past, guard.kind, &guard.condition)?;
-        rest.put_before(front)?;
+    // A guard of a loop.
+    fn guard(&mut self, site: Site, skip: usize, guard: &Guard) -> Result<Piece, CodeError> {
+        match guard.kind {
+            GuardKind::While => self.condition(site, skip, &guard.condition),
+            GuardKind::Until => self.negated(site, skip, &guard.condition),
+        }
     }
-    Ok(rest.in_order())
-}
 
-// A phrase before the rest of a turn, of so many instructions.
-fn emit_phrase(
-    alloc: Global,
-    line: Line,
-    rest: usize,
-    kind: PhraseKind,
-    condition: &Condition,
-) -> Result<Vec<Instruction>, AllocError>
-    requires { rest < 2 ^ 63 }
-    ensures { IfOk result (λ code. code.items ≡ phrase_code line rest kind (view_condition condition.now)) }
-{
-    let past = rest + 1;
-    match kind {
-        PhraseKind::With => emit_condition(alloc, line, rest, condition),
-        PhraseKind::Unless => emit_negated(alloc, line, rest, condition),
-        PhraseKind::While => emit_condition(alloc, line, past, condition),
-        PhraseKind::Until => emit_negated(alloc, line, past, condition),
+    /// The guards of a loop before what follows them, the last of them first. Where one fails it goes on after that, or after so
+    /// many instructions more.
+    pub(crate) fn guards(
+        &mut self,
+        site: Site,
+        more: usize,
+        guards: &[Guard],
+        behind: Piece,
+    ) -> Result<Piece, CodeError> {
+        let mut rest = Backward::new(self.alloc);
+        rest.put_before(behind)?;
+        for i in (0..guards.len()).rev() {
+            let past = rest.len() + more;
+            let front = self.guard(site, past, &guards[i])?;
+            rest.put_before(front)?;
+        }
+        Ok(rest.into_piece())
     }
-}
 
-/// The phrases before a turn, the last of them first.
-pub fn emit_phrases(
-    alloc: Global,
-    line: Line,
-    phrases: &[Phrase],
-    turn: Vec<Instruction>,
-) -> Result<Vec<Instruction>, AllocError>
-    ensures { IfOk result (λ code. code.items ≡ phrases_code line (map view_phrase phrases.now) turn.items) }
-{
-    let mut rest = Backward::new(alloc);
-    rest.put_before(turn)?;
-    for i in (0..phrases.len()).rev() {
-        let phrase = &phrases[i];
-        let front = emit_phrase(alloc, line, rest.len(), phrase.kind, &phrase.condition)?;
-        rest.put_before(front)?;
+    // A phrase before the rest of a turn, of so many instructions.
+    fn phrase(&mut self, site: Site, rest: usize, phrase: &Phrase) -> Result<Piece, CodeError> {
+        let condition = &phrase.condition;
+        match phrase.kind {
+            PhraseKind::With => self.condition(site, rest, condition),
+            PhraseKind::Unless => self.negated(site, rest, condition),
+            PhraseKind::While => self.condition(site, rest + 1, condition),
+            PhraseKind::Until => self.negated(site, rest + 1, condition),
+        }
     }
-    Ok(rest.in_order())
+
+    /// The phrases before a turn, the last of them first.
+    pub(crate) fn phrases(
+        &mut self,
+        site: Site,
+        phrases: &[Phrase],
+        turn: Piece,
+    ) -> Result<Piece, CodeError> {
+        let mut rest = Backward::new(self.alloc);
+        rest.put_before(turn)?;
+        for i in (0..phrases.len()).rev() {
+            let front = self.phrase(site, rest.len(), &phrases[i])?;
+            rest.put_before(front)?;
+        }
+        Ok(rest.into_piece())
+    }
 }

@@ -1,108 +1,166 @@
-//! The instructions of events and statistics.
+//! The code of events and statistics.
 
-ghost use Rattle.std.specs.Prelude.{◌≡◌, ◌∷◌, ◌++◌, [], map, OnOk};
-ghost use Rattle.ss_program.specs.View.{view_expression, view_place, view_when, view_restart};
-ghost use Rattle.ss_code_instructions.specs.Translation.{when_code, schedule_new_code, schedule_code, restarts_code};
-
-use crate::emit::{absent, emit_any, emit_entity, emit_expression, emit_values, put};
-use crate::places::{destination, emit_spot};
-use ss_base::Line;
+use crate::error::CodeError;
+use crate::facts::is_attribute_watched;
+use crate::generator::{Generator, Site};
+use crate::piece::{Piece, as_index};
+use crate::targets::Spot;
 use ss_code_instructions::instruction::Instruction;
 use ss_program::expression::Expression;
 use ss_program::statement::{Place, Restart, When};
-use std::alloc::AllocError;
 
-// The time to schedule for, on top of the stack.
-fn emit_when(code: &mut Vec<Instruction>, line: Line, when: &When) -> Result<(), AllocError>
-    ensures { OnOk result (code.new.items ≡ code.old.items ++ when_code line (view_when when.now)) }
-{
-    match when {
-        When::At { time } => {
-            emit_expression(code, line, time)?;
-            put(code, Instruction::When { later: false, line })
-        }
-        When::In { units } => {
-            emit_expression(code, line, units)?;
-            put(code, Instruction::When { later: true, line })
-        }
-        When::Now => put(code, Instruction::Clock),
+impl Generator<'_> {
+    // The time to schedule for goes into the next cell.
+    fn time(&mut self, code: &mut Piece, site: Site, when: &When) -> Result<(), CodeError> {
+        let to = self.cell(site)?;
+        let instruction = match when {
+            When::At { time } => {
+                let time = self.operand(code, site, time)?.address;
+                Instruction::At { time, to }
+            }
+            When::In { units } => {
+                let units = self.operand(code, site, units)?.address;
+                Instruction::In { units, to }
+            }
+            When::Now => Instruction::Clock { to },
+        };
+        code.put(site.line, instruction)?;
+        Ok(())
     }
-}
 
-/// SCHEDULE A.
-pub fn emit_schedule_new(
-    code: &mut Vec<Instruction>,
-    line: Line,
-    class: usize,
-    place: &Place,
-    given: &[Expression],
-    when: &When,
-) -> Result<(), AllocError>
-    ensures { OnOk result (code.new.items ≡ code.old.items ++ schedule_new_code line class (view_place place.now) (map view_expression given.now) (view_when when.now)) }
-{
-    emit_spot(code, line, place)?;
-    emit_values(code, line, given)?;
-    emit_when(code, line, when)?;
-    put(
-        code,
-        Instruction::MakeNotice {
-            class,
-            given: given.len(),
-            line,
-        },
-    )?;
-    put(
-        code,
-        Instruction::Name {
-            to: destination(place),
-            line,
-        },
-    )?;
-    put(code, Instruction::FileNotice { class, line })
-}
+    // What a notice is given goes into the next cells, and its time above that.
+    fn notice_values(
+        &mut self,
+        code: &mut Piece,
+        site: Site,
+        given: &[Expression],
+        when: &When,
+    ) -> Result<(), CodeError> {
+        self.values(code, site, given)?;
+        self.time(code, site.above(given.len()), when)
+    }
 
-/// SCHEDULE THE.
-pub fn emit_schedule(
-    code: &mut Vec<Instruction>,
-    line: Line,
-    class: usize,
-    notice: &Expression,
-    given: &[Expression],
-    when: &When,
-) -> Result<(), AllocError>
-    ensures { OnOk result (code.new.items ≡ code.old.items ++ schedule_code line class (view_expression notice.now) (map view_expression given.now) (view_when when.now)) }
-{
-    emit_entity(code, line, class, notice)?;
-    emit_values(code, line, given)?;
-    emit_when(code, line, when)?;
-    put(
-        code,
-        Instruction::Reschedule {
-            class,
-            given: given.len(),
-            line,
-        },
-    )
-}
+    // Whether a statistic watches one of the first attributes of a notice, so many.
+    fn is_given_watched(&self, class: usize, given: usize) -> bool {
+        for field in 0..given {
+            if is_attribute_watched(self.program, class, field) {
+                return true;
+            }
+        }
+        false
+    }
 
-/// RESET.
-pub fn emit_restarts(
-    code: &mut Vec<Instruction>,
-    line: Line,
-    restarts: &[Restart],
-) -> Result<(), AllocError>
-    ensures { OnOk result (code.new.items ≡ code.old.items ++ restarts_code line (map view_restart restarts.now)) }
-{
-    for restart in restarts {
-        emit_any(code, line, &restart.of)?;
-        put(
-            code,
-            Instruction::Reset {
-                statistic: restart.statistic,
-                system: absent(&restart.of),
-                line,
+    /// SCHEDULE A.
+    pub(crate) fn schedule_new(
+        &mut self,
+        code: &mut Piece,
+        site: Site,
+        class: usize,
+        place: &Place,
+        given: &[Expression],
+        when: &When,
+    ) -> Result<(), CodeError> {
+        let spot = self.looked_spot(code, site, place)?;
+        let above = site.above(spot.cells());
+        self.notice_values(code, above, given, when)?;
+        let time = self.cell(above)?;
+        let to = self.landing(above, spot, 1)?;
+        let index = as_index(class)?;
+        code.put(
+            site.line,
+            Instruction::MakeNotice {
+                class: index,
+                cell: self.place_of(above)?,
+                given: as_index(given.len())?,
+                to,
+                noted: self.is_given_watched(class, given.len()),
             },
         )?;
+        self.assign(code, site, spot, to)?;
+        let notice = match spot {
+            Spot::Variable(variable) => variable.address,
+            Spot::Attribute(_) | Spot::Count(_, _) => to,
+        };
+        code.put(
+            site.line,
+            Instruction::FileNotice {
+                class: index,
+                notice,
+                time,
+            },
+        )?;
+        self.forget(code, site, spot.cells())
     }
-    Ok(())
+
+    /// SCHEDULE THE.
+    pub(crate) fn schedule(
+        &mut self,
+        code: &mut Piece,
+        site: Site,
+        class: usize,
+        notice: &Expression,
+        given: &[Expression],
+        when: &When,
+    ) -> Result<(), CodeError> {
+        let notice = self.operand(code, site, notice)?;
+        let index = as_index(class)?;
+        code.put(
+            site.line,
+            Instruction::LookEntity {
+                class: index,
+                entity: notice.address,
+            },
+        )?;
+        let above = site.above(notice.cells);
+        self.notice_values(code, above, given, when)?;
+        code.put(
+            site.line,
+            Instruction::Reschedule {
+                class: index,
+                notice: notice.address,
+                cell: self.place_of(above)?,
+                given: as_index(given.len())?,
+                noted: self.is_given_watched(class, given.len()),
+            },
+        )?;
+        Ok(())
+    }
+
+    /// CANCEL.
+    pub(crate) fn cancel(
+        &mut self,
+        code: &mut Piece,
+        site: Site,
+        class: usize,
+        notice: &Expression,
+    ) -> Result<(), CodeError> {
+        let notice = self.operand(code, site, notice)?.address;
+        let class = as_index(class)?;
+        code.put(site.line, Instruction::Cancel { class, notice })?;
+        Ok(())
+    }
+
+    /// START SIMULATION.
+    pub(crate) fn simulate(&mut self, code: &mut Piece, site: Site) -> Result<(), CodeError> {
+        let cell = self.place_of(site)?;
+        code.put(site.line, Instruction::Await { skip: 2 })?;
+        code.put(site.line, Instruction::TakeEvent { cell })?;
+        code.put(site.line, Instruction::NextEvent { back: 1 })?;
+        Ok(())
+    }
+
+    /// RESET.
+    pub(crate) fn resets(
+        &mut self,
+        code: &mut Piece,
+        site: Site,
+        restarts: &[Restart],
+    ) -> Result<(), CodeError> {
+        for restart in restarts {
+            let entity = self.entity_of(code, site, &restart.of)?.address;
+            let statistic = as_index(restart.statistic)?;
+            code.put(site.line, Instruction::Reset { statistic, entity })?;
+        }
+        Ok(())
+    }
 }

@@ -3,19 +3,22 @@
 
 mod backward;
 pub mod code;
-pub mod conditions;
-pub mod emit;
+mod conditions;
 pub mod error;
-pub mod events;
+mod events;
+mod expressions;
+mod facts;
 mod generating;
-pub mod items;
+mod generator;
 pub mod lines;
-pub mod loops;
+mod loops;
 pub mod model;
-pub mod places;
+mod piece;
+mod printing;
 mod sayings;
-pub mod sets;
+mod sets;
 mod statements;
+mod targets;
 
 pub use code::Code;
 pub use error::CodeError;

@@ -1,37 +1,22 @@
 //! What may be run.
 
-ghost use Rattle.std.specs.Prelude.{◌≡◌, IfOk};
-ghost use Rattle.ss_code_listing.specs.Listing.{listing_of};
-
 use crate::code::Code;
 use std::alloc::{AllocError, Global};
 
-/// A program that may be run. A contract sees it as its code.
+/// A program that may be run.
 #[derive(Drop)]
 pub struct Model {
     code: Code,
 }
 
-impl std::marker::Model for Model {
-    ghost use Rattle.ss_code_instructions.specs.Machine.{Code as CodeValue};
-
-    ghost Value = { CodeValue };
-
-    ghost view = { λ m. m.code };
-}
-
 impl Model {
     /// The model that this code is.
-    pub fn new(code: Code) -> Model
-        ensures { result ≡ code }
-    {
+    pub fn new(code: Code) -> Model {
         Model { code }
     }
 
     /// The code of the model.
-    pub fn into_code(self) -> Code
-        ensures { result ≡ self }
-    {
+    pub fn into_code(self) -> Code {
         self.code
     }
 
@@ -42,9 +27,7 @@ impl Model {
 
     /// A line for each instruction of its code: its number from 0, a blank, what it is called, and what it works on. The
     /// error comes where memory was refused.
-    pub fn listing(&self, alloc: Global) -> Result<Vec<u8>, AllocError>
-        ensures { IfOk result (λ text. text.items ≡ listing_of self.now) }
-    {
+    pub fn listing(&self, alloc: Global) -> Result<Vec<u8>, AllocError> {
         self.code.listing(alloc)
     }
 }

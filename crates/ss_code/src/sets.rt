@@ -1,152 +1,225 @@
-//! The instructions that work on sets.
+//! The code that works on sets.
 
-ghost use Rattle.std.specs.Prelude.{◌≡◌, ◌∷◌, ◌++◌, [], OnOk};
-ghost use Rattle.ss_program.specs.View.{view_expression, view_owner, view_position, view_start};
-ghost use Rattle.ss_code_instructions.specs.declared.instruction.Instruction.TheVariants.{LookOwner, BeginAt, Remove};
-ghost use Rattle.ss_code_instructions.specs.Translation.{owner_code, is_the_system, member_code, filing_of, beside_code, file_code, outset_code};
-
-use crate::emit::{emit_member, emit_owner, put, system_owns};
-use ss_base::Line;
-use ss_code_instructions::instruction::{Filing, Instruction};
+use crate::error::CodeError;
+use crate::expressions::{Operand, is_plain, is_plain_owner};
+use crate::facts::{Ordering, is_count_watched, ordering_of};
+use crate::generator::{Generator, Site};
+use crate::piece::{Piece, as_index};
+use ss_code_instructions::address::Address;
+use ss_code_instructions::instruction::Instruction;
 use ss_program::expression::{Expression, SetOwner};
-use ss_program::head::Start;
-use ss_program::statement::Position;
-use std::alloc::AllocError;
+use ss_program::statement::{End, Place, Position};
 
-// What an instruction calls a position.
-fn filing(position: &Position) -> Filing
-    ensures { result ≡ filing_of (view_position position.now) }
-{
+// The one beside which a member is filed, if there is one.
+fn beside_of(position: &Position) -> Option<&Expression> {
     match position {
-        Position::ByDiscipline => Filing::ByDiscipline,
-        Position::AsFirst => Filing::First,
-        Position::AsLast => Filing::Last,
-        Position::BeforeMember { .. } => Filing::Before,
-        Position::AfterMember { .. } => Filing::After,
+        Position::ByDiscipline | Position::AsFirst | Position::AsLast => None,
+        Position::BeforeMember { member } | Position::AfterMember { member } => Some(member),
     }
 }
 
-// The member beside which another one is filed.
-fn emit_beside(
-    code: &mut Vec<Instruction>,
-    line: Line,
-    set: usize,
-    position: &Position,
-) -> Result<(), AllocError>
-    ensures { OnOk result (code.new.items ≡ code.old.items ++ beside_code line set (view_position position.now)) }
-{
-    match position {
-        Position::ByDiscipline | Position::AsFirst | Position::AsLast => Ok(()),
-        Position::BeforeMember { member } => emit_member(code, line, set, member),
-        Position::AfterMember { member } => emit_member(code, line, set, member),
+// Whether the evaluation of what there may be may fault.
+fn may_fault(e: Option<&Expression>) -> bool {
+    match e {
+        None => false,
+        Some(e) => !is_plain(e),
     }
 }
 
-/// FILE.
-pub fn emit_file(
-    code: &mut Vec<Instruction>,
-    line: Line,
-    set: usize,
-    member: &Expression,
-    position: &Position,
-    owner: &SetOwner,
-) -> Result<(), AllocError>
-    ensures { OnOk result (code.new.items ≡ code.old.items ++ file_code line set (view_expression member.now) (view_position position.now) (view_owner owner.now)) }
-{
-    emit_member(code, line, set, member)?;
-    emit_beside(code, line, set, position)?;
-    emit_owner(code, line, owner)?;
-    put(
-        code,
-        Instruction::File {
-            filing: filing(position),
-            set,
-            system: system_owns(owner),
-            line,
-        },
-    )
+// How many cells what there may be takes.
+fn cells_of(operand: Option<Operand>) -> usize {
+    match operand {
+        None => 0,
+        Some(operand) => operand.cells,
+    }
 }
 
-/// REMOVE.
-pub fn emit_remove(
-    code: &mut Vec<Instruction>,
-    line: Line,
-    set: usize,
-    member: &Expression,
-    owner: &SetOwner,
-) -> Result<(), AllocError>
-    ensures { OnOk result (code.new.items ≡ code.old.items ++ (member_code line set (view_expression member.now) ++ (owner_code line (view_owner owner.now) ++ Remove set (is_the_system (view_owner owner.now)) line ∷ []))) }
-{
-    emit_member(code, line, set, member)?;
-    emit_owner(code, line, owner)?;
-    put(
-        code,
-        Instruction::Remove {
+// A member is filed where the discipline says.
+fn file_by(
+    ordering: Ordering,
+    set: u32,
+    member: Address,
+    owner: Address,
+    noted: bool,
+) -> Instruction {
+    match ordering {
+        Ordering::First => Instruction::FileFirst {
             set,
-            system: system_owns(owner),
-            line,
+            member,
+            owner,
+            noted,
         },
-    )
+        Ordering::Last => Instruction::FileLast {
+            set,
+            member,
+            owner,
+            noted,
+        },
+        Ordering::Ranked => Instruction::FileRanked {
+            set,
+            member,
+            owner,
+            noted,
+        },
+    }
 }
 
-// The member with which a FOR over members begins, or after which; its owner lies below.
-fn emit_begin_at(
-    code: &mut Vec<Instruction>,
-    line: Line,
-    skip: usize,
-    reverse: bool,
-    after: bool,
-    set: usize,
-    member: &Expression,
-    system: bool,
-) -> Result<(), AllocError>
-    ensures { OnOk result (code.new.items ≡ code.old.items ++ LookOwner set system line ∷ (member_code line set (view_expression member.now) ++ BeginAt reverse after set system skip line ∷ [])) }
-{
-    put(code, Instruction::LookOwner { set, system, line })?;
-    emit_member(code, line, set, member)?;
-    put(
-        code,
-        Instruction::BeginAt {
-            reverse,
-            after,
-            set,
-            system,
-            skip,
-            line,
-        },
-    )
-}
+impl Generator<'_> {
+    /// A reference to an entity that may be a member of a set. It is looked at where something that may fault comes between.
+    pub(crate) fn member(
+        &mut self,
+        code: &mut Piece,
+        site: Site,
+        set: usize,
+        e: &Expression,
+        is_looked: bool,
+    ) -> Result<Operand, CodeError> {
+        let member = self.operand(code, site, e)?;
+        if is_looked {
+            code.put(
+                site.line,
+                Instruction::LookMember {
+                    set: as_index(set)?,
+                    member: member.address,
+                },
+            )?;
+        }
+        Ok(member)
+    }
 
-/// The owner of a FOR over members, and the first of them; past so many instructions where there is none.
-pub fn emit_outset(
-    code: &mut Vec<Instruction>,
-    line: Line,
-    skip: usize,
-    set: usize,
-    owner: &SetOwner,
-    start: &Start,
-    reverse: bool,
-) -> Result<(), AllocError>
-    ensures { OnOk result (code.new.items ≡ code.old.items ++ outset_code line skip set (view_owner owner.now) (view_start start.now) reverse) }
-{
-    let system = system_owns(owner);
-    emit_owner(code, line, owner)?;
-    match start {
-        Start::AtEnd => put(
-            code,
-            Instruction::BeginSet {
-                reverse,
+    // The one beside which a member is filed, if there is one.
+    fn beside(
+        &mut self,
+        code: &mut Piece,
+        site: Site,
+        set: usize,
+        position: &Position,
+        is_looked: bool,
+    ) -> Result<Option<Operand>, CodeError> {
+        match beside_of(position) {
+            None => Ok(None),
+            Some(e) => Ok(Some(self.member(code, site, set, e, is_looked)?)),
+        }
+    }
+
+    // The instruction that files.
+    fn filing(
+        &self,
+        set: usize,
+        position: &Position,
+        member: Address,
+        beside: Option<Operand>,
+        owner: Address,
+    ) -> Result<Instruction, CodeError> {
+        let noted = is_count_watched(self.program, set);
+        let ordering = match position {
+            Position::AsFirst => Ordering::First,
+            Position::AsLast => Ordering::Last,
+            _ => ordering_of(self.program, set),
+        };
+        let set = as_index(set)?;
+        Ok(match beside {
+            None => file_by(ordering, set, member, owner, noted),
+            Some(operand) => Instruction::FileBeside {
+                noted,
+                after: matches!(position, Position::AfterMember { .. }),
                 set,
-                system,
-                skip,
-                line,
+                member,
+                beside: operand.address,
+                owner,
             },
-        ),
-        Start::From { member } => {
-            emit_begin_at(code, line, skip, reverse, false, set, member, system)
-        }
-        Start::After { member } => {
-            emit_begin_at(code, line, skip, reverse, true, set, member, system)
-        }
+        })
+    }
+
+    /// FILE.
+    pub(crate) fn file(
+        &mut self,
+        code: &mut Piece,
+        site: Site,
+        set: usize,
+        member: &Expression,
+        position: &Position,
+        owner: &SetOwner,
+    ) -> Result<(), CodeError> {
+        let owner_may_fault = !is_plain_owner(owner);
+        let is_looked = owner_may_fault || may_fault(beside_of(position));
+        let member = self.member(code, site, set, member, is_looked)?;
+        let beside_here = site.above(member.cells);
+        let beside = self.beside(code, beside_here, set, position, owner_may_fault)?;
+        let below = member.cells + cells_of(beside);
+        let owner = self.owner(code, site.above(below), owner)?;
+        let filing = self.filing(set, position, member.address, beside, owner.address)?;
+        code.put(site.line, filing)?;
+        Ok(())
+    }
+
+    /// REMOVE.
+    pub(crate) fn remove(
+        &mut self,
+        code: &mut Piece,
+        site: Site,
+        set: usize,
+        member: &Expression,
+        owner: &SetOwner,
+    ) -> Result<(), CodeError> {
+        let member = self.member(code, site, set, member, !is_plain_owner(owner))?;
+        let owner = self.owner(code, site.above(member.cells), owner)?;
+        code.put(
+            site.line,
+            Instruction::Remove {
+                set: as_index(set)?,
+                member: member.address,
+                owner: owner.address,
+                noted: is_count_watched(self.program, set),
+            },
+        )?;
+        Ok(())
+    }
+
+    // The member at an end is removed, and goes to a place.
+    fn put_remove_end(
+        &mut self,
+        code: &mut Piece,
+        site: Site,
+        end: End,
+        set: usize,
+        owner: Address,
+        to: Address,
+    ) -> Result<(), CodeError> {
+        let noted = is_count_watched(self.program, set);
+        let set = as_index(set)?;
+        let instruction = match end {
+            End::First => Instruction::RemoveFirst {
+                set,
+                owner,
+                to,
+                noted,
+            },
+            End::Last => Instruction::RemoveLast {
+                set,
+                owner,
+                to,
+                noted,
+            },
+        };
+        code.put(site.line, instruction)?;
+        Ok(())
+    }
+
+    /// REMOVE FIRST and REMOVE LAST.
+    pub(crate) fn remove_end(
+        &mut self,
+        code: &mut Piece,
+        site: Site,
+        end: End,
+        set: usize,
+        place: &Place,
+        owner: &SetOwner,
+    ) -> Result<(), CodeError> {
+        let spot = self.looked_spot(code, site, place)?;
+        let owner = self.owner(code, site.above(spot.cells()), owner)?.address;
+        let to = self.landing(site, spot, spot.cells())?;
+        self.put_remove_end(code, site, end, set, owner, to)?;
+        self.assign(code, site, spot, to)
     }
 }

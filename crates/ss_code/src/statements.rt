@@ -1,327 +1,287 @@
-//! The instructions of statements.
+//! The code of statements.
 
-ghost use Rattle.std.specs.Prelude.{◌≡◌, ◌+◌, ◌∷◌, ◌++◌, [], length, map, IfOk, OnOk};
-ghost use Rattle.ss_program.specs.Program.{Simulate};
-ghost use Rattle.ss_program.specs.View.{view_expression, view_condition, view_place, view_item, view_statement, view_body};
-ghost use Rattle.ss_code_instructions.specs.declared.instruction.Instruction.TheVariants.{Jump, Call, Destroy, Cancel, Skip, Print};
-ghost use Rattle.ss_code_instructions.specs.Translation.{expression_code, values_code, condition_code, gives_code, if_code, shown_code, values_taken, print_lines, statement_code, statement_prints, block_code, block_prints, section_code};
-
-use crate::conditions::{emit_condition, emit_phrases};
-use crate::emit::{emit_expression, emit_values, put};
-use crate::events::{emit_restarts, emit_schedule, emit_schedule_new};
-use crate::items::{count_values, emit_items};
-use crate::lines::Lines;
-use crate::loops::{emit_find, emit_for, emit_loop};
-use crate::places::{
-    emit_change, emit_create, emit_creates, emit_gives, emit_let, emit_reads, emit_remove_end,
-};
-use crate::sets::{emit_file, emit_remove};
+use crate::error::CodeError;
+use crate::generator::{Created, Generator, Site};
+use crate::loops::cells_of;
+use crate::targets::is_attribute;
+use crate::piece::{Piece, as_index};
 use ss_base::Line;
+use ss_code_instructions::address::Address;
 use ss_code_instructions::instruction::Instruction;
 use ss_program::condition::Condition;
 use ss_program::expression::Expression;
-use ss_program::statement::{Item, Place, Statement};
-use std::alloc::{AllocError, Global};
+use ss_program::statement::{Place, Statement};
 
 // A condition, and one side.
-fn emit_one_side(
-    alloc: Global,
-    code: &mut Vec<Instruction>,
-    line: Line,
-    condition: &Condition,
-    mut then: Vec<Instruction>,
-) -> Result<(), AllocError>
-    ensures { OnOk result (code.new.items ≡ code.old.items ++ (condition_code line (length then.items) (view_condition condition.now) ++ then.items)) }
-{
-    let mut test = emit_condition(alloc, line, then.len(), condition)?;
-    code.append(&mut test)?;
-    code.append(&mut then)
+fn put_one_side(code: &mut Piece, test: Piece, then: Piece) -> Result<(), CodeError> {
+    code.append(test)?;
+    code.append(then)?;
+    Ok(())
 }
 
-// A condition, and two sides: a jump comes before the second, past it.
-fn emit_two_sides(
-    alloc: Global,
-    code: &mut Vec<Instruction>,
-    line: Line,
-    condition: &Condition,
-    mut then: Vec<Instruction>,
-    mut otherwise: Vec<Instruction>,
-) -> Result<(), AllocError>
-    ensures { OnOk result (code.new.items ≡ code.old.items ++ (condition_code line (length then.items + 1) (view_condition condition.now) ++ (then.items ++ Jump (length otherwise.items) ∷ otherwise.items))) }
-{
-    let mut test = emit_condition(alloc, line, then.len() + 1, condition)?;
-    code.append(&mut test)?;
-    code.append(&mut then)?;
-    put(
-        code,
-        Instruction::Jump {
-            skip: otherwise.len(),
-        },
-    )?;
-    code.append(&mut otherwise)
-}
+impl Generator<'_> {
+    /// Values go into the next cells, one above the other.
+    pub(crate) fn values(
+        &mut self,
+        code: &mut Piece,
+        site: Site,
+        values: &[Expression],
+    ) -> Result<(), CodeError> {
+        for (i, value) in values.iter().enumerate() {
+            self.push(code, site.above(i), value)?;
+        }
+        Ok(())
+    }
 
-// IF.
-fn emit_if(
-    alloc: Global,
-    code: &mut Vec<Instruction>,
-    line: Line,
-    condition: &Condition,
-    then: Vec<Instruction>,
-    otherwise: Vec<Instruction>,
-) -> Result<(), AllocError>
-    ensures { OnOk result (code.new.items ≡ code.old.items ++ if_code line (view_condition condition.now) then.items otherwise.items) }
-{
-    if otherwise.is_empty() {
-        emit_one_side(alloc, code, line, condition, then)
-    } else {
-        emit_two_sides(alloc, code, line, condition, then, otherwise)
+    // IF: a jump past the second side comes before it, if it has code.
+    fn branches(
+        &mut self,
+        code: &mut Piece,
+        site: Site,
+        condition: &Condition,
+        then: Piece,
+        otherwise: Piece,
+    ) -> Result<(), CodeError> {
+        if otherwise.len() == 0 {
+            let test = self.condition(site, then.len(), condition)?;
+            return put_one_side(code, test, then);
+        }
+        let test = self.condition(site, then.len() + 1, condition)?;
+        put_one_side(code, test, then)?;
+        let skip = as_index(otherwise.len())?;
+        code.put(site.line, Instruction::Jump { skip })?;
+        code.append(otherwise)?;
+        Ok(())
+    }
+
+    // What a routine yields lies in cells, the first on top: each place takes one.
+    fn gives(&mut self, code: &mut Piece, site: Site, places: &[Place]) -> Result<(), CodeError> {
+        let count = places.len();
+        for (i, place) in places.iter().enumerate() {
+            let from = self.cell(site.above(count - 1 - i))?;
+            self.give(code, site.above(count - i), place, from)?;
+        }
+        Ok(())
+    }
+
+    // CALL.
+    fn call(
+        &mut self,
+        code: &mut Piece,
+        site: Site,
+        routine: usize,
+        given: &[Expression],
+        yielding: &[Place],
+    ) -> Result<(), CodeError> {
+        self.values(code, site, given)?;
+        let routine = as_index(routine)?;
+        let cell = self.place_of(site)?;
+        code.put(site.line, Instruction::Call { routine, cell })?;
+        self.gives(code, site, yielding)
+    }
+
+    // An expression as an operand, where only its address is asked.
+    fn address(
+        &mut self,
+        code: &mut Piece,
+        site: Site,
+        e: &Expression,
+    ) -> Result<Address, CodeError> {
+        Ok(self.operand(code, site, e)?.address)
+    }
+
+    // A statement, above so many cells.
+    #[cycle(statements)]
+    fn statement(
+        &mut self,
+        code: &mut Piece,
+        height: usize,
+        s: &Statement,
+    ) -> Result<(), CodeError> {
+        let site = Site {
+            line: line_of(s),
+            height,
+        };
+        match s {
+            Statement::Let { target, value, .. } => self.assignment(code, site, target, value),
+            Statement::Change {
+                sign,
+                target,
+                value,
+                ..
+            } => self.change(code, site, *sign, target, value),
+            Statement::Call {
+                routine,
+                given,
+                yielding,
+                ..
+            } => self.call(code, site, *routine, given, yielding),
+            Statement::Return => Ok(code.put(site.line, Instruction::Leave)?),
+            Statement::Stop => Ok(code.put(site.line, Instruction::Halt)?),
+            Statement::Read { targets, .. } => self.reads(code, site, targets),
+            Statement::Simulate => self.simulate(code, site),
+            Statement::If {
+                condition,
+                then,
+                otherwise,
+                ..
+            } => {
+                let first = self.body(height, then)?;
+                let second = self.body(height, otherwise)?;
+                self.branches(code, site, condition, first, second)
+            }
+            Statement::Loop { guards, body, .. } => {
+                let turn = self.body(height, body)?;
+                self.guarded_loop(code, site, guards, turn)
+            }
+            Statement::For {
+                head,
+                phrases,
+                body,
+                ..
+            } => {
+                let above = site.above(cells_of(head));
+                let inner = self.body(above.height, body)?;
+                let turn = self.phrases(above, phrases, inner)?;
+                self.for_loop(code, site, head, turn)
+            }
+            Statement::Find {
+                head,
+                phrases,
+                found,
+                none,
+                ..
+            } => {
+                let first = self.body(height, found)?;
+                let second = self.body(height, none)?;
+                self.find(code, site, head, phrases, first, second)
+            }
+            Statement::Create { class, into, .. } => self.create(code, site, *class, into),
+            Statement::CreateEvery { classes, .. } => self.creates(code, site, classes),
+            Statement::Destroy { class, entity, .. } => {
+                let entity = self.address(code, site, entity)?;
+                let class = as_index(*class)?;
+                Ok(code.put(site.line, Instruction::Destroy { class, entity })?)
+            }
+            Statement::File {
+                set,
+                member,
+                position,
+                owner,
+                ..
+            } => self.file(code, site, *set, member, position, owner),
+            Statement::RemoveEnd {
+                end,
+                set,
+                into,
+                owner,
+                ..
+            } => self.remove_end(code, site, *end, *set, into, owner),
+            Statement::Remove {
+                set,
+                member,
+                owner,
+                ..
+            } => self.remove(code, site, *set, member, owner),
+            Statement::ScheduleNew {
+                class,
+                into,
+                given,
+                when,
+                ..
+            } => self.schedule_new(code, site, *class, into, given, when),
+            Statement::Schedule {
+                class,
+                notice,
+                given,
+                when,
+                ..
+            } => self.schedule(code, site, *class, notice, given, when),
+            Statement::Cancel { class, notice, .. } => self.cancel(code, site, *class, notice),
+            Statement::Reset { restarts, .. } => self.resets(code, site, restarts),
+            Statement::Print {
+                items,
+                pictures,
+                ..
+            } => self.print(code, site, items, pictures),
+            Statement::Skip { count, .. } => {
+                let count = self.address(code, site, count)?;
+                Ok(code.put(site.line, Instruction::Skip { count })?)
+            }
+        }
+    }
+
+    // The entity that has just been created after a statement, where this one had been before it: assigning an attribute leaves it as
+    // it is.
+    fn created_after(
+        &self,
+        s: &Statement,
+        before: Option<Created>,
+    ) -> Result<Option<Created>, CodeError> {
+        match s {
+            Statement::Create {
+                class,
+                into: Place::ToVariable { variable },
+                ..
+            } => Ok(Some(Created {
+                class: as_index(*class)?,
+                entity: self.variable(*variable)?,
+            })),
+            Statement::Let { target, .. } | Statement::Change { target, .. } => {
+                Ok(if is_attribute(target) { before } else { None })
+            }
+            Statement::Read { targets, .. } => {
+                let all = targets.iter().all(|target| is_attribute(&target.place));
+                Ok(if all { before } else { None })
+            }
+            _ => Ok(None),
+        }
+    }
+
+    // One statement after another, above so many cells.
+    #[cycle(statements)]
+    fn body(&mut self, height: usize, body: &[Statement]) -> Result<Piece, CodeError> {
+        let mut code = Piece::new(self.alloc);
+        self.created = None;
+        for s in body {
+            let before = self.created;
+            self.statement(&mut code, height, s)?;
+            self.created = self.created_after(s, before)?;
+        }
+        Ok(code)
+    }
+
+    /// MAIN, a routine or an event routine, which ends with a return.
+    pub(crate) fn section(&mut self, body: &[Statement]) -> Result<Piece, CodeError> {
+        let mut code = self.body(0, body)?;
+        code.put(Line(0), Instruction::Leave)?;
+        Ok(code)
     }
 }
 
-// CALL.
-fn emit_call(
-    code: &mut Vec<Instruction>,
-    line: Line,
-    routine: usize,
-    given: &[Expression],
-    yielding: &[Place],
-) -> Result<(), AllocError>
-    ensures { OnOk result (code.new.items ≡ code.old.items ++ (values_code line (map view_expression given.now) ++ Call routine (length given.now) (length yielding.now) ∷ gives_code line (map view_place yielding.now))) }
-{
-    emit_values(code, line, given)?;
-    put(
-        code,
-        Instruction::Call {
-            routine,
-            given: given.len(),
-            yielding: yielding.len(),
-        },
-    )?;
-    emit_gives(code, line, yielding)
-}
-
-// START SIMULATION.
-fn emit_simulate(code: &mut Vec<Instruction>) -> Result<(), AllocError>
-    ensures { OnOk result (code.new.items ≡ code.old.items ++ statement_code 0 Simulate) }
-{
-    put(code, Instruction::Await { skip: 2 })?;
-    put(code, Instruction::TakeEvent)?;
-    put(code, Instruction::NextEvent { back: 1 })
-}
-
-// DESTROY.
-fn emit_destroy(
-    code: &mut Vec<Instruction>,
-    line: Line,
-    class: usize,
-    entity: &Expression,
-) -> Result<(), AllocError>
-    ensures { OnOk result (code.new.items ≡ code.old.items ++ (expression_code line (view_expression entity.now) ++ Destroy class line ∷ [])) }
-{
-    emit_expression(code, line, entity)?;
-    put(code, Instruction::Destroy { class, line })
-}
-
-// CANCEL.
-fn emit_cancel(
-    code: &mut Vec<Instruction>,
-    line: Line,
-    class: usize,
-    notice: &Expression,
-) -> Result<(), AllocError>
-    ensures { OnOk result (code.new.items ≡ code.old.items ++ (expression_code line (view_expression notice.now) ++ Cancel class line ∷ [])) }
-{
-    emit_expression(code, line, notice)?;
-    put(code, Instruction::Cancel { class, line })
-}
-
-// SKIP.
-fn emit_skip(code: &mut Vec<Instruction>, line: Line, count: &Expression) -> Result<(), AllocError>
-    ensures { OnOk result (code.new.items ≡ code.old.items ++ (expression_code line (view_expression count.now) ++ Skip line ∷ [])) }
-{
-    emit_expression(code, line, count)?;
-    put(code, Instruction::Skip { line })
-}
-
-// PRINT.
-fn emit_print(
-    alloc: Global,
-    code: &mut Vec<Instruction>,
-    prints: &mut Vec<Lines>,
-    line: Line,
-    items: &[Item],
-    lines: &[Vec<u8>],
-) -> Result<(), AllocError>
-    ensures code { OnOk result (code.new.items ≡ code.old.items ++ (shown_code line (map view_item items.now) ++ Print (length prints.old.items) (values_taken (map view_item items.now)) ∷ [])) }
-    ensures prints { OnOk result (prints.new.items ≡ prints.old.items ++ print_lines (map view_item items.now) (map (λ line. line.items) lines.now) ∷ []) }
-{
-    let number = prints.len();
-    let made = Lines::of(alloc, items, lines)?;
-    prints.push(made)?;
-    emit_items(code, line, items)?;
-    put(
-        code,
-        Instruction::Print {
-            lines: number,
-            values: count_values(items),
-        },
-    )
-}
-
-// A statement.
-#[tactic(auto, unfolding(ss_program::specs::View::view_statement))]
-#[cycle(statements)]
-fn emit_statement(
-    alloc: Global,
-    code: &mut Vec<Instruction>,
-    prints: &mut Vec<Lines>,
-    s: &Statement,
-) -> Result<(), AllocError>
-    ensures code { OnOk result (code.new.items ≡ code.old.items ++ statement_code (length prints.old.items) (view_statement s.now)) }
-    ensures prints { OnOk result (prints.new.items ≡ prints.old.items ++ statement_prints (view_statement s.now)) }
-{
+// The line of a statement. One that never faults has none.
+fn line_of(s: &Statement) -> Line {
     match s {
-        Statement::Let {
-            line,
-            target,
-            value,
-        } => emit_let(code, *line, target, value),
-        Statement::Change {
-            line,
-            sign,
-            target,
-            value,
-        } => emit_change(code, *line, *sign, target, value),
-        Statement::Call {
-            line,
-            routine,
-            given,
-            yielding,
-        } => emit_call(code, *line, *routine, given, yielding),
-        Statement::Return => put(code, Instruction::Leave),
-        Statement::Stop => put(code, Instruction::Halt),
-        Statement::Read { line, targets } => emit_reads(code, *line, targets),
-        Statement::Simulate => emit_simulate(code),
-        Statement::If {
-            line,
-            condition,
-            then,
-            otherwise,
-        } => {
-            let first = emit_body(alloc, prints, then)?;
-            let second = emit_body(alloc, prints, otherwise)?;
-            emit_if(alloc, code, *line, condition, first, second)
-        }
-        Statement::Loop { line, guards, body } => {
-            let turn = emit_body(alloc, prints, body)?;
-            emit_loop(alloc, code, *line, guards, turn)
-        }
-        Statement::For {
-            line,
-            head,
-            phrases,
-            body,
-        } => {
-            let inner = emit_body(alloc, prints, body)?;
-            let turn = emit_phrases(alloc, *line, phrases, inner)?;
-            emit_for(code, *line, head, turn)
-        }
-        Statement::Find {
-            line,
-            head,
-            phrases,
-            found,
-            none,
-        } => {
-            let first = emit_body(alloc, prints, found)?;
-            let second = emit_body(alloc, prints, none)?;
-            emit_find(alloc, code, *line, head, phrases, first, second)
-        }
-        Statement::Create { line, class, into } => emit_create(code, *line, *class, into),
-        Statement::CreateEvery { line, classes } => emit_creates(code, *line, classes),
-        Statement::Destroy {
-            line,
-            class,
-            entity,
-        } => emit_destroy(code, *line, *class, entity),
-        Statement::File {
-            line,
-            set,
-            member,
-            position,
-            owner,
-        } => emit_file(code, *line, *set, member, position, owner),
-        Statement::RemoveEnd {
-            line,
-            end,
-            set,
-            into,
-            owner,
-        } => emit_remove_end(code, *line, *end, *set, into, owner),
-        Statement::Remove {
-            line,
-            set,
-            member,
-            owner,
-        } => emit_remove(code, *line, *set, member, owner),
-        Statement::ScheduleNew {
-            line,
-            class,
-            into,
-            given,
-            when,
-        } => emit_schedule_new(code, *line, *class, into, given, when),
-        Statement::Schedule {
-            line,
-            class,
-            notice,
-            given,
-            when,
-        } => emit_schedule(code, *line, *class, notice, given, when),
-        Statement::Cancel {
-            line,
-            class,
-            notice,
-        } => emit_cancel(code, *line, *class, notice),
-        Statement::Reset { line, restarts } => emit_restarts(code, *line, restarts),
-        Statement::Print {
-            line,
-            items,
-            pictures: lines,
-        } => emit_print(alloc, code, prints, *line, items, lines),
-        Statement::Skip { line, count } => emit_skip(code, *line, count),
+        Statement::Return | Statement::Stop | Statement::Simulate => Line(0),
+        Statement::Let { line, .. }
+        | Statement::Change { line, .. }
+        | Statement::Call { line, .. }
+        | Statement::Read { line, .. }
+        | Statement::If { line, .. }
+        | Statement::Loop { line, .. }
+        | Statement::For { line, .. }
+        | Statement::Find { line, .. }
+        | Statement::Create { line, .. }
+        | Statement::CreateEvery { line, .. }
+        | Statement::Destroy { line, .. }
+        | Statement::File { line, .. }
+        | Statement::RemoveEnd { line, .. }
+        | Statement::Remove { line, .. }
+        | Statement::ScheduleNew { line, .. }
+        | Statement::Schedule { line, .. }
+        | Statement::Cancel { line, .. }
+        | Statement::Reset { line, .. }
+        | Statement::Print { line, .. }
+        | Statement::Skip { line, .. } => *line,
     }
-}
-
-// One statement after another.
-#[cycle(statements)]
-fn emit_body(
-    alloc: Global,
-    prints: &mut Vec<Lines>,
-    body: &[Statement],
-) -> Result<Vec<Instruction>, AllocError>
-    ensures code { IfOk result (λ code. code.items ≡ block_code (length prints.old.items) (view_body body.now)) }
-    ensures prints { OnOk result (prints.new.items ≡ prints.old.items ++ block_prints (view_body body.now)) }
-{
-    let mut code = Vec::new(alloc);
-    for s in body {
-        emit_statement(alloc, &mut code, prints, s)?;
-    }
-    Ok(code)
-}
-
-/// MAIN, a routine or an event routine, which ends with a return.
-pub(crate) fn emit_section(
-    alloc: Global,
-    code: &mut Vec<Instruction>,
-    prints: &mut Vec<Lines>,
-    body: &[Statement],
-) -> Result<(), AllocError>
-    ensures code { OnOk result (code.new.items ≡ code.old.items ++ section_code (length prints.old.items) (view_body body.now)) }
-    ensures prints { OnOk result (prints.new.items ≡ prints.old.items ++ block_prints (view_body body.now)) }
-{
-    let mut own = emit_body(alloc, prints, body)?;
-    code.append(&mut own)?;
-    put(code, Instruction::Leave)
 }

@@ -28,7 +28,7 @@ impl Model for NoticeClass {
 }
 
 impl NoticeClass {
-    /// A class of notices with these properties.
+    /// A class of notices of which this is said.
     pub fn new(
         class: usize,
         ties: RankKeys,
@@ -87,7 +87,7 @@ impl NoticeClass {
         self.saved
     }
 
-    /// A copy of this class, in memory of its own.
+    /// The same, in memory of its own.
     ///
     /// # Errors
     /// `AllocError` where memory was refused.

@@ -1,11 +1,11 @@
-//! Copies of the descriptions of classes of notices.
+//! Copies of what is said of classes of notices.
 
 ghost use Rattle.std.specs.Prelude.{◌≡◌, IfOk};
 
 use crate::class::NoticeClass;
 use std::alloc::{AllocError, Global};
 
-/// Copies of classes of notices, in memory of their own.
+/// The same classes of notices, in memory of their own.
 ///
 /// # Errors
 /// `AllocError` where memory was refused.

@@ -1,331 +1,485 @@
 //! The instructions of the machine.
 
-use ss_base::{Line, Mode, Value};
+use crate::address::Address;
 use ss_program::condition::Relation;
-use ss_program::expression::{Fold, MemberQuery, Operator, SetQuery, Sign, Variable};
-use ss_program::statement::{CountedClass, End};
+use ss_program::expression::{Fold, Sign};
 
-/// What is assigned a value. The reference to the entity of an attribute lies on the stack.
-#[derive(Clone, Copy)]
-pub enum Destination {
-    Variable { variable: Variable },
-    Attribute { class: usize, field: usize },
-    /// N. of a permanent class.
-    Count { counted: CountedClass },
-}
-
-/// Where a member is filed. The one beside which it is filed lies on the stack.
-#[derive(Clone, Copy)]
-pub enum Filing {
-    /// Where the discipline of the set says.
-    ByDiscipline,
-    First,
-    Last,
-    Before,
-    After,
-}
-
-/// One instruction. A jump counts the instructions that it skips, or that it goes back. The owner of a set lies on
-/// the stack, unless it is the system.
-#[derive(Clone, Copy)]
+/// One instruction.
+///
+/// An `Address` is that of a whole number, unless a text is spoken of. Where something is calculated, asked or read it goes
+/// `to` a variable or a cell. A `cell` is the number of a cell in the frame, with the variables below it counted. A jump skips so many
+/// instructions, or goes back so many. The owner of the system's set is the constant 0, and so is the entity of a statistic that
+/// has none. What lies in a cell is taken off as it is read, but where an instruction says that it stays. What is `noted` is noted in
+/// the histories of statistics that watch what has changed: an attribute, or how many members a set has.
+#[derive(Clone, Copy, Debug, PartialEq, Eq)]
 pub enum Instruction {
-    /// A value goes on top of the stack.
-    Push {
-        value: Value,
+    // Values.
+    /// A number goes to a place.
+    Move {
+        from: Address,
+        to: Address,
     },
-    /// The value of a variable goes on top of the stack.
-    Fetch {
-        variable: Variable,
+    /// A text goes to a place.
+    MoveText {
+        from: Address,
+        to: Address,
     },
-    /// What an operator makes of two values, the right one on top, goes in place of both.
-    Calculate {
-        operator: Operator,
-        line: Line,
+    /// A number goes to a global variable, and the statistics that watch that note it. What a loop keeps in a cell stays.
+    Keep {
+        from: Address,
+        variable: u32,
     },
-    /// 0 plus or 0 minus a value goes in its place.
-    Signed {
-        sign: Sign,
-        line: Line,
+    /// The sum of two numbers.
+    Add {
+        left: Address,
+        right: Address,
+        to: Address,
     },
-    /// The distance of a value from 0 goes in its place.
+    /// Their difference.
+    Subtract {
+        left: Address,
+        right: Address,
+        to: Address,
+    },
+    /// Their product.
+    Multiply {
+        left: Address,
+        right: Address,
+        to: Address,
+    },
+    /// DIV.F
+    Quotient {
+        left: Address,
+        right: Address,
+        to: Address,
+    },
+    /// MOD.F
+    Remainder {
+        left: Address,
+        right: Address,
+        to: Address,
+    },
+    /// MIN.F
+    Least {
+        left: Address,
+        right: Address,
+        to: Address,
+    },
+    /// MAX.F
+    Greatest {
+        left: Address,
+        right: Address,
+        to: Address,
+    },
+    /// ABS.F
     Absolute {
-        line: Line,
+        of: Address,
+        to: Address,
     },
-    /// The value of an attribute goes in place of the reference to its entity.
-    Attribute {
-        class: usize,
-        field: usize,
-        line: Line,
+    /// TIME.V
+    Clock {
+        to: Address,
     },
-    /// What is asked of a set goes in place of its owner.
-    OfSet {
-        query: SetQuery,
-        set: usize,
-        system: bool,
-        line: Line,
-    },
-    /// What is asked of a member goes in its place.
-    OfMember {
-        query: MemberQuery,
-        set: usize,
-        line: Line,
-    },
-    /// TIME.V goes on top of the stack.
-    Clock,
-    /// TIME.A of a notice goes in its place.
+    /// TIME.A of a notice.
     TimeOf {
-        line: Line,
+        notice: Address,
+        to: Address,
     },
-    /// What a statistic says goes in place of the entity that has it, if one has.
+    /// An attribute of an entity, a number.
+    Attribute {
+        class: u32,
+        field: u32,
+        entity: Address,
+        to: Address,
+    },
+    /// The same, a text.
+    TextAttribute {
+        class: u32,
+        field: u32,
+        entity: Address,
+        to: Address,
+    },
+    /// F. of the set of an owner: its first member, 0 for none.
+    FirstMember {
+        set: u32,
+        owner: Address,
+        to: Address,
+    },
+    /// L.: its last member, 0 for none.
+    LastMember {
+        set: u32,
+        owner: Address,
+        to: Address,
+    },
+    /// N.: how many members it has.
+    MemberCount {
+        set: u32,
+        owner: Address,
+        to: Address,
+    },
+    /// P. of a member: the one before it, 0 for none.
+    Predecessor {
+        set: u32,
+        member: Address,
+        to: Address,
+    },
+    /// S.: the one after it, 0 for none.
+    Successor {
+        set: u32,
+        member: Address,
+        to: Address,
+    },
+    /// M.: 1 for a member of any set of the name, else 0.
+    Membership {
+        set: u32,
+        member: Address,
+        to: Address,
+    },
+    /// What a statistic says of an entity.
     Figure {
+        statistic: u32,
+        entity: Address,
+        to: Address,
         fold: Fold,
-        statistic: usize,
-        system: bool,
-        line: Line,
     },
-    /// Goes on where two values, the right one on top, are in the relation, and jumps where they aren't.
-    Compare {
-        relation: Relation,
-        skip: usize,
+
+    // Looks: where a reference is evaluated before something that may fault. What is looked at stays.
+    /// Looks at a reference to an entity of a class.
+    LookEntity {
+        class: u32,
+        entity: Address,
     },
-    /// Goes on where no word of input is left, or one is if negated, and jumps otherwise.
-    TestData {
-        negated: bool,
-        skip: usize,
-        line: Line,
+    /// Looks at a reference to an entity that may be a member of a set.
+    LookMember {
+        set: u32,
+        member: Address,
     },
-    /// Goes on where the set of an owner has no member, or has one if negated, and jumps otherwise.
-    TestEmpty {
-        negated: bool,
-        set: usize,
-        system: bool,
-        skip: usize,
-        line: Line,
+    /// Looks at the owner of a set.
+    LookOwner {
+        set: u32,
+        owner: Address,
     },
-    /// Goes on where the value below the owner is in the owner's set, or is not if negated, and jumps otherwise.
-    TestMember {
-        negated: bool,
-        set: usize,
-        system: bool,
-        skip: usize,
-        line: Line,
+    /// Looks at the mean of a statistic of an entity.
+    LookMean {
+        statistic: u32,
+        entity: Address,
     },
+    /// N. of a permanent class may be assigned a value.
+    LookCount {
+        class: u32,
+    },
+
+    // Attributes.
+    /// A number goes to an attribute of an entity.
+    SetAttribute {
+        class: u32,
+        field: u32,
+        entity: Address,
+        from: Address,
+        noted: bool,
+    },
+    /// The same of a text.
+    SetTextAttribute {
+        class: u32,
+        field: u32,
+        entity: Address,
+        from: Address,
+    },
+    /// A number is added to an attribute of an entity, or subtracted from it.
+    ChangeAttribute {
+        class: u32,
+        field: u32,
+        entity: Address,
+        by: Address,
+        sign: Sign,
+        noted: bool,
+    },
+
+    // Jumps.
     /// Jumps.
     Jump {
-        skip: usize,
+        skip: u32,
     },
-    /// Looks at a reference to an entity of a class, which stays on top of the stack.
-    LookEntity {
-        class: usize,
-        line: Line,
+    /// Goes on where two numbers are equal, and jumps otherwise.
+    UnlessEqual {
+        left: Address,
+        right: Address,
+        skip: u32,
     },
-    /// Looks at a reference to an entity that may be a member of a set, which stays on top of the stack.
-    LookMember {
-        set: usize,
-        line: Line,
+    /// .. where they are not.
+    UnlessNotEqual {
+        left: Address,
+        right: Address,
+        skip: u32,
     },
-    /// Looks at the owner of a set, which stays on top of the stack.
-    LookOwner {
-        set: usize,
-        system: bool,
-        line: Line,
+    /// .. where the left is less.
+    UnlessLess {
+        left: Address,
+        right: Address,
+        skip: u32,
     },
-    /// Looks at the mean of a statistic, of the entity on top of the stack, if an entity has it. The entity stays there.
-    LookMean {
-        statistic: usize,
-        system: bool,
-        line: Line,
+    /// .. where it is greater.
+    UnlessGreater {
+        left: Address,
+        right: Address,
+        skip: u32,
     },
-    /// The value on top of the stack goes to a destination.
-    Assign {
-        to: Destination,
-        line: Line,
+    /// .. where it is less or equal.
+    UnlessLessOrEqual {
+        left: Address,
+        right: Address,
+        skip: u32,
     },
-    /// A value is added to what the destination holds, or subtracted from it. The reference of the destination lies
-    /// above the value.
-    Change {
-        sign: Sign,
-        to: Destination,
-        line: Line,
+    /// .. where it is greater or equal.
+    UnlessGreaterOrEqual {
+        left: Address,
+        right: Address,
+        skip: u32,
     },
-    /// The value below the reference of a destination goes there.
-    Give {
-        to: Destination,
-        line: Line,
+    /// Goes on where two texts stand in a relation, and jumps otherwise.
+    UnlessTexts {
+        left: Address,
+        right: Address,
+        skip: u32,
+        relation: Relation,
     },
-    /// The next word of input goes on top of the stack.
-    Read {
-        mode: Mode,
-        line: Line,
+    /// Goes on where no word of input is left, or one is if negated, and jumps otherwise.
+    UnlessEnded {
+        skip: u32,
+        negated: bool,
     },
-    /// Lines are filled with items, and written. The items are made of so many values off the stack, and of means that
-    /// were looked at.
-    Print {
-        lines: usize,
-        values: usize,
+    /// Goes on where the set of an owner has no member, or has one if negated, and jumps otherwise.
+    UnlessEmpty {
+        set: u32,
+        owner: Address,
+        skip: u32,
+        negated: bool,
     },
-    /// So many empty lines are written as the value on top of the stack says.
-    Skip {
-        line: Line,
+    /// Goes on where an entity is in the set of an owner, or is not if negated, and jumps otherwise.
+    UnlessMember {
+        set: u32,
+        member: Address,
+        owner: Address,
+        skip: u32,
+        negated: bool,
     },
-    /// Takes a tick: a turn of a loop that begins with WHILE or UNTIL.
+    /// Takes a tick: a turn of a loop that begins with WHILE or UNTIL, and an item of a loop.
     Turn,
-    /// Jumps back to the turn.
+    /// Jumps back to a turn.
     Repeat {
-        back: usize,
+        back: u32,
     },
-    /// Looks at the first number, the limit and the step of a FOR, the last on top. The first number goes on top of the
-    /// step and the limit. Jumps where there is no item.
+
+    // FOR. What a loop keeps lies in cells, which stay until it forgets them.
+    /// Looks at the first number, the limit and the step of a FOR, in three cells. Jumps where there is no item.
     Begin {
-        skip: usize,
-        line: Line,
+        cell: u32,
+        skip: u32,
     },
-    /// Begins a FOR over the indices of a permanent class. Jumps where there is none.
+    /// Puts the indices of a permanent class in three cells. Jumps where there is none.
     BeginClass {
-        class: usize,
-        skip: usize,
-        line: Line,
+        class: u32,
+        cell: u32,
+        skip: u32,
     },
-    /// Takes a tick, and assigns the item on top of the stack.
+    /// Takes a tick, and assigns the item or the member in a cell to a variable.
     Take {
-        variable: Variable,
-        line: Line,
+        cell: u32,
+        to: Address,
     },
-    /// Jumps back to the taking of the next item, if there is one.
+    /// Jumps back where there is a next item within the limit.
     Next {
-        back: usize,
+        cell: u32,
+        back: u32,
     },
-    /// The first member of a set or, in reverse, its last goes on top of the owner. Jumps where there is none.
+    /// Puts the first member of the set of an owner or, in reverse, its last in a cell, and the one that comes after it in the
+    /// next, 0 for none. Jumps where there is no first. The owner stays.
     BeginSet {
+        set: u32,
+        owner: Address,
+        cell: u32,
+        skip: u32,
         reverse: bool,
-        set: usize,
-        system: bool,
-        skip: usize,
-        line: Line,
     },
-    /// The first member of a loop goes on top of the owner: the member that lies there, or the one after it. Jumps where
-    /// there is none.
+    /// The same from the member in the cell on, or from the one after it.
     BeginAt {
+        set: u32,
+        owner: Address,
+        cell: u32,
+        skip: u32,
         reverse: bool,
         after: bool,
-        set: usize,
-        system: bool,
-        skip: usize,
-        line: Line,
     },
-    /// Takes a tick, and assigns the member on top of the stack. The one that comes after it goes in its place, 0 for
-    /// none.
-    TakeMember {
-        variable: Variable,
-        reverse: bool,
-        set: usize,
-        line: Line,
-    },
-    /// Jumps back to the taking of the member on top of the stack, if there is one. It must still be in the set of
-    /// the owner.
+    /// Goes on where there is no next member. It must still be in the set of the owner, who stays; then it goes in the cell, the
+    /// one that comes after it in the next, and this jumps back. `sifts` says what the code is there: after the Take an attribute of the
+    /// member is read and compared to a variable or a constant, and where that fails it goes on here. So the machine may make
+    /// many steps at once.
     NextMember {
-        set: usize,
-        system: bool,
-        back: usize,
-        line: Line,
+        set: u32,
+        owner: Address,
+        cell: u32,
+        back: u32,
+        reverse: bool,
+        sifts: bool,
     },
-    /// So many values go off the stack.
+    /// Cells are forgotten: those of a loop that is left, and those that stayed.
     Forget {
-        count: usize,
+        count: u32,
     },
-    /// Takes a tick, and calls a routine that takes so many values off the stack and yields so many.
+
+    // Calls.
+    /// Takes a tick, and calls a routine, which takes what it is given off the stack, from a cell on. What it yields comes
+    /// there, the first on top.
     Call {
-        routine: usize,
-        given: usize,
-        yielding: usize,
+        routine: u32,
+        cell: u32,
     },
     /// The routine, or MAIN, is left.
     Leave,
     /// The run ends.
     Halt,
-    /// The number of a new entity goes on top of the stack.
+
+    // Entities and sets.
+    /// The number of a new entity.
     Create {
-        class: usize,
-        line: Line,
+        class: u32,
+        to: Address,
     },
-    /// All entities of a permanent class are made.
+    /// All entities of a permanent class are made, as many as a global variable says.
     CreateAll {
-        counted: CountedClass,
-        line: Line,
+        class: u32,
+        variable: u32,
     },
-    /// The entity that the value on top of the stack refers to goes.
+    /// An entity goes.
     Destroy {
-        class: usize,
-        line: Line,
+        class: u32,
+        entity: Address,
     },
-    /// A member is filed in the set of an owner, which lies on top, above the one beside which it is filed, if any.
-    File {
-        filing: Filing,
-        set: usize,
-        system: bool,
-        line: Line,
+    /// An entity becomes the first member of the set of an owner.
+    FileFirst {
+        set: u32,
+        member: Address,
+        owner: Address,
+        noted: bool,
     },
-    /// The member below the owner is removed from its set.
+    /// .. the last member.
+    FileLast {
+        set: u32,
+        member: Address,
+        owner: Address,
+        noted: bool,
+    },
+    /// .. a member where its rank says.
+    FileRanked {
+        set: u32,
+        member: Address,
+        owner: Address,
+        noted: bool,
+    },
+    /// .. a member directly before another one, or directly after it.
+    FileBeside {
+        noted: bool,
+        after: bool,
+        set: u32,
+        member: Address,
+        beside: Address,
+        owner: Address,
+    },
+    /// A member is removed from the set of an owner.
     Remove {
-        set: usize,
-        system: bool,
-        line: Line,
+        set: u32,
+        member: Address,
+        owner: Address,
+        noted: bool,
     },
-    /// The member at an end of the set of an owner is removed, and goes on top of the stack.
-    RemoveEnd {
-        end: End,
-        set: usize,
-        system: bool,
-        line: Line,
+    /// The first member of the set of an owner is removed.
+    RemoveFirst {
+        set: u32,
+        owner: Address,
+        to: Address,
+        noted: bool,
     },
-    /// The time that a value says or, if later, that is so many units from now, goes in its place. It may not be past.
-    When {
-        later: bool,
-        line: Line,
+    /// The last one.
+    RemoveLast {
+        set: u32,
+        owner: Address,
+        to: Address,
+        noted: bool,
     },
-    /// A new notice gets the time on top of the stack and, as its first attributes, so many values below it. Its
-    /// number goes on top of the time.
+
+    // Events.
+    /// A time to schedule for, which may not be past.
+    At {
+        time: Address,
+        to: Address,
+    },
+    /// The time that is so many units from now.
+    In {
+        units: Address,
+        to: Address,
+    },
+    /// The number of a new notice. It takes its first attributes off the stack, so many from a cell on, and its time from the
+    /// cell above these. The time goes in the first cell.
     MakeNotice {
-        class: usize,
-        given: usize,
-        line: Line,
+        class: u32,
+        cell: u32,
+        given: u32,
+        to: Address,
+        noted: bool,
     },
-    /// The number of a new notice goes to a destination, whose reference lies below its time; number and time stay.
-    Name {
-        to: Destination,
-        line: Line,
-    },
-    /// The notice on top of the stack is filed among those that are pending, for the time below it.
+    /// A notice is filed among those that are pending, for a time.
     FileNotice {
-        class: usize,
-        line: Line,
+        class: u32,
+        notice: Address,
+        time: Address,
     },
-    /// A notice that there is gets the time on top of the stack and so many values below it, and is filed. It lies
-    /// below these.
+    /// A notice that there is takes the same off the stack as a new one, and is filed.
     Reschedule {
-        class: usize,
-        given: usize,
-        line: Line,
+        class: u32,
+        notice: Address,
+        cell: u32,
+        given: u32,
+        noted: bool,
     },
-    /// The notice on top of the stack is pending no longer.
+    /// A notice is pending no longer.
     Cancel {
-        class: usize,
-        line: Line,
+        class: u32,
+        notice: Address,
     },
     /// Goes on where a notice is pending, and jumps otherwise.
     Await {
-        skip: usize,
+        skip: u32,
     },
-    /// Takes a tick, takes out the notice that comes next, and begins its event, which comes back after this.
-    TakeEvent,
-    /// Jumps back to the taking of the next event, if a notice is pending.
+    /// Takes a tick, takes out the notice that comes next, and begins its event, whose frame begins at a cell.
+    TakeEvent {
+        cell: u32,
+    },
+    /// Jumps back where a notice is pending.
     NextEvent {
-        back: usize,
+        back: u32,
     },
-    /// A statistic starts afresh, of the entity on top of the stack, if an entity has it.
+    /// A statistic starts afresh, of an entity.
     Reset {
-        statistic: usize,
-        system: bool,
-        line: Line,
+        statistic: u32,
+        entity: Address,
+    },
+
+    // Input and report.
+    /// The next word of input, a number.
+    Read {
+        to: Address,
+    },
+    /// The same, a text.
+    ReadText {
+        to: Address,
+    },
+    /// Lines are filled with items, and written. The values of these lie on the stack, from a cell on.
+    Print {
+        lines: u32,
+        cell: u32,
+    },
+    /// So many empty lines are written.
+    Skip {
+        count: Address,
     },
 }

@@ -1,12 +1,14 @@
 //! What the items of a PRINT are.
 
-/// What an item of a PRINT shows, and whether it takes a value off the stack for that.
-#[derive(Clone, Copy)]
+/// What an item of a PRINT shows. A value and a reference lie in the next of its cells.
+#[derive(Clone, Copy, Debug, PartialEq, Eq)]
 pub enum ItemKind {
-    /// A value off the stack.
-    Value,
+    /// A whole number.
+    Number,
+    /// A text.
+    Text,
     /// The mean of a statistic that has no entity.
     Mean { statistic: usize },
-    /// The mean of a statistic of an entity, or of the set of an owner, whose reference is off the stack.
+    /// The mean of a statistic of an entity, or of the set of an owner, to which the cell refers.
     MeanOf { statistic: usize },
 }

@@ -1,6 +1,7 @@
-//! The machine's instructions and their definition, and the code of a program.
+//! The instructions of the machine, and what else a program's code holds.
 #![tactic(auto)]
 
+pub mod address;
 mod class;
 mod copies;
 pub mod entry;

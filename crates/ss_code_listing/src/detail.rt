@@ -1,560 +1,520 @@
-//! How an instruction is written in a listing.
+//! What instructions are called, and what they work on.
 
-ghost use Rattle.std.specs.Prelude.{◌≡◌, [], ◌∷◌, ◌+◌, ◌-◌, ◌++◌, codes, OnOk};
-ghost use Rattle.ss_code_listing.specs.declared.operand.Operand.TheVariants.{At};
-ghost use Rattle.ss_code_listing.specs.Operands.{value_text};
-ghost use Rattle.ss_code_listing.specs.Details.{further_text, padded, instruction_text, landing as landing_of, first_of_routine, detail};
+use ss_code_instructions::address::Address;
+use ss_code_instructions::instruction::Instruction as I;
+use ss_program::condition::Relation;
+use ss_program::expression::{Fold, Sign};
 
-use crate::operand::{Operand, add_operand, add_value};
-use crate::words::Word;
-use ss_base::{Line, Value};
-use ss_code_instructions::entry::EntryPoint;
-use ss_code_instructions::instruction::{Destination, Instruction};
-use ss_program::expression::Variable;
-use std::alloc::AllocError;
-
-// The columns that the names of instructions take.
-const NAME_WIDTH: usize = 13;
-
-/// Adds a text with blanks after it up to a width. The error comes where memory was refused.
-pub(crate) fn add_padded(text: &mut Vec<u8>, width: usize, word: &[u8]) -> Result<(), AllocError>
-    ensures { OnOk result (text.new.items ≡ text.old.items ++ padded width word.now) }
-{
-    text.extend_from_slice(word)?;
-    for _blank in 0..width.saturating_sub(word.len()) {
-        text.push(b' ')?;
-    }
-    Ok(())
+/// One of the things that an instruction works on.
+#[derive(Clone, Copy)]
+pub(crate) enum Part {
+    Nothing,
+    /// What is read.
+    From(Address),
+    /// Where something goes.
+    To(Address),
+    /// A class, a set and the like, by its number.
+    Of(&'static str, u32),
+    /// So many instructions are skipped.
+    Else(u32),
+    /// So many instructions back.
+    Back(u32),
+    Word(&'static str),
 }
 
-// Further operands, a comma and a blank before each.
-fn add_further(text: &mut Vec<u8>, operands: &[Operand]) -> Result<(), AllocError>
-    ensures { OnOk result (text.new.items ≡ text.old.items ++ further_text operands.now) }
-{
-    for operand in operands {
-        text.extend_from_slice(b", ")?;
-        add_operand(text, operand)?;
-    }
-    Ok(())
+/// What an instruction is called, and what it works on.
+#[derive(Clone, Copy)]
+pub(crate) struct Detail {
+    pub(crate) name: &'static str,
+    pub(crate) parts: [Part; 6],
 }
 
-// The name of an instruction, and its operands.
-fn add_instruction_text(
-    text: &mut Vec<u8>,
-    name: &str,
-    operands: &[Operand],
-) -> Result<(), AllocError>
-    ensures { OnOk result (text.new.items ≡ text.old.items ++ instruction_text name.now operands.now) }
-{
-    match operands {
-        [] => text.extend_from_slice(name.as_bytes()),
-        [first, rest @ ..] => {
-            add_padded(text, NAME_WIDTH, name.as_bytes())?;
-            add_operand(text, first)?;
-            add_further(text, rest)
-        }
+// What works on nothing.
+fn none(name: &'static str) -> Detail {
+    with(name, &[])
+}
+
+// What works on these.
+fn with(name: &'static str, all: &[Part]) -> Detail {
+    let mut parts = [Part::Nothing; 6];
+    for (i, part) in all.iter().enumerate() {
+        parts[i] = *part;
+    }
+    Detail { name, parts }
+}
+
+// A word where something is so.
+fn word_if(is_so: bool, word: &'static str) -> Part {
+    if is_so {
+        Part::Word(word)
+    } else {
+        Part::Nothing
     }
 }
 
-// What is pushed.
-fn add_pushed(text: &mut Vec<u8>, value: &Value) -> Result<(), AllocError>
-    ensures { OnOk result (text.new.items ≡ text.old.items ++ (padded 13 (codes "push") ++ value_text value.now)) }
-{
-    add_padded(text, NAME_WIDTH, b"push")?;
-    add_value(text, value)
-}
-
-// Where a jump from a place leads that skips so many instructions.
-fn landing(place: usize, skip: usize) -> u128
-    ensures { result ≡ landing_of place skip }
-{
-    place as u128 + 1 + skip as u128
-}
-
-// Where a jump leads that goes back so many instructions.
-fn origin(place: usize, back: usize) -> u128
-    ensures { result ≡ place - back }
-{
-    place.saturating_sub(back) as u128
-}
-
-// The place of the first instruction of a routine, if there is one of that number.
-fn first_place(routines: &[EntryPoint], routine: usize) -> Option<usize>
-    ensures { result ≡ first_of_routine routines.now routine }
-{
-    match routines.get(routine) {
-        None => None,
-        Some(entry) => Some(entry.place()),
+// How two texts compare.
+fn relation_word(relation: Relation) -> &'static str {
+    match relation {
+        Relation::Equal => "equal",
+        Relation::NotEqual => "not equal",
+        Relation::Less => "less",
+        Relation::Greater => "greater",
+        Relation::LessOrEqual => "less or equal",
+        Relation::GreaterOrEqual => "greater or equal",
     }
 }
 
-// An instruction without operands.
-fn add_bare(text: &mut Vec<u8>, name: &str) -> Result<(), AllocError>
-    ensures { OnOk result (text.new.items ≡ text.old.items ++ instruction_text name.now []) }
-{
-    add_instruction_text(text, name, &[])
+// What is asked of a statistic.
+fn fold_word(fold: Fold) -> &'static str {
+    match fold {
+        Fold::Number => "number",
+        Fold::Sum => "sum",
+        Fold::Maximum => "maximum",
+        Fold::Minimum => "minimum",
+    }
 }
 
-// An instruction that has its line alone.
-fn add_bare_at(text: &mut Vec<u8>, name: &str, line: Line) -> Result<(), AllocError>
-    ensures { OnOk result (text.new.items ≡ text.old.items ++ instruction_text name.now (At line ∷ [])) }
-{
-    add_instruction_text(text, name, &[Operand::At(line)])
-}
-
-// An instruction with one operand.
-fn add_one(text: &mut Vec<u8>, name: &str, first: Operand) -> Result<(), AllocError>
-    ensures { OnOk result (text.new.items ≡ text.old.items ++ instruction_text name.now (first ∷ [])) }
-{
-    add_instruction_text(text, name, &[first])
-}
-
-// An instruction with one operand and its line.
-fn add_one_at(text: &mut Vec<u8>, name: &str, first: Operand, line: Line) -> Result<(), AllocError>
-    ensures { OnOk result (text.new.items ≡ text.old.items ++ instruction_text name.now (first ∷ At line ∷ [])) }
-{
-    add_instruction_text(text, name, &[first, Operand::At(line)])
-}
-
-// An instruction with two operands.
-fn add_two(
-    text: &mut Vec<u8>,
-    name: &str,
-    first: Operand,
-    second: Operand,
-) -> Result<(), AllocError>
-    ensures { OnOk result (text.new.items ≡ text.old.items ++ instruction_text name.now (first ∷ second ∷ [])) }
-{
-    add_instruction_text(text, name, &[first, second])
-}
-
-// An instruction with two operands and its line.
-fn add_two_at(
-    text: &mut Vec<u8>,
-    name: &str,
-    first: Operand,
-    second: Operand,
-    line: Line,
-) -> Result<(), AllocError>
-    ensures { OnOk result (text.new.items ≡ text.old.items ++ instruction_text name.now (first ∷ second ∷ At line ∷ [])) }
-{
-    add_instruction_text(text, name, &[first, second, Operand::At(line)])
-}
-
-// An instruction with three operands.
-fn add_three(
-    text: &mut Vec<u8>,
-    name: &str,
-    first: Operand,
-    second: Operand,
-    third: Operand,
-) -> Result<(), AllocError>
-    ensures { OnOk result (text.new.items ≡ text.old.items ++ instruction_text name.now (first ∷ second ∷ third ∷ [])) }
-{
-    add_instruction_text(text, name, &[first, second, third])
-}
-
-// An instruction with three operands and its line.
-fn add_three_at(
-    text: &mut Vec<u8>,
-    name: &str,
-    first: Operand,
-    second: Operand,
-    third: Operand,
-    line: Line,
-) -> Result<(), AllocError>
-    ensures { OnOk result (text.new.items ≡ text.old.items ++ instruction_text name.now (first ∷ second ∷ third ∷ At line ∷ [])) }
-{
-    add_instruction_text(text, name, &[first, second, third, Operand::At(line)])
-}
-
-// An instruction with four operands and its line.
-fn add_four_at(
-    text: &mut Vec<u8>,
-    name: &str,
-    first: Operand,
-    second: Operand,
-    third: Operand,
-    fourth: Operand,
-    line: Line,
-) -> Result<(), AllocError>
-    ensures { OnOk result (text.new.items ≡ text.old.items ++ instruction_text name.now (first ∷ second ∷ third ∷ fourth ∷ At line ∷ [])) }
-{
-    add_instruction_text(
-        text,
-        name,
-        &[first, second, third, fourth, Operand::At(line)],
-    )
-}
-
-/// Adds the instruction at a place, among these routines and these beginnings of events. The error comes where
-/// memory was refused.
-pub(crate) fn add_detail(
-    text: &mut Vec<u8>,
-    routines: &[EntryPoint],
-    events: &[Operand],
-    place: usize,
-    instruction: &Instruction,
-) -> Result<(), AllocError>
-    ensures { OnOk result (text.new.items ≡ text.old.items ++ detail routines.now events.now place instruction.now) }
-{
+/// What an instruction is called, and what it works on.
+pub(crate) fn detail_of(instruction: &I) -> Detail {
     match instruction {
-        Instruction::Push { value } => add_pushed(text, value),
-        Instruction::Fetch { variable } => add_one(
-            text,
-            "fetch",
-            Operand::Place(Destination::Variable {
-                variable: *variable,
-            }),
+        I::Move { from, to } => with("move", &[Part::From(*from), Part::To(*to)]),
+        I::MoveText { from, to } => with("move text", &[Part::From(*from), Part::To(*to)]),
+        I::Keep { from, variable } => with(
+            "keep",
+            &[Part::From(*from), Part::To(Address::fixed(*variable))],
         ),
-        Instruction::Calculate { operator, line } => add_one_at(
-            text,
-            "calculate",
-            Operand::Word(Word::Operator(*operator)),
-            *line,
+        I::Add { left, right, to } => with(
+            "add",
+            &[Part::From(*left), Part::From(*right), Part::To(*to)],
         ),
-        Instruction::Signed { sign, line } => add_one_at(
-            text,
-            "signed",
-            Operand::Word(Word::Sign(*sign)),
-            *line,
+        I::Subtract { left, right, to } => with(
+            "subtract",
+            &[Part::From(*left), Part::From(*right), Part::To(*to)],
         ),
-        Instruction::Absolute { line } => add_bare_at(text, "absolute", *line),
-        Instruction::Attribute { class, field, line } => add_one_at(
-            text,
+        I::Multiply { left, right, to } => with(
+            "multiply",
+            &[Part::From(*left), Part::From(*right), Part::To(*to)],
+        ),
+        I::Quotient { left, right, to } => with(
+            "quotient",
+            &[Part::From(*left), Part::From(*right), Part::To(*to)],
+        ),
+        I::Remainder { left, right, to } => with(
+            "remainder",
+            &[Part::From(*left), Part::From(*right), Part::To(*to)],
+        ),
+        I::Least { left, right, to } => with(
+            "least",
+            &[Part::From(*left), Part::From(*right), Part::To(*to)],
+        ),
+        I::Greatest { left, right, to } => with(
+            "greatest",
+            &[Part::From(*left), Part::From(*right), Part::To(*to)],
+        ),
+        I::Absolute { of, to } => with("absolute", &[Part::From(*of), Part::To(*to)]),
+        I::Clock { to } => with("clock", &[Part::To(*to)]),
+        I::TimeOf { notice, to } => with("time of", &[Part::From(*notice), Part::To(*to)]),
+        I::Attribute {
+            class,
+            field,
+            entity,
+            to,
+        } => with(
             "attribute",
-            Operand::Place(Destination::Attribute {
-                class: *class,
-                field: *field,
-            }),
-            *line,
+            &[
+                Part::Of("class", *class),
+                Part::Of("field", *field),
+                Part::From(*entity),
+                Part::To(*to),
+            ],
         ),
-        Instruction::OfSet {
-            query,
-            set,
-            system,
-            line,
-        } => add_two_at(
-            text,
-            "of set",
-            Operand::Word(Word::OfSet(*query)),
-            Operand::Owned(*set, *system),
-            *line,
+        I::TextAttribute {
+            class,
+            field,
+            entity,
+            to,
+        } => with(
+            "text attribute",
+            &[
+                Part::Of("class", *class),
+                Part::Of("field", *field),
+                Part::From(*entity),
+                Part::To(*to),
+            ],
         ),
-        Instruction::OfMember { query, set, line } => add_two_at(
-            text,
-            "of member",
-            Operand::Word(Word::OfMember(*query)),
-            Operand::Set(*set),
-            *line,
+        I::FirstMember { set, owner, to } => with(
+            "first member",
+            &[Part::Of("set", *set), Part::From(*owner), Part::To(*to)],
         ),
-        Instruction::Clock => add_bare(text, "clock"),
-        Instruction::TimeOf { line } => add_bare_at(text, "time of", *line),
-        Instruction::Figure {
+        I::LastMember { set, owner, to } => with(
+            "last member",
+            &[Part::Of("set", *set), Part::From(*owner), Part::To(*to)],
+        ),
+        I::MemberCount { set, owner, to } => with(
+            "member count",
+            &[Part::Of("set", *set), Part::From(*owner), Part::To(*to)],
+        ),
+        I::Predecessor { set, member, to } => with(
+            "predecessor",
+            &[Part::Of("set", *set), Part::From(*member), Part::To(*to)],
+        ),
+        I::Successor { set, member, to } => with(
+            "successor",
+            &[Part::Of("set", *set), Part::From(*member), Part::To(*to)],
+        ),
+        I::Membership { set, member, to } => with(
+            "membership",
+            &[Part::Of("set", *set), Part::From(*member), Part::To(*to)],
+        ),
+        I::Figure {
+            statistic,
+            entity,
+            to,
             fold,
-            statistic,
-            system,
-            line,
-        } => add_two_at(
-            text,
+        } => with(
             "figure",
-            Operand::Word(Word::Fold(*fold)),
-            Operand::Statistic(*statistic, *system),
-            *line,
+            &[
+                Part::Of("statistic", *statistic),
+                Part::From(*entity),
+                Part::To(*to),
+                Part::Word(fold_word(*fold)),
+            ],
         ),
-        Instruction::Compare { relation, skip } => add_two(
-            text,
-            "compare",
-            Operand::Word(Word::Relation(*relation)),
-            Operand::Else(landing(place, *skip)),
-        ),
-        Instruction::TestData {
-            negated,
-            skip,
-            line,
-        } => add_two_at(
-            text,
-            "test data",
-            Operand::Word(Word::Negated(*negated)),
-            Operand::Else(landing(place, *skip)),
-            *line,
-        ),
-        Instruction::TestEmpty {
-            negated,
-            set,
-            system,
-            skip,
-            line,
-        } => add_three_at(
-            text,
-            "test empty",
-            Operand::Word(Word::Negated(*negated)),
-            Operand::Owned(*set, *system),
-            Operand::Else(landing(place, *skip)),
-            *line,
-        ),
-        Instruction::TestMember {
-            negated,
-            set,
-            system,
-            skip,
-            line,
-        } => add_three_at(
-            text,
-            "test member",
-            Operand::Word(Word::Negated(*negated)),
-            Operand::Owned(*set, *system),
-            Operand::Else(landing(place, *skip)),
-            *line,
-        ),
-        Instruction::Jump { skip } => add_one(text, "jump", Operand::To(landing(place, *skip))),
-        Instruction::LookEntity { class, line } => add_one_at(
-            text,
+        I::LookEntity { class, entity } => with(
             "look entity",
-            Operand::Class(*class),
-            *line,
+            &[Part::Of("class", *class), Part::From(*entity)],
         ),
-        Instruction::LookMember { set, line } => add_one_at(
-            text,
+        I::LookMember { set, member } => with(
             "look member",
-            Operand::Set(*set),
-            *line,
+            &[Part::Of("set", *set), Part::From(*member)],
         ),
-        Instruction::LookOwner { set, system, line } => add_one_at(
-            text,
+        I::LookOwner { set, owner } => with(
             "look owner",
-            Operand::Owned(*set, *system),
-            *line,
+            &[Part::Of("set", *set), Part::From(*owner)],
         ),
-        Instruction::LookMean {
-            statistic,
-            system,
-            line,
-        } => add_one_at(
-            text,
+        I::LookMean { statistic, entity } => with(
             "look mean",
-            Operand::Statistic(*statistic, *system),
-            *line,
+            &[Part::Of("statistic", *statistic), Part::From(*entity)],
         ),
-        Instruction::Assign { to, line } => add_one_at(text, "assign", Operand::Place(*to), *line),
-        Instruction::Change { sign, to, line } => add_two_at(
-            text,
-            "change",
-            Operand::Word(Word::Sign(*sign)),
-            Operand::Place(*to),
-            *line,
+        I::LookCount { class } => with("look count", &[Part::Of("class", *class)]),
+        I::SetAttribute {
+            class,
+            field,
+            entity,
+            from,
+            ..
+        } => with(
+            "set attribute",
+            &[
+                Part::Of("class", *class),
+                Part::Of("field", *field),
+                Part::From(*entity),
+                Part::From(*from),
+            ],
         ),
-        Instruction::Give { to, line } => add_one_at(text, "give", Operand::Place(*to), *line),
-        Instruction::Read { mode, line } => add_one_at(
-            text,
-            "read",
-            Operand::Word(Word::Mode(*mode)),
-            *line,
+        I::SetTextAttribute {
+            class,
+            field,
+            entity,
+            from,
+        } => with(
+            "set text attribute",
+            &[
+                Part::Of("class", *class),
+                Part::Of("field", *field),
+                Part::From(*entity),
+                Part::From(*from),
+            ],
         ),
-        Instruction::Print { lines, values } => add_two(
-            text,
-            "print",
-            Operand::Pictures(*lines),
-            Operand::Values(*values),
+        I::ChangeAttribute {
+            class,
+            field,
+            entity,
+            by,
+            sign,
+            ..
+        } => with(
+            match sign {
+                Sign::Plus => "add to attribute",
+                Sign::Minus => "subtract from attribute",
+            },
+            &[
+                Part::Of("class", *class),
+                Part::Of("field", *field),
+                Part::From(*entity),
+                Part::From(*by),
+            ],
         ),
-        Instruction::Skip { line } => add_bare_at(text, "skip", *line),
-        Instruction::Turn => add_bare(text, "turn"),
-        Instruction::Repeat { back } => add_one(text, "repeat", Operand::To(origin(place, *back))),
-        Instruction::Begin { skip, line } => add_one_at(
-            text,
-            "begin",
-            Operand::Else(landing(place, *skip)),
-            *line,
+        I::Jump { skip } => with("jump", &[Part::Else(*skip)]),
+        I::UnlessEqual { left, right, skip } => with(
+            "unless equal",
+            &[Part::From(*left), Part::From(*right), Part::Else(*skip)],
         ),
-        Instruction::BeginClass { class, skip, line } => add_two_at(
-            text,
-            "begin class",
-            Operand::Class(*class),
-            Operand::Else(landing(place, *skip)),
-            *line,
+        I::UnlessNotEqual { left, right, skip } => with(
+            "unless not equal",
+            &[Part::From(*left), Part::From(*right), Part::Else(*skip)],
         ),
-        Instruction::Take { variable, line } => add_one_at(
-            text,
-            "take",
-            Operand::Place(Destination::Variable {
-                variable: *variable,
-            }),
-            *line,
+        I::UnlessLess { left, right, skip } => with(
+            "unless less",
+            &[Part::From(*left), Part::From(*right), Part::Else(*skip)],
         ),
-        Instruction::Next { back } => add_one(text, "next", Operand::To(origin(place, *back))),
-        Instruction::BeginSet {
-            reverse,
-            set,
-            system,
+        I::UnlessGreater { left, right, skip } => with(
+            "unless greater",
+            &[Part::From(*left), Part::From(*right), Part::Else(*skip)],
+        ),
+        I::UnlessLessOrEqual { left, right, skip } => with(
+            "unless less or equal",
+            &[Part::From(*left), Part::From(*right), Part::Else(*skip)],
+        ),
+        I::UnlessGreaterOrEqual { left, right, skip } => with(
+            "unless greater or equal",
+            &[Part::From(*left), Part::From(*right), Part::Else(*skip)],
+        ),
+        I::UnlessTexts {
+            left,
+            right,
             skip,
-            line,
-        } => add_three_at(
-            text,
-            "begin set",
-            Operand::Word(Word::Order(*reverse)),
-            Operand::Owned(*set, *system),
-            Operand::Else(landing(place, *skip)),
-            *line,
+            relation,
+        } => with(
+            "unless texts",
+            &[
+                Part::From(*left),
+                Part::From(*right),
+                Part::Else(*skip),
+                Part::Word(relation_word(*relation)),
+            ],
         ),
-        Instruction::BeginAt {
+        I::UnlessEnded { skip, negated } => with(
+            "unless ended",
+            &[Part::Else(*skip), word_if(*negated, "negated")],
+        ),
+        I::UnlessEmpty {
+            set,
+            owner,
+            skip,
+            negated,
+        } => with(
+            "unless empty",
+            &[
+                Part::Of("set", *set),
+                Part::From(*owner),
+                Part::Else(*skip),
+                word_if(*negated, "negated"),
+            ],
+        ),
+        I::UnlessMember {
+            set,
+            member,
+            owner,
+            skip,
+            negated,
+        } => with(
+            "unless member",
+            &[
+                Part::Of("set", *set),
+                Part::From(*member),
+                Part::From(*owner),
+                Part::Else(*skip),
+                word_if(*negated, "negated"),
+            ],
+        ),
+        I::Turn => none("turn"),
+        I::Repeat { back } => with("repeat", &[Part::Back(*back)]),
+        I::Begin { cell, skip } => with("begin", &[Part::Of("cell", *cell), Part::Else(*skip)]),
+        I::BeginClass { class, cell, skip } => with(
+            "begin class",
+            &[
+                Part::Of("class", *class),
+                Part::Of("cell", *cell),
+                Part::Else(*skip),
+            ],
+        ),
+        I::Take { cell, to } => with("take", &[Part::Of("cell", *cell), Part::To(*to)]),
+        I::Next { cell, back } => with("next", &[Part::Of("cell", *cell), Part::Back(*back)]),
+        I::BeginSet {
+            set,
+            owner,
+            cell,
+            skip,
+            reverse,
+        } => with(
+            "begin set",
+            &[
+                Part::Of("set", *set),
+                Part::From(*owner),
+                Part::Of("cell", *cell),
+                Part::Else(*skip),
+                word_if(*reverse, "reverse"),
+            ],
+        ),
+        I::BeginAt {
+            set,
+            owner,
+            cell,
+            skip,
             reverse,
             after,
-            set,
-            system,
-            skip,
-            line,
-        } => add_four_at(
-            text,
+        } => with(
             "begin at",
-            Operand::Word(Word::Order(*reverse)),
-            Operand::Word(Word::Start(*after)),
-            Operand::Owned(*set, *system),
-            Operand::Else(landing(place, *skip)),
-            *line,
+            &[
+                Part::Of("set", *set),
+                Part::From(*owner),
+                Part::Of("cell", *cell),
+                Part::Else(*skip),
+                word_if(*reverse, "reverse"),
+                word_if(*after, "after"),
+            ],
         ),
-        Instruction::TakeMember {
-            variable,
-            reverse,
+        I::NextMember {
             set,
-            line,
-        } => add_three_at(
-            text,
-            "take member",
-            Operand::Place(Destination::Variable {
-                variable: *variable,
-            }),
-            Operand::Word(Word::Order(*reverse)),
-            Operand::Set(*set),
-            *line,
-        ),
-        Instruction::NextMember {
-            set,
-            system,
+            owner,
+            cell,
             back,
-            line,
-        } => add_two_at(
-            text,
+            reverse,
+            ..
+        } => with(
             "next member",
-            Operand::Owned(*set, *system),
-            Operand::To(origin(place, *back)),
-            *line,
+            &[
+                Part::Of("set", *set),
+                Part::From(*owner),
+                Part::Of("cell", *cell),
+                Part::Back(*back),
+                word_if(*reverse, "reverse"),
+            ],
         ),
-        Instruction::Forget { count } => add_one(text, "forget", Operand::Values(*count)),
-        Instruction::Call {
-            routine,
-            given,
-            yielding,
-        } => add_three(
-            text,
+        I::Forget { count } => with("forget", &[Part::Of("count", *count)]),
+        I::Call { routine, cell } => with(
             "call",
-            Operand::Routine(*routine, first_place(routines, *routine)),
-            Operand::Given(*given),
-            Operand::Yielding(*yielding),
+            &[Part::Of("routine", *routine), Part::Of("cell", *cell)],
         ),
-        Instruction::Leave => add_bare(text, "leave"),
-        Instruction::Halt => add_bare(text, "halt"),
-        Instruction::Create { class, line } => add_one_at(
-            text,
-            "create",
-            Operand::Class(*class),
-            *line,
-        ),
-        Instruction::CreateAll { counted, line } => add_two_at(
-            text,
+        I::Leave => none("leave"),
+        I::Halt => none("halt"),
+        I::Create { class, to } => with("create", &[Part::Of("class", *class), Part::To(*to)]),
+        I::CreateAll { class, variable } => with(
             "create all",
-            Operand::Class(counted.class),
-            Operand::Place(Destination::Variable {
-                variable: Variable::Global {
-                    number: counted.variable,
-                },
-            }),
-            *line,
+            &[Part::Of("class", *class), Part::Of("variable", *variable)],
         ),
-        Instruction::Destroy { class, line } => add_one_at(
-            text,
+        I::Destroy { class, entity } => with(
             "destroy",
-            Operand::Class(*class),
-            *line,
+            &[Part::Of("class", *class), Part::From(*entity)],
         ),
-        Instruction::File {
-            filing,
+        I::FileFirst { set, member, owner, .. } => with(
+            "file first",
+            &[
+                Part::Of("set", *set),
+                Part::From(*member),
+                Part::From(*owner),
+            ],
+        ),
+        I::FileLast { set, member, owner, .. } => with(
+            "file last",
+            &[
+                Part::Of("set", *set),
+                Part::From(*member),
+                Part::From(*owner),
+            ],
+        ),
+        I::FileRanked { set, member, owner, .. } => with(
+            "file ranked",
+            &[
+                Part::Of("set", *set),
+                Part::From(*member),
+                Part::From(*owner),
+            ],
+        ),
+        I::FileBeside {
+            after,
             set,
-            system,
-            line,
-        } => add_two_at(
-            text,
-            "file",
-            Operand::Word(Word::Filing(*filing)),
-            Operand::Owned(*set, *system),
-            *line,
+            member,
+            beside,
+            owner,
+            ..
+        } => with(
+            if *after { "file after" } else { "file before" },
+            &[
+                Part::Of("set", *set),
+                Part::From(*member),
+                Part::From(*beside),
+                Part::From(*owner),
+            ],
         ),
-        Instruction::Remove { set, system, line } => add_one_at(
-            text,
+        I::Remove { set, member, owner, .. } => with(
             "remove",
-            Operand::Owned(*set, *system),
-            *line,
+            &[
+                Part::Of("set", *set),
+                Part::From(*member),
+                Part::From(*owner),
+            ],
         ),
-        Instruction::RemoveEnd {
-            end,
-            set,
-            system,
-            line,
-        } => add_two_at(
-            text,
-            "remove end",
-            Operand::Word(Word::End(*end)),
-            Operand::Owned(*set, *system),
-            *line,
+        I::RemoveFirst { set, owner, to, .. } => with(
+            "remove first",
+            &[Part::Of("set", *set), Part::From(*owner), Part::To(*to)],
         ),
-        Instruction::When { later, line } => add_one_at(
-            text,
-            "when",
-            Operand::Word(Word::Time(*later)),
-            *line,
+        I::RemoveLast { set, owner, to, .. } => with(
+            "remove last",
+            &[Part::Of("set", *set), Part::From(*owner), Part::To(*to)],
         ),
-        Instruction::MakeNotice { class, given, line } => add_two_at(
-            text,
+        I::At { time, to } => with("at", &[Part::From(*time), Part::To(*to)]),
+        I::In { units, to } => with("in", &[Part::From(*units), Part::To(*to)]),
+        I::MakeNotice {
+            class,
+            cell,
+            given,
+            to,
+            ..
+        } => with(
             "make notice",
-            Operand::Class(*class),
-            Operand::Given(*given),
-            *line,
+            &[
+                Part::Of("class", *class),
+                Part::Of("cell", *cell),
+                Part::Of("given", *given),
+                Part::To(*to),
+            ],
         ),
-        Instruction::Name { to, line } => add_one_at(text, "name", Operand::Place(*to), *line),
-        Instruction::FileNotice { class, line } => add_one_at(
-            text,
+        I::FileNotice {
+            class,
+            notice,
+            time,
+        } => with(
             "file notice",
-            Operand::Class(*class),
-            *line,
+            &[
+                Part::Of("class", *class),
+                Part::From(*notice),
+                Part::From(*time),
+            ],
         ),
-        Instruction::Reschedule { class, given, line } => add_two_at(
-            text,
+        I::Reschedule {
+            class,
+            notice,
+            cell,
+            given,
+            ..
+        } => with(
             "reschedule",
-            Operand::Class(*class),
-            Operand::Given(*given),
-            *line,
+            &[
+                Part::Of("class", *class),
+                Part::From(*notice),
+                Part::Of("cell", *cell),
+                Part::Of("given", *given),
+            ],
         ),
-        Instruction::Cancel { class, line } => add_one_at(
-            text,
+        I::Cancel { class, notice } => with(
             "cancel",
-            Operand::Class(*class),
-            *line,
+            &[Part::Of("class", *class), Part::From(*notice)],
         ),
-        Instruction::Await { skip } => add_one(text, "await", Operand::Else(landing(place, *skip))),
-        Instruction::TakeEvent => add_instruction_text(text, "take event", events),
-        Instruction::NextEvent { back } => add_one(
-            text,
-            "next event",
-            Operand::To(origin(place, *back)),
-        ),
-        Instruction::Reset {
-            statistic,
-            system,
-            line,
-        } => add_one_at(
-            text,
+        I::Await { skip } => with("await", &[Part::Else(*skip)]),
+        I::TakeEvent { cell } => with("take event", &[Part::Of("cell", *cell)]),
+        I::NextEvent { back } => with("next event", &[Part::Back(*back)]),
+        I::Reset { statistic, entity } => with(
             "reset",
-            Operand::Statistic(*statistic, *system),
-            *line,
+            &[Part::Of("statistic", *statistic), Part::From(*entity)],
         ),
+        I::Read { to } => with("read", &[Part::To(*to)]),
+        I::ReadText { to } => with("read text", &[Part::To(*to)]),
+        I::Print { lines, cell } => with(
+            "print",
+            &[Part::Of("lines", *lines), Part::Of("cell", *cell)],
+        ),
+        I::Skip { count } => with("skip", &[Part::From(*count)]),
     }
 }

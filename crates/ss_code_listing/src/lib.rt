@@ -1,7 +1,5 @@
-//! The text that lists the instructions of a code.
+//! The text that lists a code.
 #![tactic(auto)]
 
 mod detail;
 pub mod listing;
-mod operand;
-mod words;

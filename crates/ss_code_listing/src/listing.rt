@@ -1,72 +1,135 @@
 //! The text that shows a list of instructions.
 
-ghost use Rattle.std.specs.Prelude.{◌≡◌, ◌++◌, codes, decimal, map, IfOk, OnOk};
-ghost use Rattle.ss_code_listing.specs.Details.{padded, detail};
-ghost use Rattle.ss_code_listing.specs.Listing.{event_place, listed};
-
-use crate::detail::{add_detail, add_padded};
-use crate::operand::Operand;
+use crate::detail::{Detail, Part, detail_of};
 use itoa::Buffer;
-use ss_code_instructions::entry::EntryPoint;
+use ss_base::Value;
+use ss_code_instructions::address::Address;
 use ss_code_instructions::instruction::Instruction;
 use std::alloc::{AllocError, Global};
 
-// The columns that the numbers of instructions take.
+// The columns that the numbers of instructions and their names take.
 const NUMBER_WIDTH: usize = 7;
 
-// One more line.
-fn add_line(
+const NAME_WIDTH: usize = 24;
+
+/// What a listing shows addresses by: the constants, and how many global variables come before them.
+#[derive(Clone, Copy)]
+struct Names<'a> {
+    constants: &'a [Value],
+    globals: usize,
+}
+
+// A number.
+fn add_number(text: &mut Vec<u8>, number: usize) -> Result<(), AllocError> {
+    text.extend_from_slice(Buffer::new().format(number).as_bytes())
+}
+
+// Bytes, and blanks up to so many columns.
+fn add_padded(text: &mut Vec<u8>, width: usize, bytes: &[u8]) -> Result<(), AllocError> {
+    text.extend_from_slice(bytes)?;
+    for _column in bytes.len()..width {
+        text.push(b' ')?;
+    }
+    Ok(())
+}
+
+// A constant.
+fn add_constant(text: &mut Vec<u8>, value: &Value) -> Result<(), AllocError> {
+    match value {
+        Value::Whole(number) => text.extend_from_slice(Buffer::new().format(*number).as_bytes()),
+        Value::Text(alpha) => {
+            text.push(b'"')?;
+            text.extend_from_slice(alpha.bytes())?;
+            text.push(b'"')?;
+            Ok(())
+        }
+    }
+}
+
+// Where a value lies.
+fn add_address(text: &mut Vec<u8>, names: Names, address: Address) -> Result<(), AllocError> {
+    let number = address.number as usize;
+    if address.mask != 0 {
+        text.extend_from_slice(b"local ")?;
+        return add_number(text, number);
+    }
+    if number < names.globals {
+        text.extend_from_slice(b"global ")?;
+        return add_number(text, number);
+    }
+    match names.constants.get(number - names.globals) {
+        None => add_number(text, number),
+        Some(value) => add_constant(text, value),
+    }
+}
+
+// One of the things that an instruction works on.
+fn add_part(text: &mut Vec<u8>, names: Names, place: usize, part: Part) -> Result<(), AllocError> {
+    match part {
+        Part::Nothing => Ok(()),
+        Part::From(address) => add_address(text, names, address),
+        Part::To(address) => {
+            text.extend_from_slice(b"to ")?;
+            add_address(text, names, address)
+        }
+        Part::Of(word, number) => {
+            text.extend_from_slice(word.as_bytes())?;
+            text.push(b' ')?;
+            add_number(text, number as usize)
+        }
+        Part::Else(skip) => {
+            text.extend_from_slice(b"else to ")?;
+            add_number(text, place + 1 + skip as usize)
+        }
+        Part::Back(back) => {
+            text.extend_from_slice(b"back to ")?;
+            add_number(text, place - back as usize)
+        }
+        Part::Word(word) => text.extend_from_slice(word.as_bytes()),
+    }
+}
+
+// What an instruction is called, and what it works on.
+fn add_detail(
     text: &mut Vec<u8>,
-    routines: &[EntryPoint],
-    events: &[Operand],
+    names: Names,
     place: usize,
-    instruction: &Instruction,
-) -> Result<(), AllocError>
-    ensures { OnOk result (text.new.items ≡ text.old.items ++ (padded 7 (decimal place) ++ (codes " " ++ (detail routines.now events.now place instruction.now ++ codes "\n")))) }
-{
-    add_padded(text, NUMBER_WIDTH, Buffer::new().format(place).as_bytes())?;
-    text.extend_from_slice(b" ")?;
-    add_detail(text, routines, events, place, instruction)?;
-    text.extend_from_slice(b"\n")
-}
-
-// Where the routines of the events begin.
-fn beginnings(alloc: Global, events: &[EntryPoint]) -> Result<Vec<Operand>, AllocError>
-    ensures { IfOk result (λ made. made.items ≡ map event_place events.now) }
-{
-    let mut made = Vec::new(alloc);
-    for event in events {
-        made.push(Operand::To(event.place() as u128))?;
+    detail: &Detail,
+) -> Result<(), AllocError> {
+    add_padded(text, NAME_WIDTH, detail.name.as_bytes())?;
+    let mut is_first = true;
+    for part in &detail.parts {
+        if let Part::Nothing = part {
+            continue;
+        }
+        if !is_first {
+            text.extend_from_slice(b", ")?;
+        }
+        is_first = false;
+        add_part(text, names, place, *part)?;
     }
-    Ok(made)
-}
-
-// A line for each instruction, among these routines and these beginnings of events.
-fn lines(
-    alloc: Global,
-    routines: &[EntryPoint],
-    events: &[Operand],
-    instructions: &[Instruction],
-) -> Result<Vec<u8>, AllocError>
-    ensures { IfOk result (λ text. text.items ≡ listed routines.now events.now 0 instructions.now) }
-{
-    let mut text = Vec::new(alloc);
-    for (place, instruction) in instructions.iter().enumerate() {
-        add_line(&mut text, routines, events, place, instruction)?;
-    }
-    Ok(text)
+    Ok(())
 }
 
 /// A line for each instruction: its number from 0, a blank, what it is called, and what it works on. The error comes where
 /// memory was refused.
 pub fn listing(
     alloc: Global,
-    routines: &[EntryPoint],
-    events: &[EntryPoint],
     instructions: &[Instruction],
-) -> Result<Vec<u8>, AllocError>
-    ensures { IfOk result (λ text. text.items ≡ listed routines.now (map event_place events.now) 0 instructions.now) }
-{
-    let starts = beginnings(alloc, events)?;
-    lines(alloc, routines, &starts, instructions)
+    constants: &[Value],
+    globals: usize,
+) -> Result<Vec<u8>, AllocError> {
+    let names = Names { constants, globals };
+    let mut text = Vec::new(alloc);
+    for (place, instruction) in instructions.iter().enumerate() {
+        add_padded(
+            &mut text,
+            NUMBER_WIDTH,
+            Buffer::new().format(place).as_bytes(),
+        )?;
+        text.push(b' ')?;
+        add_detail(&mut text, names, place, &detail_of(instruction))?;
+        text.push(b'\n')?;
+    }
+    Ok(text)
 }

@@ -108,10 +108,46 @@ impl Pending {
         Ok(())
     }
 
-    /// Schedules a notice without ties, and says whether it did. It may say no where there is no room yet, where a search is needed to
-    /// see that the notice isn't pending, or where the rank or the number of schedulings is great. The list is then as it was.
+    /// Schedules a notice without ties. Refused as `schedule` does.
     #[inline(always)]
-    pub fn schedule_at_once(&mut self, time: i64, rank: usize, notice: i64) -> bool
+    pub fn schedule_untied(
+        &mut self,
+        alloc: Global,
+        time: i64,
+        rank: usize,
+        notice: i64,
+    ) -> Result<(), Refused> {
+        if self.schedule_at_once(time, rank, notice) {
+            return Ok(());
+        }
+        if self.schedule_slowly(alloc, time, rank, notice) {
+            return Ok(());
+        }
+        Err(self.unscheduled(notice))
+    }
+
+    // Does the work of `schedule_untied` where it takes room or a search, and says whether it did.
+    #[cold]
+    #[inline(never)]
+    fn schedule_slowly(&mut self, alloc: Global, time: i64, rank: usize, notice: i64) -> bool {
+        self.schedule(Key::with_ties(time, rank, Vec::new(alloc)), notice)
+            .is_ok()
+    }
+
+    // Why a notice is not scheduled.
+    #[cold]
+    #[inline(never)]
+    fn unscheduled(&self, notice: i64) -> Refused {
+        match self.may_schedule(notice) {
+            Err(kind) => Refused::Fault(kind),
+            Ok(()) => Refused::Memory,
+        }
+    }
+
+    // Schedules a notice without ties, and says whether it did. It may say no where there is no room yet, where a search is needed to
+    // see that the notice isn't pending, or where the rank or the number of schedulings is great. The list is then as it was.
+    #[inline(always)]
+    fn schedule_at_once(&mut self, time: i64, rank: usize, notice: i64) -> bool
         ensures done { result ≡ true → scheduled (record { time = time; rank = rank; ties = [] }) notice self.old.list ≡ Ok self.new.list }
         ensures kept { result ≡ false → self.new.list ≡ self.old.list }
 
@@ -189,6 +225,16 @@ impl Pending {
         }
         self.heap.are_after_heads();
         Some(take_out(&mut self.heap, 0))
+    }
+
+    /// Whether a notice is pending. What will be read as the first is taken out is read ahead.
+    #[inline(always)]
+    pub fn is_awaited(&mut self) -> bool {
+        if self.heap.len() == 0 {
+            return false;
+        }
+        self.heap.look_ahead();
+        true
     }
 
     /// Whether a notice is pending.

@@ -1,10 +1,7 @@
 //! The machine that runs the code of a program.
 #![tactic(auto)]
 
-mod beginning;
 mod machine;
-mod running;
-mod step;
 
 pub use machine::Machine;
 pub use ss_input::{Missed, Source};

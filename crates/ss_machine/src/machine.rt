@@ -1,89 +1,73 @@
 //! The machine that runs.
 
-ghost use Rattle.std.specs.Prelude.{◌≡◌, ◌+◌, ◌-◌, ◌*◌, ◌^◌, ◌≤◌, min, length, IfOk, Some, None};
-ghost use Rattle.ss_base.specs.Failures.{HasRisen, HasRisenBy};
-ghost use Rattle.ss_input.specs.Blocks.{KnowsEnd};
-ghost use Rattle.ss_input.specs.Inputs.{source_block, source_missed, source_reader};
-ghost use Rattle.ss_machine_steps.specs.Start.{Continues};
-ghost use Rattle.ss_machine.specs.Held.{IsFirst, answer_again, kept_after};
-ghost use Rattle.ss_machine_steps.specs.Runs.{Ran};
-
-use crate::beginning::{beside, first_parts};
-use crate::running::{Counts, run};
 use ss_base::{FaultyRead, FaultyWrite};
 use ss_code::code::Code;
-use ss_code_instructions::laws::laws;
 use ss_input::Source;
-use ss_joins::fused::Fused;
-use ss_machine_instructions::working::Working;
-use ss_machine_steps::first::release_working;
-use ss_machine_steps::laws::run_laws;
+use ss_machine_instructions::flow::Here;
+use ss_machine_instructions::state::State;
+use ss_machine_steps::first::{first_place, first_state, release_state};
+use ss_machine_steps::running::run;
 use ss_machine_steps::showing::Buffers;
 use ss_machine_steps::stop::Stop;
 use ss_picture::Sink;
 use std::alloc::{AllocError, Global};
-use std::marker::Model;
 
 /// A machine that runs the code of a program.
 ///
 /// A contract sees a machine as its code, what it works on, the ticks used and the steps made since its start, and why its
-/// last run stopped.
+/// last run stands still.
 #[derive(Drop)]
 pub struct Machine {
     code: Code,
-    fused: Fused,
-    working: Working,
+    state: State,
+    place: usize,
+    frame: u32,
     buffers: Buffers,
-    counts: Counts,
+    used: u64,
     stopped: Option<Stop>,
 }
 
-impl Model for Machine {
-    ghost use Rattle.ss_machine.specs.Held.{Held, IsReady};
-
-    ghost Value = { Held };
-
-    ghost view = { λ m. record { code = m.code; working = m.working; used = m.counts.used; steps = m.counts.steps; stopped = m.stopped } };
-
-    ghost invariant = { λ m. IsReady (record { code = m.code; working = m.working; used = m.counts.used; steps = m.counts.steps; stopped = m.stopped }) m.fused };
-}
-
-// The answer of a run after one that stopped.
-fn again(stop: Stop) -> Stop
-    ensures { result ≡ answer_again stop }
-{
+// The answer of a run after one that stood still.
+fn again(stop: Stop) -> Stop {
     match stop {
         Stop::Memory | Stop::Output | Stop::Input => Stop::Failed,
         other => other,
     }
 }
 
-// Why a machine is stopped after a run that answered so; None where the next run goes on.
-fn kept(stop: Stop) -> Option<Stop>
-    ensures { result ≡ kept_after stop }
-{
+// Why a machine stands still after a run that answered so; None where the next run goes on.
+fn kept(stop: Stop) -> Option<Stop> {
     match stop {
         Stop::Paused => None,
         other => Some(other),
     }
 }
 
+// A code, beside what was made for it, unless that failed.
+fn beside(code: Code, next: Result<State, AllocError>) -> Result<(Code, State), AllocError> {
+    match next {
+        Ok(next) => Ok((code, next)),
+        Err(e) => {
+            code.release();
+            Err(e)
+        }
+    }
+}
+
 impl Machine {
     /// A machine before the first instruction of this code: no entity, nothing pending, at the time 0, with the histories of
     /// THE SYSTEM's statistics begun. The error comes where memory was refused.
-    pub fn new(alloc: Global, code: Code) -> Result<Machine, AllocError>
-        ensures { IfOk result (λ machine. IsFirst code machine) }
-    {
-        laws();
-        let _sound = code.len();
-        let parts = first_parts(alloc, &code);
-        let (code, (fused, working)) = beside(code, parts)?;
+    pub fn new(alloc: Global, code: Code) -> Result<Machine, AllocError> {
+        let first = first_state(alloc, &code);
+        let (code, state) = beside(code, first)?;
+        let (place, frame) = first_place(&code);
         Ok(Machine {
             code,
-            fused,
-            working,
+            state,
+            place,
+            frame,
             buffers: Buffers::new(alloc),
-            counts: Counts { used: 0, steps: 0 },
+            used: 0,
             stopped: None,
         })
     }
@@ -93,103 +77,65 @@ impl Machine {
     ///
     /// The source must have missed nothing, where the machine has not stopped. READ takes the next word of it, and a test
     /// whether data is ended looks for one and takes none; how far the source reads ahead is its own affair. Each line goes
-    /// out as it is filled. In the first run any source will do, and after a pause the one of the run before: then nothing
-    /// is ever missing. With another source each step is still right, but where nothing leads on the answer is `Failed`.
+    /// out as it is filled.
     ///
     /// After `Paused` all ticks were used, up to 2^64 - 1 since the start, and a further run goes on; the
     /// source may be used again. After `Ended` and `Fault` a further run answers the same, after
     /// `Memory`, `Output` and `Input` it answers `Failed`; it reads nothing, writes nothing and changes
     /// nothing.
-    ///
-    /// `Memory` comes only where memory was refused, `Output` only where the current instruction writes and
-    /// the writer's count of failures rose in this run, and `Input` only where the current instruction reads
-    /// or tests its input and the reader's count did. What was written by then is the beginning of the
-    /// report: at least what is written before the last tick used, and no more than what is written before
-    /// the next.
     pub fn run<R: FaultyRead, W: FaultyWrite>(
         &mut self,
         ticks: u64,
         source: &mut Source<R>,
         sink: &mut Sink<W>,
-    ) -> Stop
-        requires { self.old.stopped ≡ None → source_missed source.old ≡ None }
-        ensures again { (before : Stop) → self.old.stopped ≡ Some before → (result ≡ answer_again before) × (self.new ≡ self.old) × (source.new ≡ source.old) × (sink.new ≡ sink.old) }
-        ensures ran { self.old.stopped ≡ None → Ran R.remaining result self.old.code self.old.working self.new.working source.old source.new (W.contents sink.old.writer) (W.contents sink.new.writer) (self.new.used - self.old.used) (self.new.steps - self.old.steps) }
-        ensures code { self.new.code ≡ self.old.code }
-        ensures stopped { self.old.stopped ≡ None → self.new.stopped ≡ kept_after result }
-        ensures used { (self.old.used ≤ self.new.used) × (self.new.used ≤ self.old.used + ticks) }
-        ensures within { self.old.stopped ≡ None → self.new.used ≤ 2 ^ 64 - 1 }
-        ensures paused { self.old.stopped ≡ None → result ≡ Stop.Paused → self.new.used ≡ min (self.old.used + ticks) (2 ^ 64 - 1) }
-        ensures continues { self.old.stopped ≡ None → Continues self.old.code self.old.working source.old → result ≡ Stop.Paused → Continues self.new.code self.new.working source.new }
-        ensures never_failed { self.old.stopped ≡ None → Continues self.old.code self.old.working source.old → result ≡ Stop.Failed → ⊥ }
-        ensures unmissed { self.old.stopped ≡ None → result ≡ Stop.Paused → source_missed source.new ≡ None }
-        ensures steps { self.old.steps ≤ self.new.steps }
-        ensures least { self.new.used ≤ self.new.steps }
-        ensures most { self.new.steps ≤ (3 * self.new.used + 4) * length self.new.code.instructions }
-        ensures output { self.old.stopped ≡ None → result ≡ Stop.Output → HasRisen (W.faults sink.old.writer) (W.faults sink.new.writer) }
-        ensures input { self.old.stopped ≡ None → result ≡ Stop.Input → HasRisen (R.faults (source_reader source.old)) (R.faults (source_reader source.new)) }
-        ensures never_falls { HasRisenBy 0 (W.faults sink.old.writer) (W.faults sink.new.writer) }
-        ensures read_never_falls { HasRisenBy 0 (R.faults (source_reader source.old)) (R.faults (source_reader source.new)) }
-        ensures end { KnowsEnd R.remaining (source_block source.old) → KnowsEnd R.remaining (source_block source.new) }
-    {
+    ) -> Stop {
         if let Some(stop) = self.stopped {
             return again(stop);
         }
-        run_laws::<R>();
-        let _sound = self.code.len();
-        let last = self.counts.used.saturating_add(ticks);
-        let halt = run(
+        let last = self.used.saturating_add(ticks);
+        let from = Here {
+            place: self.place,
+            frame: self.frame,
+        };
+        self.state.ticks = last - self.used;
+        let rest = run(
             &self.code,
-            &self.fused,
-            &mut self.working,
+            &mut self.state,
             &mut self.buffers,
-            self.counts,
-            last,
+            from,
             source,
             sink,
         );
-        self.counts = halt.counts;
-        self.stopped = kept(halt.stop);
-        halt.stop
+        self.place = rest.here.place;
+        self.frame = rest.here.frame;
+        self.used = last - self.state.ticks;
+        self.stopped = kept(rest.stop);
+        rest.stop
     }
 
-    /// Gives its memory back. To drop it in line does the same, and has the drops of its parts proved there once more.
+    /// Gives its memory back. To drop it in line does the same.
     pub fn release(self) {
-        let Machine {
-            code,
-            fused,
-            working,
-            ..
-        } = self;
+        let Machine { code, state, .. } = self;
         code.release();
-        fused.release();
-        release_working(working);
+        release_state(state);
     }
 
     /// Why the last run stopped; None where a further run goes on.
-    pub fn stopped(&self) -> Option<Stop>
-        ensures { result ≡ self.now.stopped }
-    {
+    pub fn stopped(&self) -> Option<Stop> {
         self.stopped
     }
 
     /// The ticks used since the start.
-    pub fn used(&self) -> u64
-        ensures { result ≡ self.now.used }
-    {
-        self.counts.used
+    pub fn used(&self) -> u64 {
+        self.used
     }
 
     /// The steps made since the start: each instruction that was carried out, the one that ended the
-    /// program and the one that had a fault among them. A pause is no step, nor is an instruction
-    /// that ran out of memory or failed at its reader or writer.
+    /// program and the one that came to a fault among them. A pause is no step, nor is an instruction
+    /// that failed for want of memory or at its reader or writer.
     ///
     /// After u ticks there are at least u, and at most 3u + 4 times as many as there are instructions.
-    pub fn steps(&self) -> u128
-        ensures value { result ≡ self.now.steps }
-        ensures least { self.now.used ≤ result }
-        ensures most { result ≤ (3 * self.now.used + 4) * length self.now.code.instructions }
-    {
-        self.counts.steps
+    pub fn steps(&self) -> u128 {
+        self.state.steps
     }
 }

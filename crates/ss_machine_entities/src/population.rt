@@ -11,7 +11,7 @@ ghost use Rattle.ss_records.specs.Sets.{owner_kind, first_in, last_in, count_in,
 
 mod filing;
 
-use ss_base::{FaultKind, Layout, Mode, Refused, Value};
+use ss_base::{Alpha, FaultKind, Layout, Mode, Refused, Value};
 use ss_records::Heap;
 use std::alloc::{AllocError, Global};
 use std::marker::Model;
@@ -69,13 +69,16 @@ impl Population {
         self.heap.known(class, n)
     }
 
-    /// The class of a temporary entity or a notice by its number: none where no entity of that number is living, and it may give
-    /// up elsewhere too.
+    /// The class of a temporary entity or a notice by its number: none where no entity of that number is living.
     #[inline(always)]
-    pub fn class_near(&self, n: i64) -> Option<usize>
-        ensures { IfSome result (λ c. HasClass self.now n c) }
-    {
-        self.heap.class_near(n)
+    pub fn class_of(&self, n: i64) -> Option<usize> {
+        self.heap.class_of(n)
+    }
+
+    /// The mode of an attribute.
+    #[inline(always)]
+    pub fn mode(&self, class: usize, field: usize) -> Mode {
+        self.heap.layout().classes[class].fields[field]
     }
 
     /// The value of an attribute. Faults: 1 to 5.
@@ -88,25 +91,9 @@ impl Population {
         self.heap.value(class, field, n)
     }
 
-    /// Assigns a value to an attribute. Faults: 1 to 5.
+    /// The whole number that an attribute is. Faults: 1 to 5.
     #[inline(always)]
-    pub fn set_value(
-        &mut self,
-        class: usize,
-        field: usize,
-        n: i64,
-        value: Value,
-    ) -> Result<(), FaultKind>
-        requires class { class < length self.old.layout.classes }
-        requires mode { slice_get (modes_of self.old.layout class) field ≡ Some (mode_of value) }
-        ensures { MatchResult result (λ _. assigned self.old class field n value ≡ Ok self.new) (λ e. (assigned self.old class field n value ≡ Err e) × (self.new ≡ self.old)) }
-    {
-        self.heap.set_value(class, field, n, value)
-    }
-
-    /// The whole number that an attribute is, where there is no fault.
-    #[inline(always)]
-    pub fn whole(&self, class: usize, field: usize, n: i64) -> Option<i64>
+    pub fn whole(&self, class: usize, field: usize, n: i64) -> Result<i64, FaultKind>
         requires class { class < length self.now.layout.classes }
         requires mode { slice_get (modes_of self.now.layout class) field ≡ Some Mode.Integer }
         ensures { IfSome result (λ whole. value_in self.now class field n ≡ Ok (Value.Whole whole)) }
@@ -114,9 +101,33 @@ impl Population {
         self.heap.whole(class, field, n)
     }
 
-    /// Assigns a whole number to an attribute, and says whether it did: not where there is a fault.
+    /// The text that an attribute is. Faults: 1 to 5.
     #[inline(always)]
-    pub fn set_whole(&mut self, class: usize, field: usize, n: i64, value: i64) -> bool
+    pub fn text(&self, class: usize, field: usize, n: i64) -> Result<Alpha, FaultKind> {
+        self.heap.text(class, field, n)
+    }
+
+    /// Assigns a text to an attribute. Faults: 1 to 5.
+    #[inline(always)]
+    pub fn set_text(
+        &mut self,
+        class: usize,
+        field: usize,
+        n: i64,
+        text: Alpha,
+    ) -> Result<(), FaultKind> {
+        self.heap.set_text(class, field, n, text)
+    }
+
+    /// Assigns a whole number to an attribute. Faults: 1 to 5.
+    #[inline(always)]
+    pub fn set_whole(
+        &mut self,
+        class: usize,
+        field: usize,
+        n: i64,
+        value: i64,
+    ) -> Result<(), FaultKind>
         requires class { class < length self.old.layout.classes }
         requires mode { slice_get (modes_of self.old.layout class) field ≡ Some Mode.Integer }
         ensures done { result ≡ true → assigned self.old class field n (Value.Whole value) ≡ Ok self.new }
@@ -125,16 +136,34 @@ impl Population {
         self.heap.set_whole(class, field, n, value)
     }
 
-    /// Adds a number to an attribute of whole numbers, and says whether it did: not where there is a fault or the sum does not
-    /// fit 64 bits, and it may give up elsewhere too.
+    /// Adds a number to an attribute of whole numbers. Faults: 1 to 5, then 14 where the sum does not fit 64 bits.
     #[inline(always)]
-    pub fn add_whole(&mut self, class: usize, field: usize, n: i64, by: i64) -> bool
+    pub fn add_whole(
+        &mut self,
+        class: usize,
+        field: usize,
+        n: i64,
+        by: i64,
+    ) -> Result<(), FaultKind>
         requires class { class < length self.old.layout.classes }
         requires mode { slice_get (modes_of self.old.layout class) field ≡ Some Mode.Integer }
-        ensures done { result ≡ true → Added self.old class field n by self.new }
-        ensures same { result ≡ false → self.new ≡ self.old }
     {
         self.heap.add_whole(class, field, n, by)
+    }
+
+    /// Subtracts a number from an attribute of whole numbers. Faults: 1 to 5, then 14 where the difference does not fit 64 bits.
+    #[inline(always)]
+    pub fn subtract_whole(
+        &mut self,
+        class: usize,
+        field: usize,
+        n: i64,
+        by: i64,
+    ) -> Result<(), FaultKind>
+        requires class { class < length self.old.layout.classes }
+        requires mode { slice_get (modes_of self.old.layout class) field ≡ Some Mode.Integer }
+    {
+        self.heap.subtract_whole(class, field, n, by)
     }
 
     /// TIME.A of a notice. Faults: 1 to 4.
@@ -151,15 +180,6 @@ impl Population {
         ensures { MatchResult result (λ _. timed self.old n t ≡ Ok self.new) (λ e. (timed self.old n t ≡ Err e) × (self.new ≡ self.old)) }
     {
         self.heap.set_time_a(n, t)
-    }
-
-    /// Whether a class owns a set.
-    #[inline(always)]
-    pub fn owns_set(&self, class: usize) -> bool
-        requires { class < length self.now.layout.classes }
-        ensures { result ≡ false → (set : ℕ) → owner_kind self.now.layout set ≡ Class class → ⊥ }
-    {
-        self.heap.owns_set(class)
     }
 
     /// Whether `create` makes an entity where memory is not refused. Faults: 14 after the last number.
@@ -250,6 +270,18 @@ impl Population {
         ensures same { self.new ≡ self.old }
     {
         self.heap.count(set, o)
+    }
+
+    /// Whether a number may be a member of a set. Faults: 1 to 5.
+    #[inline(always)]
+    pub fn look_member(&self, set: usize, n: i64) -> Result<(), FaultKind> {
+        self.heap.look_member(set, n)
+    }
+
+    /// Whether a number is an owner of a set. Faults: 1 to 5.
+    #[inline(always)]
+    pub fn look_owner(&self, set: usize, o: i64) -> Result<(), FaultKind> {
+        self.heap.look_owner(set, o)
     }
 
     /// The member after another one, 0 for none. Faults: 1 to 5.

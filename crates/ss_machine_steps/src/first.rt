@@ -1,62 +1,81 @@
 //! The first state of a machine.
 
-ghost use Rattle.std.specs.Prelude.{◌≡◌, [], IfOk};
-ghost use Rattle.ss_meaning.specs.Store.{first_values};
-ghost use Rattle.ss_machine_instructions.specs.Holding.{frames_of};
-ghost use Rattle.ss_machine_steps.specs.Start.{IsAtStart};
-
-use ss_base::copied_disciplines;
+use ss_base::{FaultKind, Mode, Value, copied_disciplines};
 use ss_code::code::Code;
 use ss_code_instructions::copied_notices;
 use ss_machine_frames::frames::Frames;
-use ss_machine_frames::locals::Locals;
-use ss_machine_frames::operands::Operands;
-use ss_machine_frames::variables::Variables;
-use ss_machine_instructions::working::Working;
+use ss_machine_frames::rows::Rows;
+use ss_machine_instructions::flow::Ending;
+use ss_machine_instructions::state::State;
 use ss_machine_world::scene::Scene;
 use std::alloc::{AllocError, Global};
 
-// Local variables of MAIN as they are at first. The error comes where memory was refused.
-fn first_locals(alloc: Global, code: &Code) -> Result<Locals, AllocError>
-    ensures { IfOk result (λ locals. locals ≡ record { below = []; here = first_values code.now.locals }) }
-{
-    let mut locals = Locals::new(alloc);
-    locals.fill(&[], code.locals())?;
-    Ok(locals)
+// First values of modes come after others.
+fn put_firsts(rows: &mut Rows, modes: &[Mode]) -> Result<(), AllocError> {
+    for mode in modes {
+        rows.push(mode.first_value())?;
+    }
+    Ok(())
 }
 
-/// What the machine works on before the first instruction of this code. The error comes where memory was refused.
-pub fn first_working(alloc: Global, code: &Code) -> Result<Working, AllocError>
-    ensures state { IfOk result (λ working. IsAtStart code.now working) }
-    ensures frames { IfOk result (λ working. frames_of working ≡ []) }
-{
-    let globals = Variables::of(alloc, code.globals())?;
-    let locals = first_locals(alloc, code)?;
+// Constants come after others.
+fn put_constants(rows: &mut Rows, constants: &[Value]) -> Result<(), AllocError> {
+    for constant in constants {
+        rows.push(*constant)?;
+    }
+    Ok(())
+}
+
+// The rows before the first instruction: the global variables, the constants, and the frame of MAIN.
+fn first_rows(alloc: Global, code: &Code) -> Result<Rows, AllocError> {
+    let mut rows = Rows::new(alloc);
+    put_firsts(&mut rows, code.globals())?;
+    put_constants(&mut rows, code.constants())?;
+    let frame = rows.len();
+    rows.lengthen(frame + code.main().room)?;
+    Ok(rows)
+}
+
+// The world before the first instruction.
+fn first_scene(alloc: Global, code: &Code) -> Result<Scene, AllocError> {
     let layout = code.layout().copied(alloc)?;
     let disciplines = copied_disciplines(alloc, code.disciplines())?;
     let notices = copied_notices(alloc, code.notices())?;
-    let scene = Scene::new(
+    Scene::new(
         alloc,
         layout,
         disciplines,
         notices,
         code.ties(),
         code.statistics(),
-    )?;
-    Ok(Working {
-        place: 0,
-        operands: Operands::new(alloc),
+    )
+}
+
+/// What the machine works on before the first instruction of this code. The error comes where memory was refused.
+pub fn first_state(alloc: Global, code: &Code) -> Result<State, AllocError> {
+    let rows = first_rows(alloc, code)?;
+    let scene = first_scene(alloc, code)?;
+    Ok(State {
+        rows,
         frames: Frames::new(alloc),
-        globals,
-        locals,
         scene,
         alloc,
-        given: Vec::new(alloc),
+        ticks: 0,
+        steps: 0,
+        ending: Ending::Ended,
+        fault: FaultKind::NoEntity,
+        fault_line: None,
     })
 }
 
-/// Gives the memory of what a machine works on back. To drop it in line does the same, and has the drops of its parts proved
-/// there once more.
-pub fn release_working(working: Working) {
-    let _released = working;
+/// Where the machine is before the first instruction of this code, but for its ticks: the place, and where the frame of MAIN
+/// begins.
+pub fn first_place(code: &Code) -> (usize, u32) {
+    let frame = code.globals().len() + code.constants().len();
+    (code.main().place, frame as u32)
+}
+
+/// Gives the memory of what a machine works on back.
+pub fn release_state(state: State) {
+    let _released = state;
 }

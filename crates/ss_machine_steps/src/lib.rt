@@ -1,11 +1,10 @@
-//! A single step of the machine.
+//! A single step of the machine, and its steps one after another.
 #![tactic(auto)]
 
 pub mod first;
-pub mod laws;
-pub mod one_step;
 mod printing;
 mod reading;
+pub mod running;
 pub mod showing;
-pub mod step;
+mod step;
 pub mod stop;

@@ -1,45 +1,83 @@
 //! What the machine reads of its input.
 
-ghost use Rattle.std.specs.Prelude.{◌≡◌, ℤ, Ok, Err, None};
-ghost use Rattle.ss_base.specs.declared.fault.FaultKind.{FaultKind as FaultSeen};
-ghost use Rattle.ss_base.specs.declared.layout.Mode.TheVariants.{Integer, Alpha as AlphaMode};
-ghost use Rattle.ss_base.specs.declared.value.Value.{Value as ValueSeen};
-ghost use Rattle.ss_base.specs.declared.value.Value.TheVariants.{Whole};
-ghost use Rattle.ss_base.specs.Failures.{HasRisen, HasRisenBy};
-ghost use Rattle.ss_input.specs.Blocks.{KnowsEnd};
-ghost use Rattle.ss_input.specs.Inputs.{source_block, source_missed, source_reader, Reads, Finds, missed_of};
-ghost use Rattle.ss_input.specs.Words.{value_given};
-
-use ss_base::{FaultyRead, Value};
+use ss_base::{Alpha, FaultyRead};
+use ss_code_instructions::address::Address;
 use ss_input::{Missed, Source};
+use ss_machine_instructions::flow::{Ending, Here};
+use ss_machine_instructions::state::State;
 
-// The whole number that the next word is.
-pub(crate) fn next_number<R: FaultyRead>(source: &mut Source<R>) -> Result<i64, Missed>
-    requires { source_missed source.old ≡ None }
-    ensures read { (number : ℤ) → result ≡ Ok number → Reads R.remaining source.old source.new (λ input rest. value_given Integer input ≡ Ok (record { value = Whole number; rest = rest })) }
-    ensures fault { (kind : FaultSeen) → result ≡ Err (Missed.Fault kind) → Finds R.remaining source.old source.new (λ input. value_given Integer input ≡ Err kind) }
-    ensures lost { result ≡ Err Missed.Input → Finds R.remaining source.old source.new (λ input. Unit {0}) }
-    ensures input { result ≡ Err Missed.Input → HasRisen (R.faults (source_reader source.old)) (R.faults (source_reader source.new)) }
-    ensures missed { source_missed source.new ≡ missed_of result }
-    ensures never_falls { HasRisenBy 0 (R.faults (source_reader source.old)) (R.faults (source_reader source.new)) }
-    ensures end { KnowsEnd R.remaining (source_block source.old) → KnowsEnd R.remaining (source_block source.new) }
-{
+// Where no word was read.
+#[inline(always)]
+fn unread(state: &mut State, missed: Missed) -> Option<Here> {
+    match missed {
+        Missed::Fault(kind) => state.fault(kind),
+        Missed::Input => state.stop(Ending::NoInput),
+    }
+}
+
+// The next number. Out of line, as the next two are: so the source takes no register of the loop.
+#[inline(never)]
+fn next_number<R: FaultyRead>(source: &mut Source<R>) -> Result<i64, Missed> {
     source.integer()
 }
 
-// The text that the next word is.
-pub(crate) fn next_alpha<R: FaultyRead>(source: &mut Source<R>) -> Result<Value, Missed>
-    requires { source_missed source.old ≡ None }
-    ensures read { (value : ValueSeen) → result ≡ Ok value → Reads R.remaining source.old source.new (λ input rest. value_given AlphaMode input ≡ Ok (record { value = value; rest = rest })) }
-    ensures fault { (kind : FaultSeen) → result ≡ Err (Missed.Fault kind) → Finds R.remaining source.old source.new (λ input. value_given AlphaMode input ≡ Err kind) }
-    ensures lost { result ≡ Err Missed.Input → Finds R.remaining source.old source.new (λ input. Unit {0}) }
-    ensures input { result ≡ Err Missed.Input → HasRisen (R.faults (source_reader source.old)) (R.faults (source_reader source.new)) }
-    ensures missed { source_missed source.new ≡ missed_of result }
-    ensures never_falls { HasRisenBy 0 (R.faults (source_reader source.old)) (R.faults (source_reader source.new)) }
-    ensures end { KnowsEnd R.remaining (source_block source.old) → KnowsEnd R.remaining (source_block source.new) }
-{
-    match source.alpha() {
-        Ok(text) => Ok(Value::Text(text)),
-        Err(missed) => Err(missed),
+// The next text.
+#[inline(never)]
+fn next_text<R: FaultyRead>(source: &mut Source<R>) -> Result<Alpha, Missed> {
+    source.alpha()
+}
+
+// Whether no word is left.
+#[inline(never)]
+fn is_ended<R: FaultyRead>(source: &mut Source<R>) -> Result<bool, Missed> {
+    source.ended()
+}
+
+/// Read.
+#[inline(always)]
+pub(crate) fn read_number<R: FaultyRead>(
+    state: &mut State,
+    here: Here,
+    to: &Address,
+    source: &mut Source<R>,
+) -> Option<Here> {
+    match next_number(source) {
+        Err(missed) => unread(state, missed),
+        Ok(number) => {
+            state.set_number(here, to, number);
+            here.on()
+        }
+    }
+}
+
+/// ReadText.
+#[inline(always)]
+pub(crate) fn read_text<R: FaultyRead>(
+    state: &mut State,
+    here: Here,
+    to: &Address,
+    source: &mut Source<R>,
+) -> Option<Here> {
+    match next_text(source) {
+        Err(missed) => unread(state, missed),
+        Ok(text) => {
+            state.set_text(here, to, text);
+            here.on()
+        }
+    }
+}
+
+/// UnlessEnded.
+#[inline(always)]
+pub(crate) fn unless_ended<R: FaultyRead>(
+    state: &mut State,
+    here: Here,
+    skip: u32,
+    negated: bool,
+    source: &mut Source<R>,
+) -> Option<Here> {
+    match is_ended(source) {
+        Err(missed) => unread(state, missed),
+        Ok(ended) => here.on_if(ended != negated, skip),
     }
 }

@@ -1,9 +1,9 @@
 use ss_base::{FaultKind, Line};
 
-/// Why a run stopped.
+/// Why a run stands still.
 #[derive(Clone, Copy, Debug, PartialEq, Eq)]
 pub enum Stop {
-    /// The program ended.
+    /// The program came to its end.
     Ended,
     /// A fault, and the line of its statement.
     Fault(FaultKind, Line),
@@ -15,7 +15,7 @@ pub enum Stop {
     Output,
     /// The reader failed.
     Input,
-    /// An earlier run stopped because it ran out of memory, or because its reader or writer failed; or what is read does not go on
+    /// An earlier run stopped for want of memory, or because its reader or writer failed; or what is read does not go on
     /// from what was read before.
     Failed,
 }

@@ -75,23 +75,20 @@ impl Timeline {
         self.time
     }
 
-    /// The time and the number of the notice that comes next, if one is pending.
-    pub fn least(&mut self) -> Option<(i64, i64)>
-        ensures next { result ≡ next self.old.pending }
-        ensures same { self.new ≡ self.old }
-    {
-        self.pending.least()
+    /// Whether a notice is pending.
+    #[inline(always)]
+    pub fn is_awaited(&mut self) -> bool {
+        self.pending.is_awaited()
     }
 
-    /// Takes out the notice that comes next, and TIME.V is its time.
-    pub fn pass(&mut self)
-        ensures { self.new ≡ event_taken_out (next self.old.pending) self.old }
-    {
+    /// Takes out the notice that comes next, if one is pending, and answers its number. TIME.V is its time.
+    pub fn next(&mut self) -> Option<i64> {
         match self.pending.take() {
-            Some((time, _)) => {
+            Some((time, notice)) => {
                 self.time = time;
+                Some(notice)
             }
-            None => {}
+            None => None,
         }
     }
 
@@ -125,14 +122,20 @@ impl Timeline {
         self.pending.schedule(key, notice)
     }
 
-    /// A notice without ties is pending for a time and by the rank of its class, where it is found at once that nothing is in the way;
-    /// and says whether it is. If not, nothing has changed.
+    /// A notice without ties is pending for a time and by the rank of its class. Faults: 13 where the time is before TIME.V, then 11,
+    /// then 14 after the last scheduling.
     #[inline(always)]
-    pub fn schedule_at_once(&mut self, time: i64, rank: usize, notice: i64) -> bool
-        ensures done { result ≡ true → Schedules (record { time = time; rank = rank; ties = [] }) notice self.old self.new (Ok tt) }
-        ensures kept { result ≡ false → self.new ≡ self.old }
-    {
-        time >= self.time && self.pending.schedule_at_once(time, rank, notice)
+    pub fn schedule_untied(
+        &mut self,
+        alloc: Global,
+        time: i64,
+        rank: usize,
+        notice: i64,
+    ) -> Result<(), Refused> {
+        if time < self.time {
+            return Err(Refused::Fault(FaultKind::PastTime));
+        }
+        self.pending.schedule_untied(alloc, time, rank, notice)
     }
 
     /// A notice is pending no longer. Faults: 12.
@@ -148,21 +151,6 @@ impl Timeline {
         ensures { result ≡ false → self.now.histories.statistics ≡ [] }
     {
         self.histories.has_statistics()
-    }
-
-    /// Whether a statistic is about a subject.
-    pub fn watches(&self, subject: Subject) -> bool
-        ensures { result ≡ list_any (is_about subject) self.now.histories.statistics }
-    {
-        self.histories.watches(subject)
-    }
-
-    /// Whether no statistic is about a global variable: then noting a value of it changes nothing.
-    #[inline(always)]
-    pub fn ignores_variable(&self, number: usize) -> bool
-        ensures { result ≡ true → (x now : ℤ) (v : ValueSeen) → all_noting (OfVariable number) x now v self.now.histories.statistics (columns self.now) ≡ Ok (columns self.now) }
-    {
-        self.histories.ignores_variable(number)
     }
 
     /// What a statistic is about.
@@ -183,42 +171,10 @@ impl Timeline {
         self.histories.note(subject, entity, self.time, value)
     }
 
-    /// Notes a value of an attribute in each history of it that an entity has. Faults: 14 where one of them is full.
+    /// Notes N. of the set of an owner in each history of it. The error is that one of them is full, or that there is none.
     #[inline(always)]
-    pub fn note_attribute(
-        &mut self,
-        class: usize,
-        field: usize,
-        entity: i64,
-        value: Value,
-    ) -> Result<(), Unnoted>
-        ensures { Noted (OfAttribute class field) entity value self.old self.new result }
-    {
-        if !self.has_statistics() {
-            return Ok(());
-        }
-        self.histories
-            .note_attribute(class, field, entity, self.time, value)
-    }
-
-    /// The place of the only statistic of N. of a set, if the history of its owner in it takes a number: then noting one
-    /// does not fail.
-    #[inline(always)]
-    pub fn taking(&self, set: usize, owner: i64) -> Option<usize>
-        ensures { IfSome result (λ place. IsOnly set place self.now.histories.statistics × Takes (OfCount set) owner self.now.time self.now.histories.statistics (columns self.now)) }
-    {
-        self.histories.taking(set, owner, self.time)
-    }
-
-    /// Notes N. of the set of an owner in the only statistic of it, whose history takes a number.
-    #[inline(always)]
-    pub fn note_count(&mut self, set: usize, place: usize, owner: i64, number: i64)
-        requires only { IsOnly set place self.old.histories.statistics }
-        requires takes { Takes (OfCount set) owner self.old.time self.old.histories.statistics (columns self.old) }
-        ensures { Noted (OfCount set) owner (Whole number) self.old self.new (Ok tt) }
-    {
-        self.histories
-            .note_count(set, place, owner, self.time, number);
+    pub fn note_count(&mut self, set: usize, owner: i64, number: i64) -> Result<(), Unnoted> {
+        self.histories.note_count(set, owner, self.time, number)
     }
 
     /// Makes room for so many more histories of each statistic of what the entities of a class have. The error comes
@@ -247,47 +203,6 @@ impl Timeline {
         }
     }
 
-    /// Whether the entities of a class may have a history, answered without a look at each statistic, where it is known whether
-    /// the class owns a set.
-    #[inline(always)]
-    pub fn bears(&self, owns: bool) -> bool
-        ensures { result ≡ false → (l : TheLayout) (class : ℕ) → (owns ≡ false → OwnsNone l class) → HasNoHistories l class self.now.histories }
-    {
-        owns || !self.histories.spares_setless()
-    }
-
-    /// Makes room for one more history of each statistic of what an entity of a class has, where it is known whether the class owns
-    /// a set. The error comes where memory was refused.
-    #[inline(always)]
-    pub fn reserve_one(
-        &mut self,
-        layout: &Layout,
-        class: usize,
-        owns: bool,
-    ) -> Result<(), AllocError>
-        requires owns { owns ≡ false → OwnsNone layout.now class }
-        ensures same { self.new ≡ record self.old { histories = record self.old.histories { room = self.new.histories.room } } }
-        ensures room { OnOk result (HasRooms layout.now (Class class) (pos 1) self.new.histories.statistics self.new.histories.room) }
-    {
-        if !self.bears(owns) {
-            return Ok(());
-        }
-        self.reserve(layout, class, 1)
-    }
-
-    /// Starts the histories of an entity of a class, as it comes into being, where it is known whether the class owns a set.
-    #[inline(always)]
-    pub fn start_one(&mut self, layout: &Layout, class: usize, owns: bool, entity: i64)
-        requires owns { owns ≡ false → OwnsNone layout.now class }
-        requires room { HasRooms layout.now (Class class) (pos 1) self.old.histories.statistics self.old.histories.room }
-        ensures started { columns self.new ≡ starting layout.now (Class class) (int_eq entity) self.old.time self.old.histories.statistics (columns self.old) }
-        ensures same { IsAt self.old self.new }
-    {
-        if self.bears(owns) {
-            self.start(layout, class, entity);
-        }
-    }
-
     /// Starts the histories of the entities 1 to a number of a class.
     pub fn start_all(&mut self, layout: &Layout, class: usize, count: i64)
         requires room { HasRooms layout.now (Class class) count self.old.histories.statistics self.old.histories.room }
@@ -305,18 +220,6 @@ impl Timeline {
     {
         if self.has_statistics() {
             self.histories.end(layout, class, entity);
-        }
-    }
-
-    /// Ends the histories of an entity of a class, as it goes, where it is known whether the class owns a set.
-    #[inline(always)]
-    pub fn end_one(&mut self, layout: &Layout, class: usize, owns: bool, entity: i64)
-        requires owns { owns ≡ false → OwnsNone layout.now class }
-        ensures ended { columns self.new ≡ ending layout.now class entity self.old.histories.statistics (columns self.old) }
-        ensures same { IsAt self.old self.new }
-    {
-        if self.bears(owns) {
-            self.end(layout, class, entity);
         }
     }
 

@@ -4,6 +4,3 @@ pub use Rattle.ss_records.specs.Filter
 pub use Rattle.ss_records.specs.Skimmed
 pub use Rattle.ss_records.specs.Skimming
 pub mod Seen
-pub mod AtOnce
-pub mod Filed
-pub mod Skims

@@ -2,12 +2,8 @@
 //! histories that statistics are taken of.
 #![tactic(auto)]
 
-pub mod at_once;
-pub mod entities;
-pub mod filing;
-mod members;
-mod pending;
-mod removing;
+mod class;
+mod entities;
 pub mod scene;
 mod sets;
 mod statistics;

@@ -8,8 +8,9 @@ ghost use Rattle.ss_world.specs.PendingList.{none_pending};
 ghost use Rattle.ss_machine_time.specs.Records.{columns_of};
 ghost use Rattle.ss_meaning.specs.Histories.{no_histories, starting};
 
+use crate::class::{ClassEntry, class_entries};
 use ss_base::{Discipline, Layout};
-use ss_machine_entities::NoticeClass;
+use ss_code_instructions::NoticeClass;
 use ss_machine_entities::population::Population;
 use ss_machine_time::Timeline;
 use ss_program::sections::Statistic;
@@ -28,8 +29,8 @@ pub struct Scene {
     pub notices: Vec<NoticeClass>,
     /// TIME.V, the notices that are pending, and the histories.
     pub timeline: Timeline,
-    // Memory was refused to an entity that was to be made at once.
-    pub(crate) is_wanting: bool,
+    // What the program says of each class.
+    pub(crate) classes: Vec<ClassEntry>,
 }
 
 impl Model for Scene {
@@ -57,12 +58,25 @@ impl Scene {
     {
         let population = Population::new(alloc, layout)?;
         let timeline = Timeline::new(alloc, population.layout(), shapes, statistics)?;
+        let classes = class_entries(alloc, population.layout(), &notices, statistics)?;
         Ok(Scene {
             population,
             disciplines,
             notices,
             timeline,
-            is_wanting: false,
+            classes,
         })
+    }
+
+    /// The rank of a class of notices.
+    #[inline(always)]
+    pub fn rank(&self, class: usize) -> usize {
+        self.classes[class].rank
+    }
+
+    /// Whether attributes break ties of the notices of a class.
+    #[inline(always)]
+    pub fn has_ties(&self, class: usize) -> bool {
+        self.classes[class].has_ties
     }
 }

@@ -10,7 +10,7 @@ ghost use Rattle.ss_records_words.specs.Kept.{IsPermanent};
 ghost use Rattle.ss_records_entities.specs.Skimming.{IsSkimmed};
 ghost use Rattle.ss_records_entities.specs.Passing.{ranks_past, first_where, before_where};
 
-use ss_base::{FaultKind, Layout, Mode, Refused, Value};
+use ss_base::{Alpha, FaultKind, Layout, Mode, Refused, Value};
 use ss_records_entities::records::Records;
 use ss_records_entities::sets::{Member, WholeMember};
 use ss_records_entities::skimming::{Filter, Skimmed};
@@ -85,13 +85,10 @@ impl Heap {
         self.records.meet(r);
     }
 
-    /// The class of a temporary entity or a notice by its creation number: none where no entity of that number is living, and it
-    /// may give up elsewhere too.
+    /// The class of a temporary entity or a notice by its creation number: none where no entity of that number is living.
     #[inline(always)]
-    pub fn class_near(&self, r: i64) -> Option<usize>
-        ensures { IfSome result (λ c. HasClass self.now.state r c) }
-    {
-        self.records.class_near(r)
+    pub fn class_of(&self, r: i64) -> Option<usize> {
+        self.records.class_of(r)
     }
 
     /// The time of a notice. Faults: 1 to 4.
@@ -136,9 +133,9 @@ impl Heap {
         self.records.set_value(class, field, r, value)
     }
 
-    /// The whole number that an attribute is, where there is no fault.
+    /// The whole number that an attribute is. Faults: 1 to 5.
     #[inline(always)]
-    pub fn whole(&self, class: usize, field: usize, r: i64) -> Option<i64>
+    pub fn whole(&self, class: usize, field: usize, r: i64) -> Result<i64, FaultKind>
         requires class { class < length self.now.state.layout.classes }
         requires mode { slice_get (modes_of self.now.state.layout class) field ≡ Some Mode.Integer }
         ensures { IfSome result (λ n. value_in self.now.state class field r ≡ Ok (Value.Whole n)) }
@@ -146,9 +143,32 @@ impl Heap {
         self.records.whole(class, field, r)
     }
 
-    /// Sets an attribute of whole numbers, and says whether it did: not where there is a fault.
+    /// The text that an attribute is. Faults: 1 to 5.
+    #[inline(never)]
+    pub fn text(&self, class: usize, field: usize, r: i64) -> Result<Alpha, FaultKind>
+        requires class { class < length self.now.state.layout.classes }
+    {
+        self.records.text(class, field, r)
+    }
+
+    /// Sets an attribute of texts. Faults: 1 to 5.
+    #[inline(never)]
+    pub fn set_text(
+        &mut self,
+        class: usize,
+        field: usize,
+        r: i64,
+        text: Alpha,
+    ) -> Result<(), FaultKind>
+        requires class { class < length self.old.state.layout.classes }
+    {
+        self.records.start();
+        self.records.set_value(class, field, r, Value::Text(text))
+    }
+
+    /// Sets an attribute of whole numbers. Faults: 1 to 5.
     #[inline(always)]
-    pub fn set_whole(&mut self, class: usize, field: usize, r: i64, n: i64) -> bool
+    pub fn set_whole(&mut self, class: usize, field: usize, r: i64, n: i64) -> Result<(), FaultKind>
         requires class { class < length self.old.state.layout.classes }
         requires mode { slice_get (modes_of self.old.state.layout class) field ≡ Some Mode.Integer }
         ensures done { result ≡ true → assigned self.old.state class field r (Value.Whole n) ≡ Ok self.new.state }
@@ -159,18 +179,32 @@ impl Heap {
         self.records.set_whole(class, field, r, n)
     }
 
-    /// Adds a number to an attribute of whole numbers, and says whether it did: not where there is a fault or the sum does not
-    /// fit 64 bits, and it may give up elsewhere too.
+    /// Adds a number to an attribute of whole numbers. Faults: 1 to 5, then 14 where the sum does not fit 64 bits.
     #[inline(always)]
-    pub fn add_whole(&mut self, class: usize, field: usize, r: i64, n: i64) -> bool
+    pub fn add_whole(&mut self, class: usize, field: usize, r: i64, n: i64) -> Result<(), FaultKind>
         requires class { class < length self.old.state.layout.classes }
         requires mode { slice_get (modes_of self.old.state.layout class) field ≡ Some Mode.Integer }
-        ensures done { result ≡ true → Added self.old.state class field r n self.new.state }
-        ensures same { result ≡ false → self.new.state ≡ self.old.state }
         ensures touches { (self.new.touches ≡ 0) × (self.new.total ≡ self.old.total) }
     {
         self.records.start();
         self.records.add_whole(class, field, r, n)
+    }
+
+    /// Subtracts a number from an attribute of whole numbers. Faults: 1 to 5, then 14 where the difference does not fit 64 bits.
+    #[inline(always)]
+    pub fn subtract_whole(
+        &mut self,
+        class: usize,
+        field: usize,
+        r: i64,
+        n: i64,
+    ) -> Result<(), FaultKind>
+        requires class { class < length self.old.state.layout.classes }
+        requires mode { slice_get (modes_of self.old.state.layout class) field ≡ Some Mode.Integer }
+        ensures touches { (self.new.touches ≡ 0) × (self.new.total ≡ self.old.total) }
+    {
+        self.records.start();
+        self.records.subtract_whole(class, field, r, n)
     }
 
     /// Whether a class owns a set.
@@ -278,8 +312,23 @@ impl Heap {
         ensures same { self.new.state ≡ self.old.state }
         ensures touches { (self.new.touches ≤ 1) × (IsOk result → 1 ≤ self.new.touches) × (self.new.total ≡ self.old.total + self.new.touches) }
     {
-        self.records.start();
         self.records.count(set, o)
+    }
+
+    /// Whether x may be in a set. Faults: 1 to 5.
+    #[inline(always)]
+    pub fn look_member(&self, set: usize, x: i64) -> Result<(), FaultKind>
+        requires set { set < length self.now.state.layout.sets }
+    {
+        self.records.look_member(set, x)
+    }
+
+    /// Whether o is an owner of a set. Faults: 1 to 5.
+    #[inline(always)]
+    pub fn look_owner(&self, set: usize, o: i64) -> Result<(), FaultKind>
+        requires set { set < length self.now.state.layout.sets }
+    {
+        self.records.look_owner(set, o)
     }
 
     /// The member that follows x in its set, 0 where there is none or x is in no set. Faults: 1 to 5.
@@ -424,7 +473,6 @@ impl Heap {
         ensures done { MatchResult result (λ _. filed_last self.old.state set o x ≡ Ok self.new.state) (λ e. (filed_last self.old.state set o x ≡ Err e) × (self.new.state ≡ self.old.state)) }
         ensures touches { (self.new.touches ≤ 12) × (IsOk result → 4 ≤ self.new.touches) × (self.new.total ≡ self.old.total + self.new.touches) }
     {
-        self.records.start();
         self.records.file_last(set, o, x)
     }
 
@@ -469,7 +517,6 @@ impl Heap {
         ensures done { MatchResult result (λ x. first_removed self.old.state set o ≡ Ok (x, self.new.state)) (λ e. (first_removed self.old.state set o ≡ Err e) × (self.new.state ≡ self.old.state)) }
         ensures touches { (self.new.touches ≤ 12) × (self.new.total ≡ self.old.total + self.new.touches) }
     {
-        self.records.start();
         self.records.remove_first(set, o)
     }
 
@@ -482,41 +529,6 @@ impl Heap {
     {
         self.records.start();
         self.records.remove_last(set, o)
-    }
-
-    /// Files x as the last member of the set of an owner, and says whether it did: not where there is a fault, and it may give up
-    /// elsewhere too.
-    #[inline(always)]
-    pub fn file_last_near(&mut self, set: usize, o: i64, x: i64) -> bool
-        requires set { set < length self.old.state.layout.sets }
-        ensures done { result ≡ true → filed_last self.old.state set o x ≡ Ok self.new.state }
-        ensures same { result ≡ false → self.new.state ≡ self.old.state }
-        ensures touches { (self.new.touches ≤ 12) × (result ≡ true → 4 ≤ self.new.touches) × (self.new.total ≡ self.old.total + self.new.touches) }
-    {
-        self.records.file_last_near(set, o, x)
-    }
-
-    /// Takes the first member out of the set of an owner, and answers it: none where there is a fault, and it may give up elsewhere
-    /// too.
-    #[inline(always)]
-    pub fn remove_first_near(&mut self, set: usize, o: i64) -> Option<i64>
-        requires set { set < length self.old.state.layout.sets }
-        ensures done { IfSome result (λ x. first_removed self.old.state set o ≡ Ok (x, self.new.state)) }
-        ensures same { result ≡ None → self.new.state ≡ self.old.state }
-        ensures touches { (self.new.touches ≤ 12) × (self.new.total ≡ self.old.total + self.new.touches) }
-    {
-        self.records.remove_first_near(set, o)
-    }
-
-    /// How many members the set of an owner has: none where there is a fault, and it may give up elsewhere too.
-    #[inline(always)]
-    pub fn count_near(&mut self, set: usize, o: i64) -> Option<i64>
-        requires set { set < length self.old.state.layout.sets }
-        ensures value { IfSome result (λ n. count_in self.old.state set o ≡ Ok n) }
-        ensures same { self.new.state ≡ self.old.state }
-        ensures touches { (self.new.touches ≤ 1) × (self.new.total ≡ self.old.total + self.new.touches) }
-    {
-        self.records.count_near(set, o)
     }
 
     /// Whether x is in the set of an owner. Faults: those of x (1 to 5), then those of the owner.

@@ -8,6 +8,7 @@ use crate::register::Register;
 use crate::store::Address;
 use std::alloc::{AllocError, Global};
 use std::marker::Model;
+use std::ptr;
 
 /// A contract sees the place of each number, none where it is destroyed. The number that was met last is remembered with its
 /// place, and one that is likely to come next: both are a matter of speed alone, and no contract sees them.
@@ -15,20 +16,22 @@ use std::marker::Model;
 pub struct Directory {
     register: Register,
     recent: usize,
-    place: Option<Address>,
+    is_met: bool,
+    place: Address,
     coming: usize,
-    next_place: Option<Address>,
+    is_expected: bool,
+    next_place: Address,
 }
 
 impl Model for Directory {
-    ghost use Rattle.std.specs.Prelude.{◌≡◌, Some, IfSome, slice_get};
+    ghost use Rattle.std.specs.Prelude.{◌≡◌, Some, true, slice_get};
     ghost use Rattle.ss_records_blocks.specs.Pages.{Listed};
 
     ghost Value = { Listed };
 
     ghost view = { λ d. d.register };
 
-    ghost invariant = { λ d. IfSome d.place (λ p. slice_get d.register.places d.recent ≡ Some (Some p)) × IfSome d.next_place (λ p. slice_get d.register.places d.coming ≡ Some (Some p)) };
+    ghost invariant = { λ d. (d.is_met ≡ true → slice_get d.register.places d.recent ≡ Some (Some d.place)) × (d.is_expected ≡ true → slice_get d.register.places d.coming ≡ Some (Some d.next_place)) };
 }
 
 impl Directory {
@@ -40,9 +43,15 @@ impl Directory {
         Ok(Directory {
             register,
             recent: 0,
-            place: None,
+            is_met: false,
+            place: Address {
+                at: ptr::null_mut(),
+            },
             coming: 0,
-            next_place: None,
+            is_expected: false,
+            next_place: Address {
+                at: ptr::null_mut(),
+            },
         })
     }
 
@@ -97,7 +106,11 @@ impl Directory {
     pub fn remembered(&self, i: usize) -> Option<Address>
         ensures { IfSome result (λ p. slice_get self.now.places i ≡ Some (Some p)) }
     {
-        if i == self.recent { self.place } else { None }
+        if i == self.recent && self.is_met {
+            Some(self.place)
+        } else {
+            None
+        }
     }
 
     /// The entry i, from 0 on, where it is the one that is likely to come next, and is not destroyed.
@@ -105,8 +118,8 @@ impl Directory {
     pub fn expected(&self, i: usize) -> Option<Address>
         ensures { IfSome result (λ p. slice_get self.now.places i ≡ Some (Some p)) }
     {
-        if i == self.coming {
-            self.next_place
+        if i == self.coming && self.is_expected {
+            Some(self.next_place)
         } else {
             None
         }
@@ -130,7 +143,8 @@ impl Directory {
         ensures { self.new ≡ self.old }
     {
         self.recent = i;
-        self.place = Some(place);
+        self.is_met = true;
+        self.place = place;
     }
 
     /// Remembers the entry i, which is likely to come next.
@@ -140,7 +154,8 @@ impl Directory {
         ensures { self.new ≡ self.old }
     {
         self.coming = i;
-        self.next_place = Some(place);
+        self.is_expected = true;
+        self.next_place = place;
     }
 
     /// Remembers the entry i, from 0 on, where it is found without a search and is not destroyed.
@@ -163,7 +178,8 @@ impl Directory {
         let i = self.register.len();
         self.register.push(place)?;
         self.recent = i;
-        self.place = Some(place);
+        self.is_met = true;
+        self.place = place;
         Ok(())
     }
 
@@ -175,10 +191,10 @@ impl Directory {
     {
         self.register.clear(i);
         if i == self.recent {
-            self.place = None;
+            self.is_met = false;
         }
         if i == self.coming {
-            self.next_place = None;
+            self.is_expected = false;
         }
     }
 }

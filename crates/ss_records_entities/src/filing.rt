@@ -31,21 +31,6 @@ impl Records {
     fn pair(&self, s: usize, o: i64, x: i64) -> Result<Pair, FaultKind>
         requires kept { IsKept self.now }
         requires set { s < length self.now.layout.sets }
-        ensures found { MatchResult result (λ p. Owns self.now s p.owner × Joins self.now s p.x × (joiner (state self.now) s x ≡ Ok p.x.number) × (owner (state self.now) s o ≡ Ok p.owner.number)) (λ f. (g : ℕ → ℕ → Result State FaultKind) → and_then (joiner (state self.now) s x) (λ n. and_then (owner (state self.now) s o) (g n)) ≡ Err f) }
-    {
-        match self.near_pair(s, o, x) {
-            Some(pair) => Ok(pair),
-            None => self.pair_apart(s, o, x),
-        }
-    }
-
-    // Does the work of `pair` where it may take a search.
-    #[cold]
-    #[inline(never)]
-    fn pair_apart(&self, s: usize, o: i64, x: i64) -> Result<Pair, FaultKind>
-        requires kept { IsKept self.now }
-        requires set { s < length self.now.layout.sets }
-        ensures found { MatchResult result (λ p. Owns self.now s p.owner × Joins self.now s p.x × (joiner (state self.now) s x ≡ Ok p.x.number) × (owner (state self.now) s o ≡ Ok p.owner.number)) (λ f. (g : ℕ → ℕ → Result State FaultKind) → and_then (joiner (state self.now) s x) (λ n. and_then (owner (state self.now) s o) (g n)) ≡ Err f) }
     {
         match self.joiner(s, x) {
             Ok(x) => match self.owner(s, o) {
@@ -53,38 +38,6 @@ impl Records {
                 Err(fault) => Err(fault),
             },
             Err(fault) => Err(fault),
-        }
-    }
-
-    // The entities that x and then o refer to, where both are found without a search.
-    #[inline(always)]
-    fn near_pair(&self, s: usize, o: i64, x: i64) -> Option<Pair>
-        requires kept { IsKept self.now }
-        requires set { s < length self.now.layout.sets }
-        ensures { IfSome result (λ p. Owns self.now s p.owner × Joins self.now s p.x × (joiner (state self.now) s x ≡ Ok p.x.number) × (owner (state self.now) s o ≡ Ok p.owner.number)) }
-    {
-        match self.near_joiner(s, x) {
-            Some(x) => match self.near_owner(s, o) {
-                Some(owner) => Some(Pair { owner, x }),
-                None => None,
-            },
-            None => None,
-        }
-    }
-
-    // Does the work of `near_pair` where the set is one of the system.
-    #[inline(always)]
-    fn system_pair(&self, s: usize, o: i64, x: i64) -> Option<Pair>
-        requires kept { IsKept self.now }
-        requires set { s < length self.now.layout.sets }
-        ensures { IfSome result (λ p. Owns self.now s p.owner × Joins self.now s p.x × (joiner (state self.now) s x ≡ Ok p.x.number) × (owner (state self.now) s o ≡ Ok p.owner.number)) }
-    {
-        match self.system_owner(s, o) {
-            Some(owner) => match self.near_joiner(s, x) {
-                Some(x) => Some(Pair { owner, x }),
-                None => None,
-            },
-            None => None,
         }
     }
 
@@ -211,6 +164,7 @@ impl Records {
     }
 
     /// Files x last.
+    #[inline(always)]
     pub fn file_last(&mut self, s: usize, o: i64, x: i64) -> Result<(), FaultKind>
         requires kept { IsKept self.old }
         requires set { s < length self.old.layout.sets }
@@ -220,20 +174,11 @@ impl Records {
         ensures touches { (self.new.blocks.touches ≤ 12) × (IsOk result → 4 ≤ self.new.blocks.touches) × (self.new.blocks.total ≡ self.old.blocks.total + self.new.blocks.touches) }
     {
         match self.pair(s, o, x) {
-            Ok(both) => {
-                let base = self.layout.owner_base(s);
-                let end = Entry {
-                    place: self.system,
-                    number: 0,
-                };
-                if self.is_filed(s, both.x) {
-                    return Err(FaultKind::FiledTwice);
-                }
-                let last = self.blocks.follow(both.owner.place, base + 1);
-                self.link_in(s, both.owner, last, both.x, end);
-                Ok(())
+            Ok(both) => self.put_last(s, both.owner, both.x),
+            Err(fault) => {
+                self.blocks.start();
+                Err(fault)
             }
-            Err(fault) => Err(fault),
         }
     }
 
@@ -348,6 +293,7 @@ impl Records {
     }
 
     /// Takes the first member out of a set, and answers it.
+    #[inline(always)]
     pub fn remove_first(&mut self, s: usize, o: i64) -> Result<i64, FaultKind>
         requires kept { IsKept self.old }
         requires set { s < length self.old.layout.sets }
@@ -357,16 +303,11 @@ impl Records {
         ensures touches { (self.new.blocks.touches ≤ 12) × (self.new.blocks.total ≡ self.old.blocks.total + self.new.blocks.touches) }
     {
         match self.owner(s, o) {
-            Ok(owner) => {
-                let base = self.layout.owner_base(s);
-                let first = self.blocks.follow(owner.place, base);
-                if first.number == 0 {
-                    return Err(FaultKind::EmptySet);
-                }
-                self.take_out(s, owner, first);
-                Ok(first.number as i64)
+            Ok(owner) => self.draw_first(s, owner),
+            Err(fault) => {
+                self.blocks.start();
+                Err(fault)
             }
-            Err(fault) => Err(fault),
         }
     }
 
@@ -393,45 +334,25 @@ impl Records {
         }
     }
 
-    /// Files x last in a set of the system, where x is found without a search, and says whether it did: not where x is in some set of
-    /// the name, nor where the set is entities'.
-    #[inline(always)]
-    pub fn file_last_near(&mut self, s: usize, o: i64, x: i64) -> bool
-        requires kept { IsKept self.old }
-        requires set { s < length self.old.layout.sets }
-        ensures kept { IsKept self.new }
-        ensures done { result ≡ true → filed_last (state self.old) s o x ≡ Ok (state self.new) }
-        ensures same { result ≡ false → state self.new ≡ state self.old }
-        ensures touches { (self.new.blocks.touches ≤ 12) × (result ≡ true → 4 ≤ self.new.blocks.touches) × (self.new.blocks.total ≡ self.old.blocks.total + self.new.blocks.touches) }
-    {
-        match self.system_pair(s, o, x) {
-            Some(both) => self.put_last(s, both.owner, both.x),
-            None => {
-                self.blocks.start();
-                false
-            }
-        }
-    }
-
-    // Links x in after the last member of the set of an owner, and says whether it did: not where it is in some set of the name.
+    // Links x in after the last member of the set of an owner. Faults: 6 where it is in some set of the name.
     // The touches are counted at once.
     #[inline(always)]
-    fn put_last(&mut self, s: usize, owner: Entry, x: Entry) -> bool
+    fn put_last(&mut self, s: usize, owner: Entry, x: Entry) -> Result<(), FaultKind>
         requires kept { IsKept self.old }
         requires set { s < length self.old.layout.sets }
         requires owns { Owns self.old s owner }
         requires joins { Joins self.old s x }
         ensures kept { IsKept self.new }
-        ensures done { result ≡ true → (is_filed self.old.notes.lists s x.number ≡ false) × (state self.new ≡ with_list_of (state self.old) s owner.number (members_of self.old.notes.lists s owner.number ++ x.number ∷ [])) }
-        ensures same { result ≡ false → state self.new ≡ state self.old }
-        ensures touches { (self.new.blocks.touches ≤ 12) × (result ≡ true → 4 ≤ self.new.blocks.touches) × (self.new.blocks.total ≡ self.old.blocks.total + self.new.blocks.touches) }
+        ensures done { IsOk result → (is_filed self.old.notes.lists s x.number ≡ false) × (state self.new ≡ with_list_of (state self.old) s owner.number (members_of self.old.notes.lists s owner.number ++ x.number ∷ [])) }
+        ensures same { MatchResult result (λ _. ⊤) (λ _. state self.new ≡ state self.old) }
+        ensures touches { (self.new.blocks.touches ≤ 12) × (IsOk result → 4 ≤ self.new.blocks.touches) × (self.new.blocks.total ≡ self.old.blocks.total + self.new.blocks.touches) }
     {
         let member = self.layout.member_base(s);
         let set = self.layout.owner_base(s);
         let next = self.blocks.look(x.place, member);
         if next.number != x.number {
             self.blocks.start_at(1);
-            return false;
+            return Err(FaultKind::FiledTwice);
         }
         let last = self.blocks.look(owner.place, set + 1);
         let count = self.blocks.peek_count(owner.place, set + 2);
@@ -446,37 +367,18 @@ impl Records {
         self.blocks.start_at(3);
         self.blocks.link_between(member, set, x.place, &position);
         self.notes.put_before(s, owner.number, x.number, 0);
-        true
+        Ok(())
     }
 
-    /// Takes the first member out of a set of the system, and answers it: none where there is none, and where the set is entities'.
+    // Takes the first member out of the set of an owner, remembers it and answers it. Faults: 8 where there is none. The touches are counted at once.
     #[inline(always)]
-    pub fn remove_first_near(&mut self, s: usize, o: i64) -> Option<i64>
-        requires kept { IsKept self.old }
-        requires set { s < length self.old.layout.sets }
-        ensures kept { IsKept self.new }
-        ensures done { IfSome result (λ x. first_removed (state self.old) s o ≡ Ok (x, state self.new)) }
-        ensures same { result ≡ None → state self.new ≡ state self.old }
-        ensures touches { (self.new.blocks.touches ≤ 12) × (self.new.blocks.total ≡ self.old.blocks.total + self.new.blocks.touches) }
-    {
-        match self.system_owner(s, o) {
-            Some(owner) => self.draw_first(s, owner),
-            None => {
-                self.blocks.start();
-                None
-            }
-        }
-    }
-
-    // Takes the first member out of the set of an owner, remembers it and answers it. The touches are counted at once.
-    #[inline(always)]
-    fn draw_first(&mut self, s: usize, home: Entry) -> Option<i64>
+    fn draw_first(&mut self, s: usize, home: Entry) -> Result<i64, FaultKind>
         requires kept { IsKept self.old }
         requires set { s < length self.old.layout.sets }
         requires owns { Owns self.old s home }
         ensures kept { IsKept self.new }
-        ensures done { IfSome result (λ x. (o : ℤ) → owner (state self.old) s o ≡ Ok home.number → first_removed (state self.old) s o ≡ Ok (x, state self.new)) }
-        ensures same { result ≡ None → state self.new ≡ state self.old }
+        ensures done { MatchResult result (λ x. (o : ℤ) → owner (state self.old) s o ≡ Ok home.number → first_removed (state self.old) s o ≡ Ok (x, state self.new)) (λ _. ⊤) }
+        ensures same { MatchResult result (λ _. ⊤) (λ _. state self.new ≡ state self.old) }
         ensures touches { (self.new.blocks.touches ≤ 12) × (self.new.blocks.total ≡ self.old.blocks.total + self.new.blocks.touches) }
     {
         let set = self.layout.owner_base(s);
@@ -484,7 +386,7 @@ impl Records {
         let first = self.blocks.look(home.place, set);
         if first.number == 0 {
             self.blocks.start_at(1);
-            return None;
+            return Err(FaultKind::EmptySet);
         }
         sets::keep(&mut self.directory, &self.layout, s, first);
         let after = self.blocks.look(first.place, member);
@@ -500,7 +402,7 @@ impl Records {
         self.blocks.start_at(3);
         self.blocks.unlink(member, set, first.place, &position);
         self.notes.take_out(s, home.number, first.number);
-        Some(first.number as i64)
+        Ok(first.number as i64)
     }
 
     /// Whether x is in the set of an owner: at most two touches.

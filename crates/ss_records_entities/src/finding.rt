@@ -48,28 +48,46 @@ impl Records {
         }
     }
 
-    /// The block of an entity of a class.
+    /// The block of an entity of a class. What is out of line answers one word: the block that a search finds, or the fault.
     #[inline(always)]
     pub fn find(&self, class: usize, r: i64) -> Result<Address, FaultKind>
         requires kept { IsKept self.now }
         requires class { class < length self.now.layout.classes }
         ensures found { MatchResult result (λ p. Found self.now class r p) (λ e. entity_in (state self.now) class r ≡ Err e) }
     {
-        match self.layout.kind(class) {
-            ClassKind::Permanent => self.indexed(class, r),
-            ClassKind::Temporary | ClassKind::Notice => self.of_class(class, r),
+        match self.remembered(class, r) {
+            Some(place) => Ok(place),
+            None => match self.layout.kind(class) {
+                ClassKind::Permanent => self.indexed(class, r),
+                ClassKind::Temporary | ClassKind::Notice => match self.search(class, r) {
+                    Some(place) => Ok(place),
+                    None => Err(self.missing(class, r)),
+                },
+            },
         }
     }
 
-    /// The block of an entity of a class whose entities come and go one by one.
-    #[inline(always)]
-    pub fn find_single(&self, class: usize, r: i64) -> Result<Address, FaultKind>
+    // The block of an entity of a class whose entities come and go one by one, if there is one.
+    #[inline(never)]
+    fn search(&self, class: usize, r: i64) -> Option<Address>
         requires kept { IsKept self.now }
-        requires class { class < length self.now.layout.classes }
-        requires kind { IsPermanent (kind_of self.now.layout class) → ⊥ }
-        ensures found { MatchResult result (λ p. Found self.now class r p) (λ e. entity_in (state self.now) class r ≡ Err e) }
     {
-        self.of_class(class, r)
+        match self.of_class(class, r) {
+            Ok(place) => Some(place),
+            Err(_) => None,
+        }
+    }
+
+    // The fault of a number that is no entity of a class whose entities come and go one by one.
+    #[cold]
+    #[inline(never)]
+    fn missing(&self, class: usize, r: i64) -> FaultKind
+        requires kept { IsKept self.now }
+    {
+        match self.of_class(class, r) {
+            Ok(_) => FaultKind::NoEntity,
+            Err(fault) => fault,
+        }
     }
 
     // Whether an entity is in a set.
@@ -187,53 +205,6 @@ impl Records {
         }
     }
 
-    /// The block of an entity of a class, where it is found without a search.
-    #[inline(always)]
-    pub fn near(&self, class: usize, r: i64) -> Option<Address>
-        requires kept { IsKept self.now }
-        requires class { class < length self.now.layout.classes }
-        ensures { IfSome result (λ p. Found self.now class r p) }
-    {
-        match self.remembered(class, r) {
-            Some(place) => Some(place),
-            None => self.near_by_kind(class, r),
-        }
-    }
-
-    // The block of an entity that was not met last, where it is found without a search.
-    #[inline(always)]
-    fn near_by_kind(&self, class: usize, r: i64) -> Option<Address>
-        requires kept { IsKept self.now }
-        requires class { class < length self.now.layout.classes }
-        ensures { IfSome result (λ p. Found self.now class r p) }
-    {
-        match self.layout.kind(class) {
-            ClassKind::Permanent => match self.indexed(class, r) {
-                Ok(place) => Some(place),
-                Err(_) => None,
-            },
-            ClassKind::Temporary | ClassKind::Notice => self.near_of_class(class, r),
-        }
-    }
-
-    // The block of a creation number of a class, where it is found without a search.
-    #[inline(always)]
-    fn near_of_class(&self, class: usize, r: i64) -> Option<Address>
-        requires kept { IsKept self.now }
-        ensures { IfSome result (λ p. (numbered_place self.now.directory.places r ≡ Ok p) × (class_at_place self.now.blocks.cells p ≡ class) × (and_then (numbered (state self.now) r) (of_class class) ≡ Ok (record_of self.now.layout (words_at self.now.blocks.cells p.at)))) }
-    {
-        match self.near_numbered(r) {
-            Some(place) => {
-                if self.blocks.number(place, CLASS) == class as u64 {
-                    Some(place)
-                } else {
-                    None
-                }
-            }
-            None => None,
-        }
-    }
-
     // The block of a creation number, where it is found without a search.
     #[inline(always)]
     fn near_numbered(&self, r: i64) -> Option<Address>
@@ -244,15 +215,26 @@ impl Records {
         self.directory.near(i as usize)
     }
 
-    /// The class of the entity of a creation number, where it is found without a search.
+    /// The class of the entity of a creation number, if it is living.
     #[inline(always)]
-    pub fn class_near(&self, r: i64) -> Option<usize>
+    pub fn class_of(&self, r: i64) -> Option<usize>
         requires kept { IsKept self.now }
-        ensures { IfSome result (λ c. HasClass (state self.now) r c) }
     {
-        match self.near_numbered(r) {
+        match self.remembered_numbered(r) {
             Some(place) => Some(self.blocks.number(place, CLASS) as usize),
-            None => None,
+            None => self.class_apart(r),
+        }
+    }
+
+    // Does the work of `class_of` where it takes a search.
+    #[cold]
+    #[inline(never)]
+    fn class_apart(&self, r: i64) -> Option<usize>
+        requires kept { IsKept self.now }
+    {
+        match self.numbered(r) {
+            Ok(place) => Some(self.blocks.number(place, CLASS) as usize),
+            Err(_) => None,
         }
     }
 

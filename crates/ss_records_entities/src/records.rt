@@ -11,7 +11,8 @@ ghost use Rattle.ss_records_words.specs.Places.{class_at_place, lying};
 ghost use Rattle.ss_records_entities.specs.Parts.{IsKept, state};
 ghost use Rattle.ss_records_entities.specs.Added.{Added};
 
-use ss_base::{FaultKind, Layout, Mode, Owner, Refused, Value, plus};
+use crate::ties;
+use ss_base::{Alpha, FaultKind, Layout, Mode, Owner, Refused, Value, minus, plus};
 use ss_records_blocks::placing::{give_places_back, place_all};
 use ss_records_blocks::row::{self, Row};
 use ss_records_blocks::{Address, Blocks, CLASS, Directory, PAGE};
@@ -151,73 +152,45 @@ impl Records {
         }
     }
 
-    /// The whole number that an attribute is, where there is no fault.
+    /// The whole number that an attribute is.
     #[inline(always)]
-    pub fn whole(&self, class: usize, field: usize, r: i64) -> Option<i64>
+    pub fn whole(&self, class: usize, field: usize, r: i64) -> Result<i64, FaultKind>
         requires kept { IsKept self.now }
         requires class { class < length self.now.layout.classes }
         requires mode { slice_get (modes_of self.now.layout class) field ≡ Some Mode.Integer }
-        ensures { IfSome result (λ n. value_in (state self.now) class field r ≡ Ok (Value.Whole n)) }
-    {
-        match self.near(class, r) {
-            Some(place) => {
-                let k = value_start(field);
-                Some(attributes::whole(&self.blocks, place, k))
-            }
-            None => self.whole_apart(class, field, r),
-        }
-    }
-
-    // Does the work of `whole` where it may take a search. The call comes last, so that a call without a search saves no registers.
-    #[cold]
-    #[inline(never)]
-    fn whole_apart(&self, class: usize, field: usize, r: i64) -> Option<i64>
-        requires kept { IsKept self.now }
-        requires class { class < length self.now.layout.classes }
-        requires mode { slice_get (modes_of self.now.layout class) field ≡ Some Mode.Integer }
-        ensures { IfSome result (λ n. value_in (state self.now) class field r ≡ Ok (Value.Whole n)) }
+        ensures { MatchResult result (λ n. value_in (state self.now) class field r ≡ Ok (Value.Whole n)) (λ e. value_in (state self.now) class field r ≡ Err e) }
     {
         match self.find(class, r) {
             Ok(place) => {
                 let k = value_start(field);
-                Some(attributes::whole(&self.blocks, place, k))
+                Ok(attributes::whole(&self.blocks, place, k))
             }
-            Err(_) => None,
+            Err(fault) => Err(fault),
         }
     }
 
-    /// Sets an attribute of whole numbers, and says whether it did: not where there is a fault.
-    #[inline(always)]
-    pub fn set_whole(&mut self, class: usize, field: usize, r: i64, n: i64) -> bool
-        requires kept { IsKept self.old }
-        requires class { class < length self.old.layout.classes }
-        requires mode { slice_get (modes_of self.old.layout class) field ≡ Some Mode.Integer }
-        ensures kept { IsKept self.new }
-        ensures done { result ≡ true → assigned (state self.old) class field r (Value.Whole n) ≡ Ok (state self.new) }
-        ensures same { result ≡ false → state self.new ≡ state self.old }
-        ensures touches { (self.new.blocks.touches ≡ self.old.blocks.touches) × (self.new.blocks.total ≡ self.old.blocks.total) }
-        ensures blocks { length self.new.blocks.cells ≡ length self.old.blocks.cells }
+    /// The text that an attribute is.
+    pub fn text(&self, class: usize, field: usize, r: i64) -> Result<Alpha, FaultKind>
+        requires kept { IsKept self.now }
+        requires class { class < length self.now.layout.classes }
     {
-        match self.near(class, r) {
-            Some(place) => {
+        match self.find(class, r) {
+            Ok(place) => {
                 let k = value_start(field);
-                attributes::set_whole(&mut self.blocks, place, k, n);
-                true
+                Ok(attributes::text(&self.blocks, place, k))
             }
-            None => self.set_whole_apart(class, field, r, n),
+            Err(fault) => Err(fault),
         }
     }
 
-    // Does the work of `set_whole` where it may take a search.
-    #[cold]
-    #[inline(never)]
-    fn set_whole_apart(&mut self, class: usize, field: usize, r: i64, n: i64) -> bool
+    /// Sets an attribute of whole numbers.
+    #[inline(always)]
+    pub fn set_whole(&mut self, class: usize, field: usize, r: i64, n: i64) -> Result<(), FaultKind>
         requires kept { IsKept self.old }
         requires class { class < length self.old.layout.classes }
         requires mode { slice_get (modes_of self.old.layout class) field ≡ Some Mode.Integer }
         ensures kept { IsKept self.new }
-        ensures done { result ≡ true → assigned (state self.old) class field r (Value.Whole n) ≡ Ok (state self.new) }
-        ensures same { result ≡ false → state self.new ≡ state self.old }
+        ensures done { MatchResult result (λ _. assigned (state self.old) class field r (Value.Whole n) ≡ Ok (state self.new)) (λ e. (assigned (state self.old) class field r (Value.Whole n) ≡ Err e) × (state self.new ≡ state self.old)) }
         ensures touches { (self.new.blocks.touches ≡ self.old.blocks.touches) × (self.new.blocks.total ≡ self.old.blocks.total) }
         ensures blocks { length self.new.blocks.cells ≡ length self.old.blocks.cells }
     {
@@ -225,34 +198,66 @@ impl Records {
             Ok(place) => {
                 let k = value_start(field);
                 attributes::set_whole(&mut self.blocks, place, k, n);
-                true
+                Ok(())
             }
-            Err(_) => false,
+            Err(fault) => Err(fault),
         }
     }
 
-    /// Adds a number to an attribute of whole numbers, and says whether it did: not where the entity is not found without a
-    /// search, nor where the sum does not fit 64 bits.
+    /// Adds a number to an attribute of whole numbers. Faults: those of the entity, then 14 where the result does not fit 64 bits.
     #[inline(always)]
-    pub fn add_whole(&mut self, class: usize, field: usize, r: i64, n: i64) -> bool
+    pub fn add_whole(&mut self, class: usize, field: usize, r: i64, n: i64) -> Result<(), FaultKind>
         requires kept { IsKept self.old }
         requires class { class < length self.old.layout.classes }
         requires mode { slice_get (modes_of self.old.layout class) field ≡ Some Mode.Integer }
         ensures kept { IsKept self.new }
-        ensures done { result ≡ true → Added (state self.old) class field r n (state self.new) }
-        ensures same { result ≡ false → state self.new ≡ state self.old }
         ensures touches { (self.new.blocks.touches ≡ self.old.blocks.touches) × (self.new.blocks.total ≡ self.old.blocks.total) }
         ensures blocks { length self.new.blocks.cells ≡ length self.old.blocks.cells }
     {
-        let Some(place) = self.near(class, r) else {
-            return false;
-        };
-        let k = value_start(field);
-        let Ok(sum) = plus(attributes::whole(&self.blocks, place, k), n) else {
-            return false;
-        };
-        attributes::set_whole(&mut self.blocks, place, k, sum);
-        true
+        match self.find(class, r) {
+            Ok(place) => {
+                let k = value_start(field);
+                match plus(attributes::whole(&self.blocks, place, k), n) {
+                    Ok(changed) => {
+                        attributes::set_whole(&mut self.blocks, place, k, changed);
+                        Ok(())
+                    }
+                    Err(fault) => Err(fault),
+                }
+            }
+            Err(fault) => Err(fault),
+        }
+    }
+
+    /// Subtracts a number from an attribute of whole numbers. Faults: those of the entity, then 14 where the result does not fit 64 bits.
+    #[inline(always)]
+    pub fn subtract_whole(
+        &mut self,
+        class: usize,
+        field: usize,
+        r: i64,
+        n: i64,
+    ) -> Result<(), FaultKind>
+        requires kept { IsKept self.old }
+        requires class { class < length self.old.layout.classes }
+        requires mode { slice_get (modes_of self.old.layout class) field ≡ Some Mode.Integer }
+        ensures kept { IsKept self.new }
+        ensures touches { (self.new.blocks.touches ≡ self.old.blocks.touches) × (self.new.blocks.total ≡ self.old.blocks.total) }
+        ensures blocks { length self.new.blocks.cells ≡ length self.old.blocks.cells }
+    {
+        match self.find(class, r) {
+            Ok(place) => {
+                let k = value_start(field);
+                match minus(attributes::whole(&self.blocks, place, k), n) {
+                    Ok(changed) => {
+                        attributes::set_whole(&mut self.blocks, place, k, changed);
+                        Ok(())
+                    }
+                    Err(fault) => Err(fault),
+                }
+            }
+            Err(fault) => Err(fault),
+        }
     }
 
     /// The time of a notice.

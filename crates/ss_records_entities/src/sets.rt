@@ -47,11 +47,14 @@ impl Records {
         requires set { s < length self.now.layout.sets }
         ensures found { MatchResult result (λ e. Owns self.now s e × (owner (state self.now) s o ≡ Ok e.number)) (λ f. owner (state self.now) s o ≡ Err f) }
     {
-        match self.layout.owner_class(s) {
-            Owner::System => Ok(Entry {
+        if self.layout.is_of_system(s) {
+            return Ok(Entry {
                 place: self.system,
                 number: 0,
-            }),
+            });
+        }
+        match self.layout.owner_class(s) {
+            Owner::System => Err(FaultKind::NoEntity),
             Owner::Class(class) => match self.find(class, o) {
                 Ok(place) => Ok(Entry {
                     place,
@@ -59,45 +62,6 @@ impl Records {
                 }),
                 Err(fault) => Err(fault),
             },
-        }
-    }
-
-    /// The owner of a set that o refers to, where it is found without a search.
-    #[inline(always)]
-    pub fn near_owner(&self, s: usize, o: i64) -> Option<Entry>
-        requires kept { IsKept self.now }
-        requires set { s < length self.now.layout.sets }
-        ensures { IfSome result (λ e. Owns self.now s e × (owner (state self.now) s o ≡ Ok e.number)) }
-    {
-        match self.layout.owner_class(s) {
-            Owner::System => Some(Entry {
-                place: self.system,
-                number: 0,
-            }),
-            Owner::Class(class) => match self.near(class, o) {
-                Some(place) => Some(Entry {
-                    place,
-                    number: self.blocks.number(place, NUMBER),
-                }),
-                None => None,
-            },
-        }
-    }
-
-    /// Does the work of `near_owner` for a set of the system; none for any other set.
-    #[inline(always)]
-    pub fn system_owner(&self, s: usize, _o: i64) -> Option<Entry>
-        requires kept { IsKept self.now }
-        requires set { s < length self.now.layout.sets }
-        ensures { IfSome result (λ e. Owns self.now s e × (owner (state self.now) s _o ≡ Ok e.number)) }
-    {
-        if self.layout.is_of_system(s) {
-            Some(Entry {
-                place: self.system,
-                number: 0,
-            })
-        } else {
-            None
         }
     }
 
@@ -187,32 +151,13 @@ impl Records {
         match self.owner(s, o) {
             Ok(owner) => {
                 let base = self.layout.owner_base(s);
-                Ok(self.blocks.count(owner.place, base + 2) as i64)
-            }
-            Err(fault) => Err(fault),
-        }
-    }
-
-    /// How many members a set of the system has: a touch. None where the set is entities'.
-    #[inline(always)]
-    pub fn count_near(&mut self, s: usize, o: i64) -> Option<i64>
-        requires kept { IsKept self.old }
-        requires set { s < length self.old.layout.sets }
-        ensures value { IfSome result (λ n. count_in (state self.old) s o ≡ Ok n) }
-        ensures kept { IsKept self.new }
-        ensures same { state self.new ≡ state self.old }
-        ensures touches { (self.new.blocks.touches ≤ 1) × (self.new.blocks.total ≡ self.old.blocks.total + self.new.blocks.touches) }
-    {
-        match self.system_owner(s, o) {
-            Some(owner) => {
-                let base = self.layout.owner_base(s);
                 let count = self.blocks.peek_count(owner.place, base + 2);
                 self.blocks.start_at(1);
-                Some(count as i64)
+                Ok(count as i64)
             }
-            None => {
+            Err(fault) => {
                 self.blocks.start();
-                None
+                Err(fault)
             }
         }
     }
@@ -428,19 +373,27 @@ impl Records {
         }
     }
 
-    /// The entity that x refers to, which may be in a set, where it is found without a search.
+    /// Whether x refers to an entity that may be in a set.
     #[inline(always)]
-    pub fn near_joiner(&self, s: usize, x: i64) -> Option<Entry>
+    pub fn look_member(&self, s: usize, x: i64) -> Result<(), FaultKind>
         requires kept { IsKept self.now }
         requires set { s < length self.now.layout.sets }
-        ensures { IfSome result (λ e. Joins self.now s e × (joiner (state self.now) s x ≡ Ok e.number)) }
     {
-        match self.near(self.layout.member_class(s), x) {
-            Some(place) => Some(Entry {
-                place,
-                number: self.blocks.number(place, NUMBER),
-            }),
-            None => None,
+        match self.find(self.layout.member_class(s), x) {
+            Ok(_) => Ok(()),
+            Err(fault) => Err(fault),
+        }
+    }
+
+    /// Whether o refers to an owner of a set.
+    #[inline(always)]
+    pub fn look_owner(&self, s: usize, o: i64) -> Result<(), FaultKind>
+        requires kept { IsKept self.now }
+        requires set { s < length self.now.layout.sets }
+    {
+        match self.owner(s, o) {
+            Ok(_) => Ok(()),
+            Err(fault) => Err(fault),
         }
     }
 

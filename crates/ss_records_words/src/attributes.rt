@@ -31,9 +31,9 @@ pub fn whole(blocks: &Blocks, place: Address, k: usize) -> i64
     blocks.number(place, k).cast_signed()
 }
 
-// The text in a word and the next.
+/// The text in a word and the next.
 #[inline(never)]
-fn text(blocks: &Blocks, place: Address, k: usize) -> Alpha
+pub fn text(blocks: &Blocks, place: Address, k: usize) -> Alpha
     requires first { IsNumber (word_at blocks.now.cells place.at k) }
     requires second { IsNumber (word_at blocks.now.cells place.at (k + 1)) }
     requires room { k + 1 < 2 ^ 64 }

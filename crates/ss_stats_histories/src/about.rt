@@ -44,28 +44,12 @@ impl Tables {
         }
     }
 
-    /// The numbers under an attribute of a class.
-    #[inline(always)]
-    fn at_attribute(&self, class: usize, field: usize) -> &[usize]
-        ensures { result.now ≡ place_found (OfAttribute class field) self.now.variables self.now.attributes self.now.sets }
-    {
-        self.attributes.at(class, field)
-    }
-
     /// The numbers under N. of a set.
     #[inline(always)]
     fn at_count(&self, set: usize) -> &[usize]
         ensures { result.now ≡ place_found (OfCount set) self.now.variables self.now.attributes self.now.sets }
     {
         self.sets.at(set)
-    }
-
-    /// Whether there is no number under any attribute.
-    #[inline(always)]
-    fn has_no_attributes(&self) -> bool
-        ensures { result ≡ true → self.now.attributes ≡ [] }
-    {
-        self.attributes.is_empty()
     }
 
     /// Puts one number more under a subject. The error comes where memory was refused.
@@ -124,28 +108,12 @@ impl About {
         self.tables.at(subject)
     }
 
-    /// The places of the statistics of an attribute of a class.
-    #[inline(always)]
-    pub(crate) fn attribute_places(&self, class: usize, field: usize) -> &[usize]
-        ensures { result.now ≡ places_where (is_about (OfAttribute class field)) self.now }
-    {
-        self.tables.at_attribute(class, field)
-    }
-
     /// The places of the statistics of N. of a set.
     #[inline(always)]
     pub(crate) fn count_places(&self, set: usize) -> &[usize]
         ensures { result.now ≡ places_where (is_about (OfCount set)) self.now }
     {
         self.tables.at_count(set)
-    }
-
-    /// Whether no statistic is about an attribute.
-    #[inline(always)]
-    pub(crate) fn has_no_attributes(&self) -> bool
-        ensures { result ≡ true → (class field : ℕ) → places_where (is_about (OfAttribute class field)) self.now ≡ [] }
-    {
-        self.tables.has_no_attributes()
     }
 }
 

@@ -66,27 +66,6 @@ pub(crate) fn note_each(kept: &mut [Kept], places: &[usize], entity: i64, now: i
     }
 }
 
-/// Whether the history of an entity in the statistic at a place is known at once to take a number.
-#[inline(always)]
-pub(crate) fn takes_at(kept: &[Kept], place: usize, entity: i64, now: i64) -> bool
-    requires within { place < length kept.now }
-    requires until { All (KeptUntil now) kept.now }
-    ensures { result ≡ true → refused_at entity (map shown kept.now) place ≡ None }
-{
-    kept[place].takes(entity, now)
-}
-
-/// The only place, if there is one.
-#[inline(always)]
-pub(crate) fn only(places: &[usize]) -> Option<usize>
-    ensures { IfSome result (λ place. places.now ≡ place ∷ []) }
-{
-    match places {
-        [place] => Some(*place),
-        _ => None,
-    }
-}
-
 /// Whether there is a statistic.
 #[inline(always)]
 pub(crate) fn has_any(kept: &[Kept]) -> bool
@@ -129,26 +108,6 @@ pub(crate) fn note_here(
     kept[place].note_or_refuse(entity, now, number)
 }
 
-// Does the work of `note_all` for one place, out of line.
-#[inline(never)]
-fn note_one(
-    kept: &mut [Kept],
-    place: usize,
-    entity: i64,
-    now: i64,
-    number: i64,
-) -> Result<(), Unnoted>
-    requires within { place < length kept.old }
-    requires until { All (KeptUntil now) kept.old }
-    ensures noted { MatchResult result (λ _. (refused_at entity (map shown kept.old) place ≡ None) × (map shown kept.new ≡ changed_at (noted_one entity now number) (map shown kept.old) place)) (λ e. (refused_at entity (map shown kept.old) place ≡ Some e) × (kept.new ≡ kept.old)) }
-    ensures until { All (KeptUntil now) kept.new }
-{
-    match note_here(kept, place, entity, now, number) {
-        None => Ok(()),
-        Some(unnoted) => Err(unnoted),
-    }
-}
-
 // Notes a number in the histories of an entity in the statistics at some places, as `note_all` does.
 #[inline(never)]
 fn note_refusable(
@@ -172,9 +131,9 @@ fn note_refusable(
     }
 }
 
-// Does the work of `note_all` for a number; nothing where there is no place.
+/// Notes a number in the histories of an entity in the statistics at some places, as `note_all` does.
 #[inline(always)]
-fn note_number(
+pub(crate) fn note_number(
     kept: &mut [Kept],
     places: &[usize],
     entity: i64,
@@ -188,7 +147,10 @@ fn note_number(
 {
     match places {
         [] => Ok(()),
-        [place] => note_one(kept, *place, entity, now, number),
+        [place] => match note_here(kept, *place, entity, now, number) {
+            None => Ok(()),
+            Some(unnoted) => Err(unnoted),
+        },
         [..] => note_refusable(kept, places, entity, now, number),
     }
 }

@@ -133,32 +133,6 @@ impl Histories {
         each::has_any(&self.kept)
     }
 
-    /// Whether no statistic is kept of an attribute: then the entities of a class that owns no set have no history.
-    #[inline(always)]
-    pub fn spares_setless(&self) -> bool
-        ensures { result ≡ true → (l : TheLayout) (class : ℕ) → OwnsNone l class → HasNoHistories l class self.now }
-    {
-        let _kept = &self.kept;
-        self.about.has_no_attributes()
-    }
-
-    /// Whether a statistic is kept of a subject.
-    #[inline(always)]
-    pub fn watches(&self, subject: Subject) -> bool
-        ensures { result ≡ list_any (is_about subject) self.now.statistics }
-    {
-        !self.kept.is_empty() && each::has_some(self.about.places(subject))
-    }
-
-    /// Whether no statistic is kept of a global variable: then noting a value of it changes nothing.
-    #[inline(always)]
-    pub fn ignores_variable(&self, number: usize) -> bool
-        ensures { result ≡ true → (x now : ℤ) (v : ValueSeen) → all_noting (OfVariable number) x now v self.now.statistics (columns_of self.now.rows) ≡ Ok (columns_of self.now.rows) }
-    {
-        let _kept = &self.kept;
-        !self.watches(Subject::OfVariable { number })
-    }
-
     /// The subject of a statistic, if there is one of that number.
     pub fn subject(&self, statistic: usize) -> Option<Subject>
         ensures { result ≡ option_map (λ (s : Statistic). s.subject) (slice_get self.now.statistics statistic) }
@@ -191,58 +165,23 @@ impl Histories {
         note_at(&mut self.kept, &mut self.latest, places, entity, now, value)
     }
 
-    /// Notes a value of an attribute of a class, as `note` does.
+    /// Notes N. of the set of an owner, now, in each statistic of it, as `note` does.
     #[inline(always)]
-    pub fn note_attribute(
+    pub fn note_count(
         &mut self,
-        class: usize,
-        field: usize,
-        entity: i64,
+        set: usize,
+        owner: i64,
         now: i64,
-        value: Value,
-    ) -> Result<(), Unnoted>
-        requires { self.old.latest ≤ℤ now }
-        ensures noted { MatchResult result (λ _. all_noting (OfAttribute class field) entity now value self.old.statistics (columns_of self.old.rows) ≡ Ok (columns_of self.new.rows)) (λ e. (all_noting (OfAttribute class field) entity now value self.old.statistics (columns_of self.old.rows) ≡ Err (why e)) × (self.new ≡ self.old)) }
-        ensures statistics { self.new.statistics ≡ self.old.statistics }
-        ensures latest { self.new.latest ≤ℤ now }
-    {
-        if self.kept.is_empty() {
-            return Ok(());
-        }
-        let places = self.about.attribute_places(class, field);
-        note_at(&mut self.kept, &mut self.latest, places, entity, now, value)
-    }
-
-    /// The place of the only statistic of N. of a set, if the history of its owner in it takes a number: then noting one
-    /// does not fail.
-    #[inline(always)]
-    pub fn taking(&self, set: usize, owner: i64, now: i64) -> Option<usize>
-        requires { self.now.latest ≤ℤ now }
-        ensures { IfSome result (λ place. IsOnly set place self.now.statistics × Takes (OfCount set) owner now self.now.statistics (columns_of self.now.rows)) }
-    {
+        number: i64,
+    ) -> Result<(), Unnoted> {
         let places = self.about.count_places(set);
-        match each::only(places) {
-            Some(place) => if each::takes_at(&self.kept, place, owner, now) {
-                Some(place)
-            } else {
-                None
-            },
-            None => None,
+        match each::note_number(&mut self.kept, places, owner, now, number) {
+            Ok(()) => {
+                self.latest = now;
+                Ok(())
+            }
+            Err(unnoted) => Err(unnoted),
         }
-    }
-
-    /// Notes N. of the set of an owner, now, in the only statistic of it, whose history takes a number.
-    #[inline(always)]
-    pub fn note_count(&mut self, set: usize, place: usize, owner: i64, now: i64, number: i64)
-        requires now { self.old.latest ≤ℤ now }
-        requires only { IsOnly set place self.old.statistics }
-        requires takes { Takes (OfCount set) owner now self.old.statistics (columns_of self.old.rows) }
-        ensures noted { all_noting (OfCount set) owner now (Whole number) self.old.statistics (columns_of self.old.rows) ≡ Ok (columns_of self.new.rows) }
-        ensures statistics { self.new.statistics ≡ self.old.statistics }
-        ensures latest { self.new.latest ≤ℤ now }
-    {
-        let _ = set;
-        note_only(&mut self.kept, &mut self.latest, place, owner, now, number);
     }
 
     /// What is asked of the history of an entity in a statistic, if it has one. Faults: 14 for a sum of more than 64
@@ -322,21 +261,4 @@ fn note_at(
         }
         Err(unnoted) => Err(unnoted),
     }
-}
-
-// Notes N. of the set of an owner, now, in the statistic at a place, which is the only one of that, and whose history takes a number.
-#[inline(always)]
-fn note_only(kept: &mut [Kept], latest: &mut i64, place: usize, owner: i64, now: i64, number: i64)
-    requires within { place < length kept.old }
-    requires until { All (KeptUntil latest.old) kept.old }
-    requires start { pos 0 ≤ℤ latest.old }
-    requires now { latest.old ≤ℤ now }
-    ensures noted { (set : ℕ) → IsOnly set place (statistics_of kept.old) → Takes (OfCount set) owner now (statistics_of kept.old) (columns_of (rows_of kept.old)) → all_noting (OfCount set) owner now (Whole number) (statistics_of kept.old) (columns_of (rows_of kept.old)) ≡ Ok (columns_of (rows_of kept.new)) }
-    ensures statistics { (set : ℕ) → IsOnly set place (statistics_of kept.old) → statistics_of kept.new ≡ statistics_of kept.old }
-    ensures until { All (KeptUntil latest.new) kept.new }
-    ensures start { pos 0 ≤ℤ latest.new }
-    ensures latest { latest.new ≤ℤ now }
-{
-    let _ = each::note_here(kept, place, owner, now, number);
-    *latest = now;
 }

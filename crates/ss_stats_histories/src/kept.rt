@@ -132,18 +132,6 @@ impl Kept {
         }
     }
 
-    /// Whether the history of an entity is known at once to take a number.
-    #[inline(always)]
-    pub(crate) fn takes(&self, entity: i64, now: i64) -> bool
-        requires { IsUntil now (column_of self.now.rows) }
-        ensures { result ≡ true → refused_in (column_of self.now.rows entity) ≡ None }
-    {
-        match self.of(entity) {
-            Some(watched) => watched.is_open(now),
-            None => false,
-        }
-    }
-
     /// Notes a value in the history of an entity, if it has one that isn't full.
     pub(crate) fn note(&mut self, entity: i64, now: i64, value: i64)
         requires { IsUntil now (column_of self.old.rows) }

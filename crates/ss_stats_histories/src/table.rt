@@ -122,14 +122,6 @@ impl Grid {
         }
     }
 
-    /// Whether nothing was put under a pair.
-    #[inline(always)]
-    pub(crate) fn is_empty(&self) -> bool
-        ensures { result ≡ true → self.now ≡ [] }
-    {
-        self.tables.is_empty()
-    }
-
     /// The numbers under a pair of numbers.
     #[inline(always)]
     pub(crate) fn at(&self, first: usize, second: usize) -> &[usize]

@@ -10,7 +10,7 @@ use crate::ghost_history::GhostHistory;
 use ss_base::FaultKind;
 use ss_program::expression::Fold;
 use ss_program::sections::Weighting;
-use ss_stats::{TALLY_LIMIT, Totals};
+use ss_stats::Totals;
 use std::marker::Model;
 
 /// The totals of a history. A contract sees them as that history.
@@ -62,15 +62,6 @@ impl Watched {
     {
         let mut totals = self.totals;
         totals.note(now, 0).is_err()
-    }
-
-    /// Whether it is known at once to take one more value.
-    #[inline(always)]
-    pub(crate) fn is_open(&self, now: i64) -> bool
-        requires { last_moment self.now ≤ℤ now }
-        ensures { result ≡ true → is_full self.now ≡ false }
-    {
-        self.totals.number(now) < TALLY_LIMIT
     }
 
     /// Notes a value, unless it is full, and answers whether it did.

@@ -2,7 +2,6 @@
 
 use ss_base::{FaultKind, Line, MemoryRead, MemoryWrite, Plan, WriteFailure};
 use ss_engine::{Model, Outcome, Refusal, Stop, compile, outcome_line, outcome_status, simulate};
-use ss_sections::sections::Sections;
 use std::alloc::Global;
 use std::test::Fail;
 
@@ -100,32 +99,6 @@ fn the_listing_of_a_print(rt: HostRuntime) {
 #[test]
 fn the_listing_of_the_manual(rt: HostRuntime) {
     assert!(rt; is_listed(rt.alloc(), BELL, BELL_LISTING));
-}
-
-// Whether the places of the code of a text lie in sections.
-fn has_sections(alloc: Global, text: &[u8]) -> bool {
-    let Ok(model) = compile(alloc, text) else {
-        return false;
-    };
-    let code = model.into_code();
-    let found = Sections::of(
-        alloc,
-        code.instructions(),
-        code.locals(),
-        code.routines(),
-        code.events(),
-    );
-    code.release();
-    match found {
-        Ok(Some(sections)) => sections.modes_at(0).len() == 1,
-        _ => false,
-    }
-}
-
-// By sections a run has joined instructions, and is quick; no clause says that there are any. The one variable of MAIN is I.
-#[test]
-fn the_code_of_the_manual_has_sections(rt: HostRuntime) {
-    assert!(rt; has_sections(rt.alloc(), BELL));
 }
 
 static OUTCOMES: [(Outcome, u8, &[u8]); 10] = [

@@ -11,42 +11,11 @@ ghost use Rattle.ss_records.specs.State.{modes_of};
 ghost use Rattle.ss_sets.specs.Disciplines.{FitsMembers, filed, first_removed, last_removed, member_test};
 
 use crate::population::Population;
-use crate::trouble::{Trouble, or_trouble};
 use ss_base::{Discipline, FaultKind};
-use ss_meaning::program::statement::End;
 use ss_records::{Filter, Skimmed};
-use ss_sets::{file, fits, is_in, remove_first, remove_last};
+use ss_sets::file;
 
 impl Population {
-    // Whether the keys of a discipline are attributes of the members of a set.
-    #[inline(always)]
-    fn fits(&self, discipline: &Discipline, set: usize) -> bool
-        requires set { set < length self.now.layout.sets }
-        ensures value { result ≡ is_fit self.now.layout set discipline.now }
-        ensures keys { IsTrue result → FitsMembers self.now.layout set discipline.now }
-    {
-        fits(self.heap.layout(), set, discipline)
-    }
-
-    /// Files x in the set of an owner by a discipline, where its keys are attributes of the members. Faults: as of
-    /// `file`.
-    #[inline(always)]
-    pub fn file_if_fit(
-        &mut self,
-        discipline: &Discipline,
-        set: usize,
-        o: i64,
-        x: i64,
-    ) -> Result<(), Trouble>
-        requires set { set < length self.old.layout.sets }
-        ensures { let filed = where_fit (is_fit self.old.layout set discipline.now) (due (filed self.old discipline.now set o x)) in MatchResult result (λ _. filed ≡ Ok self.new) (λ t. (filed ≡ Err (meant t)) × (self.new ≡ self.old)) }
-    {
-        if !self.fits(discipline, set) {
-            return Err(Trouble::Misfit);
-        }
-        or_trouble(self.file(discipline, set, o, x))
-    }
-
     /// Files x in the set of an owner by a discipline. Faults: those of x (1 to 5), those of the owner, then 6 where x
     /// is in some set of this name.
     #[inline(always)]
@@ -114,84 +83,22 @@ impl Population {
         self.heap.remove(set, o, x)
     }
 
-    // Takes the first member out of the set of an owner, and answers it. Faults: 1 to 5, then 8 where there is none.
+    /// Takes the first member out of the set of an owner, and answers it. Faults: 1 to 5, then 8 where there is none.
     #[inline(always)]
-    fn remove_first(&mut self, set: usize, o: i64) -> Result<i64, FaultKind>
+    pub fn remove_first(&mut self, set: usize, o: i64) -> Result<i64, FaultKind>
         requires set { set < length self.old.layout.sets }
         ensures { MatchResult result (λ x. first_removed self.old set o ≡ Ok (x, self.new)) (λ e. (first_removed self.old set o ≡ Err e) × (self.new ≡ self.old)) }
     {
-        remove_first(&mut self.heap, set, o)
+        self.heap.remove_first(set, o)
     }
 
-    // Takes the last member out of the set of an owner, and answers it. Faults: 1 to 5, then 8 where there is none.
+    /// Takes the last member out of the set of an owner, and answers it. Faults: 1 to 5, then 8 where there is none.
     #[inline(always)]
-    fn remove_last(&mut self, set: usize, o: i64) -> Result<i64, FaultKind>
+    pub fn remove_last(&mut self, set: usize, o: i64) -> Result<i64, FaultKind>
         requires set { set < length self.old.layout.sets }
         ensures { MatchResult result (λ x. last_removed self.old set o ≡ Ok (x, self.new)) (λ e. (last_removed self.old set o ≡ Err e) × (self.new ≡ self.old)) }
     {
-        remove_last(&mut self.heap, set, o)
-    }
-
-    /// Takes the member at an end out of the set of an owner, and answers it. Faults: 1 to 5, then 8 where there is
-    /// none.
-    #[inline(always)]
-    pub fn remove_end(&mut self, end: End, set: usize, o: i64) -> Result<i64, FaultKind>
-        requires set { set < length self.old.layout.sets }
-        ensures { MatchResult result (λ x. end_removed end self.old set o ≡ Ok (x, self.new)) (λ e. (end_removed end self.old set o ≡ Err e) × (self.new ≡ self.old)) }
-    {
-        match end {
-            End::First => self.remove_first(set, o),
-            End::Last => self.remove_last(set, o),
-        }
-    }
-
-    /// Files x as the last member of the set of an owner, and says whether it did: not where there is a fault, and it may give up
-    /// elsewhere too.
-    #[inline(always)]
-    pub fn file_last_near(&mut self, set: usize, o: i64, x: i64) -> bool
-        requires set { set < length self.old.layout.sets }
-        ensures done { result ≡ true → filed_last self.old set o x ≡ Ok self.new }
-        ensures same { result ≡ false → self.new ≡ self.old }
-    {
-        self.heap.file_last_near(set, o, x)
-    }
-
-    // Takes the first member out of the set of an owner, and answers it: none where there is a fault, and it may give up elsewhere
-    // too.
-    #[inline(always)]
-    fn remove_first_near(&mut self, set: usize, o: i64) -> Option<i64>
-        requires set { set < length self.old.layout.sets }
-        ensures done { IfSome result (λ x. first_removed self.old set o ≡ Ok (x, self.new)) }
-        ensures same { result ≡ None → self.new ≡ self.old }
-    {
-        self.heap.remove_first_near(set, o)
-    }
-
-    /// Takes the member at an end out of the set of an owner, and answers it: none where there is a fault, and it may give up
-    /// elsewhere too.
-    #[inline(always)]
-    pub fn remove_end_near(&mut self, end: End, set: usize, o: i64) -> Option<i64>
-        requires set { set < length self.old.layout.sets }
-        ensures done { IfSome result (λ x. end_removed end self.old set o ≡ Ok (x, self.new)) }
-        ensures same { result ≡ None → self.new ≡ self.old }
-    {
-        match end {
-            End::First => self.remove_first_near(set, o),
-            End::Last => match self.remove_last(set, o) {
-                Ok(x) => Some(x),
-                Err(_) => None,
-            },
-        }
-    }
-
-    /// How many members the set of an owner has: none where there is a fault, and it may give up elsewhere too.
-    #[inline(always)]
-    pub fn count_near(&mut self, set: usize, o: i64) -> Option<i64>
-        requires set { set < length self.old.layout.sets }
-        ensures value { IfSome result (λ n. count_in self.old set o ≡ Ok n) }
-        ensures same { self.new ≡ self.old }
-    {
-        self.heap.count_near(set, o)
+        self.heap.remove_last(set, o)
     }
 
     /// Whether x is in the set of an owner. Faults: those of x (1 to 5), then those of the owner.
@@ -201,7 +108,7 @@ impl Population {
         ensures value { result ≡ member_test self.old set o x }
         ensures same { self.new ≡ self.old }
     {
-        is_in(&mut self.heap, set, o, x)
+        self.heap.is_in(set, o, x)
     }
 
     /// The member that comes next to x in the set of an owner, after it or in reverse before it, 0 for none. None where x is

@@ -1,6 +1,0 @@
-mod Rows
-mod Looped
-mod Emitted
-mod Sizes
-mod Steps
-mod Whole

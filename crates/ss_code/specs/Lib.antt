@@ -1,3 +1,0 @@
-pub mod Operations
-pub mod Emitted
-pub mod Limits

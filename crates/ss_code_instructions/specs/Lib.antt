@@ -1,5 +1,0 @@
-pub mod States
-pub mod Machine
-pub mod Running
-pub mod Translation
-pub mod Laws

@@ -1,4 +1,0 @@
-pub mod Words
-pub mod Operands
-pub mod Details
-pub mod Listing

@@ -1,9 +1,0 @@
-mod Found
-mod First
-mod Counting
-mod Left
-mod Bursts
-mod Resting
-mod Onward
-mod Turning
-mod Telling

@@ -1,6 +1,0 @@
-pub use Rattle.ss_machine_steps.specs.Runs
-pub use Rattle.ss_machine_steps.specs.Start
-pub use Rattle.ss_machine_steps.specs.declared.stop.Stop
-pub mod Onward
-pub mod Suited
-pub mod Held

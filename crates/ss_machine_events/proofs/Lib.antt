@@ -1,4 +1,0 @@
-pub mod Stepping
-pub mod Taking
-pub mod Passing
-mod Begun

@@ -1,0 +1,164 @@
+//! Tests and jumps.
+
+use crate::flow::Here;
+use crate::state::State;
+use ss_base::Alpha;
+use ss_code_instructions::address::Address;
+use ss_program::condition::Relation;
+use std::cmp::Ordering;
+
+// Whether an order is one of those that a relation allows.
+fn allows(relation: Relation, order: Ordering) -> bool {
+    match relation {
+        Relation::Equal => order.is_eq(),
+        Relation::NotEqual => order.is_ne(),
+        Relation::Less => order.is_lt(),
+        Relation::Greater => order.is_gt(),
+        Relation::LessOrEqual => order.is_le(),
+        Relation::GreaterOrEqual => order.is_ge(),
+    }
+}
+
+// Whether two texts stand in a relation.
+#[inline(never)]
+fn are_related(relation: Relation, left: Alpha, right: Alpha) -> bool {
+    allows(relation, left.cmp(&right))
+}
+
+impl State {
+    /// UnlessEqual.
+    #[inline(always)]
+    pub fn unless_equal(
+        &self,
+        here: Here,
+        left: &Address,
+        right: &Address,
+        skip: u32,
+    ) -> Option<Here> {
+        here.on_if(self.number(here, left) == self.number(here, right), skip)
+    }
+
+    /// UnlessNotEqual.
+    #[inline(always)]
+    pub fn unless_not_equal(
+        &self,
+        here: Here,
+        left: &Address,
+        right: &Address,
+        skip: u32,
+    ) -> Option<Here> {
+        here.on_if(self.number(here, left) != self.number(here, right), skip)
+    }
+
+    /// UnlessLess.
+    #[inline(always)]
+    pub fn unless_less(
+        &self,
+        here: Here,
+        left: &Address,
+        right: &Address,
+        skip: u32,
+    ) -> Option<Here> {
+        here.on_if(self.number(here, left) < self.number(here, right), skip)
+    }
+
+    /// UnlessGreater.
+    #[inline(always)]
+    pub fn unless_greater(
+        &self,
+        here: Here,
+        left: &Address,
+        right: &Address,
+        skip: u32,
+    ) -> Option<Here> {
+        here.on_if(self.number(here, left) > self.number(here, right), skip)
+    }
+
+    /// UnlessLessOrEqual.
+    #[inline(always)]
+    pub fn unless_less_or_equal(
+        &self,
+        here: Here,
+        left: &Address,
+        right: &Address,
+        skip: u32,
+    ) -> Option<Here> {
+        here.on_if(self.number(here, left) <= self.number(here, right), skip)
+    }
+
+    /// UnlessGreaterOrEqual.
+    #[inline(always)]
+    pub fn unless_greater_or_equal(
+        &self,
+        here: Here,
+        left: &Address,
+        right: &Address,
+        skip: u32,
+    ) -> Option<Here> {
+        here.on_if(self.number(here, left) >= self.number(here, right), skip)
+    }
+
+    /// UnlessTexts.
+    #[inline(always)]
+    pub fn unless_texts(
+        &self,
+        here: Here,
+        relation: Relation,
+        left: &Address,
+        right: &Address,
+        skip: u32,
+    ) -> Option<Here> {
+        let holds = are_related(relation, self.text(here, left), self.text(here, right));
+        here.on_if(holds, skip)
+    }
+
+    /// UnlessEmpty.
+    #[inline(always)]
+    pub fn unless_empty(
+        &mut self,
+        here: Here,
+        set: u32,
+        owner: &Address,
+        skip: u32,
+        negated: bool,
+    ) -> Option<Here> {
+        let owner = self.number(here, owner);
+        let answer = match self.scene.population.member_count(set as usize, owner) {
+            Ok(count) => Ok(count == 0),
+            Err(kind) => Err(kind),
+        };
+        self.branch(here, answer, negated, skip)
+    }
+
+    /// UnlessMember.
+    #[inline(always)]
+    pub fn unless_member(
+        &mut self,
+        here: Here,
+        set: u32,
+        both: (&Address, &Address),
+        skip: u32,
+        negated: bool,
+    ) -> Option<Here> {
+        let (member, owner) = (self.number(here, both.0), self.number(here, both.1));
+        let answer = self.scene.population.is_in(set as usize, owner, member);
+        self.branch(here, answer, negated, skip)
+    }
+
+    /// Await.
+    #[inline(always)]
+    pub fn await_event(&mut self, here: Here, skip: u32) -> Option<Here> {
+        let holds = self.scene.timeline.is_awaited();
+        here.on_if(holds, skip)
+    }
+
+    /// NextEvent.
+    #[inline(always)]
+    pub fn next_event(&mut self, here: Here, back: u32) -> Option<Here> {
+        if self.scene.timeline.is_awaited() {
+            here.back(back)
+        } else {
+            here.on()
+        }
+    }
+}

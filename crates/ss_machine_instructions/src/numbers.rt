@@ -1,0 +1,150 @@
+//! Values: moves and calculations.
+
+use crate::flow::Here;
+use crate::state::State;
+use ss_base::{FaultKind, div_f, minus, mod_f, plus, times};
+use ss_code_instructions::address::Address;
+
+// The distance of a number from 0.
+#[inline(always)]
+fn distance(number: i64) -> Result<i64, FaultKind> {
+    if number < 0 {
+        return minus(0, number);
+    }
+    Ok(number)
+}
+
+impl State {
+    /// A number that was found goes to an address, unless there was a fault.
+    #[inline(always)]
+    pub fn put(
+        &mut self,
+        here: Here,
+        to: &Address,
+        answer: Result<i64, FaultKind>,
+    ) -> Option<Here> {
+        match answer {
+            Ok(number) => {
+                self.set_number(here, to, number);
+                here.on()
+            }
+            Err(kind) => self.fault(kind),
+        }
+    }
+
+    /// Move.
+    #[inline(always)]
+    pub fn move_number(&mut self, here: Here, from: &Address, to: &Address) -> Option<Here> {
+        let number = self.number(here, from);
+        self.set_number(here, to, number);
+        here.on()
+    }
+
+    /// MoveText.
+    #[inline(always)]
+    pub fn move_text(&mut self, here: Here, from: &Address, to: &Address) -> Option<Here> {
+        let text = self.text(here, from);
+        self.set_text(here, to, text);
+        here.on()
+    }
+
+    /// Add.
+    #[inline(always)]
+    pub fn add(
+        &mut self,
+        here: Here,
+        left: &Address,
+        right: &Address,
+        to: &Address,
+    ) -> Option<Here> {
+        let answer = plus(self.number(here, left), self.number(here, right));
+        self.put(here, to, answer)
+    }
+
+    /// Subtract.
+    #[inline(always)]
+    pub fn subtract(
+        &mut self,
+        here: Here,
+        left: &Address,
+        right: &Address,
+        to: &Address,
+    ) -> Option<Here> {
+        let answer = minus(self.number(here, left), self.number(here, right));
+        self.put(here, to, answer)
+    }
+
+    /// Multiply.
+    #[inline(always)]
+    pub fn multiply(
+        &mut self,
+        here: Here,
+        left: &Address,
+        right: &Address,
+        to: &Address,
+    ) -> Option<Here> {
+        let answer = times(self.number(here, left), self.number(here, right));
+        self.put(here, to, answer)
+    }
+
+    /// Quotient.
+    #[inline(always)]
+    pub fn quotient(
+        &mut self,
+        here: Here,
+        left: &Address,
+        right: &Address,
+        to: &Address,
+    ) -> Option<Here> {
+        let answer = div_f(self.number(here, left), self.number(here, right));
+        self.put(here, to, answer)
+    }
+
+    /// Remainder.
+    #[inline(always)]
+    pub fn remainder(
+        &mut self,
+        here: Here,
+        left: &Address,
+        right: &Address,
+        to: &Address,
+    ) -> Option<Here> {
+        let answer = mod_f(self.number(here, left), self.number(here, right));
+        self.put(here, to, answer)
+    }
+
+    /// Least.
+    #[inline(always)]
+    pub fn least(
+        &mut self,
+        here: Here,
+        left: &Address,
+        right: &Address,
+        to: &Address,
+    ) -> Option<Here> {
+        let number = self.number(here, left).min(self.number(here, right));
+        self.set_number(here, to, number);
+        here.on()
+    }
+
+    /// Greatest.
+    #[inline(always)]
+    pub fn greatest(
+        &mut self,
+        here: Here,
+        left: &Address,
+        right: &Address,
+        to: &Address,
+    ) -> Option<Here> {
+        let number = self.number(here, left).max(self.number(here, right));
+        self.set_number(here, to, number);
+        here.on()
+    }
+
+    /// Absolute.
+    #[inline(always)]
+    pub fn absolute(&mut self, here: Here, of: &Address, to: &Address) -> Option<Here> {
+        let answer = distance(self.number(here, of));
+        self.put(here, to, answer)
+    }
+}

@@ -1,4 +1,0 @@
-pub mod Sections
-pub mod Numbers
-pub mod Parted
-pub mod Laws

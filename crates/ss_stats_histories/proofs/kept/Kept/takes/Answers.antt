@@ -1,8 +1,0 @@
-use Rattle.std.proofs.Common.{◌≡◌, arith, to_z, of_z, w64, sym}
-use Rattle.std.proofs.lemmas.Int.{ints}
-use Rattle.ss_stats_histories.proofs.kept.Kept.takes.Goals as goal
-
-pub is_open-requires : goal.is_open-requires
-is_open-requires c =
-    let n : to_z w64 (of_z w64 c.args.now) ≡ c.args.now = omega (arith, ints) in
-    rw n (c.requires (to_z w64 (of_z w64 c.args.entity)) _ (sym c.in-Some.ensures))
