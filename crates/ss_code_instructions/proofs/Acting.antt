@@ -1,0 +1,149 @@
+-- No instruction changes what the program says once and for all.
+use Rattle.std.proofs.Common.{ℕ, ◌==◌, Bool, true, false, List, [], ◌∷◌, length, Some, Ok, Err, ℤ, refl, ◌∙◌}
+use Rattle.std.specs.Prelude.{Result, int_lt, pos, ◌+ℤ◌, slice_get}
+use Rattle.ss_base.specs.declared.line.Line.{Line}
+use Rattle.ss_base.specs.declared.value.Value.{Value}
+use Rattle.ss_base.specs.declared.value.Value.TheVariants.{Whole}
+use Rattle.ss_meaning.specs.Words.{is_ended}
+use Rattle.ss_meaning.specs.Values.{Trouble, if_ok, turned, due, where_fit, number_of, calculated, absolute, related, printed, empty_lines}
+use Rattle.ss_meaning.specs.Store.{Store, opened, yielded}
+use Rattle.ss_meaning.specs.Entities.{entity, attribute, time_of, made_one, made_all, without}
+use Rattle.ss_meaning.specs.Places.{assigned_variable, assigned_attribute}
+use Rattle.ss_meaning.specs.Sets.{member, known_owner, of_set, of_member, is_none, is_empty, is_in, filed_in, removed_from, removed_at, begun, begun_at, goes_on}
+use Rattle.ss_meaning.specs.Events.{clock, time_at, AtTime, Later, made_notice, filed_notice, rescheduled, unscheduled, Beginning, Coming, next_event, event_begun}
+use Rattle.ss_meaning.specs.Statistics.{figure, mean, reset}
+use Rattle.ss_meaning.specs.Loops.{range_of, indices}
+use Rattle.ss_meaning.specs.Statements.{read_value}
+use Rattle.ss_code_instructions.specs.Instructions.{Taken, Target, Into, Onto, Instruction, EntryPoint}
+use Rattle.ss_code_instructions.specs.Instructions as i
+use Rattle.ss_code_instructions.specs.States.{Called, ARoutine, AnEvent, Frame, Core, Moved, Stuck, did, back_if, cell_at, take_off, Written, put_to, deliver_with, onward}
+use Rattle.ss_code_instructions.specs.Machine.{Code, changed_attribute, assignable_count, Walk, walk_at, walk_cells, has_item, next_item, walk_further, values_shown, cells_of_kinds, enter, leave, take_event, act}
+use Rattle.ss_code_instructions.proofs.Keeping.{Only, Same, SameWith, ComingSame, BeginningSame, each, then_only, made, made_from, variable_same, attribute_same, changed_same, made_one_same, made_all_same, without_same, filed_same, removed_same, end_same, notice_same, pending_same, again_same, cancelled_same, read_same, reset_same, event_same, begun_same}
+use Rattle.ss_code_instructions.proofs.Moving.{Every, did_only, did_any, fit_any, fit_where, if_every, high, block, number, value, values, bearer, position, three, walk}
+
+-- in a state that an instruction leads to the program says the same
+abbrev pub Saying : Store → Core → Type 0
+Saying s c = Same s c.store
+
+abbrev pub Keeps : Store → Moved → Type 0
+Keeps s m = Every (Saying s) m
+
+module _ (s : Store) where
+  abbrev WrittenSame : Written → Type 0
+  WrittenSame w = Same s w.store
+
+  put_to_same : (to : Target) (v : Value) (cells : List Value) (t : Store) → Same s t → Only WrittenSame (put_to to v cells t)
+  put_to_same (Into x) v cells t p = made_from WrittenSame (Same t) _ (assigned_variable x v t) (variable_same x v t) (λ u q. q ∙ p)
+  put_to_same (Onto h) v cells t p = fits (length cells == h)
+    where
+      fits : (b : Bool) → Only WrittenSame (where_fit b (Ok (record { cells = v ∷ cells; store = t })))
+      fits true = p
+      fits false = tt
+
+  delivers : (l : Line) (to : Target) (r : Result (Value × Store) Trouble) (cells : List Value) (c : Core) → Only (SameWith s) r → Keeps s (deliver_with l to r cells c)
+  delivers l to r cells c q =
+      did_only (Saying s) WrittenSame l (if_ok r (λ b. put_to to b.0 cells b.1)) (λ w. onward w.cells c w.store) (then_only WrittenSame (SameWith s) r (λ b. put_to to b.0 cells b.1) q (λ b p. put_to_same to b.0 cells b.1 p)) (λ w p. p)
+
+-- what computes a value leaves the store
+computes : (l : Line) (to : Target) (r : Result Value Trouble) (cells : List Value) (c : Core) → Keeps c.store (deliver_with l to (turned (λ v. (v, c.store)) r) cells c)
+computes l to r cells c = delivers c.store l to (turned (λ v. (v, c.store)) r) cells c (made (SameWith c.store) (λ v. (v, c.store)) r (λ v. refl))
+
+-- what changes the store
+changes : (l : Line) (r : Result Store Trouble) (cells : List Value) (c : Core) → Only (Same c.store) r → Keeps c.store (did l r (λ t. onward cells c t))
+changes l r cells c q = did_only (Saying c.store) (Same c.store) l r (λ t. onward cells c t) q (λ t p. p)
+
+entering : (e : EntryPoint) (called : Called) (given below : List Value) (c : Core) (t : Store) → Same c.store t → Keeps c.store (enter e called given below c t)
+entering e called given below c t p = fit_any (Saying c.store) (opened e.given e.others given) _ (λ variables. p)
+
+leaving : (fs : List Frame) (c : Core) → Keeps c.store (leave fs c)
+leaving [] c = tt
+leaving (f ∷ fs) c = fit_any (Saying c.store) (yielded f.first f.count c.store.locals) _ (λ vs. refl)
+
+next_keeps : (back : ℕ) (item limit step : ℤ) (below : List Value) (c : Core) → Keeps c.store (next_item back item limit step below c)
+next_keeps back item limit step below c =
+    if_every (Saying c.store) (int_lt step (pos 1)) Stuck _ tt
+    (if_every (Saying c.store) (has_item (item +ℤ step) limit) (back_if back true (Whole step ∷ Whole limit ∷ Whole (item +ℤ step) ∷ below) c) (back_if back false (Whole step ∷ Whole limit ∷ Whole item ∷ below) c) refl refl)
+
+further_keeps : (back : ℕ) (old new : Walk) (below : List Value) (c : Core) → Keeps c.store (walk_further back old new below c)
+further_keeps back old new below c = if_every (Saying c.store) (is_none new.member) (back_if back false (walk_cells old below) c) (back_if back true (walk_cells new below) c) refl refl
+
+taking : (code : Code) (h : ℕ) (n : Coming) (c : Core) → Same c.store n.store → Keeps c.store (take_event code h n c)
+taking code h n c p =
+    did_only (Saying c.store) (BeginningSame c.store) n.ranked.said.line (event_begun n) _ (weaken (event_begun n) (begun_same n)) (λ b q.
+    fit_any (Saying c.store) (slice_get code.events b.rank) _ (λ e. high (Saying c.store) h c.cells _ (entering e (AnEvent b.rank) b.given c.cells c b.store q)))
+  where
+    weaken : (r : Result Beginning Trouble) → Only (BeginningSame n.store) r → Only (BeginningSame c.store) r
+    weaken (Ok b) q = q ∙ p
+    weaken (Err t) q = tt
+
+pub act_keeps : (code : Code) (l : Line) (x : Instruction) (c : Core) → Keeps c.store (act code l x c)
+act_keeps code l (i.Move from to) c = value (Saying c.store) from c.store c.cells _ (λ v below. computes l to (Ok v) below c)
+act_keeps code l (i.Keep from x) c = value (Saying c.store) from c.store c.cells _ (λ v below. changes l (assigned_variable x v c.store) below c (variable_same x v c.store))
+act_keeps code l (i.Calculate op left right to) c = values (Saying c.store) left right c.store c.cells _ (λ x y below. computes l to (calculated op x y) below c)
+act_keeps code l (i.Absolute x to) c = value (Saying c.store) x c.store c.cells _ (λ x below. computes l to (absolute x) below c)
+act_keeps code l (i.Clock to) c = computes l to (Ok (clock c.store)) c.cells c
+act_keeps code l (i.TimeOf x to) c = value (Saying c.store) x c.store c.cells _ (λ x below. computes l to (time_of x c.store) below c)
+act_keeps code l (i.Attribute class field x to) c = value (Saying c.store) x c.store c.cells _ (λ x below. computes l to (attribute class field x c.store) below c)
+act_keeps code l (i.OfSet query set owner to) c = bearer (Saying c.store) owner c.store c.cells _ (λ o below. computes l to (of_set query set o c.store) below c)
+act_keeps code l (i.OfMember query set x to) c = value (Saying c.store) x c.store c.cells _ (λ x below. computes l to (of_member query set x c.store) below c)
+act_keeps code l (i.Figure fold j x to) c = bearer (Saying c.store) x c.store c.cells _ (λ x below. computes l to (figure fold j x c.store) below c)
+act_keeps code l (i.LookEntity class x) c = value (Saying c.store) x c.store c.cells _ (λ x below. did_any (Saying c.store) l (entity class x c.store) _ (λ n. refl))
+act_keeps code l (i.LookMember set x) c = value (Saying c.store) x c.store c.cells _ (λ x below. did_any (Saying c.store) l (member set x c.store) _ (λ n. refl))
+act_keeps code l (i.LookOwner set owner) c = bearer (Saying c.store) owner c.store c.cells _ (λ o below. did_any (Saying c.store) l (known_owner set o c.store) _ (λ n. refl))
+act_keeps code l (i.LookMean j x) c = bearer (Saying c.store) x c.store c.cells _ (λ x below. did_any (Saying c.store) l (mean j x c.store) _ (λ n. refl))
+act_keeps code l (i.LookCount class) c = did_any (Saying c.store) l (assignable_count class c.store) _ (λ n. refl)
+act_keeps code l (i.SetAttribute class field x from) c =
+    values (Saying c.store) x from c.store c.cells _ (λ x v below. changes l (assigned_attribute class field x v c.store) below c (attribute_same class field x v c.store))
+act_keeps code l (i.ChangeAttribute sign class field x by) c =
+    values (Saying c.store) x by c.store c.cells _ (λ x y below. changes l (changed_attribute sign class field x y c.store) below c (changed_same sign class field x y c.store))
+act_keeps code l (i.Reset j x) c = bearer (Saying c.store) x c.store c.cells _ (λ x below. changes l (reset j x c.store) below c (reset_same j x c.store))
+act_keeps code l (i.Jump skip) c = refl
+act_keeps code l (i.Unless relation left right skip) c = values (Saying c.store) left right c.store c.cells _ (λ x y below. fit_any (Saying c.store) (related relation x y) _ (λ b. refl))
+act_keeps code l (i.UnlessEnded negated skip) c = did_any (Saying c.store) l (due (is_ended c.store.scene.input)) _ (λ b. refl)
+act_keeps code l (i.UnlessEmpty negated set owner skip) c = bearer (Saying c.store) owner c.store c.cells _ (λ o below. did_any (Saying c.store) l (is_empty set o c.store) _ (λ b. refl))
+act_keeps code l (i.UnlessMember negated set x owner skip) c =
+    bearer (Saying c.store) owner c.store c.cells _ (λ o above. value (Saying c.store) x c.store above _ (λ x below. did_any (Saying c.store) l (is_in set x o c.store) _ (λ b. refl)))
+act_keeps code l i.Turn c = refl
+act_keeps code l (i.Repeat back) c = refl
+act_keeps code l (i.Begin h skip) c = three (Saying c.store) h c.cells _ (λ item limit step below. did_any (Saying c.store) l (range_of (Whole item) (Whole limit) (Some (Whole step))) _ (λ r. refl))
+act_keeps code l (i.BeginClass class h skip) c = high (Saying c.store) h c.cells _ (did_any (Saying c.store) l (indices class c.store) _ (λ r. refl))
+act_keeps code l (i.Take h x) c = fit_any (Saying c.store) (cell_at h c.cells) _ (λ v. changes l (assigned_variable x v c.store) c.cells c (variable_same x v c.store))
+act_keeps code l (i.Next h back) c = three (Saying c.store) h c.cells _ (λ item limit step below. next_keeps back item limit step below c)
+act_keeps code l (i.BeginSet reverse set owner h skip) c =
+    bearer (Saying c.store) owner c.store c.cells _ (λ o below. high (Saying c.store) h below _ (did_any (Saying c.store) l (if_ok (begun reverse set o c.store) (λ x. walk_at reverse set x c.store)) _ (λ k. refl)))
+act_keeps code l (i.BeginAt reverse after set owner h skip) c =
+    value (Saying c.store) (Taken h) c.store c.cells _ (λ y above. bearer (Saying c.store) owner c.store above _ (λ o below. did_any (Saying c.store) l (if_ok (begun_at reverse after set y o c.store) (λ x. walk_at reverse set x c.store)) _ (λ k. refl)))
+act_keeps code l (i.NextMember reverse set owner h back) c =
+    walk (Saying c.store) h c.cells _ (λ k above. bearer (Saying c.store) owner c.store above _ (λ o below. did_any (Saying c.store) l (if_ok (goes_on set k.next o c.store) (λ _. walk_at reverse set k.next c.store)) _ (λ k'. further_keeps back k k' below c)))
+act_keeps code l (i.Forget count) c = fit_any (Saying c.store) (take_off count c.cells []) _ (λ b. refl)
+act_keeps code l (i.Call routine h) c =
+    fit_any (Saying c.store) (slice_get code.routines routine) _ (λ e. block (Saying c.store) (length e.given) h c.cells _ (λ vs below. entering e (ARoutine routine) vs below c c.store refl))
+act_keeps code l i.Leave c = leaving c.frames c
+act_keeps code l i.Halt c = tt
+act_keeps code l (i.Create class to) c = delivers c.store l to (made_one class c.store) c.cells c (made_one_same class c.store)
+act_keeps code l (i.CreateAll counted) c = changes l (made_all counted c.store) c.cells c (made_all_same counted c.store)
+act_keeps code l (i.Destroy class x) c = value (Saying c.store) x c.store c.cells _ (λ x below. changes l (without class x c.store) below c (without_same class x c.store))
+act_keeps code l (i.File filing set x owner) c =
+    bearer (Saying c.store) owner c.store c.cells _ (λ o over. position (Saying c.store) filing c.store over _ (λ f above. value (Saying c.store) x c.store above _ (λ x below.
+    changes l (filed_in f set x o c.store) below c (filed_same f set x o c.store))))
+act_keeps code l (i.Remove set x owner) c =
+    bearer (Saying c.store) owner c.store c.cells _ (λ o above. value (Saying c.store) x c.store above _ (λ x below. changes l (removed_from set x o c.store) below c (removed_same set x o c.store)))
+act_keeps code l (i.RemoveEnd end set owner to) c =
+    bearer (Saying c.store) owner c.store c.cells _ (λ o below. delivers c.store l to (removed_at end set o c.store) below c (end_same end set o c.store))
+act_keeps code l (i.At time to) c = value (Saying c.store) time c.store c.cells _ (λ v below. computes l to (turned Whole (time_at (AtTime v) c.store)) below c)
+act_keeps code l (i.In units to) c = value (Saying c.store) units c.store c.cells _ (λ v below. computes l to (turned Whole (time_at (Later v) c.store)) below c)
+act_keeps code l (i.MakeNotice class h given to) c =
+    number (Saying c.store) c.cells _ (λ time above. block (Saying c.store) given h above _ (λ vs below. delivers c.store l to (made_notice class vs time c.store) (Whole time ∷ below) c (notice_same class vs time c.store)))
+act_keeps code l (i.FileNotice class x time) c =
+    values (Saying c.store) x time c.store c.cells _ (λ x t below. changes l (if_ok (number_of t) (λ t. filed_notice class x t c.store)) below c (each (Same c.store) (number_of t) _ (λ t. pending_same class x t c.store)))
+act_keeps code l (i.Reschedule class x h given) c =
+    number (Saying c.store) c.cells _ (λ time over. block (Saying c.store) given h over _ (λ vs above. value (Saying c.store) x c.store above _ (λ x below.
+    changes l (rescheduled class x vs time c.store) below c (again_same class x vs time c.store))))
+act_keeps code l (i.Cancel class x) c = value (Saying c.store) x c.store c.cells _ (λ x below. changes l (unscheduled class x c.store) below c (cancelled_same class x c.store))
+act_keeps code l (i.Await skip) c = refl
+act_keeps code l (i.TakeEvent h) c = fit_where (Saying c.store) (ComingSame c.store) (next_event c.store) _ (event_same c.store) (λ n p. taking code h n c p)
+act_keeps code l (i.NextEvent back) c = refl
+act_keeps code l (i.Read mode to) c = delivers c.store l to (read_value mode c.store) c.cells c (read_same mode c.store)
+act_keeps code l (i.Print lines h) c =
+    fit_any (Saying c.store) (slice_get code.prints lines) _ (λ p. block (Saying c.store) (cells_of_kinds p.items) h c.cells _ (λ vs below. fit_any (Saying c.store) (values_shown p.items vs c.store) _ (λ items. fit_any (Saying c.store) (printed p.pictures items) _ (λ bytes. refl))))
+act_keeps code l (i.Skip count) c = value (Saying c.store) count c.store c.cells _ (λ v below. did_any (Saying c.store) l (empty_lines v) _ (λ bytes. refl))

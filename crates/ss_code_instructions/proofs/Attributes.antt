@@ -1,0 +1,250 @@
+-- The code that assigns attributes.
+use Rattle.std.proofs.Common.{◌≡◌, ℕ, ◌+◌, ◌-◌, Bool, true, false, not, List, [], ◌∷◌, ◌++◌, length, Some, Ok, Err, ℤ, refl, sym, ap, ◌∙◌, subst, arith, length-append, ◌⊎◌, inl, inr}
+use Rattle.std.proofs.lemmas.Bool.{eqb-true, and_parts, false≢true}
+use Rattle.std.specs.Prelude.{Result as OkOr, slice_get, ◌==◌, ◌&&◌, if◌then◌else◌}
+use Rattle.ss_base.specs.declared.fault.FaultKind.{FaultKind}
+use Rattle.ss_base.specs.declared.line.Line.{Line}
+use Rattle.ss_base.specs.declared.layout.Mode.{Mode}
+use Rattle.ss_base.specs.declared.value.Value.{Value}
+use Rattle.ss_program.specs.declared.expression.Variable.{Variable}
+use Rattle.ss_program.specs.declared.expression.Variable.TheVariants.{Global, Local}
+use Rattle.ss_program.specs.Program.{Expression, Constant, Fetch, Attribute, OfSystemSet, OfSet, OfMember, Clock, TimeOf, Figure, FigureOf, Signed, Absolute, Calculate, ToAttribute}
+use Rattle.ss_meaning.specs.Values.{Trouble, Fails, Misfit, if_ok, turned, sure, calculated}
+use Rattle.ss_meaning.specs.Store.{Store, fetched}
+use Rattle.ss_meaning.specs.Entities.{entity, attribute}
+use Rattle.ss_meaning.specs.Places.{InAttribute, assigned_attribute}
+use Rattle.ss_meaning.specs.Expressions.{value, looked_at}
+use Rattle.ss_meaning.specs.Parts.{World, Faulted, Part, outcome_then, looked, look, settle, change, write}
+use Rattle.ss_meaning.specs.Statements.{give_to}
+use Rattle.ss_code_instructions.specs.Instructions.{Operand, Held, Taken, Stays, Placed}
+use Rattle.ss_code_instructions.specs.Instructions as i
+use Rattle.ss_code_instructions.specs.States.{Frame, Core, Moved, did, or_zero, core_at, with_value, with_values, lies_above, onward}
+use Rattle.ss_code_instructions.specs.Machine.{Code, act, is_due}
+use Rattle.ss_code_instructions.specs.Facts.{is_leaf, is_constant, same_variable, is_fetch_of, looks_first, must_look}
+use Rattle.ss_code_instructions.specs.Translation.{Site, height, with_cells, place, leaf, operand, after, operand_code, with_operand, stay, entity_code, let_code}
+use Rattle.ss_code_instructions.proofs.Steps.{HasAt, has_front, has_back, Reaches, here, free, at, left_to, arrive}
+use Rattle.ss_code_instructions.proofs.Parts.{Within, onwards, breaks, step_leads, did_leads, Runs, same, done}
+use Rattle.ss_code_instructions.proofs.Operands.{held, held_height, sure_is, reads, reads_both, one_join}
+use Rattle.ss_code_instructions.proofs.Expressions.{evaluates}
+use Rattle.ss_code_instructions.proofs.Members.{stay_reads}
+
+-- ## A value whose evaluation begins with the look at the entity
+
+variable_same : (x y : Variable) → same_variable x y ≡ true → x ≡ y
+variable_same (Global k) (Global j) q = ap Global (eqb-true k j q)
+variable_same (Global k) (Local j) q = absurd cc
+variable_same (Local k) (Global j) q = absurd cc
+variable_same (Local k) (Local j) q = ap Local (eqb-true k j q)
+
+fetch_value : (x : Variable) (e : Expression) (v : Value) (s : Store) → is_fetch_of x e ≡ true → fetched x s ≡ Some v → value e s ≡ Ok v
+fetch_value x (Fetch y) v s q f = ap sure (ap (λ z. fetched z s) (sym (variable_same x y q)) ∙ f)
+fetch_value x (Constant c) v s q f = absurd cc
+fetch_value x (Attribute class field e) v s q f = absurd cc
+fetch_value x (OfSystemSet query set) v s q f = absurd cc
+fetch_value x (OfSet query set e) v s q f = absurd cc
+fetch_value x (OfMember query set e) v s q f = absurd cc
+fetch_value x Clock v s q f = absurd cc
+fetch_value x (TimeOf e) v s q f = absurd cc
+fetch_value x (Figure fold j) v s q f = absurd cc
+fetch_value x (FigureOf fold j e) v s q f = absurd cc
+fetch_value x (Signed sign e) v s q f = absurd cc
+fetch_value x (Absolute e) v s q f = absurd cc
+fetch_value x (Calculate op a b) v s q f = absurd cc
+
+pub err_first : {A B : Type 0} (r : OkOr A Trouble) (f : A → OkOr B Trouble) (t : Trouble) → r ≡ Err t → if_ok r f ≡ Err t
+err_first r f t e = ap (λ r. if_ok r f) e
+
+constant_value : (e : Expression) (s : Store) → is_constant e ≡ true → (c : Value) × (value e s ≡ Ok c)
+constant_value (Constant c) s q = (c, refl)
+constant_value (Fetch y) s q = absurd cc
+constant_value (Attribute class field e) s q = absurd cc
+constant_value (OfSystemSet query set) s q = absurd cc
+constant_value (OfSet query set e) s q = absurd cc
+constant_value (OfMember query set e) s q = absurd cc
+constant_value Clock s q = absurd cc
+constant_value (TimeOf e) s q = absurd cc
+constant_value (Figure fold j) s q = absurd cc
+constant_value (FigureOf fold j e) s q = absurd cc
+constant_value (Signed sign e) s q = absurd cc
+constant_value (Absolute e) s q = absurd cc
+constant_value (Calculate op a b) s q = absurd cc
+
+-- it fails as the look does
+pub first_look : (class : ℕ) (x : Variable) (e : Expression) (v : Value) (s : Store) (t : Trouble) → looks_first class x e ≡ true → fetched x s ≡ Some v → entity class v s ≡ Err t → value e s ≡ Err t
+first_look class x (Attribute k field e) v s t q f h = by (λ q. first_look class x e v s t q f h) (is_leaf e) q
+  where
+    by : (looks_first class x e ≡ true → value e s ≡ Err t) → (b : Bool) → (if b then (k == class) && is_fetch_of x e else looks_first class x e) ≡ true → value (Attribute k field e) s ≡ Err t
+    by inner false q = err_first (value e s) _ t (inner q)
+    by inner true q =
+        let p = and_parts (k == class) (is_fetch_of x e) q in
+        ap (λ r. if_ok r (λ y. attribute k field y s)) (fetch_value x e v s p.1 f)
+        ∙ ap (λ c. attribute c field v s) (eqb-true k class p.0)
+        ∙ err_first (entity class v s) _ t h
+first_look class x (OfSet query set e) v s t q f h = err_first (value e s) _ t (first_look class x e v s t q f h)
+first_look class x (OfMember query set e) v s t q f h = err_first (value e s) _ t (first_look class x e v s t q f h)
+first_look class x (TimeOf e) v s t q f h = err_first (value e s) _ t (first_look class x e v s t q f h)
+first_look class x (FigureOf fold j e) v s t q f h = err_first (value e s) _ t (first_look class x e v s t q f h)
+first_look class x (Signed sign e) v s t q f h = err_first (value e s) _ t (first_look class x e v s t q f h)
+first_look class x (Absolute e) v s t q f h = err_first (value e s) _ t (first_look class x e v s t q f h)
+first_look class x (Calculate op a b) v s t q f h = by (λ q. first_look class x a v s t q f h) (λ q. first_look class x b v s t q f h) (is_constant a) refl q
+  where
+    by : (looks_first class x a ≡ true → value a s ≡ Err t) → (looks_first class x b ≡ true → value b s ≡ Err t) → (c : Bool) → is_constant a ≡ c → (if c then looks_first class x b else looks_first class x a) ≡ true → value (Calculate op a b) s ≡ Err t
+    by left right false i q = err_first (value a s) _ t (left q)
+    by left right true i q =
+        let c = constant_value a s i in
+        ap (λ r. if_ok r (λ x. if_ok (value b s) (λ y. calculated op x y))) c.1
+        ∙ err_first (value b s) _ t (right q)
+first_look class x (Constant c) v s t q f h = absurd (false≢true q)
+first_look class x (Fetch y) v s t q f h = absurd (false≢true q)
+first_look class x (OfSystemSet query set) v s t q f h = absurd (false≢true q)
+first_look class x Clock v s t q f h = absurd (false≢true q)
+first_look class x (Figure fold j) v s t q f h = absurd (false≢true q)
+
+leaf_if : (e : Expression) → not (is_leaf e) ≡ false → is_leaf e ≡ true
+leaf_if e q = by (is_leaf e) q
+  where
+    by : (b : Bool) → not b ≡ false → b ≡ true
+    by true q = refl
+    by false q = absurd cc
+
+-- where a reference is not looked at before, the value is a constant or a variable, or fails as the look does
+pub unlooked : (class : ℕ) (r e : Expression) (v : Value) (s : Store) (t : Trouble) → must_look class r e ≡ false → value r s ≡ Ok v → entity class v s ≡ Err t → (value e s ≡ Err t) ⊎ (is_leaf e ≡ true)
+unlooked class (Fetch x) e v s t q p h = by (is_leaf e) refl q
+  where
+    found : (b : Bool) → not b ≡ false → b ≡ true
+    found true q = refl
+    found false q = absurd cc
+
+    by : (b : Bool) → is_leaf e ≡ b → (if b then false else not (looks_first class x e)) ≡ false → (value e s ≡ Err t) ⊎ (is_leaf e ≡ true)
+    by true i q = inr i
+    by false i q = inl (first_look class x e v s t (found (looks_first class x e) q) (sure_is (fetched x s) v p) h)
+unlooked class (Constant c) e v s t q p h = inr (leaf_if e q)
+unlooked class (Attribute k field r) e v s t q p h = inr (leaf_if e q)
+unlooked class (OfSystemSet query set) e v s t q p h = inr (leaf_if e q)
+unlooked class (OfSet query set r) e v s t q p h = inr (leaf_if e q)
+unlooked class (OfMember query set r) e v s t q p h = inr (leaf_if e q)
+unlooked class Clock e v s t q p h = inr (leaf_if e q)
+unlooked class (TimeOf r) e v s t q p h = inr (leaf_if e q)
+unlooked class (Figure fold j) e v s t q p h = inr (leaf_if e q)
+unlooked class (FigureOf fold j r) e v s t q p h = inr (leaf_if e q)
+unlooked class (Signed sign r) e v s t q p h = inr (leaf_if e q)
+unlooked class (Absolute r) e v s t q p h = inr (leaf_if e q)
+unlooked class (Calculate op a b) e v s t q p h = inr (leaf_if e q)
+
+-- a constant or a variable lies below no cell
+pub low_constant : (x : Operand) (c : Value) → lies_above x (i.Constant c) ≡ false
+low_constant (i.Constant v) c = refl
+low_constant (Held y) c = refl
+low_constant (Taken h) c = refl
+low_constant (Stays h) c = refl
+
+pub low_held : (x : Operand) (y : Variable) → lies_above x (Held y) ≡ false
+low_held (i.Constant v) y = refl
+low_held (Held z) y = refl
+low_held (Taken h) y = refl
+low_held (Stays h) y = refl
+
+module _ (code : Code) (n : ℕ) where
+  -- an instruction that changes the store by two operands
+  pub two_change : (last : Placed) (x y : Operand) (f : Value → Value → Store → OkOr Store Trouble) (v z : Value) (q : ℕ) (cells0 cells : List Value) (frames : List Frame) (w : World) → is_due last.instruction ≡ false → act code last.line last.instruction (core_at q cells0 frames w.store) ≡ with_values x y w.store cells0 (λ v z below. did last.line (f v z w.store) (λ u. onward below (core_at q cells0 frames w.store) u)) → ((go : Value → Value → List Value → Moved) → with_values x y w.store cells0 go ≡ go v z cells) → slice_get code.places q ≡ Some last → Reaches code (at q cells0 frames w) (arrive (λ o w'. at (q + 1) cells frames w') frames (change last.line (f v z) w))
+  two_change last x y f v z q cells0 cells frames w calm acts takes has =
+      step_leads code last (core_at q cells0 frames w.store) w _ _ has calm
+      (acts ∙ takes (λ v z below. did last.line (f v z w.store) (λ u. onward below (core_at q cells0 frames w.store) u)))
+      (did_leads code last.line (f v z w.store) (λ u. onward cells (core_at q cells0 frames w.store) u) w (λ o w'. at (q + 1) cells frames w') frames settle (λ u done_. onwards here))
+
+  -- ## LET
+
+  -- the value and the assignment, after the reference
+  abbrev value_code : Site → (class field : ℕ) → (r e : Expression) → List Placed
+  value_code t class field r e = with_operand (after t r) e (i.SetAttribute class field (operand t r))
+
+  valued : (t : Site) (class field : ℕ) (r e : Expression) (v : Value) (q end : ℕ) (cells : List Value) (frames : List Frame) (w : World) → Within code n w → length cells ≡ height t → value r w.store ≡ Ok v → q + length (value_code t class field r e) ≡ end → HasAt code.places q (value_code t class field r e) → Reaches code (at q (held (leaf r) v cells) frames w) (arrive (λ o w'. at end cells frames w') frames (outcome_then (look t.line (value e) w) (write t.line (InAttribute class field v))))
+  valued t class field r e v q end cells frames w in_ high p len has =
+      let c : List Placed = operand_code (after t r) e in
+      let last : Placed = place (after (after t r) e) (i.SetAttribute class field (operand t r) (operand (after t r) e)) in
+      let ends : q + length c + 1 ≡ end = omega (arith, length-append c (last ∷ []), len) in
+      one_join code n (after t r) e (evaluates code n (after t r) e) (last ∷ []) (λ o w'. at end cells frames w') (write t.line (InAttribute class field v)) q (held (leaf r) v cells) frames w (held_height t r v cells high) has in_ (λ z found has'.
+      subst (λ j. Reaches code (at (q + length c) (held (leaf e) z (held (leaf r) v cells)) frames w) (arrive (λ o w'. at j cells frames w') frames (write t.line (InAttribute class field v) z w))) ends
+      (two_change last (operand t r) (operand (after t r) e) (assigned_attribute class field) v z (q + length c) (held (leaf e) z (held (leaf r) v cells)) cells frames w refl refl (λ go. reads_both t r e v z w.store cells go high p found) has'.0))
+
+  -- the assignment of a constant or a variable finds the fault of the reference
+  leaf_faults : (t : Site) (us : List Mode) (class field : ℕ) (r : Expression) (y : Operand) (v z : Value) (kind : FaultKind) (q : ℕ) (cells : List Value) (frames : List Frame) (w : World) → length cells ≡ height t → value r w.store ≡ Ok v → entity class v w.store ≡ Err (Fails kind) → lies_above (operand t r) y ≡ false → ((cs : List Value) (go : Value → List Value → Moved) → with_value y w.store cs go ≡ go z cs) → slice_get code.places q ≡ Some (place (with_cells t us) (i.SetAttribute class field (operand t r) y)) → Reaches code (at q (held (leaf r) v cells) frames w) (left_to (Faulted kind t.line) frames w)
+  leaf_faults t us class field r y v z kind q cells frames w high p h low reads_y has =
+      let h0 : List Value = held (leaf r) v cells in
+      let c : Core = core_at q h0 frames w.store in
+      let go : Value → Value → List Value → Moved = λ v z below. did t.line (assigned_attribute class field v z w.store) (λ u. onward below c u) in
+      step_leads code (place (with_cells t us) (i.SetAttribute class field (operand t r) y)) c w _ _ has refl
+      (ap (λ (b : Bool). if b then with_value (operand t r) w.store h0 (λ v above. with_value y w.store above (λ z below. go v z below)) else with_value y w.store h0 (λ z above. with_value (operand t r) w.store above (λ v below. go v z below))) low
+      ∙ reads_y h0 (λ z above. with_value (operand t r) w.store above (λ v below. go v z below))
+      ∙ reads t r v w.store cells (λ v below. go v z below) high p
+      ∙ ap (λ o. did t.line o (λ u. onward cells c u)) (err_first (entity class v w.store) _ (Fails kind) h))
+      breaks
+
+  valued_faults : (t : Site) (class field : ℕ) (r e : Expression) (v : Value) (kind : FaultKind) (q : ℕ) (cells : List Value) (frames : List Frame) (w : World) → length cells ≡ height t → value r w.store ≡ Ok v → entity class v w.store ≡ Err (Fails kind) → is_leaf e ≡ true → HasAt code.places q (value_code t class field r e) → Reaches code (at q (held (leaf r) v cells) frames w) (left_to (Faulted kind t.line) frames w)
+  valued_faults t class field r (Constant c) v kind q cells frames w high p h leaf_ has =
+      leaf_faults t (after (after t r) (Constant c)).cells class field r (i.Constant c) v c kind q cells frames w high p h (low_constant (operand t r) c) (λ cs go. refl) has.0
+  valued_faults t class field r (Fetch y) v kind q cells frames w high p h leaf_ has =
+      leaf_faults t (after (after t r) (Fetch y)).cells class field r (Held y) v (or_zero (fetched y w.store)) kind q cells frames w high p h (low_held (operand t r) y) (λ cs go. refl) has.0
+  valued_faults t class field r (Attribute k f e) v kind q cells frames w high p h leaf_ has = absurd (false≢true leaf_)
+  valued_faults t class field r (OfSystemSet query set) v kind q cells frames w high p h leaf_ has = absurd (false≢true leaf_)
+  valued_faults t class field r (OfSet query set e) v kind q cells frames w high p h leaf_ has = absurd (false≢true leaf_)
+  valued_faults t class field r (OfMember query set e) v kind q cells frames w high p h leaf_ has = absurd (false≢true leaf_)
+  valued_faults t class field r Clock v kind q cells frames w high p h leaf_ has = absurd (false≢true leaf_)
+  valued_faults t class field r (TimeOf e) v kind q cells frames w high p h leaf_ has = absurd (false≢true leaf_)
+  valued_faults t class field r (Figure fold j) v kind q cells frames w high p h leaf_ has = absurd (false≢true leaf_)
+  valued_faults t class field r (FigureOf fold j e) v kind q cells frames w high p h leaf_ has = absurd (false≢true leaf_)
+  valued_faults t class field r (Signed sign e) v kind q cells frames w high p h leaf_ has = absurd (false≢true leaf_)
+  valued_faults t class field r (Absolute e) v kind q cells frames w high p h leaf_ has = absurd (false≢true leaf_)
+  valued_faults t class field r (Calculate op a b) v kind q cells frames w high p h leaf_ has = absurd (false≢true leaf_)
+
+  -- the reference is evaluated, and looked at, before the value
+  abbrev let_part : Line → (class field : ℕ) → Expression → Value → Part (Unit {0})
+  let_part l class field e v w = outcome_then (looked l (entity class v w.store) w) (λ n w. outcome_then (look l (value e) w) (write l (InAttribute class field v)))
+
+  spot_then : (l : Line) (class field : ℕ) (e : Expression) (r : OkOr Value Trouble) (w : World) → outcome_then (looked l r w) (let_part l class field e) ≡ outcome_then (looked l (turned (InAttribute class field) (if_ok r (looked_at (λ x. entity class x w.store)))) w) (λ p w. outcome_then (look l (value e) w) (write l p))
+  spot_then l class field e (Err (Fails kind)) w = refl
+  spot_then l class field e (Err Misfit) w = refl
+  spot_then l class field e (Ok v) w = by (entity class v w.store)
+    where
+      by : (m : OkOr ℤ Trouble) → outcome_then (looked l m w) (λ n w. outcome_then (look l (value e) w) (write l (InAttribute class field v))) ≡ outcome_then (looked l (turned (InAttribute class field) (turned (λ n. v) m)) w) (λ p w. outcome_then (look l (value e) w) (write l p))
+      by (Ok n) = refl
+      by (Err (Fails kind)) = refl
+      by (Err Misfit) = refl
+
+  pub let_attribute_runs : (t : Site) (class field : ℕ) (r e : Expression) → Runs code n (height t) same (let_code t (ToAttribute class field r) e) done (give_to t.line (ToAttribute class field r) (look t.line (value e)))
+  let_attribute_runs t class field r e = record { by = λ p cells frames w high has in_. choose p cells frames w high in_ (must_look class r e) refl has }
+    where
+      choose : (p : ℕ) (cells : List Value) (frames : List Frame) (w : World) → length cells ≡ height t → Within code n w → (b : Bool) → must_look class r e ≡ b → HasAt code.places p (entity_code t b class r ++ value_code t class field r e) → Reaches code (at p cells frames w) (arrive (λ o w'. at (p + length (entity_code t b class r ++ value_code t class field r e)) cells frames w') frames (give_to t.line (ToAttribute class field r) (look t.line (value e)) w))
+      choose p cells frames w high in_ false q has =
+          let c : List Placed = operand_code t r in
+          let rest : List Placed = value_code t class field r e in
+          let end : p + length c + length rest ≡ p + length (c ++ rest) = omega (arith, length-append c rest) in
+          subst (λ o. Reaches code (at p cells frames w) (arrive (λ o w'. at (p + length (c ++ rest)) cells frames w') frames o)) (spot_then t.line class field e (value r w.store) w)
+          (one_join code n t r (evaluates code n t r) rest (λ o w'. at (p + length (c ++ rest)) cells frames w') (let_part t.line class field e) p cells frames w high has in_ (λ v found has'.
+          go v found (p + length c) (p + length (c ++ rest)) end has' (entity class v w.store) refl))
+        where
+          go : (v : Value) → value r w.store ≡ Ok v → (j end : ℕ) → j + length (value_code t class field r e) ≡ end → HasAt code.places j (value_code t class field r e) → (m : OkOr ℤ Trouble) → entity class v w.store ≡ m → Reaches code (at j (held (leaf r) v cells) frames w) (arrive (λ o w'. at end cells frames w') frames (outcome_then (looked t.line m w) (λ n w. outcome_then (look t.line (value e) w) (write t.line (InAttribute class field v)))))
+          go v found j end len h (Ok x) known = valued t class field r e v j end cells frames w in_ high found len h
+          go v found j end len h (Err Misfit) known = free
+          go v found j end len h (Err (Fails kind)) known = by (unlooked class r e v w.store (Fails kind) q found known)
+            where
+              by : (value e w.store ≡ Err (Fails kind)) ⊎ (is_leaf e ≡ true) → Reaches code (at j (held (leaf r) v cells) frames w) (left_to (Faulted kind t.line) frames w)
+              by (inl f) =
+                  subst (λ r'. Reaches code (at j (held (leaf r) v cells) frames w) (arrive (λ o w'. at end cells frames w') frames (outcome_then (looked t.line r' w) (write t.line (InAttribute class field v))))) f
+                  (valued t class field r e v j end cells frames w in_ high found len h)
+              by (inr f) = valued_faults t class field r e v kind j cells frames w high found known f h
+      choose p cells frames w high in_ true q has =
+          let c : List Placed = operand_code t r in
+          let look_ : Placed = place (after t r) (i.LookEntity class (stay (operand t r))) in
+          let front : List Placed = c ++ look_ ∷ [] in
+          let rest : List Placed = value_code t class field r e in
+          let end : p + length c + 1 + length rest ≡ p + length (front ++ rest) = omega (arith, length-append front rest, length-append c (look_ ∷ [])) in
+          let middle : p + length front ≡ p + length c + 1 = omega (arith, length-append c (look_ ∷ [])) in
+          let h0 = has_front code.places p front rest has in
+          let h1 = subst (λ j. HasAt code.places j rest) middle (has_back code.places p front rest has) in
+          subst (λ o. Reaches code (at p cells frames w) (arrive (λ o w'. at (p + length (front ++ rest)) cells frames w') frames o)) (spot_then t.line class field e (value r w.store) w)
+          (one_join code n t r (evaluates code n t r) (look_ ∷ []) (λ o w'. at (p + length (front ++ rest)) cells frames w') (let_part t.line class field e) p cells frames w high h0 in_ (λ v found has'.
+          step_leads code look_ (core_at (p + length c) (held (leaf r) v cells) frames w.store) w _ _ has'.0 refl
+          (stay_reads t r v w.store cells (λ x below. did t.line (entity class x w.store) (λ _. onward below (core_at (p + length c) (held (leaf r) v cells) frames w.store) w.store)) high found)
+          (did_leads code t.line (entity class v w.store) _ w (λ o w'. at (p + length (front ++ rest)) cells frames w') frames (λ n w. outcome_then (look t.line (value e) w) (write t.line (InAttribute class field v))) (λ m known.
+          onwards (valued t class field r e v (p + length c + 1) (p + length (front ++ rest)) cells frames w in_ high found end h1)))))

@@ -1,0 +1,92 @@
+-- LET, ADD and SUBTRACT, for each place that they assign.
+use Rattle.std.proofs.Common.{◌≡◌, ℕ, ◌+◌, List, [], ◌∷◌, ◌++◌, length, Option, Some, None, refl, sym, subst, arith, length-append}
+use Rattle.ss_base.specs.declared.layout.Mode.TheVariants.{Integer}
+use Rattle.ss_base.specs.declared.value.Value.{Value}
+use Rattle.ss_program.specs.declared.expression.Sign.{Sign}
+use Rattle.ss_program.specs.declared.expression.Variable.{Variable}
+use Rattle.ss_program.specs.declared.expression.Variable.TheVariants.{Global}
+use Rattle.ss_program.specs.declared.statement.CountedClass.{CountedClass}
+use Rattle.ss_program.specs.Program.{Expression, Place, ToVariable, ToAttribute, ToCount}
+use Rattle.ss_meaning.specs.Values.{if_ok, sure, calculated, operator_of}
+use Rattle.ss_meaning.specs.Store.{fetched}
+use Rattle.ss_meaning.specs.Places.{InVariable, InCount}
+use Rattle.ss_meaning.specs.Expressions.{value}
+use Rattle.ss_meaning.specs.Parts.{World, Part, outcome_then, looked, look, write}
+use Rattle.ss_meaning.specs.Statements.{give_to, change_by}
+use Rattle.ss_code_instructions.specs.Instructions.{Held, Taken, Placed, Target as To}
+use Rattle.ss_code_instructions.specs.Instructions as i
+use Rattle.ss_code_instructions.specs.States.{Frame, MachineState, or_zero, core_at, with_value, deliver}
+use Rattle.ss_code_instructions.specs.Machine.{Code}
+use Rattle.ss_code_instructions.specs.Translation.{Site, height, above, place, leaf, operand, after, operand_code, with_operand, expression_code, next, count_code, let_code, change_code}
+use Rattle.ss_code_instructions.proofs.Steps.{has_front, has_back, Reaches, at, arrive, join}
+use Rattle.ss_code_instructions.proofs.Parts.{Leads, whatever, step_leads, at_the_height, Runs, same, done, went, then_then, alike}
+use Rattle.ss_code_instructions.proofs.Operands.{on, Tops, put_then, computes, held, reads, one_join}
+use Rattle.ss_code_instructions.proofs.Expressions.{leaves, evaluates}
+use Rattle.ss_code_instructions.proofs.Assigning.{variable_runs, count_run}
+use Rattle.ss_code_instructions.proofs.Attributes.{let_attribute_runs}
+use Rattle.ss_code_instructions.proofs.Changing.{change_attribute_runs}
+
+module _ (code : Code) (n : ℕ) where
+  let_count_runs : (t : Site) (c : CountedClass) (e : Expression) → Runs code n (height t) same (let_code t (ToCount c) e) done (give_to t.line (ToCount c) (look t.line (value e)))
+  let_count_runs t c e = record {
+    by = λ p cells frames w high has in_.
+        let ce : List Placed = operand_code t e in
+        let last : List Placed = count_code (after t e) c (operand t e) in
+        let end : p + length ce + 2 ≡ p + length (ce ++ last) = omega (arith, length-append ce last) in
+        one_join code n t e (evaluates code n t e) last (λ o w'. at (p + length (ce ++ last)) cells frames w') (write t.line (InCount c)) p cells frames w high has in_ (λ v found has'.
+        subst (λ j. Reaches code (at (p + length ce) (held (leaf e) v cells) frames w) (arrive (λ o w'. at j cells frames w') frames (write t.line (InCount c) v w))) end
+        (count_run code (after t e) c (operand t e) v (p + length ce) (held (leaf e) v cells) cells frames w (λ go. reads t e v w.store cells go high found) has'));
+  }
+
+  pub let_runs : (t : Site) (p : Place) (e : Expression) → Runs code n (height t) same (let_code t p e) done (give_to t.line p (look t.line (value e)))
+  let_runs t (ToVariable x) e = variable_runs code n t x (λ to. expression_code t to e) (look t.line (value e)) (λ to tops. leaves code n t to tops e)
+  let_runs t (ToAttribute class field r) e = let_attribute_runs code n t class field r e
+  let_runs t (ToCount c) e = let_count_runs t c e
+
+  -- ## ADD and SUBTRACT
+
+  -- a value is added to what a variable holds, or subtracted
+  abbrev sum_part : (t : Site) → Sign → Variable → Expression → Part Value
+  sum_part t sign x e w = outcome_then (look t.line (value e) w) (λ y. look t.line (λ s. if_ok (sure (fetched x s)) (λ v. calculated (operator_of sign) v y)))
+
+  sum_runs : (t : Site) (sign : Sign) (x : Variable) (e : Expression) (to : To) → Tops to (height t) → Runs code n (height t) same (with_operand t e (λ y. i.Calculate (operator_of sign) (Held x) y to)) (on to) (λ w. outcome_then (sum_part t sign x e w) (put_then t.line to))
+  sum_runs t sign x e to tops = record {
+    by = λ p cells frames w high has in_.
+        let ce : List Placed = operand_code t e in
+        let last : Placed = place (after t e) (i.Calculate (operator_of sign) (Held x) (operand t e) to) in
+        let end : p + length ce + 1 ≡ p + length (ce ++ last ∷ []) = omega (arith, length-append ce (last ∷ [])) in
+        let k : Value → World → MachineState = λ v w'. at (p + length (ce ++ last ∷ [])) (on to v cells) frames w' in
+        subst (λ o. Reaches code (at p cells frames w) (arrive k frames o)) (sym (then_then (look t.line (value e) w) (λ y. look t.line (λ s. if_ok (sure (fetched x s)) (λ v. calculated (operator_of sign) v y))) (put_then t.line to)))
+        (one_join code n t e (evaluates code n t e) (last ∷ []) k (λ y w. outcome_then (look t.line (λ s. if_ok (sure (fetched x s)) (λ v. calculated (operator_of sign) v y)) w) (put_then t.line to)) p cells frames w high has in_ (λ y found has'.
+        step_leads code last (core_at (p + length ce) (held (leaf e) y cells) frames w.store) w _ _ has'.0 refl
+        (reads t e y w.store cells (λ u above. with_value (Held x) w.store above (λ v below. deliver t.line to (calculated (operator_of sign) v u) below (core_at (p + length ce) (held (leaf e) y cells) frames w.store))) high found)
+        (subst (λ j. Leads code w (deliver t.line to (calculated (operator_of sign) (or_zero (fetched x w.store)) y) cells (core_at (p + length ce) (held (leaf e) y cells) frames w.store)) (arrive (λ v w'. at j (on to v cells) frames w') frames (outcome_then (looked t.line (if_ok (sure (fetched x w.store)) (λ v. calculated (operator_of sign) v y)) w) (put_then t.line to)))) end
+        (sum_leads (fetched x w.store) y (p + length ce) cells (held (leaf e) y cells) frames w (subst (Tops to) (sym high) tops)))));
+  }
+    where
+      sum_leads : (o : Option Value) (y : Value) (p : ℕ) (cells cells0 : List Value) (frames : List Frame) (w : World) → Tops to (length cells) → Leads code w (deliver t.line to (calculated (operator_of sign) (or_zero o) y) cells (core_at p cells0 frames w.store)) (arrive (λ v w'. at (p + 1) (on to v cells) frames w') frames (outcome_then (looked t.line (if_ok (sure o) (λ v. calculated (operator_of sign) v y)) w) (put_then t.line to)))
+      sum_leads None y p cells cells0 frames w h = whatever
+      sum_leads (Some v) y p cells cells0 frames w h = computes code t.line to (calculated (operator_of sign) v y) p cells cells0 frames w h
+
+  change_count_runs : (t : Site) (sign : Sign) (c : CountedClass) (e : Expression) → Runs code n (height t) same (change_code t sign (ToCount c) e) done (change_by t.line sign (ToCount c) e)
+  change_count_runs t sign c e =
+      alike code n (height t) (λ w. then_then (look t.line (value e) w) (λ y. look t.line (λ s. if_ok (sure (fetched (Global c.variable) s)) (λ v. calculated (operator_of sign) v y))) (write t.line (InCount c)))
+      (record {
+        by = λ p cells frames w high has in_.
+            let ce : List Placed = with_operand t e (λ y. i.Calculate (operator_of sign) (Held (Global c.variable)) y (next t)) in
+            let last : List Placed = count_code (above t Integer) c (Taken (height t)) in
+            let end : p + length ce + 2 ≡ p + length (ce ++ last) = omega (arith, length-append ce last) in
+            join (at p cells frames w) (λ v w'. at (p + length ce) (v ∷ cells) frames w') (λ o w'. at (p + length (ce ++ last)) cells frames w') frames (sum_part t sign (Global c.variable) e w) (write t.line (InCount c))
+            (subst (λ o. Reaches code (at p cells frames w) (arrive (λ v w'. at (p + length ce) (v ∷ cells) frames w') frames o)) (went (sum_part t sign (Global c.variable) e w))
+            ((sum_runs t sign (Global c.variable) e (next t) refl).by p cells frames w high (has_front code.places p ce last has) in_))
+            (λ v w' k.
+            subst (λ j. Reaches code (at (p + length ce) (v ∷ cells) frames w') (arrive (λ o w'. at j cells frames w') frames (write t.line (InCount c) v w'))) end
+            (count_run code (above t Integer) c (Taken (height t)) v (p + length ce) (v ∷ cells) cells frames w' (λ go. at_the_height (height t) cells (go v cells) high) (has_back code.places p ce last has)));
+      })
+
+  pub change_runs_at : (t : Site) (sign : Sign) (p : Place) (e : Expression) → Runs code n (height t) same (change_code t sign p e) done (change_by t.line sign p e)
+  change_runs_at t sign (ToVariable x) e =
+      alike code n (height t) (λ w. then_then (look t.line (value e) w) (λ y. look t.line (λ s. if_ok (sure (fetched x s)) (λ v. calculated (operator_of sign) v y))) (write t.line (InVariable x)))
+      (variable_runs code n t x (λ to. with_operand t e (λ y. i.Calculate (operator_of sign) (Held x) y to)) (sum_part t sign x e) (λ to tops. sum_runs t sign x e to tops))
+  change_runs_at t sign (ToAttribute class field r) e = change_attribute_runs code n t sign class field r e
+  change_runs_at t sign (ToCount c) e = change_count_runs t sign c e

@@ -1,0 +1,117 @@
+-- Instructions that look at operands, and go on or jump.
+use Rattle.std.proofs.Common.{◌≡◌, ℕ, ◌+◌, Bool, true, false, not, List, [], ◌∷◌, ◌++◌, length, Option, Some, None, Ok, Err, refl, sym, ap, ◌∙◌, subst, arith, length-append}
+use Rattle.std.specs.Prelude.{slice_get, Result as OkOr}
+use Rattle.ss_base.specs.declared.line.Line.{Line}
+use Rattle.ss_base.specs.declared.value.Value.{Value}
+use Rattle.ss_meaning.specs.Words.{is_ended}
+use Rattle.ss_program.specs.declared.head.GuardKind.{GuardKind}
+use Rattle.ss_program.specs.declared.head.GuardKind.TheVariants as guards
+use Rattle.ss_program.specs.Program.{Expression, SetOwner, TheSystem, Entity, Test, Compare, DataEnded, Empty, Member, Condition, Guard}
+use Rattle.ss_meaning.specs.Values.{Trouble, Fails, Misfit, if_ok, turned, due, sure, related}
+use Rattle.ss_meaning.specs.Store.{Store}
+use Rattle.ss_meaning.specs.Sets.{member, is_empty, is_in, owner_number}
+use Rattle.ss_meaning.specs.Expressions.{value, value_if_any, looked_at, member_value, owner_value, unless, passed, both, either, all_hold, holds, passes, all_pass}
+use Rattle.ss_meaning.specs.Parts.{World, WentOn, Part, outcome_then, looked, look}
+use Rattle.ss_code_instructions.specs.Instructions.{Operand, Bearer, Instruction, Placed}
+use Rattle.ss_code_instructions.specs.Instructions as i
+use Rattle.ss_code_instructions.specs.States.{Frame, MachineState, Moved, To, did, fit, core_at, with_value, with_values, with_bearer, past, onward_if}
+use Rattle.ss_code_instructions.specs.Machine.{Code, act, is_due}
+use Rattle.ss_code_instructions.specs.Facts.{expression_of, may_fault, is_leaf}
+use Rattle.ss_code_instructions.specs.Translation.{Site, height, place, leaf, operand, after, operand_code, one, with_operand, expression_code, next, bearer, bearer_code, bearer_cells, after_bearer, with_owner, looked_code, member_code, test_code, tests_code, alternatives_code, condition_code, negated_code, guard_code, guards_code}
+use Rattle.ss_code_instructions.proofs.Steps.{HasAt, has_front, has_back, Comes, Reaches, here, free, at, arrive, join}
+use Rattle.ss_code_instructions.proofs.Parts.{Within, within_on, Leads, onwards, whatever, step_leads, did_leads, Lands, same, done, alike, went, looks_then, look_then, looked_then, turned_then, look_lands}
+use Rattle.ss_code_instructions.proofs.Operands.{held, held_height, reads, reads_both, join_look, Evaluates, one_join, two_join}
+use Rattle.ss_code_instructions.proofs.Expressions.{evaluates}
+use Rattle.ss_code_instructions.proofs.Branching.{both_lands, either_lands, not_lands}
+
+pub fit_did : {A : Type 0} (l : Line) (o : Option A) (go : A → Moved) → fit o go ≡ did l (sure o) go
+fit_did l None go = refl
+fit_did l (Some a) go = refl
+
+-- ## Owners
+
+pub owner_is : (o : SetOwner) (s : Store) → owner_value o s ≡ value_if_any (expression_of o) s
+owner_is TheSystem s = refl
+owner_is (Entity e) s = refl
+
+-- what lies in cells once an owner was evaluated, and how it is read
+pub record Found (t : Site) (o : Option Expression) (s : Store) (x : Option Value) (on_top : List Value → List Value) : Type 0 where
+  pub reads : (cells : List Value) (go : Option Value → List Value → Moved) → length cells ≡ height t → with_bearer (bearer t o) s (on_top cells) go ≡ go x cells
+  pub high : (cells : List Value) → length cells ≡ height t → length (on_top cells) ≡ height (after_bearer t o)
+
+module _ (code : Code) (n : ℕ) where
+  -- an owner, or the entity of a statistic, and what follows
+  pub bearer_join : {B : Type 0} (t : Site) (o : Option Expression) (rest : List Placed) (k : B → World → MachineState) (go : Option Value → Part B) (p : ℕ) (cells : List Value) (frames : List Frame) (w : World) → length cells ≡ height t → HasAt code.places p (bearer_code t o ++ rest) → Within code n w → ((x : Option Value) (on_top : List Value → List Value) → value_if_any o w.store ≡ Ok x → Found t o w.store x on_top → HasAt code.places (p + length (bearer_code t o)) rest → Reaches code (at (p + length (bearer_code t o)) (on_top cells) frames w) (arrive k frames (go x w))) → Reaches code (at p cells frames w) (arrive k frames (outcome_then (look t.line (value_if_any o) w) go))
+  bearer_join t None rest k go p cells frames w high has in_ f =
+      let e : p ≡ p + 0 = omega arith in
+      subst (λ q. Reaches code (at q cells frames w) (arrive k frames (go None w))) (sym e)
+      (f None (λ c. c) refl (record { reads = λ cells go h. refl; high = λ cells h. h }) (subst (λ q. HasAt code.places q rest) e has))
+  bearer_join t (Some e) rest k go p cells frames w high has in_ f =
+      subst (λ o. Reaches code (at p cells frames w) (arrive k frames o)) (turned_then t.line (value e w.store) Some go w)
+      (one_join code n t e (evaluates code n t e) rest k (λ v. go (Some v)) p cells frames w high has in_ (λ v q has'.
+      f (Some v) (held (leaf e) v) (ap (turned Some) q)
+      (record { reads = λ cells go h. reads t e v w.store cells (λ v below. go (Some v) below) h q; high = λ cells h. held_height t e v cells h }) has'))
+
+  -- ## Instructions that look and go on, or jump
+
+  -- one operand, and an instruction that looks at it
+  pub one_lands : {A : Type 0} (t : Site) (e : Expression) (make : Operand → Instruction) (land : A → ℕ → ℕ) (f : Value → Store → OkOr A Trouble) (go : ℕ → List Value → List Frame → Store → Value → List Value → Moved) → ((x : Operand) → is_due (make x) ≡ false) → ((x : Operand) (p : ℕ) (cells : List Value) (frames : List Frame) (s : Store) → act code t.line (make x) (core_at p cells frames s) ≡ with_value x s cells (go p cells frames s)) → ((p : ℕ) (cells : List Value) (frames : List Frame) (s : Store) (v : Value) (below : List Value) → go p cells frames s v below ≡ did t.line (f v s) (λ a. To (core_at (land a (p + 1)) below frames s))) → Lands code n (height t) same (with_operand t e make) land done (look t.line (λ s. if_ok (value e s) (λ v. f v s)))
+  one_lands t e make land f go calm acts goes = record {
+    by = λ p cells frames w high has in_.
+        let c = operand_code t e in
+        let x : Placed = place (after t e) (make (operand t e)) in
+        let end : p + length c + 1 ≡ p + length (c ++ x ∷ []) = omega (arith, length-append c (x ∷ [])) in
+        subst (λ o. Reaches code (at p cells frames w) (arrive (λ a w'. at (land a (p + length (c ++ x ∷ []))) cells frames w') frames o)) (looks_then t.line (value e w.store) f w)
+        (one_join code n t e (evaluates code n t e) (x ∷ []) (λ a w'. at (land a (p + length (c ++ x ∷ []))) cells frames w') (λ v. look t.line (f v)) p cells frames w high has in_ (λ v q has'.
+        step_leads code x (core_at (p + length c) (held (leaf e) v cells) frames w.store) w _ _ has'.0 (calm (operand t e))
+        (acts (operand t e) (p + length c) (held (leaf e) v cells) frames w.store
+        ∙ reads t e v w.store cells (go (p + length c) (held (leaf e) v cells) frames w.store) high q
+        ∙ goes (p + length c) (held (leaf e) v cells) frames w.store v cells)
+        (subst (λ o. Leads code w (did t.line (f v w.store) (λ a. To (core_at (land a (p + length c + 1)) cells frames w.store))) (arrive (λ a w'. at (land a (p + length (c ++ x ∷ []))) cells frames w') frames o)) (went (looked t.line (f v w.store) w))
+        (did_leads code t.line (f v w.store) _ w (λ a w'. at (land a (p + length (c ++ x ∷ []))) cells frames w') frames WentOn (λ a r.
+        onwards (subst (λ q. Reaches code (at (land a q) cells frames w) (Comes (at (land a (p + length (c ++ x ∷ []))) cells frames w))) (sym end) here))))));
+  }
+
+  -- two operands
+  pub two_lands : {A : Type 0} (t : Site) (a b : Expression) (make : (x y : Operand) → Instruction) (land : A → ℕ → ℕ) (f : Value → Value → Store → OkOr A Trouble) (go : ℕ → List Value → List Frame → Store → Value → Value → List Value → Moved) → ((x y : Operand) → is_due (make x y) ≡ false) → ((x y : Operand) (p : ℕ) (cells : List Value) (frames : List Frame) (s : Store) → act code t.line (make x y) (core_at p cells frames s) ≡ with_values x y s cells (go p cells frames s)) → ((p : ℕ) (cells : List Value) (frames : List Frame) (s : Store) (v u : Value) (below : List Value) → go p cells frames s v u below ≡ did t.line (f v u s) (λ a. To (core_at (land a (p + 1)) below frames s))) → Lands code n (height t) same (operand_code t a ++ with_operand (after t a) b (make (operand t a))) land done (look t.line (λ s. if_ok (value a s) (λ x. if_ok (value b s) (λ y. f x y s))))
+  two_lands t a b make land f go calm acts goes = record {
+    by = λ p cells frames w high has in_.
+        let ca = operand_code t a in
+        let cb = operand_code (after t a) b in
+        let x : Placed = place (after (after t a) b) (make (operand t a) (operand (after t a) b)) in
+        let all = ca ++ (cb ++ x ∷ []) in
+        let end : p + length ca + length cb + 1 ≡ p + length all = omega (arith, length-append ca (cb ++ x ∷ []), length-append cb (x ∷ [])) in
+        subst (λ o. Reaches code (at p cells frames w) (arrive (λ a w'. at (land a (p + length all)) cells frames w') frames o)) (both_looks t.line (value a w.store) (value b) f w)
+        (two_join code n t a b (evaluates code n t a) (evaluates code n (after t a) b) (x ∷ []) (λ a w'. at (land a (p + length all)) cells frames w') (λ v u. look t.line (f v u)) p cells frames w high has in_ (λ v u q r has'.
+        step_leads code x (core_at (p + length ca + length cb) (held (leaf b) u (held (leaf a) v cells)) frames w.store) w _ _ has'.0 (calm (operand t a) (operand (after t a) b))
+        (acts (operand t a) (operand (after t a) b) (p + length ca + length cb) (held (leaf b) u (held (leaf a) v cells)) frames w.store
+        ∙ reads_both t a b v u w.store cells (go (p + length ca + length cb) (held (leaf b) u (held (leaf a) v cells)) frames w.store) high q r
+        ∙ goes (p + length ca + length cb) (held (leaf b) u (held (leaf a) v cells)) frames w.store v u cells)
+        (subst (λ o. Leads code w (did t.line (f v u w.store) (λ a. To (core_at (land a (p + length ca + length cb + 1)) cells frames w.store))) (arrive (λ a w'. at (land a (p + length all)) cells frames w') frames o)) (went (looked t.line (f v u w.store) w))
+        (did_leads code t.line (f v u w.store) _ w (λ a w'. at (land a (p + length all)) cells frames w') frames WentOn (λ a r.
+        onwards (subst (λ q. Reaches code (at (land a q) cells frames w) (Comes (at (land a (p + length all)) cells frames w))) (sym end) here))))));
+  }
+    where
+      both_looks : {A : Type 0} (l : Line) (r : OkOr Value Trouble) (g : Store → OkOr Value Trouble) (f : Value → Value → Store → OkOr A Trouble) (w : World) → outcome_then (looked l r w) (λ x w. outcome_then (look l g w) (λ y. look l (f x y))) ≡ looked l (if_ok r (λ x. if_ok (g w.store) (λ y. f x y w.store))) w
+      both_looks l (Ok x) g f w = looks_then l (g w.store) (f x) w
+      both_looks l (Err (Fails kind)) g f w = refl
+      both_looks l (Err Misfit) g f w = refl
+
+  -- an owner, and an instruction that looks at its set
+  pub owner_lands : {A : Type 0} (t : Site) (o : SetOwner) (make : Bearer → Instruction) (land : A → ℕ → ℕ) (f : Option Value → Store → OkOr A Trouble) (go : ℕ → List Value → List Frame → Store → Option Value → List Value → Moved) → ((x : Bearer) → is_due (make x) ≡ false) → ((x : Bearer) (p : ℕ) (cells : List Value) (frames : List Frame) (s : Store) → act code t.line (make x) (core_at p cells frames s) ≡ with_bearer x s cells (go p cells frames s)) → ((p : ℕ) (cells : List Value) (frames : List Frame) (s : Store) (v : Option Value) (below : List Value) → go p cells frames s v below ≡ did t.line (f v s) (λ a. To (core_at (land a (p + 1)) below frames s))) → Lands code n (height t) same (with_owner t o make) land done (look t.line (λ s. if_ok (owner_value o s) (λ v. f v s)))
+  owner_lands t o make land f go calm acts goes = record {
+    by = λ p cells frames w high has in_.
+        let e = expression_of o in
+        let c = bearer_code t e in
+        let x : Placed = place (after_bearer t e) (make (bearer t e)) in
+        let end : p + length c + 1 ≡ p + length (c ++ x ∷ []) = omega (arith, length-append c (x ∷ [])) in
+        subst (λ o. Reaches code (at p cells frames w) (arrive (λ a w'. at (land a (p + length (c ++ x ∷ []))) cells frames w') frames o)) (looks_then t.line (value_if_any e w.store) f w ∙ ap (λ r. looked t.line (if_ok r (λ v. f v w.store)) w) (sym (owner_is o w.store)))
+        (bearer_join t e (x ∷ []) (λ a w'. at (land a (p + length (c ++ x ∷ []))) cells frames w') (λ v. look t.line (f v)) p cells frames w high has in_ (λ v on_top q found has'.
+        step_leads code x (core_at (p + length c) (on_top cells) frames w.store) w _ _ has'.0 (calm (bearer t e))
+        (acts (bearer t e) (p + length c) (on_top cells) frames w.store
+        ∙ found.reads cells (go (p + length c) (on_top cells) frames w.store) high
+        ∙ goes (p + length c) (on_top cells) frames w.store v cells)
+        (subst (λ o. Leads code w (did t.line (f v w.store) (λ a. To (core_at (land a (p + length c + 1)) cells frames w.store))) (arrive (λ a w'. at (land a (p + length (c ++ x ∷ []))) cells frames w') frames o)) (went (looked t.line (f v w.store) w))
+        (did_leads code t.line (f v w.store) _ w (λ a w'. at (land a (p + length (c ++ x ∷ []))) cells frames w') frames WentOn (λ a r.
+        onwards (subst (λ q. Reaches code (at (land a q) cells frames w) (Comes (at (land a (p + length (c ++ x ∷ []))) cells frames w))) (sym end) here))))));
+  }

@@ -1,0 +1,155 @@
+-- A member, then an owner, then an instruction that works on both: the member is looked at before where the owner's evaluation may fault.
+use Rattle.std.proofs.Common.{◌≡◌, ℕ, ◌+◌, Bool, true, false, not, List, [], ◌∷◌, ◌++◌, length, Option, Some, None, Ok, Err, ℤ, refl, sym, ap, ◌∙◌, subst, arith, length-append}
+use Rattle.std.proofs.lemmas.Bool.{eq-eqb}
+use Rattle.std.specs.Prelude.{slice_get, ◌==◌, Result as OkOr, if◌then◌else◌}
+use Rattle.ss_base.specs.declared.fault.FaultKind.{FaultKind}
+use Rattle.ss_base.specs.declared.line.Line.{Line}
+use Rattle.ss_base.specs.declared.value.Value.{Value}
+use Rattle.ss_program.specs.Program.{Expression, Constant, Fetch, Attribute, OfSystemSet, OfSet, OfMember, Clock, TimeOf, Figure, FigureOf, Signed, Absolute, Calculate, SetOwner}
+use Rattle.ss_meaning.specs.Values.{Trouble, Fails, Misfit, if_ok, turned}
+use Rattle.ss_meaning.specs.Store.{Store, fetched}
+use Rattle.ss_meaning.specs.Sets.{member}
+use Rattle.ss_meaning.specs.Expressions.{value, value_if_any, looked_at, member_value, owner_value}
+use Rattle.ss_meaning.specs.Parts.{World, WentOn, Part, outcome_then, looked, look}
+use Rattle.ss_code_instructions.specs.Instructions.{Operand, Bearer, Instruction, Placed, Constant as AConstant, Held, Taken, Stays, LookMember}
+use Rattle.ss_code_instructions.specs.States.{Frame, MachineState, Moved, did, fit, core_at, onward, cell_at, or_zero, with_value, with_bearer}
+use Rattle.ss_code_instructions.specs.Machine.{Code, act, is_due}
+use Rattle.ss_code_instructions.specs.Facts.{expression_of, may_fault}
+use Rattle.ss_code_instructions.specs.Translation.{Site, height, place, leaf, or_cell, operand, after, operand_code, stay, bearer, bearer_code, after_bearer, with_owner, looked_code}
+use Rattle.ss_code_instructions.proofs.Steps.{HasAt, has_front, has_back, Reaches, free, at, arrive}
+use Rattle.ss_code_instructions.proofs.Parts.{Within, Leads, onwards, breaks, whatever, step_leads, did_leads, turned_then}
+use Rattle.ss_code_instructions.proofs.Operands.{held, held_height, reads, one_join}
+use Rattle.ss_code_instructions.proofs.Expressions.{evaluates}
+use Rattle.ss_code_instructions.proofs.Looking.{owner_is, Found, bearer_join}
+
+-- ## Operands that stay
+
+pub top_cell : (h : ℕ) (v : Value) (cells : List Value) → length cells ≡ h → cell_at h (v ∷ cells) ≡ Some v
+top_cell h v cells e = ap (λ (b : Bool). if b then Some v else cell_at h cells) (eq-eqb (length cells) h e)
+
+pub leaf_stays : (e : Expression) (x : Operand) → leaf e ≡ Some x → stay x ≡ x
+leaf_stays (Constant u) x q = let e : AConstant u ≡ x = cc in subst (λ x. stay x ≡ x) e refl
+leaf_stays (Fetch y) x q = let e : Held y ≡ x = cc in subst (λ x. stay x ≡ x) e refl
+leaf_stays (Attribute class field e) x q = absurd cc
+leaf_stays (OfSystemSet query set) x q = absurd cc
+leaf_stays (OfSet query set e) x q = absurd cc
+leaf_stays (OfMember query set e) x q = absurd cc
+leaf_stays Clock x q = absurd cc
+leaf_stays (TimeOf e) x q = absurd cc
+leaf_stays (Figure fold j) x q = absurd cc
+leaf_stays (FigureOf fold j e) x q = absurd cc
+leaf_stays (Signed sign e) x q = absurd cc
+leaf_stays (Absolute e) x q = absurd cc
+leaf_stays (Calculate op a b) x q = absurd cc
+
+-- an operand that stays gives the value of its expression
+pub stay_reads : (t : Site) (e : Expression) (v : Value) (s : Store) (cells : List Value) (go : Value → List Value → Moved) → length cells ≡ height t → value e s ≡ Ok v → with_value (stay (operand t e)) s (held (leaf e) v cells) go ≡ go v (held (leaf e) v cells)
+stay_reads t e v s cells go h q = by (leaf e) refl (reads t e v s cells go h q)
+  where
+    by : (o : Option Operand) → leaf e ≡ o → with_value (or_cell (height t) o) s (held o v cells) go ≡ go v cells → with_value (stay (or_cell (height t) o)) s (held o v cells) go ≡ go v (held o v cells)
+    by (Some x) p r = ap (λ x. with_value x s cells go) (leaf_stays e x p) ∙ r
+    by None p r = ap (λ o. fit o (λ u. go u (v ∷ cells))) (top_cell (height t) v cells h)
+
+-- ## Owners whose evaluation has no fault
+
+-- such an owner needs no code, and gives something in any case
+pub record Still (t : Site) (o : Option Expression) : Type 0 where
+  pub empty : bearer_code t o ≡ []
+  pub given : Store → Option Value
+  pub gives : (s : Store) (cells : List Value) (go : Option Value → List Value → Moved) → with_bearer (bearer t o) s cells go ≡ go (given s) cells
+
+pub still : (t : Site) (o : Option Expression) → may_fault o ≡ false → Still t o
+still t None q = record { empty = refl; given = λ s. None; gives = λ s cells go. refl }
+still t (Some (Constant v)) q = record { empty = refl; given = λ s. Some v; gives = λ s cells go. refl }
+still t (Some (Fetch x)) q = record { empty = refl; given = λ s. Some (or_zero (fetched x s)); gives = λ s cells go. refl }
+still t (Some (Attribute class field e)) q = absurd cc
+still t (Some (OfSystemSet query set)) q = absurd cc
+still t (Some (OfSet query set e)) q = absurd cc
+still t (Some (OfMember query set e)) q = absurd cc
+still t (Some Clock) q = absurd cc
+still t (Some (TimeOf e)) q = absurd cc
+still t (Some (Figure fold j)) q = absurd cc
+still t (Some (FigureOf fold j e)) q = absurd cc
+still t (Some (Signed sign e)) q = absurd cc
+still t (Some (Absolute e)) q = absurd cc
+still t (Some (Calculate op a b)) q = absurd cc
+
+-- an operation on a member and an owner looks at the member first
+abbrev pub LooksFirst : {A : Type 0} → (set : ℕ) → (Value → Option Value → Store → OkOr A Trouble) → Type 0
+LooksFirst set op = (v : Value) (o : Option Value) (s : Store) (kind : FaultKind) → member set v s ≡ Err (Fails kind) → op v o s ≡ Err (Fails kind)
+
+module _ (code : Code) (n : ℕ) where
+  pub member_owner_run : {A B : Type 0} (t : Site) (set : ℕ) (e : Expression) (o : SetOwner) (make : Operand → Bearer → Instruction) (op : Value → Option Value → Store → OkOr A Trouble) (next : ℕ → List Value → List Frame → Store → List Value → A → Moved) (k : B → World → MachineState) (go : A → Part B) → LooksFirst set op → ((x : Operand) (y : Bearer) → is_due (make x y) ≡ false) → ((x : Operand) (y : Bearer) (p : ℕ) (cells : List Value) (frames : List Frame) (s : Store) → act code t.line (make x y) (core_at p cells frames s) ≡ with_bearer y s cells (λ u above. with_value x s above (λ v below. did t.line (op v u s) (next p cells frames s below)))) → (p : ℕ) (cells : List Value) (frames : List Frame) (w : World) → length cells ≡ height t → HasAt code.places p (looked_code t (may_fault (expression_of o)) e (LookMember set) ++ with_owner (after t e) o (make (operand t e))) → Within code n w → ((q : ℕ) (cells0 : List Value) (a : A) → q + 1 ≡ p + length (looked_code t (may_fault (expression_of o)) e (LookMember set) ++ with_owner (after t e) o (make (operand t e))) → Leads code w (next q cells0 frames w.store cells a) (arrive k frames (go a w))) → Reaches code (at p cells frames w) (arrive k frames (outcome_then (look t.line (member_value set e) w) (λ v w. outcome_then (look t.line (owner_value o) w) (λ u w. outcome_then (look t.line (op v u) w) go))))
+  member_owner_run {A} {B} t set e o make op next k go first calm acts p cells frames w high has in_ f = by (may_fault y) refl has f
+    where
+      abbrev y : Option Expression
+      y = expression_of o
+
+      abbrev c : List Placed
+      c = operand_code t e
+
+      abbrev last : Placed
+      last = place (after_bearer (after t e) y) (make (operand t e) (bearer (after t e) y))
+
+      -- the instruction itself
+      works : (v : Value) (u : Option Value) (on_top : List Value → List Value) → value e w.store ≡ Ok v → Found (after t e) y w.store u on_top → (q : ℕ) → slice_get code.places q ≡ Some last → ((cells0 : List Value) (a : A) → Leads code w (next q cells0 frames w.store cells a) (arrive k frames (go a w))) → Reaches code (at q (on_top (held (leaf e) v cells)) frames w) (arrive k frames (outcome_then (looked t.line (op v u w.store) w) go))
+      works v u on_top r found q h g =
+          step_leads code last (core_at q (on_top (held (leaf e) v cells)) frames w.store) w _ _ h (calm (operand t e) (bearer (after t e) y))
+          (acts (operand t e) (bearer (after t e) y) q (on_top (held (leaf e) v cells)) frames w.store
+          ∙ found.reads (held (leaf e) v cells) (λ u above. with_value (operand t e) w.store above (λ x below. did t.line (op x u w.store) (next q (on_top (held (leaf e) v cells)) frames w.store below))) (held_height t e v cells high)
+          ∙ reads t e v w.store cells (λ x below. did t.line (op x u w.store) (next q (on_top (held (leaf e) v cells)) frames w.store below)) high r)
+          (did_leads code t.line (op v u w.store) _ w k frames go (λ a m. g (on_top (held (leaf e) v cells)) a))
+
+      -- from the owner on
+      owned : (v : Value) → value e w.store ≡ Ok v → (q end : ℕ) → q + length (bearer_code (after t e) y) + 1 ≡ end → HasAt code.places q (bearer_code (after t e) y ++ last ∷ []) → ((j : ℕ) (cells0 : List Value) (a : A) → j + 1 ≡ end → Leads code w (next j cells0 frames w.store cells a) (arrive k frames (go a w))) → Reaches code (at q (held (leaf e) v cells) frames w) (arrive k frames (outcome_then (look t.line (owner_value o) w) (λ u w. outcome_then (look t.line (op v u) w) go)))
+      owned v r q end len h g =
+          subst (λ z. Reaches code (at q (held (leaf e) v cells) frames w) (arrive k frames (outcome_then (looked t.line z w) (λ u w. outcome_then (look t.line (op v u) w) go)))) (sym (owner_is o w.store))
+          (bearer_join code n (after t e) y (last ∷ []) k (λ u w. outcome_then (look t.line (op v u) w) go) q (held (leaf e) v cells) frames w (held_height t e v cells high) h in_ (λ u on_top z found h'.
+          works v u on_top r found (q + length (bearer_code (after t e) y)) h'.0 (λ cells0 a. g (q + length (bearer_code (after t e) y)) cells0 a len)))
+
+      -- after the member was evaluated, where it is not looked at before
+      unlooked : (v : Value) → value e w.store ≡ Ok v → may_fault y ≡ false → (m : OkOr ℤ Trouble) → member set v w.store ≡ m → HasAt code.places (p + length c) (bearer_code (after t e) y ++ last ∷ []) → ((j : ℕ) (cells0 : List Value) (a : A) → j + 1 ≡ p + length c + length (bearer_code (after t e) y) + 1 → Leads code w (next j cells0 frames w.store cells a) (arrive k frames (go a w))) → Reaches code (at (p + length c) (held (leaf e) v cells) frames w) (arrive k frames (outcome_then (looked t.line (turned (λ n. v) m) w) (λ v w. outcome_then (look t.line (owner_value o) w) (λ u w. outcome_then (look t.line (op v u) w) go))))
+      unlooked v r q (Ok x) z h g = owned v r (p + length c) _ refl h g
+      unlooked v r q (Err Misfit) z h g = free
+      unlooked v r q (Err (Fails kind)) z h g =
+          let s = still (after t e) y q in
+          let h' : HasAt code.places (p + length c) (last ∷ []) = subst (λ b. HasAt code.places (p + length c) (b ++ last ∷ [])) s.empty h in
+          step_leads code last (core_at (p + length c) (held (leaf e) v cells) frames w.store) w _ _ h'.0 (calm (operand t e) (bearer (after t e) y))
+          (acts (operand t e) (bearer (after t e) y) (p + length c) (held (leaf e) v cells) frames w.store
+          ∙ s.gives w.store (held (leaf e) v cells) (λ u above. with_value (operand t e) w.store above (λ x below. did t.line (op x u w.store) (next (p + length c) (held (leaf e) v cells) frames w.store below)))
+          ∙ reads t e v w.store cells (λ x below. did t.line (op x (s.given w.store) w.store) (next (p + length c) (held (leaf e) v cells) frames w.store below)) high r
+          ∙ ap (λ z. did t.line z (next (p + length c) (held (leaf e) v cells) frames w.store cells)) (first v (s.given w.store) w.store kind z))
+          breaks
+
+      by : (b : Bool) → may_fault y ≡ b → HasAt code.places p (looked_code t b e (LookMember set) ++ with_owner (after t e) o (make (operand t e))) → ((q : ℕ) (cells0 : List Value) (a : A) → q + 1 ≡ p + length (looked_code t b e (LookMember set) ++ with_owner (after t e) o (make (operand t e))) → Leads code w (next q cells0 frames w.store cells a) (arrive k frames (go a w))) → Reaches code (at p cells frames w) (arrive k frames (outcome_then (look t.line (member_value set e) w) (λ v w. outcome_then (look t.line (owner_value o) w) (λ u w. outcome_then (look t.line (op v u) w) go))))
+      by false q h g =
+          let rest = with_owner (after t e) o (make (operand t e)) in
+          let len : p + length c + length (bearer_code (after t e) y) + 1 ≡ p + length (c ++ rest) = omega (arith, length-append c rest, length-append (bearer_code (after t e) y) (last ∷ [])) in
+          subst (λ z. Reaches code (at p cells frames w) (arrive k frames z)) (member_then (value e w.store))
+          (one_join code n t e (evaluates code n t e) rest k (λ v w. outcome_then (look t.line (λ s. turned (λ n. v) (member set v s)) w) (λ v w. outcome_then (look t.line (owner_value o) w) (λ u w. outcome_then (look t.line (op v u) w) go))) p cells frames w high h in_ (λ v r h'.
+          unlooked v r q (member set v w.store) refl h' (λ j cells0 a m. g j cells0 a (m ∙ len))))
+        where
+          member_then : (r : OkOr Value Trouble) → outcome_then (looked t.line r w) (λ v w. outcome_then (look t.line (λ s. turned (λ n. v) (member set v s)) w) (λ v w. outcome_then (look t.line (owner_value o) w) (λ u w. outcome_then (look t.line (op v u) w) go))) ≡ outcome_then (looked t.line (if_ok r (looked_at (λ x. member set x w.store))) w) (λ v w. outcome_then (look t.line (owner_value o) w) (λ u w. outcome_then (look t.line (op v u) w) go))
+          member_then (Ok v) = refl
+          member_then (Err (Fails kind)) = refl
+          member_then (Err Misfit) = refl
+      by true q h g =
+          let rest = with_owner (after t e) o (make (operand t e)) in
+          let look_ : Placed = place (after t e) (LookMember set (stay (operand t e))) in
+          let front = c ++ look_ ∷ [] in
+          let len : p + length c + 1 + length (bearer_code (after t e) y) + 1 ≡ p + length (front ++ rest) = omega (arith, length-append front rest, length-append c (look_ ∷ []), length-append (bearer_code (after t e) y) (last ∷ [])) in
+          let h0 = has_front code.places p front rest h in
+          let at_end : p + length front ≡ p + length c + 1 = omega (arith, length-append c (look_ ∷ [])) in
+          let h1 = subst (λ j. HasAt code.places j rest) at_end (has_back code.places p front rest h) in
+          subst (λ z. Reaches code (at p cells frames w) (arrive k frames z)) (member_then (value e w.store))
+          (one_join code n t e (evaluates code n t e) (look_ ∷ []) k (λ v w. outcome_then (look t.line (λ s. turned (λ n. v) (member set v s)) w) (λ v w. outcome_then (look t.line (owner_value o) w) (λ u w. outcome_then (look t.line (op v u) w) go))) p cells frames w high h0 in_ (λ v r h'.
+          step_leads code look_ (core_at (p + length c) (held (leaf e) v cells) frames w.store) w _ _ h'.0 refl
+          (stay_reads t e v w.store cells (λ x below. did t.line (member set x w.store) (λ _. onward below (core_at (p + length c) (held (leaf e) v cells) frames w.store) w.store)) high r)
+          (subst (λ z. Leads code w (did t.line (member set v w.store) (λ _. onward (held (leaf e) v cells) (core_at (p + length c) (held (leaf e) v cells) frames w.store) w.store)) (arrive k frames z)) (turned_then t.line (member set v w.store) (λ n. v) (λ v w. outcome_then (look t.line (owner_value o) w) (λ u w. outcome_then (look t.line (op v u) w) go)) w)
+          (did_leads code t.line (member set v w.store) _ w k frames (λ n w. outcome_then (look t.line (owner_value o) w) (λ u w. outcome_then (look t.line (op v u) w) go)) (λ m z.
+          onwards (owned v r (p + length c + 1) (p + length (front ++ rest)) len h1 (λ j cells0 a s. g j cells0 a s)))))))
+        where
+          member_then : (r : OkOr Value Trouble) → outcome_then (looked t.line r w) (λ v w. outcome_then (look t.line (λ s. turned (λ n. v) (member set v s)) w) (λ v w. outcome_then (look t.line (owner_value o) w) (λ u w. outcome_then (look t.line (op v u) w) go))) ≡ outcome_then (looked t.line (if_ok r (looked_at (λ x. member set x w.store))) w) (λ v w. outcome_then (look t.line (owner_value o) w) (λ u w. outcome_then (look t.line (op v u) w) go))
+          member_then (Ok v) = refl
+          member_then (Err (Fails kind)) = refl
+          member_then (Err Misfit) = refl

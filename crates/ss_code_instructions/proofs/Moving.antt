@@ -1,0 +1,87 @@
+-- Where an instruction leads: what holds of each state that it may lead to.
+use Rattle.std.proofs.Common.{ℕ, ◌==◌, Bool, true, false, List, [], ◌∷◌, length, Option, Some, None, Ok, Err, ℤ}
+use Rattle.std.specs.Prelude.{Result, if◌then◌else◌}
+use Rattle.ss_base.specs.declared.line.Line.{Line}
+use Rattle.ss_base.specs.declared.value.Value.{Value}
+use Rattle.ss_base.specs.declared.value.Value.TheVariants.{Whole, Text}
+use Rattle.ss_meaning.specs.Values.{Trouble, Fails, Misfit}
+use Rattle.ss_meaning.specs.Store.{Store, fetched}
+use Rattle.ss_meaning.specs.Sets.{Filing as Position, ByRule, Foremost, Hindmost, JustBefore, JustAfter}
+use Rattle.ss_code_instructions.specs.Instructions.{Operand, Constant, Held, Taken, Stays, Bearer, Filing, First, Last, Ranked, Before, After}
+use Rattle.ss_code_instructions.specs.States.{Core, Moved, To, Sends, Rest, Stuck, did, fit, cell_at, at_height, take_off, or_zero, with_block, with_number, with_topmost, with_value, with_values, lies_above, with_bearer, with_position}
+use Rattle.ss_code_instructions.specs.Machine.{Walk, with_loop, with_walk}
+use Rattle.ss_code_instructions.proofs.Keeping.{Only, Where}
+
+module _ (Good : Core → Type 0) where
+  -- an instruction leads only to what is good
+  abbrev pub Every : Moved → Type 0
+  Every (To c) = Good c
+  Every (Sends bytes c) = Good c
+  Every (Rest f) = Unit {0}
+  Every Stuck = Unit {0}
+
+  pub did_only : {A : Type 0} (P : A → Type 0) (l : Line) (r : Result A Trouble) (go : A → Moved) → Only P r → ((a : A) → P a → Every (go a)) → Every (did l r go)
+  did_only P l (Ok a) go p h = h a p
+  did_only P l (Err (Fails kind)) go p h = tt
+  did_only P l (Err Misfit) go p h = tt
+
+  pub did_any : {A : Type 0} (l : Line) (r : Result A Trouble) (go : A → Moved) → ((a : A) → Every (go a)) → Every (did l r go)
+  did_any l (Ok a) go h = h a
+  did_any l (Err (Fails kind)) go h = tt
+  did_any l (Err Misfit) go h = tt
+
+  pub fit_any : {A : Type 0} (o : Option A) (go : A → Moved) → ((a : A) → Every (go a)) → Every (fit o go)
+  fit_any None go h = tt
+  fit_any (Some a) go h = h a
+
+  pub fit_where : {A : Type 0} (P : A → Type 0) (o : Option A) (go : A → Moved) → Where P o → ((a : A) → P a → Every (go a)) → Every (fit o go)
+  fit_where P None go p h = tt
+  fit_where P (Some a) go p h = h a p
+
+  pub if_every : (b : Bool) (m n : Moved) → Every m → Every n → Every (if b then m else n)
+  if_every true m n h g = h
+  if_every false m n h g = g
+
+  pub high : (h : ℕ) (cells : List Value) (m : Moved) → Every m → Every (at_height h cells m)
+  high h cells m k = if_every (length cells == h) m Stuck k tt
+
+  pub block : (count h : ℕ) (cells : List Value) (go : List Value → List Value → Moved) → ((vs below : List Value) → Every (go vs below)) → Every (with_block count h cells go)
+  block count h cells go k = fit_any (take_off count cells []) _ (λ b. high h b.below _ (k b.values b.below))
+
+  pub number : (cells : List Value) (go : ℤ → List Value → Moved) → ((z : ℤ) (below : List Value) → Every (go z below)) → Every (with_number cells go)
+  number [] go k = tt
+  number (Whole z ∷ below) go k = k z below
+  number (Text t ∷ below) go k = tt
+
+  pub top : (h : ℕ) (cells : List Value) (go : Value → List Value → Moved) → ((v : Value) (below : List Value) → Every (go v below)) → Every (with_topmost h cells go)
+  top h [] go k = tt
+  top h (v ∷ below) go k = high h below (go v below) (k v below)
+
+  pub value : (x : Operand) (t : Store) (cells : List Value) (go : Value → List Value → Moved) → ((v : Value) (below : List Value) → Every (go v below)) → Every (with_value x t cells go)
+  value (Constant v) t cells go k = k v cells
+  value (Held x) t cells go k = k (or_zero (fetched x t)) cells
+  value (Taken h) t cells go k = top h cells go k
+  value (Stays h) t cells go k = fit_any (cell_at h cells) _ (λ v. k v cells)
+
+  pub values : (x y : Operand) (t : Store) (cells : List Value) (go : Value → Value → List Value → Moved) → ((v w : Value) (below : List Value) → Every (go v w below)) → Every (with_values x y t cells go)
+  values x y t cells go k =
+      if_every (lies_above x y) (with_value x t cells (λ v above. with_value y t above (λ w below. go v w below))) (with_value y t cells (λ w above. with_value x t above (λ v below. go v w below)))
+      (value x t cells _ (λ v above. value y t above _ (λ w below. k v w below)))
+      (value y t cells _ (λ w above. value x t above _ (λ v below. k v w below)))
+
+  pub bearer : (x : Bearer) (t : Store) (cells : List Value) (go : Option Value → List Value → Moved) → ((o : Option Value) (below : List Value) → Every (go o below)) → Every (with_bearer x t cells go)
+  bearer None t cells go k = k None cells
+  bearer (Some x) t cells go k = value x t cells _ (λ v below. k (Some v) below)
+
+  pub position : (f : Filing) (t : Store) (cells : List Value) (go : Position → List Value → Moved) → ((p : Position) (below : List Value) → Every (go p below)) → Every (with_position f t cells go)
+  position First t cells go k = k Foremost cells
+  position Last t cells go k = k Hindmost cells
+  position Ranked t cells go k = k ByRule cells
+  position (Before y) t cells go k = value y t cells _ (λ v below. k (JustBefore v) below)
+  position (After y) t cells go k = value y t cells _ (λ v below. k (JustAfter v) below)
+
+  pub three : (h : ℕ) (cells : List Value) (go : ℤ → ℤ → ℤ → List Value → Moved) → ((x y z : ℤ) (below : List Value) → Every (go x y z below)) → Every (with_loop h cells go)
+  three h cells go k = number cells _ (λ z above. number above _ (λ y over. number over _ (λ x below. high h below _ (k x y z below))))
+
+  pub walk : (h : ℕ) (cells : List Value) (go : Walk → List Value → Moved) → ((w : Walk) (below : List Value) → Every (go w below)) → Every (with_walk h cells go)
+  walk h cells go k = number cells _ (λ next over. number over _ (λ member below. high h below _ (k (record { member = member; next = next }) below)))

@@ -1,0 +1,233 @@
+-- What an instruction finds in its operands, and what it leaves at its target.
+use Rattle.std.proofs.Common.{◌≡◌, ℕ, zero, suc, ◌+◌, Bool, false, List, [], ◌∷◌, ◌++◌, length, Option, Some, None, Ok, Err, refl, sym, ap, ◌∙◌, subst, arith, if◌then◌else◌}
+use Rattle.std.proofs.lemmas.Bool.{eq-eqb, le-ltb}
+use Rattle.std.specs.Prelude.{nat_lt, Result as OkOr}
+use Rattle.ss_base.specs.declared.fault.FaultKind.{FaultKind}
+use Rattle.ss_base.specs.declared.line.Line.{Line}
+use Rattle.ss_base.specs.declared.layout.Mode.{Mode}
+use Rattle.ss_base.specs.declared.value.Value.{Value}
+use Rattle.ss_program.specs.Program.{Expression, Constant, Fetch, Attribute, OfSystemSet, OfSet, OfMember, Clock, TimeOf, Figure, FigureOf, Signed, Absolute, Calculate}
+use Rattle.ss_meaning.specs.Values.{Trouble, Fails, Misfit, turned, sure, where_fit}
+use Rattle.ss_meaning.specs.Store.{Store, fetched}
+use Rattle.ss_meaning.specs.Places.{assigned_variable}
+use Rattle.ss_meaning.specs.Expressions.{value}
+use Rattle.ss_meaning.specs.Parts.{World, WentOn, Part, outcome_then, looked, look, settle, change, settle_with}
+use Rattle.ss_code_instructions.specs.Instructions.{Operand, Held, Taken, Stays, Target, Into, Onto, Placed}
+use Rattle.ss_code_instructions.specs.Instructions as i
+use Rattle.ss_code_instructions.specs.States.{Frame, MachineState, Moved, did, core_at, or_zero, with_value, with_values, lies_above, Written, deliver, deliver_with, onward}
+use Rattle.ss_code_instructions.specs.Machine.{Code}
+use Rattle.ss_code_instructions.specs.Translation.{Site, height, place, leaf, or_cell, or_in_cell, expression_mode, operand, after, unless_leaf, operand_code, expression_code, next}
+use Rattle.ss_code_instructions.proofs.Steps.{HasAt, has_front, has_back, Comes, Reaches, here, free, reaches_on, at, arrive}
+use Rattle.ss_code_instructions.proofs.Parts.{Within, Leads, onwards, breaks, whatever, at_the_height, Runs, same, put_on, went}
+
+-- ## Targets
+
+-- the cells once a value went to a target
+abbrev pub on : Target → Value → List Value → List Value
+on (Into x) v cells = cells
+on (Onto h) v cells = v ∷ cells
+
+-- a new cell lies on top of so many
+abbrev pub Tops : Target → ℕ → Type 0
+Tops (Into x) h = Unit {0}
+Tops (Onto k) h = h ≡ k
+
+-- a value goes to a target, as a part of a program
+abbrev pub put_part : Line → Target → Value → Part (Unit {0})
+put_part l (Into x) v w = change l (assigned_variable x v) w
+put_part l (Onto h) v w = WentOn tt w
+
+abbrev pub put_then : Line → Target → Value → Part Value
+put_then l to v w = outcome_then (put_part l to v w) (λ _. WentOn v)
+
+-- a value that an instruction leaves at a target
+pub delivers : (code : Code) (l : Line) (to : Target) (r : OkOr (Value × Store) Trouble) (p : ℕ) (cells cells0 : List Value) (frames : List Frame) (w : World) → Tops to (length cells) → Leads code w (deliver_with l to r cells (core_at p cells0 frames w.store)) (arrive (λ v w'. at (p + 1) (on to v cells) frames w') frames (outcome_then (outcome_then (looked l r w) settle_with) (put_then l to)))
+delivers code l to (Err (Fails kind)) p cells cells0 frames w h = breaks
+delivers code l to (Err Misfit) p cells cells0 frames w h = whatever
+delivers code l (Into x) (Ok b) p cells cells0 frames w h = written (assigned_variable x b.0 b.1)
+  where
+    written : (o : OkOr Store Trouble) → Leads code w (did {A = Written} l (turned {B = Written} (λ t. record { cells = cells; store = t }) o) (λ q. onward q.cells (core_at p cells0 frames w.store) q.store)) (arrive (λ v w'. at (p + 1) cells frames w') frames (outcome_then (outcome_then (looked l o (record w { store = b.1 })) settle) (λ _. WentOn b.0)))
+    written (Ok t) = onwards here
+    written (Err (Fails kind)) = breaks
+    written (Err Misfit) = whatever
+delivers code l (Onto k) (Ok b) p cells cells0 frames w h =
+    subst (λ t. Leads code w (did {A = Written} l (where_fit {A = Written} t (Ok (record { cells = b.0 ∷ cells; store = b.1 }))) (λ q. onward q.cells (core_at p cells0 frames w.store) q.store)) (Comes (at (p + 1) (b.0 ∷ cells) frames (record w { store = b.1 })))) (sym (eq-eqb (length cells) k h)) (onwards here)
+
+-- where the store stays
+pub computes : (code : Code) (l : Line) (to : Target) (r : OkOr Value Trouble) (p : ℕ) (cells cells0 : List Value) (frames : List Frame) (w : World) → Tops to (length cells) → Leads code w (deliver l to r cells (core_at p cells0 frames w.store)) (arrive (λ v w'. at (p + 1) (on to v cells) frames w') frames (outcome_then (looked l r w) (put_then l to)))
+computes code l to r p cells cells0 frames w h =
+    subst (λ o. Leads code w (deliver l to r cells (core_at p cells0 frames w.store)) (arrive (λ v w'. at (p + 1) (on to v cells) frames w') frames (outcome_then o (put_then l to)))) (back r)
+    (delivers code l to (turned {B = Value × Store} (λ v. (v, w.store)) r) p cells cells0 frames w h)
+  where
+    back : (r : OkOr Value Trouble) → outcome_then (looked l (turned {B = Value × Store} (λ v. (v, w.store)) r) w) settle_with ≡ looked l r w
+    back (Ok v) = refl
+    back (Err (Fails kind)) = refl
+    back (Err Misfit) = refl
+
+-- ## Operands
+
+-- the cells with the value of an operand, if it takes one
+abbrev pub held : Option Operand → Value → List Value → List Value
+held (Some x) v cells = cells
+held None v cells = v ∷ cells
+
+pub held_length : (o : Option Operand) (m : Mode) (v : Value) (cells : List Value) (ms : List Mode) → length cells ≡ length ms → length (held o v cells) ≡ length (or_in_cell o m ms)
+held_length (Some x) m v cells ms e = e
+held_length None m v cells ms e = ap suc e
+
+pub held_height : (t : Site) (e : Expression) (v : Value) (cells : List Value) → length cells ≡ height t → length (held (leaf e) v cells) ≡ height (after t e)
+held_height t e v cells h = held_length (leaf e) (expression_mode t.scope e) v cells t.cells h
+
+pub sure_is : {A : Type 0} (o : Option A) (a : A) → sure o ≡ Ok a → o ≡ Some a
+sure_is None a e = absurd cc
+sure_is (Some b) a e = let q : b ≡ a = cc in ap Some q
+
+-- a constant and a variable are read as they are
+pub leaf_reads : (e : Expression) (x : Operand) (v : Value) (s : Store) → leaf e ≡ Some x → value e s ≡ Ok v → (cells : List Value) (go : Value → List Value → Moved) → with_value x s cells go ≡ go v cells
+leaf_reads (Constant u) x v s q r cells go =
+    let e : i.Constant u ≡ x = cc in
+    let p : u ≡ v = cc in
+    subst (λ x. with_value x s cells go ≡ go v cells) e (ap (λ u. go u cells) p)
+leaf_reads (Fetch y) x v s q r cells go =
+    let e : Held y ≡ x = cc in
+    subst (λ x. with_value x s cells go ≡ go v cells) e (ap (λ o. go (or_zero o) cells) (sure_is (fetched y s) v r))
+leaf_reads (Attribute class field e) x v s q _ cells go = absurd cc
+leaf_reads (OfSystemSet query set) x v s q _ cells go = absurd cc
+leaf_reads (OfSet query set e) x v s q _ cells go = absurd cc
+leaf_reads (OfMember query set e) x v s q _ cells go = absurd cc
+leaf_reads Clock x v s q _ cells go = absurd cc
+leaf_reads (TimeOf e) x v s q _ cells go = absurd cc
+leaf_reads (Figure fold j) x v s q _ cells go = absurd cc
+leaf_reads (FigureOf fold j e) x v s q _ cells go = absurd cc
+leaf_reads (Signed sign e) x v s q _ cells go = absurd cc
+leaf_reads (Absolute e) x v s q _ cells go = absurd cc
+leaf_reads (Calculate op a b) x v s q _ cells go = absurd cc
+
+-- an operand gives the value of its expression, and takes its cell off
+pub reads : (t : Site) (e : Expression) (v : Value) (s : Store) (cells : List Value) (go : Value → List Value → Moved) → length cells ≡ height t → value e s ≡ Ok v → with_value (operand t e) s (held (leaf e) v cells) go ≡ go v cells
+reads t e v s cells go h q = by (leaf e) refl
+  where
+    by : (o : Option Operand) → leaf e ≡ o → with_value (or_cell (height t) o) s (held o v cells) go ≡ go v cells
+    by (Some x) p = leaf_reads e x v s p q cells go
+    by None p = at_the_height (height t) cells (go v cells) h
+
+-- two operands, of which the second may lie above the first
+less_not : (n : ℕ) → nat_lt (suc n) n ≡ false
+less_not n = le-ltb (suc n) n (omega arith)
+
+-- a constant and a variable lie above nothing
+leaf_below : (e : Expression) (x y : Operand) → leaf e ≡ Some x → lies_above x y ≡ false
+leaf_below (Constant u) x y q = let e : i.Constant u ≡ x = cc in subst (λ x. lies_above x y ≡ false) e refl
+leaf_below (Fetch z) x y q = let e : Held z ≡ x = cc in subst (λ x. lies_above x y ≡ false) e refl
+leaf_below (Attribute class field e) x y q = absurd cc
+leaf_below (OfSystemSet query set) x y q = absurd cc
+leaf_below (OfSet query set e) x y q = absurd cc
+leaf_below (OfMember query set e) x y q = absurd cc
+leaf_below Clock x y q = absurd cc
+leaf_below (TimeOf e) x y q = absurd cc
+leaf_below (Figure fold j) x y q = absurd cc
+leaf_below (FigureOf fold j e) x y q = absurd cc
+leaf_below (Signed sign e) x y q = absurd cc
+leaf_below (Absolute e) x y q = absurd cc
+leaf_below (Calculate op c d) x y q = absurd cc
+
+-- and takes no cell
+never_taken : (e : Expression) (k : ℕ) → leaf e ≡ Some (Taken k) → ⊥
+never_taken (Constant u) k q = cc
+never_taken (Fetch z) k q = cc
+never_taken (Attribute class field e) k q = cc
+never_taken (OfSystemSet query set) k q = cc
+never_taken (OfSet query set e) k q = cc
+never_taken (OfMember query set e) k q = cc
+never_taken Clock k q = cc
+never_taken (TimeOf e) k q = cc
+never_taken (Figure fold j) k q = cc
+never_taken (FigureOf fold j e) k q = cc
+never_taken (Signed sign e) k q = cc
+never_taken (Absolute e) k q = cc
+never_taken (Calculate op c d) k q = cc
+
+second_above : (h : ℕ) (e : Expression) (o : Option Operand) → leaf e ≡ o → lies_above (Taken h) (or_cell (suc h) o) ≡ false
+second_above h e None q = less_not h
+second_above h e (Some (i.Constant v)) q = refl
+second_above h e (Some (Held x)) q = refl
+second_above h e (Some (Taken k)) q = absurd (never_taken e k q)
+second_above h e (Some (Stays k)) q = refl
+
+pub not_above : (t : Site) (a b : Expression) → lies_above (operand t a) (operand (after t a) b) ≡ false
+not_above t a b = by (leaf a) refl
+  where
+    by : (o : Option Operand) → leaf a ≡ o → lies_above (or_cell (height t) o) (or_cell (length (or_in_cell o (expression_mode t.scope a) t.cells)) (leaf b)) ≡ false
+    by (Some x) q = leaf_below a x (or_cell (height t) (leaf b)) q
+    by None q = second_above (height t) b (leaf b) refl
+
+pub reads_both : (t : Site) (a b : Expression) (x y : Value) (s : Store) (cells : List Value) (go : Value → Value → List Value → Moved) → length cells ≡ height t → value a s ≡ Ok x → value b s ≡ Ok y → with_values (operand t a) (operand (after t a) b) s (held (leaf b) y (held (leaf a) x cells)) go ≡ go x y cells
+reads_both t a b x y s cells go h p q =
+    ap (λ (c : Bool). if c then with_value (operand t a) s (held (leaf b) y (held (leaf a) x cells)) (λ v above. with_value (operand (after t a) b) s above (λ w below. go v w below)) else with_value (operand (after t a) b) s (held (leaf b) y (held (leaf a) x cells)) (λ w above. with_value (operand t a) s above (λ v below. go v w below))) (not_above t a b)
+    ∙ reads (after t a) b y s (held (leaf a) x cells) (λ w above. with_value (operand t a) s above (λ v below. go v w below)) (held_height t a x cells h) q
+    ∙ reads t a x s cells (λ v below. go v y below) h p
+
+-- ## Evaluating operands
+
+-- a look, and what follows where it gives a value
+pub join_look : {A B : Type 0} {code : Code} (s : MachineState) (k : A → World → MachineState) (k' : B → World → MachineState) (frames : List Frame) (l : Line) (r : OkOr A Trouble) (w : World) (f : A → Part B) → Reaches code s (arrive k frames (looked l r w)) → ((a : A) → r ≡ Ok a → Reaches code (k a w) (arrive k' frames (f a w))) → Reaches code s (arrive k' frames (outcome_then (looked l r w) f))
+join_look s k k' frames l (Ok a) w f g h = reaches_on g (h a refl)
+join_look s k k' frames l (Err (Fails kind)) w f g h = g
+join_look s k k' frames l (Err Misfit) w f g h = free
+
+-- a constant and a variable have no fault
+leaf_fine : (e : Expression) (x : Operand) (s : Store) (kind : FaultKind) → leaf e ≡ Some x → value e s ≡ Err (Fails kind) → ⊥
+leaf_fine (Constant u) x s kind q r = cc
+leaf_fine (Fetch y) x s kind q r = by (fetched y s) r
+  where
+    by : (o : Option Value) → sure o ≡ Err (Fails kind) → ⊥
+    by None r = cc
+    by (Some v) r = cc
+leaf_fine (Attribute class field e) x s kind q _ = cc
+leaf_fine (OfSystemSet query set) x s kind q _ = cc
+leaf_fine (OfSet query set e) x s kind q _ = cc
+leaf_fine (OfMember query set e) x s kind q _ = cc
+leaf_fine Clock x s kind q _ = cc
+leaf_fine (TimeOf e) x s kind q _ = cc
+leaf_fine (Figure fold j) x s kind q _ = cc
+leaf_fine (FigureOf fold j e) x s kind q _ = cc
+leaf_fine (Signed sign e) x s kind q _ = cc
+leaf_fine (Absolute e) x s kind q _ = cc
+leaf_fine (Calculate op a b) x s kind q _ = cc
+
+module _ (code : Code) (n : ℕ) where
+  -- the code of an operand evaluates its expression
+  abbrev pub Evaluates : Site → Expression → Type 0
+  Evaluates t e = Runs code n (height t) same (operand_code t e) (held (leaf e)) (look t.line (value e))
+
+  pub leaf_runs : (t : Site) (e : Expression) (x : Operand) → leaf e ≡ Some x → Runs code n (height t) same [] (held (Some x)) (look t.line (value e))
+  leaf_runs t e x q = record {
+    by = λ place cells frames w high has in_.
+        let p : place ≡ place + 0 = omega arith in
+        subst (λ p. Reaches code (at place cells frames w) (arrive (λ v w'. at p cells frames w') frames (look t.line (value e) w))) p (comes place cells frames w (value e w.store) refl);
+  }
+    where
+      comes : (place : ℕ) (cells : List Value) (frames : List Frame) (w : World) (r : OkOr Value Trouble) → value e w.store ≡ r → Reaches code (at place cells frames w) (arrive (λ v w'. at place cells frames w') frames (looked t.line r w))
+      comes place cells frames w (Ok v) p = here
+      comes place cells frames w (Err (Fails kind)) p = absurd (leaf_fine e x w.store kind q p)
+      comes place cells frames w (Err Misfit) p = free
+
+  pub operand_runs : (t : Site) (e : Expression) → Runs code n (height t) same (expression_code t (next t) e) put_on (look t.line (value e)) → Evaluates t e
+  operand_runs t e r = by (leaf e) refl
+    where
+      by : (o : Option Operand) → leaf e ≡ o → Runs code n (height t) same (unless_leaf o (expression_code t (next t) e)) (held o) (look t.line (value e))
+      by (Some x) q = leaf_runs t e x q
+      by None q = r
+
+  -- an operand, and what follows
+  pub one_join : {B : Type 0} (t : Site) (e : Expression) → Evaluates t e → (rest : List Placed) (k : B → World → MachineState) (go : Value → Part B) (place : ℕ) (cells : List Value) (frames : List Frame) (w : World) → length cells ≡ height t → HasAt code.places place (operand_code t e ++ rest) → Within code n w → ((v : Value) → value e w.store ≡ Ok v → HasAt code.places (place + length (operand_code t e)) rest → Reaches code (at (place + length (operand_code t e)) (held (leaf e) v cells) frames w) (arrive k frames (go v w))) → Reaches code (at place cells frames w) (arrive k frames (outcome_then (look t.line (value e) w) go))
+  one_join t e r rest k go place cells frames w high has in_ f =
+      join_look (at place cells frames w) (λ v w'. at (place + length (operand_code t e)) (held (leaf e) v cells) frames w') k frames t.line (value e w.store) w go
+      (r.by place cells frames w high (has_front code.places place (operand_code t e) rest has) in_)
+      (λ v q. f v q (has_back code.places place (operand_code t e) rest has))
+
+  -- two operands, and what follows
+  pub two_join : {B : Type 0} (t : Site) (a b : Expression) → Evaluates t a → Evaluates (after t a) b → (rest : List Placed) (k : B → World → MachineState) (go : Value → Value → Part B) (place : ℕ) (cells : List Value) (frames : List Frame) (w : World) → length cells ≡ height t → HasAt code.places place (operand_code t a ++ (operand_code (after t a) b ++ rest)) → Within code n w → ((x y : Value) → value a w.store ≡ Ok x → value b w.store ≡ Ok y → HasAt code.places (place + length (operand_code t a) + length (operand_code (after t a) b)) rest → Reaches code (at (place + length (operand_code t a) + length (operand_code (after t a) b)) (held (leaf b) y (held (leaf a) x cells)) frames w) (arrive k frames (go x y w))) → Reaches code (at place cells frames w) (arrive k frames (outcome_then (look t.line (value a) w) (λ x w. outcome_then (look t.line (value b) w) (go x))))
+  two_join t a b ra rb rest k go place cells frames w high has in_ f =
+      one_join t a ra (operand_code (after t a) b ++ rest) k (λ x w. outcome_then (look t.line (value b) w) (go x)) place cells frames w high has in_ (λ x p has'.
+      one_join (after t a) b rb rest k (go x) (place + length (operand_code t a)) (held (leaf a) x cells) frames w (held_height t a x cells high) has' in_ (λ y q has''. f x y p q has''))

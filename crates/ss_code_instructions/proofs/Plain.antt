@@ -1,0 +1,95 @@
+-- Statements of one operand and one instruction: DESTROY, CANCEL, SKIP; and CREATE EVERY and RESET.
+use Rattle.std.proofs.Common.{◌≡◌, ℕ, ◌+◌, Bool, true, false, List, [], ◌∷◌, ◌++◌, length, Option, Some, None, Ok, Err, refl, sym, ap, ◌∙◌, subst, arith, length-append}
+use Rattle.std.specs.Prelude.{slice_get, Result as OkOr}
+use Rattle.ss_base.specs.declared.line.Line.{Line}
+use Rattle.ss_base.specs.declared.value.Value.{Value}
+use Rattle.ss_program.specs.declared.statement.CountedClass.{CountedClass}
+use Rattle.ss_program.specs.Program.{Expression, Restart}
+use Rattle.ss_meaning.specs.Values.{Trouble, Fails, Misfit, if_ok, empty_lines}
+use Rattle.ss_meaning.specs.Store.{Store}
+use Rattle.ss_meaning.specs.Entities.{made_all, without}
+use Rattle.ss_meaning.specs.Events.{unscheduled}
+use Rattle.ss_meaning.specs.Statistics.{reset}
+use Rattle.ss_meaning.specs.Expressions.{value, value_if_any}
+use Rattle.ss_meaning.specs.Parts.{World, Part, outcome_then, looked, look, settle, change, send}
+use Rattle.ss_meaning.specs.Statements.{create_every, destroy, cancel, restart_each}
+use Rattle.ss_code_instructions.specs.Instructions.{Operand, Placed, Instruction}
+use Rattle.ss_code_instructions.specs.Instructions as i
+use Rattle.ss_code_instructions.specs.States.{Frame, MachineState, Sends, did, core_at, with_value, onward}
+use Rattle.ss_code_instructions.specs.Machine.{Code, act, is_due}
+use Rattle.ss_code_instructions.specs.Translation.{Site, height, place, leaf, operand, after, operand_code, with_operand, bearer, bearer_code, after_bearer, creates_code, restarts_code}
+use Rattle.ss_code_instructions.proofs.Steps.{HasAt, Comes, Reaches, here, at, arrive}
+use Rattle.ss_code_instructions.proofs.Parts.{Leads, onwards, writes, step_leads, did_leads, Runs, same, done, none, seq, alike, change_runs}
+use Rattle.ss_code_instructions.proofs.Operands.{held, reads, one_join}
+use Rattle.ss_code_instructions.proofs.Expressions.{evaluates}
+use Rattle.ss_code_instructions.proofs.Looking.{bearer_join}
+
+module _ (code : Code) (n : ℕ) where
+  -- an operand, and an instruction that changes the store by it
+  one_changes : (t : Site) (e : Expression) (make : Operand → Instruction) (f : Value → Store → OkOr Store Trouble) → ((x : Operand) → is_due (make x) ≡ false) → ((x : Operand) (p : ℕ) (cells : List Value) (frames : List Frame) (s : Store) → act code t.line (make x) (core_at p cells frames s) ≡ with_value x s cells (λ v below. did t.line (f v s) (λ u. onward below (core_at p cells frames s) u))) → Runs code n (height t) same (with_operand t e make) done (λ w. outcome_then (look t.line (value e) w) (λ v. change t.line (f v)))
+  one_changes t e make f calm acts = record {
+    by = λ p cells frames w high has in_.
+        let ce : List Placed = operand_code t e in
+        let last : Placed = place (after t e) (make (operand t e)) in
+        let end : p + length ce + 1 ≡ p + length (ce ++ last ∷ []) = omega (arith, length-append ce (last ∷ [])) in
+        let k : Unit {0} → World → MachineState = λ o w'. at (p + length (ce ++ last ∷ [])) cells frames w' in
+        one_join code n t e (evaluates code n t e) (last ∷ []) k (λ v. change t.line (f v)) p cells frames w high has in_ (λ v found has'.
+        step_leads code last (core_at (p + length ce) (held (leaf e) v cells) frames w.store) w _ _ has'.0 (calm (operand t e))
+        (acts (operand t e) (p + length ce) (held (leaf e) v cells) frames w.store
+        ∙ reads t e v w.store cells (λ v below. did t.line (f v w.store) (λ u. onward below (core_at (p + length ce) (held (leaf e) v cells) frames w.store) u)) high found)
+        (did_leads code t.line (f v w.store) (λ u. onward cells (core_at (p + length ce) (held (leaf e) v cells) frames w.store) u) w k frames settle (λ u done_.
+        onwards (subst (λ j. Reaches code (at (p + length ce + 1) cells frames (record w { store = u })) (Comes (at j cells frames (record w { store = u })))) end here))));
+  }
+
+  pub destroy_runs : (t : Site) (class : ℕ) (e : Expression) → Runs code n (height t) same (with_operand t e (i.Destroy class)) done (destroy t.line class e)
+  destroy_runs t class e = one_changes t e (i.Destroy class) (without class) (λ x. refl) (λ x p cells frames s. refl)
+
+  pub cancel_runs : (t : Site) (class : ℕ) (e : Expression) → Runs code n (height t) same (with_operand t e (i.Cancel class)) done (cancel t.line class e)
+  cancel_runs t class e = one_changes t e (i.Cancel class) (unscheduled class) (λ x. refl) (λ x p cells frames s. refl)
+
+  -- empty lines are written
+  pub skip_runs : (t : Site) (e : Expression) → Runs code n (height t) same (with_operand t e i.Skip) done (λ w. outcome_then (look t.line (λ s. if_ok (value e s) empty_lines) w) send)
+  skip_runs t e = record {
+    by = λ p cells frames w high has in_.
+        let ce : List Placed = operand_code t e in
+        let last : Placed = place (after t e) (i.Skip (operand t e)) in
+        let end : p + length ce + 1 ≡ p + length (ce ++ last ∷ []) = omega (arith, length-append ce (last ∷ [])) in
+        let k : Unit {0} → World → MachineState = λ o w'. at (p + length (ce ++ last ∷ [])) cells frames w' in
+        subst (λ o. Reaches code (at p cells frames w) (arrive k frames o)) (lines_then (value e w.store) w)
+        (one_join code n t e (evaluates code n t e) (last ∷ []) k (λ v w. outcome_then (looked t.line (empty_lines v) w) send) p cells frames w high has in_ (λ v found has'.
+        step_leads code last (core_at (p + length ce) (held (leaf e) v cells) frames w.store) w _ _ has'.0 refl
+        (reads t e v w.store cells (λ v below. did t.line (empty_lines v) (λ bytes. Sends bytes (core_at (p + length ce + 1) below frames w.store))) high found)
+        (did_leads code t.line (empty_lines v) (λ bytes. Sends bytes (core_at (p + length ce + 1) cells frames w.store)) w k frames send (λ bytes done_.
+        writes (subst (λ j. Reaches code (at (p + length ce + 1) cells frames (record w { report = w.report ++ bytes })) (Comes (at j cells frames (record w { report = w.report ++ bytes })))) end here)))));
+  }
+    where
+      lines_then : (r : OkOr Value Trouble) (w : World) → outcome_then (looked t.line r w) (λ v w. outcome_then (looked t.line (empty_lines v) w) send) ≡ outcome_then (looked t.line (if_ok r empty_lines) w) send
+      lines_then (Ok v) w = refl
+      lines_then (Err (Fails kind)) w = refl
+      lines_then (Err Misfit) w = refl
+
+  pub creates_run : (t : Site) (cs : List CountedClass) → Runs code n (height t) same (creates_code t cs) done (create_every t.line cs)
+  creates_run t [] = none code n (height t) tt
+  creates_run t (c ∷ cs) =
+      seq code n (height t) {mid = λ v cells. cells}
+      (change_runs code n (height t) (place t (i.CreateAll c)) same done (made_all c) refl (λ p cells frames s h. refl))
+      (λ _. creates_run t cs)
+
+  -- a statistic starts afresh
+  restart_runs : (t : Site) (j : ℕ) (o : Option Expression) → Runs code n (height t) same (bearer_code t o ++ place (after_bearer t o) (i.Reset j (bearer t o)) ∷ []) done (λ w. outcome_then (look t.line (value_if_any o) w) (λ x. change t.line (reset j x)))
+  restart_runs t j o = record {
+    by = λ p cells frames w high has in_.
+        let ce : List Placed = bearer_code t o in
+        let last : Placed = place (after_bearer t o) (i.Reset j (bearer t o)) in
+        let end : p + length ce + 1 ≡ p + length (ce ++ last ∷ []) = omega (arith, length-append ce (last ∷ [])) in
+        let k : Unit {0} → World → MachineState = λ u w'. at (p + length (ce ++ last ∷ [])) cells frames w' in
+        bearer_join code n t o (last ∷ []) k (λ x. change t.line (reset j x)) p cells frames w high has in_ (λ x on_top q found has'.
+        step_leads code last (core_at (p + length ce) (on_top cells) frames w.store) w _ _ has'.0 refl
+        (found.reads cells (λ x below. did t.line (reset j x w.store) (λ u. onward below (core_at (p + length ce) (on_top cells) frames w.store) u)) high)
+        (did_leads code t.line (reset j x w.store) (λ u. onward cells (core_at (p + length ce) (on_top cells) frames w.store) u) w k frames settle (λ u done_.
+        onwards (subst (λ m. Reaches code (at (p + length ce + 1) cells frames (record w { store = u })) (Comes (at m cells frames (record w { store = u })))) end here))));
+  }
+
+  pub restarts_run : (t : Site) (rs : List Restart) → Runs code n (height t) same (restarts_code t rs) done (restart_each t.line rs)
+  restarts_run t [] = none code n (height t) tt
+  restarts_run t (r ∷ rs) = seq code n (height t) {mid = λ v cells. cells} (restart_runs t r.statistic r.of) (λ _. restarts_run t rs)

@@ -1,0 +1,197 @@
+-- The code of a place that takes what an instruction leaves: READ and CREATE.
+use Rattle.std.proofs.Common.{◌≡◌, ℕ, ◌+◌, false, List, [], ◌∷◌, ◌++◌, length, Option, Some, None, Ok, Err, ℤ, refl, sym, ap, ◌∙◌, subst, arith, length-append}
+use Rattle.std.specs.Prelude.{slice_get, Result as OkOr}
+use Rattle.ss_base.specs.declared.line.Line.{Line}
+use Rattle.ss_base.specs.declared.layout.Mode.{Mode}
+use Rattle.ss_base.specs.declared.layout.Mode.TheVariants.{Integer}
+use Rattle.ss_base.specs.declared.value.Value.{Value}
+use Rattle.ss_world.specs.State.{created}
+use Rattle.ss_meaning.specs.Words.{value_given}
+use Rattle.ss_program.specs.declared.expression.Variable.{Variable}
+use Rattle.ss_program.specs.declared.statement.CountedClass.{CountedClass}
+use Rattle.ss_program.specs.declared.expression.Variable.TheVariants.{Global, Local}
+use Rattle.ss_program.specs.Program.{Expression, Constant, Fetch, Attribute, OfSystemSet, OfSet, OfMember, Clock, TimeOf, Figure, FigureOf, Signed, Absolute, Calculate, Place, ToVariable, ToAttribute, ToCount, Target}
+use Rattle.ss_meaning.specs.Values.{Trouble, Fails, Misfit, if_ok, turned, due}
+use Rattle.ss_meaning.specs.Store.{Store, fetched}
+use Rattle.ss_meaning.specs.Entities.{class_at, entity, is_single, with_new, made_one}
+use Rattle.ss_meaning.specs.Places.{InAttribute, InCount, assigned_attribute}
+use Rattle.ss_meaning.specs.Expressions.{value, looked_at}
+use Rattle.ss_meaning.specs.Parts.{World, WentOn, Left, Outcome, Part, outcome_then, looked, settle_with, get, write}
+use Rattle.ss_meaning.specs.Statements.{give_to, with_input, read_value, read_each}
+use Rattle.ss_code_instructions.specs.Instructions.{Operand, Held, Taken, Instruction, Placed, Target as To}
+use Rattle.ss_code_instructions.specs.Instructions as i
+use Rattle.ss_code_instructions.specs.States.{Frame, MachineState, Moved, did, or_zero, core_at, with_value, with_values, deliver_with, onward}
+use Rattle.ss_code_instructions.specs.Machine.{Code, act, is_due}
+use Rattle.ss_code_instructions.specs.Translation.{Site, height, above, place, leaf, or_cell, operand, after, operand_code, next, stay, count_code, to_place_code, reads_code}
+use Rattle.ss_code_instructions.proofs.Keeping.{Only, Same, each, made, fitting}
+use Rattle.ss_code_instructions.proofs.Steps.{HasAt, has_front, has_back, Reaches, reaches_on, Kept, kept, at, arrive, join}
+use Rattle.ss_code_instructions.proofs.Parts.{onwards, step_leads, did_leads, at_the_height, Runs, same, done, went, seq, none}
+use Rattle.ss_code_instructions.proofs.Operands.{on, Tops, put_then, delivers, held, held_height, sure_is, not_above, one_join}
+use Rattle.ss_code_instructions.proofs.Expressions.{evaluates}
+use Rattle.ss_code_instructions.proofs.Members.{stay_reads}
+use Rattle.ss_code_instructions.proofs.Assigning.{variable_runs, count_run}
+use Rattle.ss_code_instructions.proofs.Attributes.{two_change}
+use Rattle.ss_code_instructions.proofs.Changing.{by_order}
+
+-- ## Operations that leave the variables, and what the program says
+
+abbrev pub Alike : Store → Store → Type 0
+Alike s u = (u.globals ≡ s.globals) × (u.locals ≡ s.locals) × Same s u
+
+fetched_alike : (y : Variable) (s u : Store) → u.globals ≡ s.globals → u.locals ≡ s.locals → fetched y u ≡ fetched y s
+fetched_alike (Global k) s u g l = ap (λ vs. slice_get vs k) g
+fetched_alike (Local k) s u g l = ap (λ vs. slice_get vs k) l
+
+-- a variable holds the same later
+leaf_later : (e : Expression) (x : Operand) (v : Value) (s u : Store) → leaf e ≡ Some x → value e s ≡ Ok v → u.globals ≡ s.globals → u.locals ≡ s.locals → (cells : List Value) (go : Value → List Value → Moved) → with_value x u cells go ≡ go v cells
+leaf_later (Constant c) x v s u q r g l cells go =
+    let e : i.Constant c ≡ x = cc in
+    let p : c ≡ v = cc in
+    subst (λ x. with_value x u cells go ≡ go v cells) e (ap (λ c. go c cells) p)
+leaf_later (Fetch y) x v s u q r g l cells go =
+    let e : Held y ≡ x = cc in
+    subst (λ x. with_value x u cells go ≡ go v cells) e (ap (λ o. go (or_zero o) cells) (fetched_alike y s u g l ∙ sure_is (fetched y s) v r))
+leaf_later (Attribute class field e) x v s u q r g l cells go = absurd cc
+leaf_later (OfSystemSet query set) x v s u q r g l cells go = absurd cc
+leaf_later (OfSet query set e) x v s u q r g l cells go = absurd cc
+leaf_later (OfMember query set e) x v s u q r g l cells go = absurd cc
+leaf_later Clock x v s u q r g l cells go = absurd cc
+leaf_later (TimeOf e) x v s u q r g l cells go = absurd cc
+leaf_later (Figure fold j) x v s u q r g l cells go = absurd cc
+leaf_later (FigureOf fold j e) x v s u q r g l cells go = absurd cc
+leaf_later (Signed sign e) x v s u q r g l cells go = absurd cc
+leaf_later (Absolute e) x v s u q r g l cells go = absurd cc
+leaf_later (Calculate op a b) x v s u q r g l cells go = absurd cc
+
+-- a part that leaves the variables, and what the program says
+abbrev pub Quietly : Part Value → Type 0
+Quietly m = (w w' : World) (z : Value) → m w ≡ WentOn z w' → Alike w.store w'.store
+
+pub get_quietly : (l : Line) (f : Store → OkOr (Value × Store) Trouble) → ((s : Store) → Only (λ (b : Value × Store). Alike s b.1) (f s)) → Quietly (get l f)
+get_quietly l f h w w' z e = by (f w.store) (h w.store) e
+  where
+    by : (r : OkOr (Value × Store) Trouble) → Only (λ (b : Value × Store). Alike w.store b.1) r → outcome_then (looked l r w) settle_with ≡ WentOn z w' → Alike w.store w'.store
+    by (Ok b) q e = let p : record w { store = b.1 } ≡ w' = cc in subst (λ (v : World). Alike w.store v.store) p q
+    by (Err (Fails kind)) q e = absurd cc
+    by (Err Misfit) q e = absurd cc
+
+pub read_quietly : (l : Line) (mode : Mode) → Quietly (get l (read_value mode))
+read_quietly l mode = get_quietly l (read_value mode) (λ s. made (λ (b : Value × Store). Alike s b.1) (with_input s) (due (value_given mode s.scene.input)) (λ g. (refl, refl, refl)))
+
+pub made_quietly : (l : Line) (class : ℕ) → Quietly (get l (made_one class))
+made_quietly l class =
+    get_quietly l (made_one class) (λ s. fitting (λ (b : Value × Store). Alike s b.1) (is_single (class_at class s)) _ (made (λ (b : Value × Store). Alike s b.1) (with_new class s) (due (created s.scene.heap class)) (λ b. (refl, refl, refl))))
+
+-- an operand later, where variables hold the same
+reads_later : (t : Site) (r : Expression) (v : Value) (s u : Store) (cells : List Value) (go : Value → List Value → Moved) → length cells ≡ height t → value r s ≡ Ok v → Alike s u → with_value (operand t r) u (held (leaf r) v cells) go ≡ go v cells
+reads_later t r v s u cells go h q a = by (leaf r) refl
+  where
+    by : (p : Option Operand) → leaf r ≡ p → with_value (or_cell (height t) p) u (held p v cells) go ≡ go v cells
+    by (Some x) e = leaf_later r x v s u e q a.0 a.1 cells go
+    by None e = at_the_height (height t) cells (go v cells) h
+
+-- a reference, and above it the value that an instruction left
+top_takes : (t : Site) (r : Expression) (v z : Value) (s u : Store) (cells : List Value) (go : Value → Value → List Value → Moved) → length cells ≡ height t → value r s ≡ Ok v → Alike s u → with_values (operand t r) (Taken (height (after t r))) u (z ∷ held (leaf r) v cells) go ≡ go v z cells
+top_takes t r v z s u cells go h q a =
+    by_order false (operand t r) (Taken (height (after t r))) u (z ∷ held (leaf r) v cells) go (not_above t r Clock)
+    ∙ at_the_height (height (after t r)) (held (leaf r) v cells) (with_value (operand t r) u (held (leaf r) v cells) (λ v below. go v z below)) (held_height t r v cells h)
+    ∙ reads_later t r v s u cells (λ v below. go v z below) h q a
+
+join_known : {A B : Type 0} {code : Code} (s : MachineState) (k : A → World → MachineState) (k' : B → World → MachineState) (frames : List Frame) (r : Outcome A) (f : A → Part B) → Reaches code s (arrive k frames r) → ((a : A) (w : World) → r ≡ WentOn a w → Kept s (k a w) → Reaches code (k a w) (arrive k' frames (f a w))) → Reaches code s (arrive k' frames (outcome_then r f))
+join_known s k k' frames (WentOn a w) f g h = reaches_on g (h a w refl (kept g))
+join_known s k k' frames (Left e w) f g h = g
+
+module _ (code : Code) (n : ℕ) where
+  -- an instruction that gives a value, and may change the store
+  pub get_runs : (t : Site) (to : To) (x : Instruction) (f : Store → OkOr (Value × Store) Trouble) → Tops to (height t) → is_due x ≡ false → ((p : ℕ) (cells : List Value) (frames : List Frame) (s : Store) → act code t.line x (core_at p cells frames s) ≡ deliver_with t.line to (f s) cells (core_at p cells frames s)) → Runs code n (height t) same (place t x ∷ []) (on to) (λ w. outcome_then (get t.line f w) (put_then t.line to))
+  get_runs t to x f tops calm acts = record {
+    by = λ p cells frames w high has in_.
+        step_leads code (place t x) (core_at p cells frames w.store) w _ _ has.0 calm (acts p cells frames w.store)
+        (delivers code t.line to (f w.store) p cells cells frames w (subst (Tops to) (sym high) tops));
+  }
+
+  -- what such code does, at each site and target
+  abbrev pub Sources : (source : Site → To → List Placed) → Line → Part Value → Type 0
+  Sources source l m = (u : Site) (to : To) → u.line ≡ l → Tops to (height u) → Runs code n (height u) same (source u to) (on to) (λ w. outcome_then (m w) (put_then l to))
+
+  to_count_runs : (t : Site) (mode : Mode) (c : CountedClass) (source : Site → To → List Placed) (m : Part Value) → Sources source t.line m → Runs code n (height t) same (to_place_code t (ToCount c) mode source) done (give_to t.line (ToCount c) m)
+  to_count_runs t mode c source m r = record {
+    by = λ p cells frames w high has in_.
+        let s : List Placed = source t (next t) in
+        let last : List Placed = count_code (above t mode) c (Taken (height t)) in
+        let end : p + length s + 2 ≡ p + length (s ++ last) = omega (arith, length-append s last) in
+        join (at p cells frames w) (λ v w'. at (p + length s) (v ∷ cells) frames w') (λ o w'. at (p + length (s ++ last)) cells frames w') frames (m w) (write t.line (InCount c))
+        (subst (λ o. Reaches code (at p cells frames w) (arrive (λ v w'. at (p + length s) (v ∷ cells) frames w') frames o)) (went (m w))
+        ((r t (next t) refl refl).by p cells frames w high (has_front code.places p s last has) in_))
+        (λ v w' k.
+        subst (λ j. Reaches code (at (p + length s) (v ∷ cells) frames w') (arrive (λ o w'. at j cells frames w') frames (write t.line (InCount c) v w'))) end
+        (count_run code (above t mode) c (Taken (height t)) v (p + length s) (v ∷ cells) cells frames w' (λ go. at_the_height (height t) cells (go v cells) high) (has_back code.places p s last has)));
+  }
+
+  to_attribute_runs : (t : Site) (mode : Mode) (class field : ℕ) (r : Expression) (source : Site → To → List Placed) (m : Part Value) → Quietly m → Sources source t.line m → Runs code n (height t) same (to_place_code t (ToAttribute class field r) mode source) done (give_to t.line (ToAttribute class field r) m)
+  to_attribute_runs t mode class field r source m quiet runs = record {
+    by = λ p cells frames w high has in_.
+        let c : List Placed = operand_code t r in
+        let look_ : Placed = place (after t r) (i.LookEntity class (stay (operand t r))) in
+        let front : List Placed = c ++ look_ ∷ [] in
+        let s : List Placed = source (after t r) (next (after t r)) in
+        let set_ : Placed = place (above (after t r) mode) (i.SetAttribute class field (operand t r) (Taken (height (after t r)))) in
+        let last : List Placed = set_ ∷ [] in
+        let end : p + length c + 1 + length s + 1 ≡ p + length (front ++ (s ++ last)) = omega (arith, length-append front (s ++ last), length-append c (look_ ∷ []), length-append s last) in
+        let middle : p + length front ≡ p + length c + 1 = omega (arith, length-append c (look_ ∷ [])) in
+        let h0 = has_front code.places p front (s ++ last) has in
+        let h1 = subst (λ j. HasAt code.places j (s ++ last)) middle (has_back code.places p front (s ++ last) has) in
+        let ends : Unit {0} → World → MachineState = λ o w'. at (p + length (front ++ (s ++ last))) cells frames w' in
+        subst (λ o. Reaches code (at p cells frames w) (arrive ends frames o)) (spot_first t.line class field m (value r w.store) w)
+        (one_join code n t r (evaluates code n t r) (look_ ∷ []) ends (placed t.line class field m) p cells frames w high h0 in_ (λ v found has'.
+        step_leads code look_ (core_at (p + length c) (held (leaf r) v cells) frames w.store) w _ _ has'.0 refl
+        (stay_reads t r v w.store cells (λ x below. did t.line (entity class x w.store) (λ _. onward below (core_at (p + length c) (held (leaf r) v cells) frames w.store) w.store)) high found)
+        (did_leads code t.line (entity class v w.store) _ w ends frames (λ a w. outcome_then (m w) (write t.line (InAttribute class field v))) (λ a known.
+        onwards
+        (join_known (at (p + length c + 1) (held (leaf r) v cells) frames w) (λ z w'. at (p + length c + 1 + length s) (z ∷ held (leaf r) v cells) frames w') ends frames (m w) (write t.line (InAttribute class field v))
+        (subst (λ o. Reaches code (at (p + length c + 1) (held (leaf r) v cells) frames w) (arrive (λ z w'. at (p + length c + 1 + length s) (z ∷ held (leaf r) v cells) frames w') frames o)) (went (m w))
+        ((runs (after t r) (next (after t r)) refl refl).by (p + length c + 1) (held (leaf r) v cells) frames w (held_height t r v cells high) (has_front code.places (p + length c + 1) s last h1) in_))
+        (λ z w' gave k.
+        subst (λ j. Reaches code (at (p + length c + 1 + length s) (z ∷ held (leaf r) v cells) frames w') (arrive (λ o w'. at j cells frames w') frames (write t.line (InAttribute class field v) z w'))) end
+        (two_change code n set_ (operand t r) (Taken (height (after t r))) (assigned_attribute class field) v z (p + length c + 1 + length s) (z ∷ held (leaf r) v cells) cells frames w' refl refl (λ go. top_takes t r v z w.store w'.store cells go high found (quiet w w' z gave)) (has_back code.places (p + length c + 1) s last h1).0))))))));
+  }
+    where
+      abbrev placed : Line → (class field : ℕ) → Part Value → Value → Part (Unit {0})
+      placed l class field m v w = outcome_then (looked l (entity class v w.store) w) (λ a w. outcome_then (m w) (write l (InAttribute class field v)))
+
+      spot_first : (l : Line) (class field : ℕ) (m : Part Value) (r : OkOr Value Trouble) (w : World) → outcome_then (looked l r w) (placed l class field m) ≡ outcome_then (looked l (turned (InAttribute class field) (if_ok r (looked_at (λ x. entity class x w.store)))) w) (λ q w. outcome_then (m w) (write l q))
+      spot_first l class field m (Err (Fails kind)) w = refl
+      spot_first l class field m (Err Misfit) w = refl
+      spot_first l class field m (Ok v) w = by (entity class v w.store)
+        where
+          by : (k : OkOr ℤ Trouble) → outcome_then (looked l k w) (λ a w. outcome_then (m w) (write l (InAttribute class field v))) ≡ outcome_then (looked l (turned (InAttribute class field) (turned (λ n. v) k)) w) (λ q w. outcome_then (m w) (write l q))
+          by (Ok a) = refl
+          by (Err (Fails kind)) = refl
+          by (Err Misfit) = refl
+
+  pub to_place_runs : (t : Site) (p : Place) (mode : Mode) (source : Site → To → List Placed) (m : Part Value) → Quietly m → Sources source t.line m → Runs code n (height t) same (to_place_code t p mode source) done (give_to t.line p m)
+  to_place_runs t (ToVariable x) mode source m quiet r = variable_runs code n t x (source t) m (λ to tops. r t to refl tops)
+  to_place_runs t (ToAttribute class field e) mode source m quiet r = to_attribute_runs t mode class field e source m quiet r
+  to_place_runs t (ToCount c) mode source m quiet r = to_count_runs t mode c source m r
+
+  -- ## READ and CREATE
+
+  read_source : (l : Line) (mode : Mode) → Sources (λ u to. place u (i.Read mode to) ∷ []) l (get l (read_value mode))
+  read_source l mode u to e tops =
+      subst (λ k. Runs code n (height u) same (place u (i.Read mode to) ∷ []) (on to) (λ w. outcome_then (get k (read_value mode) w) (put_then k to))) e
+      (get_runs u to (i.Read mode to) (read_value mode) tops refl (λ p cells frames s. refl))
+
+  pub reads_run : (t : Site) (xs : List Target) → Runs code n (height t) same (reads_code t xs) done (read_each t.line xs)
+  reads_run t [] = none code n (height t) tt
+  reads_run t (x ∷ xs) =
+      seq code n (height t) {mid = λ v cells. cells}
+      (to_place_runs t x.place x.mode (λ u to. place u (i.Read x.mode to) ∷ []) (get t.line (read_value x.mode)) (read_quietly t.line x.mode) (read_source t.line x.mode))
+      (λ _. reads_run t xs)
+
+  create_source : (l : Line) (class : ℕ) → Sources (λ u to. place u (i.Create class to) ∷ []) l (get l (made_one class))
+  create_source l class u to e tops =
+      subst (λ k. Runs code n (height u) same (place u (i.Create class to) ∷ []) (on to) (λ w. outcome_then (get k (made_one class) w) (put_then k to))) e
+      (get_runs u to (i.Create class to) (made_one class) tops refl (λ p cells frames s. refl))
+
+  pub create_runs : (t : Site) (class : ℕ) (p : Place) → Runs code n (height t) same (to_place_code t p Integer (λ u to. place u (i.Create class to) ∷ [])) done (give_to t.line p (get t.line (made_one class)))
+  create_runs t class p = to_place_runs t p Integer (λ u to. place u (i.Create class to) ∷ []) (get t.line (made_one class)) (made_quietly t.line class) (create_source t.line class)

@@ -1,0 +1,90 @@
+-- The code of REMOVE, REMOVE FIRST and REMOVE LAST.
+use Rattle.std.proofs.Common.{◌≡◌, ℕ, ◌+◌, List, [], ◌∷◌, ◌++◌, length, Option, Ok, Err, ℤ, refl, sym, subst, arith, length-append}
+use Rattle.std.specs.Prelude.{Result as OkOr}
+use Rattle.ss_base.specs.declared.layout.Mode.TheVariants.{Integer}
+use Rattle.ss_base.specs.declared.line.Line.{Line}
+use Rattle.ss_base.specs.declared.value.Value.{Value}
+use Rattle.ss_base.specs.declared.value.Value.TheVariants.{Whole}
+use Rattle.ss_world.specs.State.{State}
+use Rattle.ss_world.specs.Sets.{count_in}
+use Rattle.ss_program.specs.declared.sections.Subject.TheVariants.{OfCount}
+use Rattle.ss_program.specs.declared.statement.End.{End}
+use Rattle.ss_program.specs.Program.{Expression, SetOwner, Place}
+use Rattle.ss_meaning.specs.Values.{Trouble, Fails, Misfit, due}
+use Rattle.ss_meaning.specs.Store.{Store, with_heap, with_histories}
+use Rattle.ss_meaning.specs.Histories.{all_noting, noted}
+use Rattle.ss_meaning.specs.Sets.{member, owner_number, recounted, removed_from, end_removed, removed_at}
+use Rattle.ss_meaning.specs.Expressions.{owner_value}
+use Rattle.ss_meaning.specs.Parts.{World, WentOn, Part, outcome_then, looked, look, settle, get}
+use Rattle.ss_meaning.specs.Statements.{give_to, remove, remove_end}
+use Rattle.ss_code_instructions.specs.Instructions.{Placed}
+use Rattle.ss_code_instructions.specs.Instructions as i
+use Rattle.ss_code_instructions.specs.States.{Frame, MachineState, Moved, core_at, deliver_with, onward}
+use Rattle.ss_code_instructions.specs.Machine.{Code}
+use Rattle.ss_code_instructions.specs.Facts.{expression_of}
+use Rattle.ss_code_instructions.specs.Translation.{Site, height, place, bearer, bearer_code, after_bearer, with_owner, remove_code, remove_end_code}
+use Rattle.ss_code_instructions.proofs.Keeping.{Only, each, made, made_from}
+use Rattle.ss_code_instructions.proofs.Steps.{Comes, Reaches, here, at, arrive}
+use Rattle.ss_code_instructions.proofs.Parts.{Leads, onwards, step_leads, Runs, same, done, then_then}
+use Rattle.ss_code_instructions.proofs.Operands.{on, Tops, put_then, delivers}
+use Rattle.ss_code_instructions.proofs.Looking.{owner_is, bearer_join}
+use Rattle.ss_code_instructions.proofs.Members.{LooksFirst, member_owner_run}
+use Rattle.ss_code_instructions.proofs.Attributes.{err_first}
+use Rattle.ss_code_instructions.proofs.Receiving.{Alike, Quietly, Sources, get_quietly, to_place_runs}
+
+-- how many members a set has is noted: variables, and what the program says, stay
+pub recounted_alike : (set : ℕ) (owner : ℤ) (s : Store) (h : State) → Only (Alike s) (recounted set owner s h)
+recounted_alike set owner s h =
+    each (Alike s) (due (count_in h set owner)) _ (λ n.
+    made (Alike s) (with_histories (with_heap s h)) (all_noting (OfCount set) owner s.scene.time (Whole n) s.scene.setting.statistics s.scene.histories) (λ hs. (refl, refl, refl)))
+
+end_quietly : (l : Line) (end : End) (set : ℕ) (o : Option Value) → Quietly (get l (removed_at end set o))
+end_quietly l end set o =
+    get_quietly l (removed_at end set o) (λ s.
+    each (λ (b : Value × Store). Alike s b.1) (owner_number set o s) _ (λ m. each (λ (b : Value × Store). Alike s b.1) (due (end_removed end s.scene.heap set m)) _ (λ r.
+    made_from (λ (b : Value × Store). Alike s b.1) (Alike s) (λ t. (Whole r.0, t)) (recounted set m s r.1) (recounted_alike set m s r.1) (λ t q. q))))
+
+removed_first : (set : ℕ) → LooksFirst set (removed_from set)
+removed_first set v o s kind q = err_first (member set v s) _ (Fails kind) q
+
+module _ (code : Code) (n : ℕ) where
+  pub remove_runs : (t : Site) (set : ℕ) (e : Expression) (o : SetOwner) → Runs code n (height t) same (remove_code t set e o) done (remove t.line set e o)
+  remove_runs t set e o = record {
+    by = λ p cells frames w high has in_.
+        let ends : Unit {0} → World → MachineState = λ u w'. at (p + length (remove_code t set e o)) cells frames w' in
+        let next : ℕ → List Value → List Frame → Store → List Value → Store → Moved = λ p cells frames s below u. onward below (core_at p cells frames s) u in
+        member_owner_run code n {A = Store} {B = Unit {0}} t set e o (λ x y. i.Remove set x y) (removed_from set) next ends settle (removed_first set) (λ x y. refl) (λ x y p cells frames s. refl) p cells frames w high has in_ (λ q cells0 u end.
+        onwards (subst (λ j. Reaches code (at (q + 1) cells frames (record w { store = u })) (Comes (at j cells frames (record w { store = u })))) end here));
+  }
+
+  -- what removes a member at an end leaves it at a target
+  end_source : (l : Line) (end : End) (set : ℕ) (o : SetOwner) → Sources code n (λ u to. with_owner u o (λ x. i.RemoveEnd end set x to)) l (remove_end l end set o)
+  end_source l end set o u to e tops =
+      subst (λ k. Runs code n (height u) same (with_owner u o (λ x. i.RemoveEnd end set x to)) (on to) (λ w. outcome_then (remove_end k end set o w) (put_then k to))) e (record {
+        by = λ p cells frames w high has in_.
+            let x : Option Expression = expression_of o in
+            let c : List Placed = bearer_code u x in
+            let last : Placed = place (after_bearer u x) (i.RemoveEnd end set (bearer u x) to) in
+            let long : p + length c + 1 ≡ p + length (c ++ last ∷ []) = omega (arith, length-append c (last ∷ [])) in
+            let ends : Value → World → MachineState = λ v w'. at (p + length (c ++ last ∷ [])) (on to v cells) frames w' in
+            let go : Option Value → Part Value = λ y w. outcome_then (get u.line (removed_at end set y) w) (put_then u.line to) in
+            subst (λ k. Reaches code (at p cells frames w) (arrive ends frames k)) (sym (then_then (look u.line (owner_value o) w) (λ y. get u.line (removed_at end set y)) (put_then u.line to)))
+            (subst (λ r. Reaches code (at p cells frames w) (arrive ends frames (outcome_then (looked u.line r w) go))) (sym (owner_is o w.store))
+            (bearer_join code n u x (last ∷ []) ends go p cells frames w high has in_ (λ y on_top q found has'.
+            step_leads code last (core_at (p + length c) (on_top cells) frames w.store) w _ _ has'.0 refl
+            (found.reads cells (λ y below. deliver_with u.line to (removed_at end set y w.store) below (core_at (p + length c) (on_top cells) frames w.store)) high)
+            (subst (λ j. Leads code w (deliver_with u.line to (removed_at end set y w.store) cells (core_at (p + length c) (on_top cells) frames w.store)) (arrive (λ v w'. at j (on to v cells) frames w') frames (go y w))) long
+            (delivers code u.line to (removed_at end set y w.store) (p + length c) cells (on_top cells) frames w (subst (Tops to) (sym high) tops))))));
+      })
+
+  end_stays : (l : Line) (end : End) (set : ℕ) (o : SetOwner) → Quietly (remove_end l end set o)
+  end_stays l end set o w w' z e = by (owner_value o w.store) e
+    where
+      by : (r : OkOr (Option Value) Trouble) → outcome_then (looked l r w) (λ o. get l (removed_at end set o)) ≡ WentOn z w' → Alike w.store w'.store
+      by (Ok x) e = end_quietly l end set x w w' z e
+      by (Err (Fails kind)) e = absurd cc
+      by (Err Misfit) e = absurd cc
+
+  pub remove_end_runs : (t : Site) (end : End) (set : ℕ) (p : Place) (o : SetOwner) → Runs code n (height t) same (remove_end_code t end set p o) done (give_to t.line p (remove_end t.line end set o))
+  remove_end_runs t end set p o =
+      to_place_runs code n t p Integer (λ u to. with_owner u o (λ x. i.RemoveEnd end set x to)) (remove_end t.line end set o) (end_stays t.line end set o) (end_source t.line end set o)

@@ -1,0 +1,10 @@
+pub mod Instructions
+pub mod States
+pub mod Machine
+pub mod Facts
+pub mod Translation
+pub mod Size
+pub mod Running
+pub mod Shape
+pub mod Laws
+pub mod Examples
