@@ -1,6 +1,6 @@
 -- Filing and removing change the members of sets alone.
 use Rattle.std.proofs.Common.{◌≡◌, ℕ, ℤ, Bool, true, false, List, [], ◌∷◌, ◌++◌, Ok, Err, refl, ap, ◌∙◌, subst}
-use Rattle.std.specs.Prelude.{pos, negsuc, zero, suc, if◌then◌else◌, Result as OkOr}
+use Rattle.std.specs.Prelude.{pos, negsuc, zero, suc, if◌then◌else◌, MatchResult, Result as OkOr}
 use Rattle.ss_base.specs.declared.fault.FaultKind.{FaultKind}
 use Rattle.ss_base.specs.declared.fault.FaultKind.TheVariants.{FiledTwice, NotFiled}
 use Rattle.ss_base.specs.declared.layout.Discipline.{Discipline}
@@ -9,7 +9,7 @@ use Rattle.ss_records.specs.State.{State, Members, and_then, members_of, contain
 use Rattle.ss_records.specs.Sets.{joiner, owner, member_class, first_in, last_in, put_in, put_beside, put_before, put_after, less, taken_out, filed_first, filed_last, filed_before, filed_after, removed}
 use Rattle.ss_sets.specs.Disciplines.{put_ranked, filed, take, first_removed, last_removed}
 use Rattle.ss_machine_entities.specs.Counts.{counts_of}
-use Rattle.ss_machine_entities.proofs.Counting.{Keeps, keeps_same, state_after, state_with}
+use Rattle.ss_machine_entities.proofs.Counting.{Keeps, keeps_same, keeps_done, keeps_drawn, state_after, state_with}
 
 -- ## Parts of what is done
 
@@ -112,28 +112,31 @@ drawn_if : (h : State) (f : OkOr (ℤ × State) FaultKind) → ((x : ℤ) (t : S
 drawn_if h (Ok p) k = lists_keep h p.1 (k p.0 p.1 refl)
 drawn_if h (Err e) k = keeps_same h h refl
 
-module _ (h : State) (s : ℕ) (o x : ℤ) where
-  pub filed_keeps : (d : Discipline) → Keeps h (state_after h (filed h d s o x))
-  filed_keeps d = keeps_if h (filed h d s o x) (λ t e. filed_refiled h t s o x d e)
+module _ (h g : State) (r : OkOr (Unit {0}) FaultKind) (s : ℕ) (o x : ℤ) where
+  refiled_keeps : (f : OkOr State FaultKind) → ((t : State) → f ≡ Ok t → t ≡ record h { lists = t.lists }) → MatchResult r (λ _. f ≡ Ok g) (λ k. (f ≡ Err k) × (g ≡ h)) → Keeps h g
+  refiled_keeps f kept d = keeps_done h g f r (keeps_if h f kept) d
 
-  pub first_keeps : Keeps h (state_after h (filed_first h s o x))
-  first_keeps = keeps_if h (filed_first h s o x) (λ t e. first_refiled h t s o x e)
+  pub filed_keeps : (c : Discipline) → MatchResult r (λ _. filed h c s o x ≡ Ok g) (λ k. (filed h c s o x ≡ Err k) × (g ≡ h)) → Keeps h g
+  filed_keeps c d = refiled_keeps (filed h c s o x) (λ t e. filed_refiled h t s o x c e) d
 
-  pub last_keeps : Keeps h (state_after h (filed_last h s o x))
-  last_keeps = keeps_if h (filed_last h s o x) (λ t e. last_refiled h t s o x e)
+  pub first_keeps : MatchResult r (λ _. filed_first h s o x ≡ Ok g) (λ k. (filed_first h s o x ≡ Err k) × (g ≡ h)) → Keeps h g
+  first_keeps d = refiled_keeps (filed_first h s o x) (λ t e. first_refiled h t s o x e) d
 
-  pub before_keeps : (y : ℤ) → Keeps h (state_after h (filed_before h s o x y))
-  before_keeps y = keeps_if h (filed_before h s o x y) (λ t e. before_refiled h t s o x y e)
+  pub last_keeps : MatchResult r (λ _. filed_last h s o x ≡ Ok g) (λ k. (filed_last h s o x ≡ Err k) × (g ≡ h)) → Keeps h g
+  last_keeps d = refiled_keeps (filed_last h s o x) (λ t e. last_refiled h t s o x e) d
 
-  pub after_keeps : (y : ℤ) → Keeps h (state_after h (filed_after h s o x y))
-  after_keeps y = keeps_if h (filed_after h s o x y) (λ t e. after_refiled h t s o x y e)
+  pub before_keeps : (y : ℤ) → MatchResult r (λ _. filed_before h s o x y ≡ Ok g) (λ k. (filed_before h s o x y ≡ Err k) × (g ≡ h)) → Keeps h g
+  before_keeps y d = refiled_keeps (filed_before h s o x y) (λ t e. before_refiled h t s o x y e) d
 
-  pub out_keeps : Keeps h (state_after h (removed h s o x))
-  out_keeps = keeps_if h (removed h s o x) (λ t e. out_refiled h t s o x e)
+  pub after_keeps : (y : ℤ) → MatchResult r (λ _. filed_after h s o x y ≡ Ok g) (λ k. (filed_after h s o x y ≡ Err k) × (g ≡ h)) → Keeps h g
+  after_keeps y d = refiled_keeps (filed_after h s o x y) (λ t e. after_refiled h t s o x y e) d
 
-module _ (h : State) (s : ℕ) (o : ℤ) where
-  pub first_out_keeps : Keeps h (state_with h (first_removed h s o))
-  first_out_keeps = drawn_if h (first_removed h s o) (λ x t e. first_out_refiled h t s o x e)
+  pub removed_keeps : MatchResult r (λ _. removed h s o x ≡ Ok g) (λ k. (removed h s o x ≡ Err k) × (g ≡ h)) → Keeps h g
+  removed_keeps d = refiled_keeps (removed h s o x) (λ t e. out_refiled h t s o x e) d
 
-  pub last_out_keeps : Keeps h (state_with h (last_removed h s o))
-  last_out_keeps = drawn_if h (last_removed h s o) (λ x t e. last_out_refiled h t s o x e)
+module _ (h g : State) (r : OkOr ℤ FaultKind) (s : ℕ) (o : ℤ) where
+  pub first_out_keeps : MatchResult r (λ x. first_removed h s o ≡ Ok (x, g)) (λ k. (first_removed h s o ≡ Err k) × (g ≡ h)) → Keeps h g
+  first_out_keeps d = keeps_drawn h g (first_removed h s o) r (drawn_if h (first_removed h s o) (λ x t e. first_out_refiled h t s o x e)) d
+
+  pub last_out_keeps : MatchResult r (λ x. last_removed h s o ≡ Ok (x, g)) (λ k. (last_removed h s o ≡ Err k) × (g ≡ h)) → Keeps h g
+  last_out_keeps d = keeps_drawn h g (last_removed h s o) r (drawn_if h (last_removed h s o) (λ x t e. last_out_refiled h t s o x e)) d
