@@ -1,6 +1,6 @@
 //! What a program says of a class: it is looked up as entities come and go.
 
-ghost use Rattle.std.specs.Prelude.{◌≡◌, ◌<◌, List, [], length, Some, None, slice_get, slice_set, IfOk};
+ghost use Rattle.std.specs.Prelude.{◌≡◌, ◌<◌, List, [], length, Some, None, slice_get, slice_set, IfOk, IfSome};
 ghost use Rattle.std.specs.List.{list_any};
 ghost use Rattle.ss_base.specs.Plain.{PlainLayout};
 ghost use Rattle.ss_base.specs.declared.layout.Owner.TheVariants.{Class};
@@ -9,7 +9,6 @@ ghost use Rattle.ss_meaning.specs.Events.{Ranked, ranked_from};
 ghost use Rattle.ss_meaning.specs.Store.{Notices};
 ghost use Rattle.ss_program.specs.declared.sections.Statistic.{Statistic as StatisticSeen};
 ghost use Rattle.ss_machine_world.specs.Classes.{AreSaid, has_keys, with_rank};
-ghost use Rattle.ss_machine_world.specs.declared.class.ClassEntry.{ClassEntry as Entry};
 
 use ss_base::{Layout, Owner};
 use ss_code_instructions::NoticeClass;
@@ -97,7 +96,7 @@ fn unranked_entries(
 
 // Notes the rank of a class of notices, and whether it has ties.
 fn note_rank(classes: &mut [ClassEntry], rank: usize, notice: &NoticeClass)
-    ensures known { (entry : Entry) → slice_get classes.old notice.now.class ≡ Some entry → classes.new ≡ slice_set classes.old notice.now.class (with_rank rank notice.now entry) }
+    ensures known { IfSome (slice_get classes.old notice.now.class) (λ entry. classes.new ≡ slice_set classes.old notice.now.class (with_rank rank notice.now entry)) }
     ensures unknown { slice_get classes.old notice.now.class ≡ None → classes.new ≡ classes.old }
 {
     let has_ties = !notice.ties().as_slice().is_empty();
