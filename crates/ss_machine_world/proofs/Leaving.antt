@@ -16,6 +16,7 @@ use Rattle.ss_meaning.specs.Histories.{ending}
 use Rattle.ss_meaning.specs.Entities.{entity, is_single, gone, without, with_none}
 use Rattle.ss_meaning.specs.Events.{unscheduled}
 use Rattle.ss_machine_world.specs.Seen.{Seen, Changes, with_seen, without_value}
+use Rattle.ss_machine_world.proofs.Changing.{changes_alike}
 use Rattle.ss_machine_world.proofs.Starting.{joined}
 
 -- ## A look at an entity, and then what is done
@@ -25,7 +26,7 @@ single_there None e = absurd cc
 single_there (Some c) e = refl
 
 -- what is done fails with the fault of the look, where the look does
-one_look : {B C : Type 0} (n : ℤ) (rest : ℤ → OkOr B Trouble) (b : Bool) (q : OkOr C FaultKind) → b ≡ true → ((k : FaultKind) → q ≡ Err k → rest n ≡ Err (Fails k)) → if_ok (where_fit b (turned (λ _. n) (due (no_value q)))) rest ≡ rest n
+pub one_look : {B C : Type 0} (n : ℤ) (rest : ℤ → OkOr B Trouble) (b : Bool) (q : OkOr C FaultKind) → b ≡ true → ((k : FaultKind) → q ≡ Err k → rest n ≡ Err (Fails k)) → if_ok (where_fit b (turned (λ _. n) (due (no_value q)))) rest ≡ rest n
 one_look n rest true (Ok c) there h = refl
 one_look n rest true (Err k) there h = sym (h k refl)
 one_look n rest false q there h = absurd cc
@@ -125,5 +126,4 @@ module _ (e : Seen) (class : ℕ) (n : ℤ) (single : is_single (slice_get e.hea
       at = ap (λ b. unless_fault b Scheduled (gone class (Whole n) (with_seen s e))) free
 
   pub gone_without : (new : Seen) (r : OkOr (Unit {0}) FaultKind) → is_pending n e.pending.entries ≡ false → Changes (gone class (Whole n)) e new r → Changes (without class (Whole n)) e new r
-  gone_without new (Ok u) free d = λ s right. gone_once s free ∙ d s (λ wrong. right (gone_once s free ∙ wrong))
-  gone_without new (Err k) free d = (λ s right. gone_once s free ∙ d.0 s (λ wrong. right (gone_once s free ∙ wrong)), d.1)
+  gone_without new r free d = changes_alike (without class (Whole n)) (gone class (Whole n)) e new r (λ s. gone_once s free) d
