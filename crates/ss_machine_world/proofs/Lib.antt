@@ -1,0 +1,8 @@
+pub mod Changing
+pub mod Said
+pub mod Starting
+pub mod Leaving
+pub mod Reading
+pub mod Noting
+pub mod Figured
+pub mod Composing
