@@ -1,6 +1,6 @@
 -- What the meaning does at once, put together of a change of the entities and a note of what is so afterwards. It is for whoever calls the two
 -- one after the other; where no statistic watches, the change alone is all.
-use Rattle.std.proofs.Common.{◌≡◌, ℕ, ℤ, Bool, true, false, List, [], ◌∷◌, Option, Some, None, Ok, Err, refl, ap, ◌∙◌, sym, subst}
+use Rattle.std.proofs.Common.{◌≡◌, ℕ, ℤ, Bool, true, false, List, [], ◌∷◌, ◌++◌, Option, Some, None, Ok, Err, refl, ap, ◌∙◌, sym, subst}
 use Rattle.std.specs.Prelude.{◌||◌, is_some, slice_get, if◌then◌else◌, Result as OkOr}
 use Rattle.std.specs.List.{list_any}
 use Rattle.ss_base.specs.declared.fault.FaultKind.{FaultKind}
@@ -15,8 +15,8 @@ use Rattle.ss_program.specs.declared.sections.Subject.{Subject}
 use Rattle.ss_program.specs.declared.sections.Subject.TheVariants.{OfAttribute, OfCount}
 use Rattle.ss_program.specs.declared.statement.End.{End}
 use Rattle.ss_world.specs.State.{State, modes_of, and_then, no_value, assigned, value_in}
-use Rattle.ss_world.specs.Sets.{joiner, owner_in, filed_first, filed_last, filed_before, filed_after, removed}
-use Rattle.ss_world.specs.Disciplines.{filed}
+use Rattle.ss_world.specs.Sets.{joiner, owner, owner_in, member_class, put_in, put_beside, put_before, put_after, taken_out, filed_first, filed_last, filed_before, filed_after, removed}
+use Rattle.ss_world.specs.Disciplines.{put_ranked, filed}
 use Rattle.ss_machine_time.specs.Places.{is_about}
 use Rattle.ss_machine_time.specs.Records.{columns_of}
 use Rattle.ss_meaning.specs.Histories.{same_subject, noting, all_noting, noted}
@@ -79,11 +79,22 @@ module _ (e : Seen) (set : ℕ) (o : Option Value) (m : ℤ) (there : is_some (s
   joined : (x : ℤ) (rest : ℕ → OkOr State FaultKind) (i : ℕ) → joiner e.heap set x ≡ Ok i → due (and_then (joiner e.heap set x) rest) ≡ due (rest i)
   joined x rest i at = ap (λ q. due (and_then q rest)) at
 
+  -- what follows the look at x: it is put in the set, or taken out
+  abbrev put_all : (put : ℕ → List ℕ → List ℕ) → ℕ → OkOr State FaultKind
+  put_all put n = and_then (owner e.heap set m) (λ w. put_in put e.heap set w n)
+
+  abbrev out_all : ℕ → OkOr State FaultKind
+  out_all n = and_then (owner e.heap set m) (λ w. taken_out e.heap set w n)
+
   pub filed_first_is : (x : ℤ) → IsFiled Foremost x (filed_first e.heap set m x)
-  filed_first_is x s = put_together x (λ m n s. filed_by Foremost set m n s) _ (λ i at s. joined x _ i at) s
+  filed_first_is x s =
+      let rest = put_all (λ y l. y ∷ l) in
+      put_together x (λ m n s. filed_by Foremost set m n s) rest (λ i at s. joined x rest i at) s
 
   pub filed_last_is : (x : ℤ) → IsFiled Hindmost x (filed_last e.heap set m x)
-  filed_last_is x s = put_together x (λ m n s. filed_by Hindmost set m n s) _ (λ i at s. joined x _ i at) s
+  filed_last_is x s =
+      let rest = put_all (λ y l. l ++ y ∷ []) in
+      put_together x (λ m n s. filed_by Hindmost set m n s) rest (λ i at s. joined x rest i at) s
 
   -- by the discipline of the set
   ruled : (d : Discipline) (x : ℤ) → slice_get e.disciplines set ≡ Some d → is_fit e.heap.layout set d ≡ true → (s : Store) → filed_by ByRule set m x (with_seen s e) ≡ due (filed e.heap d set m x)
@@ -92,11 +103,23 @@ module _ (e : Seen) (set : ℕ) (o : Option Value) (m : ℤ) (there : is_some (s
       ∙ ap (λ b. where_fit b (due (filed e.heap d set m x))) fits
 
   pub filed_ruled_is : (d : Discipline) (x : ℤ) → slice_get e.disciplines set ≡ Some d → is_fit e.heap.layout set d ≡ true → IsFiled ByRule x (filed e.heap d set m x)
-  filed_ruled_is Fifo x has fits s = put_together x (λ m n s. filed_by ByRule set m n s) _ (λ i at s. ruled Fifo x has fits s ∙ joined x _ i at) s
-  filed_ruled_is Lifo x has fits s = put_together x (λ m n s. filed_by ByRule set m n s) _ (λ i at s. ruled Lifo x has fits s ∙ joined x _ i at) s
-  filed_ruled_is (Ranked ks) x has fits s = put_together x (λ m n s. filed_by ByRule set m n s) _ (λ i at s. ruled (Ranked ks) x has fits s ∙ joined x _ i at) s
+  filed_ruled_is Fifo x has fits s =
+      let rest = put_all (λ y l. l ++ y ∷ []) in
+      put_together x (λ m n s. filed_by ByRule set m n s) rest (λ i at s. ruled Fifo x has fits s ∙ joined x rest i at) s
+  filed_ruled_is Lifo x has fits s =
+      let rest = put_all (λ y l. y ∷ l) in
+      put_together x (λ m n s. filed_by ByRule set m n s) rest (λ i at s. ruled Lifo x has fits s ∙ joined x rest i at) s
+  filed_ruled_is (Ranked ks) x has fits s =
+      let rest = put_all (put_ranked e.heap (member_class e.heap.layout set) ks) in
+      put_together x (λ m n s. filed_by ByRule set m n s) rest (λ i at s. ruled (Ranked ks) x has fits s ∙ joined x rest i at) s
 
-  -- beside another member, which is looked at after x
+  -- beside another member y, which is looked at after x
+  abbrev beside_one : (put : ℕ → ℕ → List ℕ → List ℕ) → (i k : ℕ) → OkOr State FaultKind
+  beside_one put i k = and_then (owner e.heap set m) (λ w. put_beside put e.heap set w i k)
+
+  abbrev beside_all : (put : ℕ → ℕ → List ℕ → List ℕ) → (y : ℤ) → ℕ → OkOr State FaultKind
+  beside_all put y i = and_then (joiner e.heap set y) (beside_one put i)
+
   beside_it : (y : ℤ) (op : ℤ → OkOr State FaultKind) (rest : ℕ → OkOr State FaultKind) → op y ≡ and_then (joiner e.heap set y) rest → (s : Store) → if_ok (member set (Whole y) (with_seen s e)) (λ k. due (op k)) ≡ due (and_then (joiner e.heap set y) rest)
   beside_it y op rest is s = ap (λ r. if_ok r (λ k. due (op k))) (member_is y s) ∙ by (joiner e.heap set y) is
     where
@@ -106,17 +129,17 @@ module _ (e : Seen) (set : ℕ) (o : Option Value) (m : ℤ) (there : is_some (s
 
   pub filed_before_is : (x y : ℤ) → IsFiled (JustBefore (Whole y)) x (filed_before e.heap set m x y)
   filed_before_is x y s =
-      put_together x (λ m n s. filed_by (JustBefore (Whole y)) set m n s) _
-      (λ i at s. beside_it y (λ k. filed_before e.heap set m x k) _ (ap (λ q. and_then q _) at) s) s
+      put_together x (λ m n s. filed_by (JustBefore (Whole y)) set m n s) (beside_all put_before y)
+      (λ i at s. beside_it y (λ k. filed_before e.heap set m x k) (beside_one put_before i) (ap (λ q. and_then q (beside_all put_before y)) at) s) s
 
   pub filed_after_is : (x y : ℤ) → IsFiled (JustAfter (Whole y)) x (filed_after e.heap set m x y)
   filed_after_is x y s =
-      put_together x (λ m n s. filed_by (JustAfter (Whole y)) set m n s) _
-      (λ i at s. beside_it y (λ k. filed_after e.heap set m x k) _ (ap (λ q. and_then q _) at) s) s
+      put_together x (λ m n s. filed_by (JustAfter (Whole y)) set m n s) (beside_all put_after y)
+      (λ i at s. beside_it y (λ k. filed_after e.heap set m x k) (beside_one put_after i) (ap (λ q. and_then q (beside_all put_after y)) at) s) s
 
   -- the entities once x is out, or the fault
   pub removed_is : (x : ℤ) (s : Store) → removed_from set (Whole x) o (with_seen s e) ≡ if_ok (due (removed e.heap set m x)) (recounted set m (with_seen s e))
-  removed_is x s = put_together x (λ m n s. due (removed s.scene.heap set m n)) _ (λ i at s. joined x _ i at) s
+  removed_is x s = put_together x (λ m n s. due (removed s.scene.heap set m n)) out_all (λ i at s. joined x out_all i at) s
 
   -- and once the member at an end is out
   pub end_removed_is : (end : End) (s : Store) → removed_at end set o (with_seen s e) ≡ if_ok (due (end_removed end e.heap set m)) (λ r. turned {B = Value × Store} (λ t. (Whole r.0, t)) (recounted set m (with_seen s e) r.1))

@@ -1,23 +1,25 @@
 -- Entities that go, with their histories, and notices that are pending no longer.
-use Rattle.std.proofs.Common.{◌≡◌, ℕ, ◌-◌, ℤ, Bool, true, false, List, Option, Some, None, Ok, Err, refl, ap, sym, ◌∙◌, subst}
+use Rattle.std.proofs.Common.{arith, ◌≡◌, ℕ, zero, suc, ◌-◌, ◌<◌, ℤ, Bool, true, false, List, [], ◌∷◌, length, Option, Some, None, Ok, Err, refl, ap, sym, ◌∙◌, subst}
 use Rattle.std.specs.Prelude.{is_some, slice_get, slice_set, MatchResult, if◌then◌else◌, Result as OkOr}
 use Rattle.ss_base.specs.declared.fault.FaultKind.{FaultKind}
 use Rattle.ss_base.specs.declared.fault.FaultKind.TheVariants.{Scheduled, InASet, OwnsMembers}
 use Rattle.ss_base.specs.declared.layout.ClassLayout.{ClassLayout}
+use Rattle.ss_base.specs.declared.layout.Discipline.{Discipline}
 use Rattle.ss_base.specs.declared.layout.Layout.{Layout}
 use Rattle.ss_base.specs.declared.value.Value.TheVariants.{Whole}
 use Rattle.ss_world.specs.PendingList.{PendingList, is_pending, cancelled}
 use Rattle.ss_world.specs.State as S
 use Rattle.ss_world.specs.State.{State, destroyed, known_in, no_value}
 use Rattle.ss_machine_time.specs.Records.{columns_of}
+use Rattle.ss_machine_time.specs.Times.{Times}
 use Rattle.ss_meaning.specs.Values.{Trouble, Fails, if_ok, turned, due, where_fit, unless_fault}
-use Rattle.ss_meaning.specs.Store.{Store, Column, with_heap, with_histories, with_pending}
+use Rattle.ss_meaning.specs.Store.{Store, Notices, with_pending}
 use Rattle.ss_meaning.specs.Histories.{ending}
 use Rattle.ss_meaning.specs.Entities.{entity, is_single, gone, without, with_none}
 use Rattle.ss_meaning.specs.Events.{unscheduled}
 use Rattle.ss_machine_world.specs.Seen.{Seen, Changes, with_seen, without_value}
 use Rattle.ss_machine_world.proofs.Changing.{changes_alike}
-use Rattle.ss_machine_world.proofs.Starting.{joined}
+use Rattle.ss_machine_world.proofs.Starting.{joined, seen_of}
 
 -- ## A look at an entity, and then what is done
 
@@ -46,19 +48,32 @@ module _ (e : Seen) (class : ℕ) (n : ℤ) (there : is_some (slice_get e.heap.l
   kept_pending (Err k) is pending = λ s.
       looked_by (λ k. unless_fault (is_pending k e.pending.entries) Scheduled (gone class (Whole n) (with_seen s e))) (Err k) is s
 
-  -- a notice that is pending no longer, if it was
-  pub not_cancelled : (kind : FaultKind) → Err kind ≡ known_in e.heap class n → Changes (unscheduled class (Whole n)) e e (Err kind)
-  not_cancelled kind is = (λ s right. looked_by (λ n. turned (with_pending (with_seen s e)) (due (cancelled n e.pending))) (Err kind) is s, refl)
+-- a class that a layout has
+pub there_in : {A : Type 0} (xs : List A) (i : ℕ) → i < length xs → is_some (slice_get xs i) ≡ true
+there_in [] zero within = absurd (omega (arith, within))
+there_in [] (suc i) within = absurd (omega (arith, within))
+there_in (x ∷ xs) zero within = refl
+there_in (x ∷ xs) (suc i) within = there_in xs i (omega (arith, within))
 
-  pub cancelled_changes : (u : Unit {0}) → Ok u ≡ known_in e.heap class n → (p : PendingList) (r : OkOr (Unit {0}) FaultKind) → MatchResult r (λ _. cancelled n e.pending ≡ Ok p) (λ k. (cancelled n e.pending ≡ Err k) × (p ≡ e.pending)) → Changes (unscheduled class (Whole n)) e (record e { pending = p }) r
-  cancelled_changes u is p (Ok v) done = λ s right.
-      looked_by (λ n. turned (with_pending (with_seen s e)) (due (cancelled n e.pending))) (Ok u) is s
-      ∙ ap (λ q. turned (with_pending (with_seen s e)) (due q)) done
-  cancelled_changes u is p (Err k) d = (
+-- ## A notice that is pending no longer, if it was
+
+module _ (ds : List Discipline) (ns : List Notices) (h : State) (t : Times) (class : ℕ) (n : ℤ) (there : is_some (slice_get h.layout.classes class) ≡ true) where
+  abbrev before : Seen
+  before = seen_of ds ns h t
+
+  pub not_cancelled : (kind : FaultKind) → Err kind ≡ known_in h class n → Changes (unscheduled class (Whole n)) before before (Err kind)
+  not_cancelled kind is = (λ s right. looked_by before class n there (λ n. turned (with_pending (with_seen s before)) (due (cancelled n t.pending))) (Err kind) is s, refl)
+
+  pub cancelled_changes : (u : Unit {0}) → Ok u ≡ known_in h class n → (w : Times) (r : OkOr (Unit {0}) FaultKind) → MatchResult r (λ _. (cancelled n t.pending ≡ Ok w.pending) × (w ≡ record t { pending = w.pending })) (λ k. (cancelled n t.pending ≡ Err k) × (w ≡ t)) → Changes (unscheduled class (Whole n)) before (seen_of ds ns h w) r
+  cancelled_changes u is w (Ok v) d = λ s right.
+      looked_by before class n there (λ n. turned (with_pending (with_seen s before)) (due (cancelled n t.pending))) (Ok u) is s
+      ∙ ap (λ q. turned (with_pending (with_seen s before)) (due q)) d.0
+      ∙ ap (λ (v : Times). Ok (with_seen s (seen_of ds ns h v))) (sym d.1)
+  cancelled_changes u is w (Err k) d = (
     λ s right.
-    looked_by (λ n. turned (with_pending (with_seen s e)) (due (cancelled n e.pending))) (Ok u) is s
-    ∙ ap (λ q. turned (with_pending (with_seen s e)) (due q)) d.0,
-    ap (λ (p : PendingList). record e { pending = p }) d.1,
+    looked_by before class n there (λ n. turned (with_pending (with_seen s before)) (due (cancelled n t.pending))) (Ok u) is s
+    ∙ ap (λ q. turned (with_pending (with_seen s before)) (due q)) d.0,
+    ap (λ (v : Times). seen_of ds ns h v) d.1,
   )
 
 -- ## Entities that go

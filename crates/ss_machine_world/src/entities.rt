@@ -1,18 +1,22 @@
 //! Entities that come and go, and how many of a class there are.
 
-ghost use Rattle.std.specs.Prelude.{◌≡◌, ℕ, ◌<◌, true, length, slice_get, None, Ok, Err, IfSome};
+ghost use Rattle.std.specs.Prelude.{◌≡◌, ℕ, ◌<◌, true, List, length, slice_get, None, Ok, Err, IfSome};
 ghost use Rattle.ss_base.specs.declared.value.Value.TheVariants.{Whole};
 ghost use Rattle.ss_meaning.specs.Entities.{is_single, is_permanent, made_one, gone, without};
 ghost use Rattle.ss_meaning.specs.Events.{unscheduled};
-ghost use Rattle.ss_meaning.specs.Store.{Store as StoreSeen};
+ghost use Rattle.ss_meaning.specs.Histories.{ending};
+ghost use Rattle.ss_meaning.specs.Store.{Store as StoreSeen, Notices as NoticesSeen};
 ghost use Rattle.ss_meaning.specs.Values.{Fails};
 ghost use Rattle.ss_world.specs.PendingList.{is_pending};
+ghost use Rattle.ss_machine_time.specs.Times.{IsAt, columns};
+ghost use Rattle.ss_machine_world.specs.Classes.{AreSaid};
 ghost use Rattle.ss_machine_world.specs.Numbers.{created_all_known, count_open};
 ghost use Rattle.ss_machine_world.specs.Seen.{Looks, Changes, GoesWell, Makes, ChangesWithMemory, without_value, with_seen};
 
-use crate::class::is_watched;
+use crate::class::{ClassEntry, is_watched};
 use crate::scene::Scene;
-use ss_base::{FaultKind, Refused};
+use ss_base::{FaultKind, Layout, Refused};
+use ss_machine_time::Timeline;
 
 impl Scene {
     /// A new entity of a class whose entities come and go, with its histories: its number. Faults: 14 after the last number. It is
@@ -153,9 +157,13 @@ impl Scene {
     {
         match self.population.destroy(class, number) {
             Ok(()) => {
-                if is_watched(&self.classes, class) {
-                    self.timeline.end(self.population.layout(), class, number);
-                }
+                end_histories(
+                    &mut self.timeline,
+                    &self.classes,
+                    self.population.layout(),
+                    class,
+                    number,
+                );
                 Ok(())
             }
             Err(kind) => Err(kind),
@@ -183,4 +191,24 @@ impl Scene {
             Err(kind) => Err(kind),
         }
     }
+}
+
+// The histories of an entity of a class end, where it has any.
+#[inline(always)]
+fn end_histories(
+    timeline: &mut Timeline,
+    classes: &[ClassEntry],
+    layout: &Layout,
+    class: usize,
+    number: i64,
+)
+    requires class { class < length classes.now }
+    requires said { (es : List NoticesSeen) × AreSaid layout.now es timeline.old.histories.statistics classes.now }
+    ensures ended { columns timeline.new ≡ ending layout.now class number timeline.old.histories.statistics (columns timeline.old) }
+    ensures same { IsAt timeline.old timeline.new }
+{
+    if !is_watched(classes, class) {
+        return;
+    }
+    timeline.end(layout, class, number);
 }
