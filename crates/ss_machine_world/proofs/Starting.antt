@@ -16,13 +16,13 @@ use Rattle.ss_world.specs.State.{State, Record, LAST_NUMBER, MOST_ENTITIES, Refu
 use Rattle.ss_world.specs.PendingList.{PendingList}
 use Rattle.ss_machine_time.specs.Records.{columns_of, is_up_to, HasRooms}
 use Rattle.ss_machine_time.specs.Times.{Times}
-use Rattle.ss_meaning.specs.Values.{Fails, turned, due, where_fit}
+use Rattle.ss_meaning.specs.Values.{Trouble, Fails, turned, due, where_fit, unless_fault}
 use Rattle.ss_meaning.specs.Store.{Notices, Column, Store, with_heap, with_histories}
 use Rattle.ss_meaning.specs.Histories.{starting}
 use Rattle.ss_meaning.specs.Entities.{is_single, is_permanent, with_new, made_one, with_all}
 use Rattle.ss_machine_entities.proofs.Counting.{length_replicate}
-use Rattle.ss_machine_world.specs.Numbers.{created_all_known}
-use Rattle.ss_machine_world.specs.Seen.{Seen, GoesWell, Makes, ChangesWithMemory, with_seen}
+use Rattle.ss_machine_world.specs.Numbers.{created_all_known, count_open}
+use Rattle.ss_machine_world.specs.Seen.{Seen, IsRight, Looks, GoesWell, Makes, ChangesWithMemory, with_seen}
 
 -- ## Which fault is due
 
@@ -168,3 +168,19 @@ module _ (e : Seen) (class : ℕ) (n : ℤ) (permanent : is_permanent (slice_get
   -- their histories start
   pub many_made : (new : Seen) (h : State) → new ≡ record e { heap = h; histories = new.histories } → created_all e.heap class n ≡ Ok h → columns_of new.histories ≡ starting h.layout (Class class) (is_up_to (pos (length (records_in (slice_get h.permanents class))))) e.time e.statistics (columns_of e.histories) → (s : Store) → created_all_known class n (with_seen s e) ≡ Ok (with_seen s new)
   many_made new h same made started s = all_by (Ok h) made s ∙ ap Ok (joined e new h same _ s started)
+
+-- ## N. of a class
+
+module _ (e : Seen) (class : ℕ) where
+  open_by : (r : OkOr (Unit {0}) Trouble) → unless_fault (is_made e.heap class) CreatedTwice (Ok tt) ≡ r → (s : Store) → IsRight (count_open class (with_seen s e)) → count_open class (with_seen s e) ≡ r
+  open_by r is s right = by (is_permanent (slice_get e.heap.layout.classes class)) right
+    where
+      by : (b : Bool) → IsRight (where_fit b (unless_fault (is_made e.heap class) CreatedTwice (Ok tt))) → where_fit b (unless_fault (is_made e.heap class) CreatedTwice (Ok tt)) ≡ r
+      by true right = is
+      by false right = absurd (right refl)
+
+  pub open_not : is_made e.heap class ≡ true → Looks (count_open class) e (Err CreatedTwice)
+  open_not made s right = open_by (Err (Fails CreatedTwice)) (ap (λ b. unless_fault b CreatedTwice (Ok tt)) made) s right
+
+  pub open_still : is_made e.heap class ≡ false → Looks (count_open class) e (Ok tt)
+  open_still made s right = open_by (Ok tt) (ap (λ b. unless_fault b CreatedTwice (Ok tt)) made) s right
