@@ -17,7 +17,7 @@ use Rattle.ss_program.specs.declared.sections.Statistic.{Statistic}
 use Rattle.ss_stats.specs.History.{History}
 use Rattle.ss_world.specs.State.{State, Record, and_then, no_value, known_in, entity_in, value_in}
 use Rattle.ss_world.specs.Sets.{owner, owner_in, count_in}
-use Rattle.ss_machine_time.specs.Figures.{subject_in, variable_in, held_in, held_by}
+use Rattle.ss_machine_time.specs.Figures.{subject_in, variable_in, held_in, renewed_known}
 use Rattle.ss_machine_time.specs.Records.{columns_of, figured, mean_in, renewed_where}
 use Rattle.ss_machine_time.specs.Times.{Times, IsAt, columns}
 use Rattle.ss_meaning.specs.Entities.{entity, attribute}
@@ -27,7 +27,7 @@ use Rattle.ss_meaning.specs.Statistics.{subject_of, bearer, present, figure, mea
 use Rattle.ss_meaning.specs.Store.{Column, Notices, Store, fetched, with_histories}
 use Rattle.ss_meaning.specs.Values.{Trouble, Misfit, if_ok, turned, due, sure, where_fit, number_of}
 use Rattle.ss_machine_world.specs.Numbers.{RefersTo, RefersToSubject, IsSubject, HasSubject, Holds, looked_in, present_in}
-use Rattle.ss_machine_world.specs.Seen.{Seen, IsRight, Looks, ChangesWhere, as_value, number_if, with_seen, without_value}
+use Rattle.ss_machine_world.specs.Seen.{Seen, IsRight, Looks, Changes, ChangesWhere, as_value, number_if, with_seen, without_value}
 use Rattle.ss_machine_world.proofs.Reading.{whole_is, value_once}
 use Rattle.ss_machine_world.proofs.Starting.{seen_of, seen_moved}
 
@@ -185,25 +185,44 @@ module _ (j : ℕ) (o : Option Value) (x held : ℤ) (e : Seen) (refers : Refers
       (λ s p. (asked_is afresh j o x e refers (Err kind) (λ t is. ap no_value (presents t is) ∙ present_looked e.heap t x held) s p.0).2, refl)
 
   -- a number, and a history that starts afresh with it
-  reset_by : (p : ℤ) → ((t : Subject) → subject_in e.statistics j ≡ Some t → Ok (Whole p) ≡ present_in e.heap t x held) → (s : Store) → IsRight (reset j o (with_seen s e)) → Holds j held (with_seen s e) → reset j o (with_seen s e) ≡ turned (with_histories (with_seen s e)) (renewed j x e.time p (columns_of e.histories))
-  reset_by p presents s right holds =
-      let a = asked_is afresh j o x e refers (Ok tt) (λ t is. ap no_value (presents t is) ∙ present_looked e.heap t x held) s right in
-      a.2 ∙ ap (λ r. if_ok r (λ v. if_ok (number_of v) (λ z. turned (with_histories (with_seen s e)) (renewed j x e.time z (columns_of e.histories)))))
-      (present_is a.0 a.1 s holds (λ wrong. right (a.2 ∙ ap (λ r. if_ok r (λ v. if_ok (number_of v) (λ z. turned (with_histories (with_seen s e)) (renewed j x e.time z (columns_of e.histories))))) wrong))
-      ∙ ap due (sym (presents a.0 a.1)))
+  module _ (p : ℤ) (presents : (t : Subject) → subject_in e.statistics j ≡ Some t → Ok (Whole p) ≡ present_in e.heap t x held) where
+    reset_by : (s : Store) → IsRight (reset j o (with_seen s e)) → Holds j held (with_seen s e) → reset j o (with_seen s e) ≡ renewed_known j x p (with_seen s e)
+    reset_by s right holds =
+        let a = asked_is afresh j o x e refers (Ok tt) (λ t is. ap no_value (presents t is) ∙ present_looked e.heap t x held) s right in
+        a.2 ∙ ap after (present_is a.0 a.1 s holds (λ wrong. right (a.2 ∙ ap after wrong)) ∙ ap due (sym (presents a.0 a.1)))
+      where
+        after : OkOr Value Trouble → OkOr Store Trouble
+        after r = if_ok r (λ v. if_ok (number_of v) (λ z. renewed_known j x z (with_seen s e)))
 
-pub reset_changes : (ds : List Discipline) (ns : List Notices) (h : State) (t w : Times) (j : ℕ) (o : Option Value) (x held p : ℤ) → (let e : Seen = seen_of ds ns h t in RefersToSubject e j o x → HasSubject e j → ((u : Subject) → subject_in e.statistics j ≡ Some u → Ok (Whole p) ≡ present_in e.heap u x held) → renewed j x t.time p (columns t) ≡ renewed_where true (columns w) → IsAt t w → ChangesWhere (λ s. IsRight (reset j o s) × Holds j held s) (reset j o) e (seen_of ds ns h w) (Ok tt))
-reset_changes ds ns h t w j o x held p refers has presents is at = λ s q.
-    let e : Seen = seen_of ds ns h t in
-    reset_by j o x held e refers has p presents s q.0 q.1
-    ∙ ap (turned (with_histories (with_seen s e))) is
-    ∙ ap (λ (e : Seen). Ok (with_seen s e)) (sym (seen_moved ds ns h t w at.0 at.1 at.2))
+    pub reset_then : (new : Seen) (r : OkOr (Unit {0}) FaultKind) → Changes (renewed_known j x p) e new r → ChangesWhere (λ s. IsRight (reset j o s) × Holds j held s) (reset j o) e new r
+    reset_then new (Ok u) d = λ s q. reset_by s q.0 q.1 ∙ d s (λ wrong. q.0 (reset_by s q.0 q.1 ∙ wrong))
+    reset_then new (Err k) d = (λ s q. reset_by s q.0 q.1 ∙ d.0 s (λ wrong. q.0 (reset_by s q.0 q.1 ∙ wrong)), d.1)
 
--- there is no history: then it is not right
-pub reset_wrong : (ds : List Discipline) (ns : List Notices) (h : State) (t w : Times) (j : ℕ) (o : Option Value) (x held p : ℤ) → (let e : Seen = seen_of ds ns h t in RefersToSubject e j o x → HasSubject e j → ((u : Subject) → subject_in e.statistics j ≡ Some u → Ok (Whole p) ≡ present_in e.heap u x held) → renewed j x t.time p (columns t) ≡ renewed_where false (columns w) → w ≡ t → ChangesWhere (λ s. IsRight (reset j o s) × Holds j held s) (reset j o) e (seen_of ds ns h w) (Err NoEntity))
-reset_wrong ds ns h t w j o x held p refers has presents is same =
-    let e : Seen = seen_of ds ns h t in
-    (
-      λ s q. absurd (q.0 (reset_by j o x held e refers has p presents s q.0 q.1 ∙ ap (turned (with_histories (with_seen s e))) is)),
-      ap (λ (u : Times). seen_of ds ns h u) same,
-    )
+-- the history starts afresh
+module _ (ds : List Discipline) (ns : List Notices) (h : State) (t w : Times) (j : ℕ) (x p : ℤ) where
+  pub renew_changes : renewed j x t.time p (columns t) ≡ renewed_where true (columns w) → IsAt t w → Changes (renewed_known j x p) (seen_of ds ns h t) (seen_of ds ns h w) (Ok tt)
+  renew_changes is at = λ s right.
+      ap (turned (with_histories (with_seen s (seen_of ds ns h t)))) is
+      ∙ ap (λ (e : Seen). Ok (with_seen s e)) (sym (seen_moved ds ns h t w at.0 at.1 at.2))
+
+  -- or there is none, and this is not right
+  pub renew_wrong : renewed j x t.time p (columns t) ≡ renewed_where false (columns w) → w ≡ t → Changes (renewed_known j x p) (seen_of ds ns h t) (seen_of ds ns h w) (Err NoEntity)
+  renew_wrong is same =
+      (λ s right. absurd (right (ap (turned (with_histories (with_seen s (seen_of ds ns h t)))) is)), ap (λ (u : Times). seen_of ds ns h u) same)
+
+-- ## What is read of a subject
+
+pub whole_value : (r : OkOr ℤ FaultKind) (q : OkOr Value FaultKind) → MatchResult r (λ n. q ≡ Ok (Whole n)) (λ k. q ≡ Err k) → as_value r ≡ q
+whole_value (Ok n) q is = sym is
+whole_value (Err k) q is = sym is
+
+pub number_value : (r q : OkOr ℤ FaultKind) → r ≡ q → as_value r ≡ and_then q (λ n. Ok (Whole n))
+number_value (Ok n) q is = ap (λ q. and_then q (λ n. Ok (Whole n))) is
+number_value (Err k) q is = ap (λ q. and_then q (λ n. Ok (Whole n))) is
+
+-- the subject of a statistic is one
+pub one_subject : (j : ℕ) (e : Seen) (t u : Subject) → Some t ≡ subject_in e.statistics j → subject_in e.statistics j ≡ Some u → t ≡ u
+one_subject j e t u found is = by (found ∙ is)
+  where
+    by : Some t ≡ Some u → t ≡ u
+    by is = cc

@@ -1,5 +1,5 @@
 -- What is said of classes: how it is gathered, and what follows where no statistic has a history of the entities of a class.
-use Rattle.std.proofs.Common.{arith, ◌≡◌, ℕ, zero, suc, ◌+◌, ◌<◌, ◌==◌, Bool, true, false, List, [], ◌∷◌, ◌++◌, length, Option, Some, None, refl, ap, sym, ◌∙◌, subst}
+use Rattle.std.proofs.Common.{arith, ◌≡◌, ℕ, zero, suc, ◌+◌, ◌<◌, ◌==◌, Bool, true, false, List, [], ◌∷◌, ◌++◌, length, drop, Option, Some, None, refl, ap, sym, ◌∙◌, subst}
 use Rattle.std.specs.Prelude.{ℤ, ◌||◌, slice_get, slice_set, IfSome, if◌then◌else◌}
 use Rattle.std.specs.List.{list_any}
 use Rattle.ss_base.specs.Plain.{PlainLayout}
@@ -48,7 +48,7 @@ found_more P [] x old new (suc i) y e = absurd cc
 found_more P (z ∷ zs) x old new zero y e = old zero y e
 found_more P (z ∷ zs) x old new (suc i) y e = found_more (λ j. P (suc j)) zs x (λ j w d. old (suc j) w d) new i y e
 
-length_more : {A : Type 0} (xs : List A) (x : A) → length (xs ++ x ∷ []) ≡ length xs + 1
+pub length_more : {A : Type 0} (xs : List A) (x : A) → length (xs ++ x ∷ []) ≡ length xs + 1
 length_more [] x = refl
 length_more (z ∷ zs) x = ap suc (length_more zs x)
 
@@ -65,6 +65,17 @@ found_set (z ∷ zs) zero x zero y e = (λ t. sym (got e), λ t. absurd cc)
 found_set (z ∷ zs) zero x (suc i) y e = (λ t. absurd cc, λ t. e)
 found_set (z ∷ zs) (suc k) x zero y e = (λ t. absurd cc, λ t. e)
 found_set (z ∷ zs) (suc k) x (suc i) y e = found_set zs k x i y e
+
+-- what is left of a row from an item on, and behind its end
+pub drop_one : {A : Type 0} (xs : List A) (k : ℕ) (x : A) → slice_get xs k ≡ Some x → drop k xs ≡ x ∷ drop (k + 1) xs
+drop_one [] zero x e = absurd cc
+drop_one [] (suc k) x e = absurd cc
+drop_one (y ∷ ys) zero x e = ap (λ y. y ∷ ys) (got e)
+drop_one (y ∷ ys) (suc k) x e = drop_one ys k x e
+
+pub drop_all : {A : Type 0} (xs : List A) → drop (length xs) xs ≡ []
+drop_all [] = refl
+drop_all (x ∷ xs) = drop_all xs
 
 -- ## How entries are gathered
 

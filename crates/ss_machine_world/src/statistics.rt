@@ -4,7 +4,7 @@ ghost use Rattle.std.specs.Prelude.{◌≡◌, ◌<◌, length, pos, Some, Optio
 ghost use Rattle.ss_base.specs.declared.layout.Mode.TheVariants.{Integer};
 ghost use Rattle.ss_base.specs.declared.value.Value.{Value as ValueSeen};
 ghost use Rattle.ss_base.specs.declared.value.Value.TheVariants.{Whole};
-ghost use Rattle.ss_machine_time.specs.Figures.{subject_in, variable_in, variable_of};
+ghost use Rattle.ss_machine_time.specs.Figures.{subject_in, variable_in, variable_of, renewed_known};
 ghost use Rattle.ss_meaning.specs.Histories.{noted};
 ghost use Rattle.ss_meaning.specs.Statistics.{figure, mean, reset};
 ghost use Rattle.ss_picture.specs.Suited.{IsMean};
@@ -164,6 +164,17 @@ impl Scene {
         }
     }
 
+    // The history of a statistic of an entity starts afresh, with the present value.
+    fn renew(&mut self, statistic: usize, entity: i64, present: i64) -> Result<(), FaultKind>
+        ensures { Changes (renewed_known statistic entity present) self.old self.new result }
+    {
+        if self.timeline.renew(statistic, entity, present) {
+            Ok(())
+        } else {
+            Err(FaultKind::NoEntity)
+        }
+    }
+
     /// The history of a statistic of an entity starts afresh, with the value that its subject has; a global variable
     /// (`variable_of`) holds this value. Faults: 1 to 5. Nothing changes after a fault.
     #[inline(never)]
@@ -173,13 +184,7 @@ impl Scene {
     {
         match self.present_value(statistic, entity, held) {
             Err(kind) => Err(kind),
-            Ok(present) => {
-                if self.timeline.renew(statistic, entity, present) {
-                    Ok(())
-                } else {
-                    Err(FaultKind::NoEntity)
-                }
-            }
+            Ok(present) => self.renew(statistic, entity, present),
         }
     }
 }
