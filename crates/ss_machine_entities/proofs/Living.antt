@@ -1,6 +1,6 @@
 -- The class of a living entity, by its creation number.
 use Rattle.std.proofs.Common.{◌≡◌, ℕ, zero, suc, ℤ, Option, Some, None, Ok, Err, refl, ap, sym, ◌∙◌}
-use Rattle.std.specs.Prelude.{pos, negsuc, slice_get, IfSome, Result as OkOr}
+use Rattle.std.specs.Prelude.{pos, negsuc, slice_get, IfSome}
 use Rattle.ss_base.specs.declared.fault.FaultKind.{FaultKind}
 use Rattle.ss_records.specs.State.{State, Record, issued_record, numbered}
 use Rattle.ss_records.specs.Classed.{HasClass}

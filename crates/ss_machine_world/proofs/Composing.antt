@@ -1,6 +1,6 @@
 -- What the meaning does at once, put together of a change of the entities and a note of what is so afterwards. It is for whoever calls the two
 -- one after the other; where no statistic watches, the change alone is all.
-use Rattle.std.proofs.Common.{◌≡◌, ℕ, ℤ, Bool, true, false, List, [], ◌∷◌, ◌++◌, Option, Some, None, Ok, Err, refl, ap, ◌∙◌, sym, subst}
+use Rattle.std.proofs.Common.{◌≡◌, ℕ, ℤ, Bool, true, false, List, [], ◌∷◌, ◌++◌, Option, Some, None, Ok, Err, refl, ap, ◌∙◌, sym}
 use Rattle.std.specs.Prelude.{◌||◌, is_some, slice_get, if◌then◌else◌, Result as OkOr}
 use Rattle.std.specs.List.{list_any}
 use Rattle.ss_base.specs.declared.fault.FaultKind.{FaultKind}
@@ -12,9 +12,9 @@ use Rattle.ss_base.specs.declared.value.Value.{Value}
 use Rattle.ss_base.specs.declared.value.Value.TheVariants.{Whole}
 use Rattle.ss_program.specs.declared.sections.Statistic.{Statistic}
 use Rattle.ss_program.specs.declared.sections.Subject.{Subject}
-use Rattle.ss_program.specs.declared.sections.Subject.TheVariants.{OfAttribute, OfCount}
+use Rattle.ss_program.specs.declared.sections.Subject.TheVariants.{OfAttribute}
 use Rattle.ss_program.specs.declared.statement.End.{End}
-use Rattle.ss_world.specs.State.{State, modes_of, and_then, no_value, assigned, value_in}
+use Rattle.ss_world.specs.State.{State, modes_of, and_then, assigned, value_in}
 use Rattle.ss_world.specs.Sets.{joiner, owner, owner_in, member_class, put_in, put_beside, put_before, put_after, taken_out, filed_first, filed_last, filed_before, filed_after, removed}
 use Rattle.ss_world.specs.Disciplines.{put_ranked, filed}
 use Rattle.ss_machine_time.specs.Places.{is_about}

@@ -1,6 +1,6 @@
 -- What a statistic says of an entity, and RESET.
-use Rattle.std.proofs.Common.{◌≡◌, ℕ, ℤ, Bool, true, false, List, Option, Some, None, Ok, Err, refl, ap, ◌∙◌, sym, subst}
-use Rattle.std.specs.Prelude.{pos, is_some, slice_get, MatchResult, Result as OkOr}
+use Rattle.std.proofs.Common.{◌≡◌, ℕ, ℤ, Bool, true, false, List, Option, Some, None, Ok, Err, refl, ap, ◌∙◌, sym}
+use Rattle.std.specs.Prelude.{is_some, slice_get, MatchResult, Result as OkOr}
 use Rattle.std.specs.Option.{option_map}
 use Rattle.ss_base.specs.declared.fault.FaultKind.{FaultKind}
 use Rattle.ss_base.specs.declared.fault.FaultKind.TheVariants.{NoEntity}
@@ -9,7 +9,6 @@ use Rattle.ss_base.specs.declared.layout.SetLayout.{SetLayout}
 use Rattle.ss_base.specs.declared.value.Value.{Value}
 use Rattle.ss_base.specs.declared.value.Value.TheVariants.{Whole}
 use Rattle.ss_program.specs.declared.expression.Fold.{Fold}
-use Rattle.ss_program.specs.declared.expression.SetQuery.TheVariants.{MemberCount}
 use Rattle.ss_program.specs.declared.expression.Variable.TheVariants.{Global}
 use Rattle.ss_program.specs.declared.sections.Subject.{Subject}
 use Rattle.ss_program.specs.declared.sections.Subject.TheVariants.{OfVariable, OfAttribute, OfCount}
@@ -18,15 +17,15 @@ use Rattle.ss_stats.specs.History.{History}
 use Rattle.ss_world.specs.State.{State, Record, and_then, no_value, known_in, entity_in, value_in}
 use Rattle.ss_world.specs.Sets.{owner, owner_in, count_in}
 use Rattle.ss_machine_time.specs.Figures.{subject_in, variable_in, held_in, renewed_known}
-use Rattle.ss_machine_time.specs.Records.{columns_of, figured, mean_in, renewed_where}
+use Rattle.ss_machine_time.specs.Records.{columns_of, figured, renewed_where}
 use Rattle.ss_machine_time.specs.Times.{Times, IsAt, columns}
 use Rattle.ss_meaning.specs.Entities.{entity, attribute}
 use Rattle.ss_meaning.specs.Histories.{home, history_in, figure_kept, mean_kept, renewed}
-use Rattle.ss_meaning.specs.Sets.{owner_by_layout, known_owner, of_set}
+use Rattle.ss_meaning.specs.Sets.{owner_by_layout}
 use Rattle.ss_meaning.specs.Statistics.{subject_of, bearer, present, figure, mean, reset}
 use Rattle.ss_meaning.specs.Store.{Column, Notices, Store, fetched, with_histories}
-use Rattle.ss_meaning.specs.Values.{Trouble, Misfit, if_ok, turned, due, sure, where_fit, number_of}
-use Rattle.ss_machine_world.specs.Numbers.{RefersTo, RefersToSubject, IsSubject, HasSubject, Holds, looked_in, present_in}
+use Rattle.ss_meaning.specs.Values.{Trouble, if_ok, turned, due, sure, where_fit, number_of}
+use Rattle.ss_machine_world.specs.Numbers.{RefersTo, RefersToSubject, HasSubject, Holds, looked_in, present_in}
 use Rattle.ss_machine_world.specs.Seen.{Seen, IsRight, Looks, Changes, ChangesWhere, as_value, number_if, with_seen, without_value}
 use Rattle.ss_machine_world.proofs.Reading.{whole_is, value_once}
 use Rattle.ss_machine_world.proofs.Starting.{seen_of, seen_moved}

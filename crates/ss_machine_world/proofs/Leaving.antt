@@ -1,5 +1,5 @@
 -- Entities that go, with their histories, and notices that are pending no longer.
-use Rattle.std.proofs.Common.{arith, ◌≡◌, ℕ, zero, suc, ◌-◌, ◌<◌, ℤ, Bool, true, false, List, [], ◌∷◌, length, Option, Some, None, Ok, Err, refl, ap, sym, ◌∙◌, subst}
+use Rattle.std.proofs.Common.{arith, ◌≡◌, ℕ, zero, suc, ◌-◌, ◌<◌, ℤ, Bool, true, false, List, [], ◌∷◌, length, Option, Some, None, Ok, Err, refl, ap, sym, ◌∙◌}
 use Rattle.std.specs.Prelude.{is_some, slice_get, slice_set, MatchResult, if◌then◌else◌, Result as OkOr}
 use Rattle.ss_base.specs.declared.fault.FaultKind.{FaultKind}
 use Rattle.ss_base.specs.declared.fault.FaultKind.TheVariants.{Scheduled, InASet, OwnsMembers}
@@ -7,7 +7,7 @@ use Rattle.ss_base.specs.declared.layout.ClassLayout.{ClassLayout}
 use Rattle.ss_base.specs.declared.layout.Discipline.{Discipline}
 use Rattle.ss_base.specs.declared.layout.Layout.{Layout}
 use Rattle.ss_base.specs.declared.value.Value.TheVariants.{Whole}
-use Rattle.ss_world.specs.PendingList.{PendingList, is_pending, cancelled}
+use Rattle.ss_world.specs.PendingList.{is_pending, cancelled}
 use Rattle.ss_world.specs.State as S
 use Rattle.ss_world.specs.State.{State, destroyed, known_in, no_value}
 use Rattle.ss_machine_time.specs.Records.{columns_of}

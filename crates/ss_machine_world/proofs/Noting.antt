@@ -1,6 +1,6 @@
 -- What histories note of what is so now.
-use Rattle.std.proofs.Common.{◌≡◌, ℕ, ℤ, true, List, Some, Ok, Err, refl, ap, ◌∙◌, sym, subst}
-use Rattle.std.specs.Prelude.{is_some, slice_get, MatchResult, Result as OkOr}
+use Rattle.std.proofs.Common.{◌≡◌, ℕ, ℤ, List, Some, Ok, Err, refl, ap, ◌∙◌, sym}
+use Rattle.std.specs.Prelude.{is_some, slice_get, Result as OkOr}
 use Rattle.ss_base.specs.declared.fault.FaultKind.{FaultKind}
 use Rattle.ss_base.specs.declared.layout.Discipline.{Discipline}
 use Rattle.ss_base.specs.declared.layout.Mode.TheVariants.{Integer}

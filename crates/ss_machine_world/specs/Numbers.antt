@@ -1,5 +1,5 @@
 -- Operations of the meaning by the numbers of entities and owners, where 0 is the system.
-use Rattle.std.specs.Prelude.{◌≡◌, ℕ, ◌<◌, Bool, length, ℤ, pos, Option, Some, None, Result, Ok, Err, slice_get, if◌then◌else◌}
+use Rattle.std.specs.Prelude.{◌≡◌, ℕ, ◌<◌, Bool, length, ℤ, Option, Some, Result, Ok, Err, slice_get, if◌then◌else◌}
 use Rattle.ss_base.specs.Plain.{PlainLayout}
 use Rattle.ss_base.specs.declared.fault.FaultKind.{FaultKind}
 use Rattle.ss_base.specs.declared.fault.FaultKind.TheVariants.{CreatedTwice, NotFiled, Overflow}

@@ -1,4 +1,4 @@
-use Rattle.std.proofs.Common.{◌≤◌, ℕ, List, [], length, drop}
+use Rattle.std.proofs.Common.{◌≤◌, List, [], length, drop}
 use Rattle.ss_base.specs.Plain.{PlainLayout}
 use Rattle.ss_program.specs.declared.sections.Statistic.{Statistic}
 use Rattle.ss_machine_world.specs.Classes.{AreSaid, AreSaidFrom}

@@ -1,4 +1,4 @@
-use Rattle.std.proofs.Common.{◌≡◌, ap, sym, ◌∙◌}
+use Rattle.std.proofs.Common.{ap, sym, ◌∙◌}
 use Rattle.ss_records.specs.State.{State}
 use Rattle.ss_machine_entities.proofs.Counting.{changed_keeps}
 use Rattle.ss_machine_entities.proofs.population.Population.subtract_whole.Goals as goal

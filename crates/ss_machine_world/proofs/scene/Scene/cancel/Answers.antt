@@ -1,5 +1,5 @@
-use Rattle.std.proofs.Common.{rules, ◌≡◌, ◌<◌, ℤ, true, length, Ok, Err, ap, sym, subst, to_z, of_z, w64}
-use Rattle.std.specs.Prelude.{is_some, slice_get, MatchResult}
+use Rattle.std.proofs.Common.{rules, ◌≡◌, ◌<◌, ℤ, length, Ok, Err, sym, subst, to_z, of_z, w64}
+use Rattle.std.specs.Prelude.{MatchResult}
 use Rattle.ss_base.specs.declared.value.Value.TheVariants.{Whole}
 use Rattle.ss_world.specs.PendingList.{cancelled}
 use Rattle.ss_world.specs.State.{known_in}

@@ -1,4 +1,4 @@
-use Rattle.std.proofs.Common.{rules, ◌≡◌, Some, None, Ok, Err, refl, subst, to_z, of_z, w64}
+use Rattle.std.proofs.Common.{rules, ◌≡◌, Some, None, Err, refl, subst, to_z, of_z, w64}
 use Rattle.ss_base.specs.declared.fault.FaultKind.TheVariants.{NoEntity}
 use Rattle.ss_machine_time.specs.Records.{figured}
 use Rattle.ss_meaning.specs.Histories.{figure_kept}

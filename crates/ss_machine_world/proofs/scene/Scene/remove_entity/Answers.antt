@@ -2,7 +2,7 @@ use Rattle.std.proofs.Common.{arith, rules, ◌≡◌, ℤ, List, length, true, 
 use Rattle.std.specs.Prelude.{slice_get}
 use Rattle.ss_base.specs.declared.layout.Layout.{Layout}
 use Rattle.ss_base.specs.declared.value.Value.TheVariants.{Whole}
-use Rattle.ss_world.specs.State.{State, destroyed}
+use Rattle.ss_world.specs.State.{destroyed}
 use Rattle.ss_machine_time.specs.Times.{Times, columns}
 use Rattle.ss_meaning.specs.Entities.{is_single, gone}
 use Rattle.ss_meaning.specs.Histories.{ending}

@@ -1,9 +1,7 @@
-use Rattle.std.proofs.Common.{rules, ◌≡◌, Some, Ok, Err, sym, subst, to_z, of_z, w64}
-use Rattle.ss_base.specs.declared.value.Value.TheVariants.{Whole}
-use Rattle.ss_program.specs.declared.sections.Subject.{Subject}
-use Rattle.ss_machine_time.specs.Figures.{subject_in, renewed_known}
+use Rattle.std.proofs.Common.{rules, ◌≡◌, Err, sym, subst, to_z, of_z, w64}
+use Rattle.ss_machine_time.specs.Figures.{renewed_known}
 use Rattle.ss_meaning.specs.Statistics.{reset}
-use Rattle.ss_machine_world.specs.Numbers.{Holds, present_in}
+use Rattle.ss_machine_world.specs.Numbers.{Holds}
 use Rattle.ss_machine_world.specs.Seen.{Seen, IsRight, Changes, ChangesWhere}
 use Rattle.ss_machine_world.proofs.Figured.{reset_not, reset_then}
 use Rattle.ss_machine_world.proofs.scene.Scene.reset.Goals as goal
