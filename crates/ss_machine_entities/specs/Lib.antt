@@ -1,3 +1,2 @@
 pub use Rattle.ss_records.specs.State
-pub mod Attributes
 pub mod Counts

@@ -6,7 +6,7 @@ ghost use Rattle.ss_meaning.specs.Fitting.{living};
 ghost use Rattle.ss_records.specs.Kept.{IsPermanent};
 ghost use Rattle.ss_records.specs.State.{first_state, is_made, records_in, known_in, value_in, time_in, assigned, timed, created, created_all, destroyed, kind_of, modes_of, no_value, RefusedFor};
 ghost use Rattle.ss_records.specs.Sets.{joiner, owner, first_in, last_in, count_in, next_in, previous_in, owner_of_member};
-ghost use Rattle.ss_machine_entities.specs.Attributes.{changed_number, IsAssigned, IsChanged};
+ghost use Rattle.ss_records.specs.Attributes.{changed_number, IsAssigned, IsChanged};
 
 mod filing;
 
