@@ -1,9 +1,10 @@
 //! Filing and removing.
 
-ghost use Rattle.std.specs.Prelude.{◌≡◌, ◌<◌, ◌≤◌, ◌^◌, length, true, IfSome, MatchResult, Ok, Err, None, Some, slice_get};
+ghost use Rattle.std.specs.Prelude.{◌≡◌, ◌<◌, ◌≤◌, ◌^◌, length, pos, true, IfSome, MatchResult, Ok, Err, None, Some, slice_get};
 ghost use Rattle.ss_base.specs.declared.layout.Mode.TheVariants.{Integer};
+ghost use Rattle.ss_base.specs.declared.layout.Owner.TheVariants.{System};
 ghost use Rattle.ss_meaning.specs.Sets.{beside};
-ghost use Rattle.ss_records.specs.Sets.{filed_first, filed_last, filed_before, filed_after, removed};
+ghost use Rattle.ss_records.specs.Sets.{owner_kind, filed_first, filed_last, filed_before, filed_after, removed};
 ghost use Rattle.ss_records.specs.Skimming.{IsSkimmed};
 ghost use Rattle.ss_records.specs.State.{modes_of};
 ghost use Rattle.ss_sets.specs.Disciplines.{FitsMembers, filed, first_removed, last_removed, member_test};
@@ -118,12 +119,12 @@ impl Population {
     }
 
     /// The member that comes next to x in the set of an owner, after it or in reverse before it, 0 for none. None where x is
-    /// not in that set, or there is a fault.
+    /// not in that set, or there is a fault. The system is the owner 0.
     #[inline(always)]
     pub fn onward(&mut self, set: usize, o: i64, n: i64, reverse: bool) -> Option<i64>
         requires set { set < length self.old.layout.sets }
         ensures found { IfSome result (λ y. (member_test self.old set o n ≡ Ok true) × (beside reverse self.old set n ≡ Ok y)) }
-        ensures gone { result ≡ None → member_test self.old set o n ≡ Ok true → ⊥ }
+        ensures gone { (owner_kind self.old.layout set ≡ System → o ≡ pos 0) → result ≡ None → member_test self.old set o n ≡ Ok true → ⊥ }
         ensures same { self.new ≡ self.old }
     {
         self.heap.onward(set, o, n, reverse)
