@@ -10,7 +10,7 @@ ghost use Rattle.ss_meaning.specs.Store.{Notices};
 ghost use Rattle.ss_program.specs.declared.sections.Statistic.{Statistic as StatisticSeen};
 ghost use Rattle.ss_machine_world.specs.Classes.{AreSaid, has_keys, with_rank};
 
-use ss_base::{Layout, Owner};
+use ss_base::{Layout, Owner, RankKey};
 use ss_code_instructions::NoticeClass;
 use ss_program::sections::{Statistic, Subject};
 use std::alloc::{AllocError, Global};
@@ -94,15 +94,28 @@ fn unranked_entries(
     Ok(classes)
 }
 
+// Whether there are keys.
+fn has_keys(keys: &[RankKey]) -> bool
+    ensures { result ≡ has_keys keys.now }
+{
+    match keys {
+        [] => false,
+        [..] => true,
+    }
+}
+
 // Notes the rank of a class of notices, and whether it has ties.
 fn note_rank(classes: &mut [ClassEntry], rank: usize, notice: &NoticeClass)
     ensures known { IfSome (slice_get classes.old notice.now.class) (λ entry. classes.new ≡ slice_set classes.old notice.now.class (with_rank rank notice.now entry)) }
     ensures unknown { slice_get classes.old notice.now.class ≡ None → classes.new ≡ classes.old }
 {
-    let has_ties = !notice.ties().as_slice().is_empty();
-    if let Some(entry) = classes.get_mut(notice.class()) {
-        entry.rank = rank;
-        entry.has_ties = has_ties;
+    let class = notice.class();
+    if class < classes.len() {
+        classes[class] = ClassEntry {
+            is_watched: classes[class].is_watched,
+            has_ties: has_keys(notice.ties().as_slice()),
+            rank,
+        };
     }
 }
 
