@@ -44,7 +44,8 @@ got e = cc
 -- what is found in a row with one item more: it was there, or it is that item
 found_more : {A : Type 0} (P : ℕ → A → Type 0) (xs : List A) (x : A) → ((i : ℕ) (y : A) → slice_get xs i ≡ Some y → P i y) → P (length xs) x → (i : ℕ) (y : A) → slice_get (xs ++ x ∷ []) i ≡ Some y → P i y
 found_more P [] x old new zero y e = subst (P zero) (got e) new
-found_more P [] x old new (suc i) y e = absurd cc
+found_more P [] x old new (suc zero) y e = absurd cc
+found_more P [] x old new (suc (suc i)) y e = absurd cc
 found_more P (z ∷ zs) x old new zero y e = old zero y e
 found_more P (z ∷ zs) x old new (suc i) y e = found_more (λ j. P (suc j)) zs x (λ j w d. old (suc j) w d) new i y e
 
