@@ -9,7 +9,9 @@ use Rattle.ss_base.specs.declared.layout.Discipline.TheVariants.{Fifo, Lifo, Ran
 use Rattle.ss_base.specs.declared.layout.Layout.{Layout}
 use Rattle.ss_base.specs.declared.layout.SetLayout.{SetLayout}
 use Rattle.ss_base.specs.declared.value.Value.{Value}
-use Rattle.ss_base.specs.declared.value.Value.TheVariants.{Whole}
+use Rattle.ss_base.specs.declared.value.Value.TheVariants.{Whole, Text}
+use Rattle.ss_base.specs.declared.layout.Mode.TheVariants.{Integer}
+use Rattle.ss_program.specs.declared.expression.Operator.{Operator}
 use Rattle.ss_program.specs.declared.sections.Statistic.{Statistic}
 use Rattle.ss_program.specs.declared.sections.Subject.{Subject}
 use Rattle.ss_program.specs.declared.sections.Subject.TheVariants.{OfAttribute}
@@ -17,13 +19,15 @@ use Rattle.ss_program.specs.declared.statement.End.{End}
 use Rattle.ss_world.specs.State.{State, modes_of, and_then, assigned, value_in}
 use Rattle.ss_world.specs.Sets.{joiner, owner, owner_in, member_class, put_in, put_beside, put_before, put_after, taken_out, filed_first, filed_last, filed_before, filed_after, removed}
 use Rattle.ss_world.specs.Disciplines.{put_ranked, filed}
+use Rattle.ss_records.specs.Attributes.{changed_number, IsChanged}
 use Rattle.ss_machine_time.specs.Places.{is_about}
 use Rattle.ss_machine_time.specs.Records.{columns_of}
+use Rattle.ss_meaning.specs.Entities.{attribute}
 use Rattle.ss_meaning.specs.Histories.{same_subject, noting, all_noting, noted}
 use Rattle.ss_meaning.specs.Places.{is_of_mode, assigned_attribute}
 use Rattle.ss_meaning.specs.Sets.{Filing, ByRule, Foremost, Hindmost, JustBefore, JustAfter, owner_by_layout, owner_number, member, is_fit, filed_by, filed_in, removed_from, end_removed, removed_at, recounted}
 use Rattle.ss_meaning.specs.Store.{Column, Store, with_heap, with_histories}
-use Rattle.ss_meaning.specs.Values.{Trouble, Fails, if_ok, turned, due, sure, where_fit}
+use Rattle.ss_meaning.specs.Values.{Trouble, Fails, if_ok, turned, due, sure, where_fit, computed, calculated}
 use Rattle.ss_machine_world.specs.Numbers.{RefersTo, attribute_noted, count_noted}
 use Rattle.ss_machine_world.specs.Seen.{Seen, IsRight, with_seen}
 use Rattle.ss_machine_world.proofs.Reading.{value_once, set_once}
@@ -43,6 +47,38 @@ module _ (class field : ℕ) (n : ℤ) (v : Value) (e : Seen) (fits : is_of_mode
   -- or there is a fault
   pub assigned_not : (kind : FaultKind) → assigned e.heap class field n v ≡ Err kind → (s : Store) → assigned_attribute class field (Whole n) v (with_seen s e) ≡ Err (Fails kind)
   assigned_not kind no s = set_once e class field n v s fits ∙ ap (λ r. if_ok (due r) (λ h. noted (OfAttribute class field) n v (with_heap (with_seen s e) h))) no
+
+-- an attribute that is a number is increased or reduced: what the meaning does is to read it, to calculate and to assign
+module _ (op : Operator) (by : ℤ) (class field : ℕ) (x : ℤ) (e : Seen) (mode : slice_get (modes_of e.heap.layout class) field ≡ Some Integer) where
+  abbrev changed : Store → OkOr Store Trouble
+  changed s = if_ok (attribute class field (Whole x) s) (λ v. if_ok (calculated op v (Whole by)) (λ w. assigned_attribute class field (Whole x) w s))
+
+  abbrev changed_from : Store → OkOr Value FaultKind → OkOr Store Trouble
+  changed_from s q = if_ok (due q) (λ v. if_ok (calculated op v (Whole by)) (λ w. assigned_attribute class field (Whole x) w s))
+
+  read : (s : Store) → changed (with_seen s e) ≡ changed_from (with_seen s e) (value_in e.heap class field x)
+  read s = ap (λ r. if_ok r (λ v. if_ok (calculated op v (Whole by)) (λ w. assigned_attribute class field (Whole x) w (with_seen s e)))) (value_once e class field x s (ap is_some mode))
+
+  number_fits : (n : ℤ) → is_of_mode (Whole n) (slice_get (modes_of e.heap.layout class) field) ≡ true
+  number_fits n = ap (is_of_mode (Whole n)) mode
+
+  pub changed_noted : (h : State) → IsChanged (λ z. computed op z by) e.heap class field x h → h.layout ≡ e.heap.layout → (s : Store) → IsRight (changed (with_seen s e)) → changed (with_seen s e) ≡ attribute_noted class field x (with_seen s (record e { heap = h }))
+  changed_noted h is layout s right = read s ∙ sides (value_in e.heap class field x) is.makes (λ wrong. right (read s ∙ wrong))
+    where
+      sides : (q : OkOr Value FaultKind) → changed_number (λ z. computed op z by) q ≡ Ok is.number → IsRight (changed_from (with_seen s e) q) → changed_from (with_seen s e) q ≡ attribute_noted class field x (with_seen s (record e { heap = h }))
+      sides (Err k) makes right = absurd cc
+      sides (Ok (Text t)) makes right = absurd (right refl)
+      sides (Ok (Whole n)) makes right =
+          ap (λ r. if_ok (turned Whole (due r)) (λ w. assigned_attribute class field (Whole x) w (with_seen s e))) makes
+          ∙ assigned_noted class field x (Whole is.number) e (number_fits is.number) h is.is.gives is.is.reads layout (ap is_some mode) s
+
+  pub changed_not : (kind : FaultKind) → changed_number (λ z. computed op z by) (value_in e.heap class field x) ≡ Err kind → (s : Store) → IsRight (changed (with_seen s e)) → changed (with_seen s e) ≡ Err (Fails kind)
+  changed_not kind no s right = read s ∙ sides (value_in e.heap class field x) no (λ wrong. right (read s ∙ wrong))
+    where
+      sides : (q : OkOr Value FaultKind) → changed_number (λ z. computed op z by) q ≡ Err kind → IsRight (changed_from (with_seen s e) q) → changed_from (with_seen s e) q ≡ Err (Fails kind)
+      sides (Err k) no right = let same : k ≡ kind = cc in ap (λ (k : FaultKind). (let r : OkOr Store Trouble = Err (Fails k) in r)) same
+      sides (Ok (Text t)) no right = absurd (right refl)
+      sides (Ok (Whole n)) no right = ap (λ r. if_ok (turned Whole (due r)) (λ w. assigned_attribute class field (Whole x) w (with_seen s e))) no
 
 -- ## Filing and removing
 
