@@ -49,7 +49,7 @@ found_more P [] x old new (suc (suc i)) y e = absurd cc
 found_more P (z ∷ zs) x old new zero y e = old zero y e
 found_more P (z ∷ zs) x old new (suc i) y e = found_more (λ j. P (suc j)) zs x (λ j w d. old (suc j) w d) new i y e
 
-pub length_more : {A : Type 0} (xs : List A) (x : A) → length (xs ++ x ∷ []) ≡ length xs + 1
+length_more : {A : Type 0} (xs : List A) (x : A) → length (xs ++ x ∷ []) ≡ length xs + 1
 length_more [] x = refl
 length_more (z ∷ zs) x = ap suc (length_more zs x)
 
@@ -80,10 +80,31 @@ drop_all (x ∷ xs) = drop_all xs
 
 -- ## How entries are gathered
 
--- one more class, but for its rank
-pub one_said : (l : PlainLayout) (ss : List Statistic) (entries : List ClassEntry) (entry : ClassEntry) → entry.is_watched ≡ list_any (is_home l (Class (length entries))) ss → ((class : ℕ) (e : ClassEntry) → slice_get entries class ≡ Some e → IsSaid 0 l [] ss class e) → (class : ℕ) (e : ClassEntry) → slice_get (entries ++ entry ∷ []) class ≡ Some e → IsSaid 0 l [] ss class e
-one_said l ss entries entry watched said =
-    found_more (IsSaid 0 l [] ss) entries entry said (record { watched = watched; ranked = λ r e. absurd (let none : None ≡ Some r = e in cc) })
+-- the entries of so many classes, but for the ranks
+abbrev pub unranked_entry : PlainLayout → List Statistic → (class : ℕ) → ClassEntry
+unranked_entry l ss class = record { is_watched = list_any (is_home l (Class class)) ss; has_ties = false; rank = 0 }
+
+abbrev pub unranked_to : PlainLayout → List Statistic → (count : ℕ) → List ClassEntry
+unranked_to l ss zero = []
+unranked_to l ss (suc k) = unranked_to l ss k ++ unranked_entry l ss k ∷ []
+
+unranked_length : (l : PlainLayout) (ss : List Statistic) (n : ℕ) → length (unranked_to l ss n) ≡ n
+unranked_length l ss zero = refl
+unranked_length l ss (suc k) = length_more (unranked_to l ss k) (unranked_entry l ss k) ∙ omega (arith, unranked_length l ss k)
+
+unranked_there : (l : PlainLayout) (ss : List Statistic) (n class : ℕ) (e : ClassEntry) → slice_get (unranked_to l ss n) class ≡ Some e → IsSaid 0 l [] ss class e
+unranked_there l ss zero zero e found = absurd cc
+unranked_there l ss zero (suc class) e found = absurd cc
+unranked_there l ss (suc k) class e found =
+    found_more (IsSaid 0 l [] ss) (unranked_to l ss k) (unranked_entry l ss k) (λ class e found. unranked_there l ss k class e found)
+    (record {
+      watched = ap (λ k. list_any (is_home l (Class k)) ss) (sym (unranked_length l ss k));
+      ranked = λ r h. absurd (let none : None ≡ Some r = h in cc);
+    })
+    class e found
+
+pub unranked_said : (l : PlainLayout) (ss : List Statistic) → AreSaid l [] ss (unranked_to l ss (length l.classes))
+unranked_said l ss = (unranked_length l ss (length l.classes), λ class e found. unranked_there l ss (length l.classes) class e found)
 
 -- the rank of one class of notices more
 module _ (k : ℕ) (l : PlainLayout) (n : Notices) (es : List Notices) (ss : List Statistic) where

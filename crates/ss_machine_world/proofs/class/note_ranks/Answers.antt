@@ -6,8 +6,8 @@ use Rattle.ss_machine_world.specs.Classes.{AreSaidFrom}
 use Rattle.ss_machine_world.proofs.Said.{drop_one, drop_all, one_ranked, unranked}
 use Rattle.ss_machine_world.proofs.class.note_ranks.Goals as goal
 
-pub loop-rank-established : goal.loop-rank-established
-loop-rank-established c = record {
+pub loop-rank-init : goal.loop-rank-init
+loop-rank-init c = record {
   within = omega arith;
   said = λ l ss said.
   subst (λ (es : List Notices). AreSaidFrom (length c.args.notices.now) l es ss c.args.classes.now) (sym (drop_all c.args.notices.now)) (unranked (length c.args.notices.now) l ss c.args.classes.now said);
@@ -25,3 +25,8 @@ loop-rank-preserved c =
       (one_ranked k l n (drop (k + 1) es) ss c.loop-rank.classes c.note_rank.new.classes c.note_rank.ensures.known c.note_rank.ensures.unknown
       (subst (λ j. AreSaidFrom j l (drop j es) ss c.loop-rank.classes) (sym next) (c.loop-rank.invariant.said l ss said)));
     }
+
+pub returns : goal.returns
+returns c = λ l ss said.
+    let none : c.loop-rank.rank ≡ 0 = omega (arith, c.loop-rank-test.false) in
+    subst (λ k. AreSaidFrom k l (drop k c.args.notices.now) ss c.loop-rank.classes) none (c.loop-rank.invariant.said l ss said)

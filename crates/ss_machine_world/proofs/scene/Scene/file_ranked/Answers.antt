@@ -1,11 +1,11 @@
-use Rattle.std.proofs.Common.{rules, ◌≡◌, ◌≤◌, List, length, Some, refl, ap, sym, ◌∙◌, subst, to_z, of_z, w64}
+use Rattle.std.proofs.Common.{rules, ◌≡◌, List, length, Some, None, refl, ap, sym, ◌∙◌, subst, to_z, of_z, w64}
 use Rattle.std.specs.Prelude.{slice_get}
-use Rattle.std.proofs.lemmas.Option.{slice_get_read}
+use Rattle.std.proofs.lemmas.Option.{slice_get_read, slice_get_past}
 use Rattle.ss_base.specs.declared.layout.Discipline.{Discipline}
 use Rattle.ss_world.specs.State.{State}
 use Rattle.ss_world.specs.Disciplines.{FitsMembers, filed}
 use Rattle.ss_machine_world.specs.Seen.{Seen, Rearranges}
-use Rattle.ss_machine_world.proofs.Ruling.{no_discipline, ruled_by}
+use Rattle.ss_machine_world.proofs.Ruling.{ruled_by}
 use Rattle.ss_machine_world.proofs.Starting.{seen_of}
 use Rattle.ss_machine_world.proofs.scene.Scene.file_ranked.Goals as goal
 
@@ -33,5 +33,6 @@ returns-in-Some c = λ d has.
 pub returns-in-None : goal.returns-in-None
 returns-in-None c = λ d has.
     let i = c.self.inside in
-    absurd (no_discipline i.disciplines.items c.args.set d (subst (λ (ds : List Discipline). length ds ≤ c.args.set) c.deref.ensures.value c.in-None.ensures.lookup)
-    (ap (λ (v : Seen). slice_get v.disciplines c.args.set) c.self.view_is ∙ has))
+    let g = rw c.deref.ensures.value at c.in-None.ensures.lookup in
+    let none : slice_get i.disciplines.items c.args.set ≡ None = slice_get_past i.disciplines.items c.args.set g.3 in
+    absurd (let never : None ≡ Some d = sym none ∙ ap (λ (v : Seen). slice_get v.disciplines c.args.set) c.self.view_is ∙ has in cc)
