@@ -156,6 +156,11 @@ pub unranked : (k : ℕ) (l : PlainLayout) (ss : List Statistic) (entries : List
 unranked k l ss entries said =
     (said.0, λ class e found. record { watched = (said.1 class e found).watched; ranked = λ r h. absurd (let none : None ≡ Some r = h in cc) })
 
+-- what is said stays so where the classes and sets and the statistics are the same
+pub said_still : (l m : PlainLayout) (es : List Notices) (ss ts : List Statistic) (entries : List ClassEntry) → m ≡ l → ts ≡ ss → AreSaid l es ss entries → AreSaid m es ts entries
+said_still l m es ss ts entries layout statistics said =
+    subst (λ (m : PlainLayout). AreSaid m es ts entries) (sym layout) (subst (λ (ts : List Statistic). AreSaid l es ts entries) (sym statistics) said)
+
 -- ## Ranks
 
 -- what the program says of a class of notices stands at its rank
