@@ -62,8 +62,9 @@ impl Scene {
         ensures histories { IfOk result (λ scene. columns_of scene.histories ≡ starting layout System (int_eq (pos 0)) (pos 0) statistics.now (no_histories statistics.now)) }
     {
         let population = Population::new(alloc, layout)?;
-        let timeline = Timeline::new(alloc, population.layout(), shapes, statistics)?;
-        let classes = class_entries(alloc, population.layout(), &notices, statistics)?;
+        let plan = population.layout();
+        let timeline = Timeline::new(alloc, plan, shapes, statistics)?;
+        let classes = class_entries(alloc, plan, &notices, statistics)?;
         Ok(Scene {
             population,
             disciplines,
