@@ -1,4 +1,3 @@
-mod Ranking
 pub mod Counting
 pub mod Refiled
-pub mod Fitting
+mod Living

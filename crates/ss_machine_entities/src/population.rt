@@ -1,13 +1,12 @@
 //! The entities of a run, and how many of each permanent class are made.
 
-ghost use Rattle.std.specs.Prelude.{◌≡◌, ℕ, ◌<◌, true, false, length, pos, IfOk, IfSome, MatchResult, None, Some, Ok, Err, replicate, slice_get, slice_set};
-ghost use Rattle.ss_base.specs.Layout.{mode_of};
-ghost use Rattle.ss_base.specs.declared.layout.Owner.TheVariants.{Class};
-ghost use Rattle.ss_records.specs.Added.{Added};
-ghost use Rattle.ss_records.specs.Classed.{HasClass};
+ghost use Rattle.std.specs.Prelude.{◌≡◌, ℕ, ◌<◌, length, pos, IfOk, MatchResult, None, Some, Ok, Err, replicate, slice_get, slice_set};
+ghost use Rattle.ss_base.specs.Arithmetic.{plus_of, minus_of};
+ghost use Rattle.ss_meaning.specs.Fitting.{living};
 ghost use Rattle.ss_records.specs.Kept.{IsPermanent};
 ghost use Rattle.ss_records.specs.State.{first_state, is_made, records_in, known_in, value_in, time_in, assigned, timed, created, created_all, destroyed, kind_of, modes_of, no_value, RefusedFor};
-ghost use Rattle.ss_records.specs.Sets.{owner_kind, first_in, last_in, count_in, next_in, previous_in, owner_of_member};
+ghost use Rattle.ss_records.specs.Sets.{joiner, owner, first_in, last_in, count_in, next_in, previous_in, owner_of_member};
+ghost use Rattle.ss_records.specs.Attributes.{changed_number, IsAssigned, IsChanged};
 
 mod filing;
 
@@ -71,14 +70,21 @@ impl Population {
 
     /// The class of a temporary entity or a notice by its number: none where no entity of that number is living.
     #[inline(always)]
-    pub fn class_of(&self, n: i64) -> Option<usize> {
+    pub fn class_of(&self, n: i64) -> Option<usize>
+        ensures { result ≡ living self.now n }
+    {
         self.heap.class_of(n)
     }
 
     /// The mode of an attribute.
     #[inline(always)]
-    pub fn mode(&self, class: usize, field: usize) -> Mode {
-        self.heap.layout().classes[class].fields[field]
+    pub fn mode(&self, class: usize, field: usize) -> Mode
+        requires class { class < length self.now.layout.classes }
+        requires field { field < length (modes_of self.now.layout class) }
+        ensures { slice_get (modes_of self.now.layout class) field ≡ Some result }
+    {
+        let class = &self.heap.layout().classes[class];
+        class.fields[field]
     }
 
     /// The value of an attribute. Faults: 1 to 5.
@@ -96,14 +102,18 @@ impl Population {
     pub fn whole(&self, class: usize, field: usize, n: i64) -> Result<i64, FaultKind>
         requires class { class < length self.now.layout.classes }
         requires mode { slice_get (modes_of self.now.layout class) field ≡ Some Mode.Integer }
-        ensures { IfSome result (λ whole. value_in self.now class field n ≡ Ok (Value.Whole whole)) }
+        ensures { MatchResult result (λ whole. value_in self.now class field n ≡ Ok (Value.Whole whole)) (λ e. value_in self.now class field n ≡ Err e) }
     {
         self.heap.whole(class, field, n)
     }
 
     /// The text that an attribute is. Faults: 1 to 5.
     #[inline(always)]
-    pub fn text(&self, class: usize, field: usize, n: i64) -> Result<Alpha, FaultKind> {
+    pub fn text(&self, class: usize, field: usize, n: i64) -> Result<Alpha, FaultKind>
+        requires class { class < length self.now.layout.classes }
+        requires mode { slice_get (modes_of self.now.layout class) field ≡ Some Mode.Alpha }
+        ensures { MatchResult result (λ text. value_in self.now class field n ≡ Ok (Value.Text text)) (λ e. value_in self.now class field n ≡ Err e) }
+    {
         self.heap.text(class, field, n)
     }
 
@@ -115,7 +125,12 @@ impl Population {
         field: usize,
         n: i64,
         text: Alpha,
-    ) -> Result<(), FaultKind> {
+    ) -> Result<(), FaultKind>
+        requires class { class < length self.old.layout.classes }
+        requires mode { slice_get (modes_of self.old.layout class) field ≡ Some Mode.Alpha }
+        ensures done { MatchResult result (λ _. assigned self.old class field n (Value.Text text) ≡ Ok self.new) (λ e. (assigned self.old class field n (Value.Text text) ≡ Err e) × (self.new ≡ self.old)) }
+        ensures layout { self.new.layout ≡ self.old.layout }
+    {
         self.heap.set_text(class, field, n, text)
     }
 
@@ -130,8 +145,8 @@ impl Population {
     ) -> Result<(), FaultKind>
         requires class { class < length self.old.layout.classes }
         requires mode { slice_get (modes_of self.old.layout class) field ≡ Some Mode.Integer }
-        ensures done { result ≡ true → assigned self.old class field n (Value.Whole value) ≡ Ok self.new }
-        ensures same { result ≡ false → self.new ≡ self.old }
+        ensures done { MatchResult result (λ _. IsAssigned self.old class field n value self.new) (λ e. (assigned self.old class field n (Value.Whole value) ≡ Err e) × (self.new ≡ self.old)) }
+        ensures layout { self.new.layout ≡ self.old.layout }
     {
         self.heap.set_whole(class, field, n, value)
     }
@@ -147,6 +162,8 @@ impl Population {
     ) -> Result<(), FaultKind>
         requires class { class < length self.old.layout.classes }
         requires mode { slice_get (modes_of self.old.layout class) field ≡ Some Mode.Integer }
+        ensures done { MatchResult result (λ _. IsChanged (λ z. plus_of z by) self.old class field n self.new) (λ e. (changed_number (λ z. plus_of z by) (value_in self.old class field n) ≡ Err e) × (self.new ≡ self.old)) }
+        ensures layout { self.new.layout ≡ self.old.layout }
     {
         self.heap.add_whole(class, field, n, by)
     }
@@ -162,6 +179,8 @@ impl Population {
     ) -> Result<(), FaultKind>
         requires class { class < length self.old.layout.classes }
         requires mode { slice_get (modes_of self.old.layout class) field ≡ Some Mode.Integer }
+        ensures done { MatchResult result (λ _. IsChanged (λ z. minus_of z by) self.old class field n self.new) (λ e. (changed_number (λ z. minus_of z by) (value_in self.old class field n) ≡ Err e) × (self.new ≡ self.old)) }
+        ensures layout { self.new.layout ≡ self.old.layout }
     {
         self.heap.subtract_whole(class, field, n, by)
     }
@@ -177,7 +196,8 @@ impl Population {
     /// Sets TIME.A of a notice. Faults: 1 to 4.
     #[inline(always)]
     pub fn set_time_a(&mut self, n: i64, t: i64) -> Result<(), FaultKind>
-        ensures { MatchResult result (λ _. timed self.old n t ≡ Ok self.new) (λ e. (timed self.old n t ≡ Err e) × (self.new ≡ self.old)) }
+        ensures done { MatchResult result (λ _. timed self.old n t ≡ Ok self.new) (λ e. (timed self.old n t ≡ Err e) × (self.new ≡ self.old)) }
+        ensures layout { self.new.layout ≡ self.old.layout }
     {
         self.heap.set_time_a(n, t)
     }
@@ -189,12 +209,14 @@ impl Population {
         self.heap.may_create()
     }
 
-    /// A new entity of a class whose entities come and go. Faults: 14 after the last number.
+    /// A new entity of a class whose entities come and go. Faults: 14 after the last number. It is out of memory only where that is not
+    /// due.
     #[inline(always)]
     pub fn create(&mut self, class: usize) -> Result<i64, Refused>
         requires class { class < length self.old.layout.classes }
         requires kind { IsPermanent (kind_of self.old.layout class) → ⊥ }
-        ensures { MatchResult result (λ n. created self.old class ≡ Ok (n, self.new)) (λ e. (self.new ≡ self.old) × RefusedFor (created self.old class) e) }
+        ensures done { MatchResult result (λ n. created self.old class ≡ Ok (n, self.new)) (λ e. (self.new ≡ self.old) × RefusedFor (created self.old class) e) }
+        ensures layout { self.new.layout ≡ self.old.layout }
     {
         self.heap.create(class)
     }
@@ -207,11 +229,13 @@ impl Population {
         self.heap.may_create_all(class, count)
     }
 
-    /// All entities of a permanent class. Faults: 18 where they are made, then 22 for a bad count.
+    /// All entities of a permanent class. Faults: 18 where they are made, then 22 for a bad count. It is out of memory only where neither
+    /// is due.
     pub fn create_all(&mut self, class: usize, count: i64) -> Result<(), Refused>
         requires class { class < length self.old.layout.classes }
         requires kind { IsPermanent (kind_of self.old.layout class) }
-        ensures { MatchResult result (λ _. created_all self.old class count ≡ Ok self.new) (λ e. (self.new ≡ self.old) × RefusedFor (created_all self.old class count) e) }
+        ensures done { MatchResult result (λ _. created_all self.old class count ≡ Ok self.new) (λ e. (self.new ≡ self.old) × RefusedFor (created_all self.old class count) e) }
+        ensures layout { self.new.layout ≡ self.old.layout }
     {
         match self.heap.create_all(class, count) {
             Err(refused) => Err(refused),
@@ -237,7 +261,8 @@ impl Population {
     pub fn destroy(&mut self, class: usize, n: i64) -> Result<(), FaultKind>
         requires class { class < length self.old.layout.classes }
         requires kind { IsPermanent (kind_of self.old.layout class) → ⊥ }
-        ensures { MatchResult result (λ _. destroyed self.old class n ≡ Ok self.new) (λ e. (destroyed self.old class n ≡ Err e) × (self.new ≡ self.old)) }
+        ensures done { MatchResult result (λ _. destroyed self.old class n ≡ Ok self.new) (λ e. (destroyed self.old class n ≡ Err e) × (self.new ≡ self.old)) }
+        ensures layout { self.new.layout ≡ self.old.layout }
     {
         self.heap.destroy(class, n)
     }
@@ -274,13 +299,19 @@ impl Population {
 
     /// Whether a number may be a member of a set. Faults: 1 to 5.
     #[inline(always)]
-    pub fn look_member(&self, set: usize, n: i64) -> Result<(), FaultKind> {
+    pub fn look_member(&self, set: usize, n: i64) -> Result<(), FaultKind>
+        requires set { set < length self.now.layout.sets }
+        ensures { result ≡ no_value (joiner self.now set n) }
+    {
         self.heap.look_member(set, n)
     }
 
     /// Whether a number is an owner of a set. Faults: 1 to 5.
     #[inline(always)]
-    pub fn look_owner(&self, set: usize, o: i64) -> Result<(), FaultKind> {
+    pub fn look_owner(&self, set: usize, o: i64) -> Result<(), FaultKind>
+        requires set { set < length self.now.layout.sets }
+        ensures { result ≡ no_value (owner self.now set o) }
+    {
         self.heap.look_owner(set, o)
     }
 

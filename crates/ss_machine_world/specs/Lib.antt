@@ -4,3 +4,5 @@ pub use Rattle.ss_records.specs.Filter
 pub use Rattle.ss_records.specs.Skimmed
 pub use Rattle.ss_records.specs.Skimming
 pub mod Seen
+pub mod Numbers
+pub mod Classes

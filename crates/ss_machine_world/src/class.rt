@@ -1,6 +1,16 @@
 //! What a program says of a class: it is looked up as entities come and go.
 
-use ss_base::{Layout, Owner};
+ghost use Rattle.std.specs.Prelude.{◌≡◌, ◌<◌, List, [], length, Some, None, slice_get, slice_set, IfOk, IfSome};
+ghost use Rattle.std.specs.List.{list_any};
+ghost use Rattle.ss_base.specs.Plain.{PlainLayout};
+ghost use Rattle.ss_base.specs.declared.layout.Owner.TheVariants.{Class};
+ghost use Rattle.ss_machine_time.specs.Records.{is_home};
+ghost use Rattle.ss_meaning.specs.Events.{Ranked, ranked_from};
+ghost use Rattle.ss_meaning.specs.Store.{Notices};
+ghost use Rattle.ss_program.specs.declared.sections.Statistic.{Statistic as StatisticSeen};
+ghost use Rattle.ss_machine_world.specs.Classes.{AreSaid, has_keys, with_rank};
+
+use ss_base::{Layout, Owner, RankKey};
 use ss_code_instructions::NoticeClass;
 use ss_program::sections::{Statistic, Subject};
 use std::alloc::{AllocError, Global};
@@ -14,27 +24,109 @@ pub struct ClassEntry {
     pub rank: usize,
 }
 
-// Whether a statistic has a history of each entity of a class.
-fn is_about(layout: &Layout, class: usize, statistic: &Statistic) -> bool {
+/// Whether a statistic has a history of each entity of a class.
+#[inline(always)]
+pub(crate) fn is_watched(classes: &[ClassEntry], class: usize) -> bool
+    requires class { class < length classes.now }
+    ensures { (l : PlainLayout) (es : List Notices) (ss : List StatisticSeen) → AreSaid l es ss classes.now → result ≡ list_any (is_home l (Class class)) ss }
+{
+    classes[class].is_watched
+}
+
+/// The rank of a class of notices.
+#[inline(always)]
+pub(crate) fn rank_of(classes: &[ClassEntry], class: usize) -> usize
+    requires class { class < length classes.now }
+    ensures { (l : PlainLayout) (es : List Notices) (ss : List StatisticSeen) → AreSaid l es ss classes.now → (r : Ranked) → ranked_from 0 es class ≡ Some r → result ≡ r.rank }
+{
+    classes[class].rank
+}
+
+/// Whether attributes break ties of the notices of a class.
+#[inline(always)]
+pub(crate) fn has_ties(classes: &[ClassEntry], class: usize) -> bool
+    requires class { class < length classes.now }
+    ensures { (l : PlainLayout) (es : List Notices) (ss : List StatisticSeen) → AreSaid l es ss classes.now → (r : Ranked) → ranked_from 0 es class ≡ Some r → result ≡ has_keys r.said.ties }
+{
+    classes[class].has_ties
+}
+
+// Whether this statistic has a history of each entity of a class.
+fn is_about(layout: &Layout, class: usize, statistic: &Statistic) -> bool
+    ensures { result ≡ is_home layout.now (Class class) statistic.now }
+{
     match statistic.subject {
         Subject::OfVariable { .. } => false,
         Subject::OfAttribute { class: of, .. } => of == class,
         Subject::OfCount { set } => match layout.sets.get(set) {
             None => false,
-            Some(found) => found.owner == Owner::Class(class),
+            Some(found) => match found.owner {
+                Owner::System => false,
+                Owner::Class(owner) => owner == class,
+            },
         },
     }
 }
 
-// Notes the ranks of the classes of notices, and whether they have ties.
-fn note_ranks(classes: &mut [ClassEntry], notices: &[NoticeClass]) {
-    for rank in 0..notices.len() {
-        let notice = &notices[rank];
-        let has_ties = !notice.ties().as_slice().is_empty();
-        if let Some(entry) = classes.get_mut(notice.class()) {
-            entry.rank = rank;
-            entry.has_ties = has_ties;
-        }
+// Whether one of these statistics has one.
+fn is_about_any(layout: &Layout, class: usize, statistics: &[Statistic]) -> bool
+    ensures { result ≡ list_any (is_home layout.now (Class class)) statistics.now }
+{
+    statistics.iter().any(|it| is_about(layout, class, it))
+}
+
+// What a program says of each class of a layout, but for the ranks. The error comes where memory was refused.
+fn unranked_entries(
+    alloc: Global,
+    layout: &Layout,
+    statistics: &[Statistic],
+) -> Result<Vec<ClassEntry>, AllocError>
+    ensures { IfOk result (λ classes. AreSaid layout.now [] statistics.now classes.items) }
+{
+    let mut classes = Vec::with_capacity(alloc, layout.classes.len())?;
+    for class in 0..layout.classes.len() {
+        classes.push(ClassEntry {
+            is_watched: is_about_any(layout, class, statistics),
+            has_ties: false,
+            rank: 0,
+        })?;
+    }
+    Ok(classes)
+}
+
+// Whether there are keys.
+fn has_keys(keys: &[RankKey]) -> bool
+    ensures { result ≡ has_keys keys.now }
+{
+    match keys {
+        [] => false,
+        [..] => true,
+    }
+}
+
+// Notes the rank of a class of notices, and whether it has ties.
+fn note_rank(classes: &mut [ClassEntry], rank: usize, notice: &NoticeClass)
+    ensures known { IfSome (slice_get classes.old notice.now.class) (λ entry. classes.new ≡ slice_set classes.old notice.now.class (with_rank rank notice.now entry)) }
+    ensures unknown { slice_get classes.old notice.now.class ≡ None → classes.new ≡ classes.old }
+{
+    let class = notice.class();
+    if class < classes.len() {
+        classes[class] = ClassEntry {
+            is_watched: classes[class].is_watched,
+            has_ties: has_keys(notice.ties().as_slice()),
+            rank,
+        };
+    }
+}
+
+// Notes the ranks of the classes of notices, the last first: of two entries of one class the first counts.
+fn note_ranks(classes: &mut [ClassEntry], notices: &[NoticeClass])
+    ensures { (l : PlainLayout) (ss : List StatisticSeen) → AreSaid l [] ss classes.old → AreSaid l notices.now ss classes.new }
+{
+    let mut rank = notices.len();
+    while rank > 0 {
+        rank -= 1;
+        note_rank(classes, rank, &notices[rank]);
     }
 }
 
@@ -44,16 +136,10 @@ pub(crate) fn class_entries(
     layout: &Layout,
     notices: &[NoticeClass],
     statistics: &[Statistic],
-) -> Result<Vec<ClassEntry>, AllocError> {
-    let mut classes = Vec::with_capacity(alloc, layout.classes.len())?;
-    for class in 0..layout.classes.len() {
-        let is_watched = statistics.iter().any(|it| is_about(layout, class, it));
-        classes.push(ClassEntry {
-            is_watched,
-            has_ties: false,
-            rank: 0,
-        })?;
-    }
+) -> Result<Vec<ClassEntry>, AllocError>
+    ensures { IfOk result (λ classes. AreSaid layout.now notices.now statistics.now classes.items) }
+{
+    let mut classes = unranked_entries(alloc, layout, statistics)?;
     note_ranks(&mut classes, notices);
     Ok(classes)
 }

@@ -1,14 +1,33 @@
 //! Entities that come and go, and how many of a class there are.
 
+ghost use Rattle.std.specs.Prelude.{◌≡◌, ℕ, ◌<◌, true, List, length, slice_get, None, Ok, Err, IfSome};
+ghost use Rattle.ss_base.specs.declared.value.Value.TheVariants.{Whole};
+ghost use Rattle.ss_meaning.specs.Entities.{is_single, is_permanent, made_one, gone, without};
+ghost use Rattle.ss_meaning.specs.Events.{unscheduled};
+ghost use Rattle.ss_meaning.specs.Histories.{ending};
+ghost use Rattle.ss_meaning.specs.Store.{Store as StoreSeen, Notices as NoticesSeen};
+ghost use Rattle.ss_meaning.specs.Values.{Fails};
+ghost use Rattle.ss_world.specs.PendingList.{is_pending};
+ghost use Rattle.ss_machine_time.specs.Times.{IsAt, columns};
+ghost use Rattle.ss_machine_world.specs.Classes.{AreSaid};
+ghost use Rattle.ss_machine_world.specs.Numbers.{created_all_known, count_open};
+ghost use Rattle.ss_machine_world.specs.Seen.{Looks, Changes, GoesWell, Makes, ChangesWithMemory, without_value, with_seen};
+
+use crate::class::{ClassEntry, is_watched};
 use crate::scene::Scene;
-use ss_base::{FaultKind, Refused};
+use ss_base::{FaultKind, Layout, Refused};
+use ss_machine_time::Timeline;
 
 impl Scene {
     /// A new entity of a class whose entities come and go, with its histories: its number. Faults: 14 after the last number. It is
     /// out of memory only where that is not due.
     #[inline(always)]
-    pub fn create(&mut self, class: usize) -> Result<i64, Refused> {
-        if !self.classes[class].is_watched {
+    pub fn create(&mut self, class: usize) -> Result<i64, Refused>
+        requires class { class < length self.old.heap.layout.classes }
+        requires single { is_single (slice_get self.old.heap.layout.classes class) ≡ true }
+        ensures { Makes (made_one class) self.old self.new result }
+    {
+        if !is_watched(&self.classes, class) {
             return self.population.create(class);
         }
         match self.create_watched(class) {
@@ -17,17 +36,25 @@ impl Scene {
         }
     }
 
-    // A new entity of a class of which there are histories. Room for them is made first.
+    // A new entity of a class of which there are histories, if it could be made. Room for them is made first.
     #[inline(never)]
-    fn create_watched(&mut self, class: usize) -> Option<i64> {
-        let layout = self.population.layout();
-        if self.timeline.reserve(layout, class, 1).is_err() {
+    fn create_watched(&mut self, class: usize) -> Option<i64>
+        requires class { class < length self.old.heap.layout.classes }
+        requires single { is_single (slice_get self.old.heap.layout.classes class) ≡ true }
+        ensures made { IfSome result (λ number. Makes (made_one class) self.old self.new (Ok number)) }
+        ensures same { result ≡ None → self.new ≡ self.old }
+    {
+        if self
+            .timeline
+            .reserve(self.population.layout(), class, 1)
+            .is_err()
+        {
             return None;
         }
         match self.population.create(class) {
             Ok(number) => {
-                let layout = self.population.layout();
-                self.timeline.start(layout, class, number);
+                self.timeline
+                    .start(self.population.layout(), class, number);
                 Some(number)
             }
             Err(_) => None,
@@ -37,7 +64,9 @@ impl Scene {
     // Why there is no new entity.
     #[cold]
     #[inline(never)]
-    fn uncreated(&self) -> Refused {
+    fn uncreated(&self) -> Refused
+        ensures { (class : ℕ) → is_single (slice_get self.now.heap.layout.classes class) ≡ true → Makes (made_one class) self.now self.now (Err result) }
+    {
         match self.population.may_create() {
             Err(kind) => Refused::Fault(kind),
             Ok(()) => Refused::Memory,
@@ -46,7 +75,11 @@ impl Scene {
 
     /// All entities of a permanent class, so many, whose histories start. Faults: 18 where they are made, then 22 for a bad count.
     /// It is out of memory only where neither is due.
-    pub fn create_all(&mut self, class: usize, count: i64) -> Result<(), Refused> {
+    pub fn create_all(&mut self, class: usize, count: i64) -> Result<(), Refused>
+        requires class { class < length self.old.heap.layout.classes }
+        requires permanent { is_permanent (slice_get self.old.heap.layout.classes class) ≡ true }
+        ensures { ChangesWithMemory (created_all_known class count) self.old self.new result }
+    {
         match self.population.may_create_all(class, count) {
             Err(kind) => Err(Refused::Fault(kind)),
             Ok(()) => self.create_counted(class, count),
@@ -54,15 +87,24 @@ impl Scene {
     }
 
     // All entities of a permanent class, for a count at which no fault is due: room for the histories is made first.
-    fn create_counted(&mut self, class: usize, count: i64) -> Result<(), Refused> {
-        let layout = self.population.layout();
-        if self.timeline.reserve(layout, class, count).is_err() {
+    fn create_counted(&mut self, class: usize, count: i64) -> Result<(), Refused>
+        requires class { class < length self.old.heap.layout.classes }
+        requires permanent { is_permanent (slice_get self.old.heap.layout.classes class) ≡ true }
+        requires well { GoesWell (created_all_known class count) self.old }
+        ensures { ChangesWithMemory (created_all_known class count) self.old self.new result }
+    {
+        if self
+            .timeline
+            .reserve(self.population.layout(), class, count)
+            .is_err()
+        {
             return Err(Refused::Memory);
         }
         match self.population.create_all(class, count) {
             Ok(()) => {
-                let layout = self.population.layout();
-                self.timeline.start_all(layout, class, count);
+                let made = self.population.count(class);
+                self.timeline
+                    .start_all(self.population.layout(), class, made);
                 Ok(())
             }
             Err(refused) => Err(refused),
@@ -71,7 +113,11 @@ impl Scene {
 
     /// An entity goes, and its histories end, unless it is pending. Faults: 1 to 4, then 21, then 9 and 10.
     #[inline(always)]
-    pub fn destroy(&mut self, class: usize, number: i64) -> Result<(), FaultKind> {
+    pub fn destroy(&mut self, class: usize, number: i64) -> Result<(), FaultKind>
+        requires class { class < length self.old.heap.layout.classes }
+        requires single { is_single (slice_get self.old.heap.layout.classes class) ≡ true }
+        ensures { Changes (without class (Whole number)) self.old self.new result }
+    {
         if self.timeline.is_scheduled(number) {
             return Err(self.scheduled(class, number));
         }
@@ -81,21 +127,43 @@ impl Scene {
     // Why an entity that is pending does not go.
     #[cold]
     #[inline(never)]
-    fn scheduled(&self, class: usize, number: i64) -> FaultKind {
+    fn scheduled(&self, class: usize, number: i64) -> FaultKind
+        requires class { class < length self.now.heap.layout.classes }
+        requires pending { is_pending number self.now.pending.entries ≡ true }
+        ensures { (s : StoreSeen) → without class (Whole number) (with_seen s self.now) ≡ Err (Fails result) }
+    {
         match self.population.known(class, number) {
             Ok(()) => FaultKind::Scheduled,
             Err(kind) => kind,
         }
     }
 
+    /// Whether `remove_entity` lets an entity go. Faults: those of `remove_entity`.
+    pub fn may_remove(&mut self, class: usize, number: i64) -> Result<(), FaultKind>
+        requires class { class < length self.old.heap.layout.classes }
+        requires single { is_single (slice_get self.old.heap.layout.classes class) ≡ true }
+        ensures value { Looks (without_value (gone class (Whole number))) self.old result }
+        ensures same { self.new ≡ self.old }
+    {
+        self.population.may_destroy(class, number)
+    }
+
     /// An entity goes, and its histories end, whether or not it is pending. Faults: 1 to 4, then 9 and 10.
     #[inline(always)]
-    pub fn remove_entity(&mut self, class: usize, number: i64) -> Result<(), FaultKind> {
+    pub fn remove_entity(&mut self, class: usize, number: i64) -> Result<(), FaultKind>
+        requires class { class < length self.old.heap.layout.classes }
+        requires single { is_single (slice_get self.old.heap.layout.classes class) ≡ true }
+        ensures { Changes (gone class (Whole number)) self.old self.new result }
+    {
         match self.population.destroy(class, number) {
             Ok(()) => {
-                if self.classes[class].is_watched {
-                    self.timeline.end(self.population.layout(), class, number);
-                }
+                end_histories(
+                    &mut self.timeline,
+                    &self.classes,
+                    self.population.layout(),
+                    class,
+                    number,
+                );
                 Ok(())
             }
             Err(kind) => Err(kind),
@@ -103,7 +171,9 @@ impl Scene {
     }
 
     /// Whether N. of a permanent class may be assigned a value. Faults: 18 where its entities are made.
-    pub fn look_count(&self, class: usize) -> Result<(), FaultKind> {
+    pub fn look_count(&self, class: usize) -> Result<(), FaultKind>
+        ensures { Looks (count_open class) self.now result }
+    {
         if self.population.is_made(class) {
             return Err(FaultKind::CreatedTwice);
         }
@@ -112,10 +182,33 @@ impl Scene {
 
     /// A notice is pending no longer. It stays, and so does its TIME.A. Faults: 1 to 4, then 12.
     #[inline(never)]
-    pub fn cancel(&mut self, class: usize, notice: i64) -> Result<(), FaultKind> {
+    pub fn cancel(&mut self, class: usize, notice: i64) -> Result<(), FaultKind>
+        requires class { class < length self.old.heap.layout.classes }
+        ensures { Changes (unscheduled class (Whole notice)) self.old self.new result }
+    {
         match self.population.known(class, notice) {
             Ok(()) => self.timeline.cancel(notice),
             Err(kind) => Err(kind),
         }
     }
+}
+
+// The histories of an entity of a class end, where it has any.
+#[inline(always)]
+fn end_histories(
+    timeline: &mut Timeline,
+    classes: &[ClassEntry],
+    layout: &Layout,
+    class: usize,
+    number: i64,
+)
+    requires class { class < length classes.now }
+    requires said { (es : List NoticesSeen) × AreSaid layout.now es timeline.old.histories.statistics classes.now }
+    ensures ended { columns timeline.new ≡ ending layout.now class number timeline.old.histories.statistics (columns timeline.old) }
+    ensures same { IsAt timeline.old timeline.new }
+{
+    if !is_watched(classes, class) {
+        return;
+    }
+    timeline.end(layout, class, number);
 }

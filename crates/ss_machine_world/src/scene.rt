@@ -1,14 +1,16 @@
 //! What a run works on beside its variables.
 
-ghost use Rattle.std.specs.Prelude.{◌≡◌, IfOk, map, pos};
+ghost use Rattle.std.specs.Prelude.{◌≡◌, ◌<◌, length, Some, IfOk, map, pos};
 ghost use Rattle.ss_world.specs.State.{first_state};
 ghost use Rattle.std.specs.Ordering.{int_eq};
 ghost use Rattle.ss_base.specs.declared.layout.Owner.TheVariants.{System};
 ghost use Rattle.ss_world.specs.PendingList.{none_pending};
 ghost use Rattle.ss_machine_time.specs.Records.{columns_of};
+ghost use Rattle.ss_meaning.specs.Events.{Ranked, ranked_from};
 ghost use Rattle.ss_meaning.specs.Histories.{no_histories, starting};
+ghost use Rattle.ss_machine_world.specs.Classes.{has_keys};
 
-use crate::class::{ClassEntry, class_entries};
+use crate::class::{ClassEntry, class_entries, has_ties, rank_of};
 use ss_base::{Discipline, Layout};
 use ss_code_instructions::NoticeClass;
 use ss_machine_entities::population::Population;
@@ -35,10 +37,13 @@ pub struct Scene {
 
 impl Model for Scene {
     ghost use Rattle.ss_machine_world.specs.Seen.{Seen};
+    ghost use Rattle.ss_machine_world.specs.Classes.{AreSaid};
 
     ghost Value = { Seen };
 
     ghost view = { λ s. record { disciplines = s.disciplines.items; notices = s.notices.items; statistics = s.timeline.histories.statistics; heap = s.population; time = s.timeline.time; pending = s.timeline.pending; histories = s.timeline.histories.rows } };
+
+    ghost invariant = { λ s. AreSaid s.population.layout s.notices.items s.timeline.histories.statistics s.classes.items };
 }
 
 impl Scene {
@@ -57,8 +62,9 @@ impl Scene {
         ensures histories { IfOk result (λ scene. columns_of scene.histories ≡ starting layout System (int_eq (pos 0)) (pos 0) statistics.now (no_histories statistics.now)) }
     {
         let population = Population::new(alloc, layout)?;
-        let timeline = Timeline::new(alloc, population.layout(), shapes, statistics)?;
-        let classes = class_entries(alloc, population.layout(), &notices, statistics)?;
+        let plan = population.layout();
+        let timeline = Timeline::new(alloc, plan, shapes, statistics)?;
+        let classes = class_entries(alloc, plan, &notices, statistics)?;
         Ok(Scene {
             population,
             disciplines,
@@ -70,13 +76,19 @@ impl Scene {
 
     /// The rank of a class of notices.
     #[inline(always)]
-    pub fn rank(&self, class: usize) -> usize {
-        self.classes[class].rank
+    pub fn rank(&self, class: usize) -> usize
+        requires class { class < length self.now.heap.layout.classes }
+        ensures { (r : Ranked) → ranked_from 0 self.now.notices class ≡ Some r → result ≡ r.rank }
+    {
+        rank_of(&self.classes, class)
     }
 
     /// Whether attributes break ties of the notices of a class.
     #[inline(always)]
-    pub fn has_ties(&self, class: usize) -> bool {
-        self.classes[class].has_ties
+    pub fn has_ties(&self, class: usize) -> bool
+        requires class { class < length self.now.heap.layout.classes }
+        ensures { (r : Ranked) → ranked_from 0 self.now.notices class ≡ Some r → result ≡ has_keys r.said.ties }
+    {
+        has_ties(&self.classes, class)
     }
 }

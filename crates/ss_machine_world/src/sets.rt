@@ -1,5 +1,12 @@
 //! Sets: filing by the discipline, and where walks along them begin.
 
+ghost use Rattle.std.specs.Prelude.{◌≡◌, ◌<◌, length, Some, slice_get};
+ghost use Rattle.ss_base.specs.declared.layout.Discipline.{Discipline};
+ghost use Rattle.ss_meaning.specs.Sets.{outset};
+ghost use Rattle.ss_world.specs.Disciplines.{FitsMembers, filed};
+ghost use Rattle.ss_machine_world.specs.Numbers.{begun_from};
+ghost use Rattle.ss_machine_world.specs.Seen.{Rearranges};
+
 use crate::scene::Scene;
 use ss_base::FaultKind;
 
@@ -7,7 +14,11 @@ impl Scene {
     /// Files a member in the set of an owner, 0 for the system, by the discipline of the set. No history notes that. Faults: those
     /// of the member (1 to 5), those of the owner, then 6.
     #[inline(always)]
-    pub fn file_ranked(&mut self, set: usize, owner: i64, member: i64) -> Result<(), FaultKind> {
+    pub fn file_ranked(&mut self, set: usize, owner: i64, member: i64) -> Result<(), FaultKind>
+        requires set { set < length self.old.heap.layout.sets }
+        requires keys { (d : Discipline) → slice_get self.old.disciplines set ≡ Some d → FitsMembers self.old.heap.layout set d }
+        ensures { (d : Discipline) → slice_get self.old.disciplines set ≡ Some d → Rearranges (λ h. filed h d set owner member) self.old self.new result }
+    {
         match self.disciplines.get(set) {
             None => Err(FaultKind::NoEntity),
             Some(discipline) => self.population.file(discipline, set, owner, member),
@@ -16,7 +27,11 @@ impl Scene {
 
     /// The member with which a walk begins: the first of the set of an owner, or in reverse the last, 0 for none. Faults: 1 to 5.
     #[inline(never)]
-    pub fn begun(&mut self, set: usize, owner: i64, reverse: bool) -> Result<i64, FaultKind> {
+    pub fn begun(&mut self, set: usize, owner: i64, reverse: bool) -> Result<i64, FaultKind>
+        requires set { set < length self.old.heap.layout.sets }
+        ensures value { result ≡ outset reverse self.old.heap set owner }
+        ensures same { self.new ≡ self.old }
+    {
         if reverse {
             self.population.last(set, owner)
         } else {
@@ -34,7 +49,11 @@ impl Scene {
         member: i64,
         reverse: bool,
         after: bool,
-    ) -> Result<i64, FaultKind> {
+    ) -> Result<i64, FaultKind>
+        requires set { set < length self.old.heap.layout.sets }
+        ensures value { result ≡ begun_from reverse after self.old.heap set owner member }
+        ensures same { self.new ≡ self.old }
+    {
         match self.population.is_in(set, owner, member) {
             Err(kind) => Err(kind),
             Ok(false) => Err(FaultKind::NotFiled),

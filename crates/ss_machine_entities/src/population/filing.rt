@@ -1,11 +1,10 @@
 //! Filing and removing.
 
-ghost use Rattle.std.specs.Prelude.{◌≡◌, ◌<◌, ◌≤◌, ◌^◌, length, true, false, IsTrue, IfSome, MatchResult, Ok, Err, None, Some, slice_get};
+ghost use Rattle.std.specs.Prelude.{◌≡◌, ◌<◌, ◌≤◌, ◌^◌, length, pos, true, IfSome, MatchResult, Ok, Err, None, Some, slice_get};
 ghost use Rattle.ss_base.specs.declared.layout.Mode.TheVariants.{Integer};
-ghost use Rattle.ss_meaning.specs.Sets.{beside, is_fit, end_removed};
-ghost use Rattle.ss_meaning.specs.Values.{due, where_fit};
-ghost use Rattle.ss_machine_entities.specs.Answered.{meant};
-ghost use Rattle.ss_records.specs.Sets.{count_in, filed_first, filed_last, filed_before, filed_after, removed};
+ghost use Rattle.ss_base.specs.declared.layout.Owner.TheVariants.{System};
+ghost use Rattle.ss_meaning.specs.Sets.{beside};
+ghost use Rattle.ss_records.specs.Sets.{owner_kind, filed_first, filed_last, filed_before, filed_after, removed};
 ghost use Rattle.ss_records.specs.Skimming.{IsSkimmed};
 ghost use Rattle.ss_records.specs.State.{modes_of};
 ghost use Rattle.ss_sets.specs.Disciplines.{FitsMembers, filed, first_removed, last_removed, member_test};
@@ -28,7 +27,8 @@ impl Population {
     ) -> Result<(), FaultKind>
         requires set { set < length self.old.layout.sets }
         requires keys { FitsMembers self.old.layout set discipline.now }
-        ensures { MatchResult result (λ _. filed self.old discipline.now set o x ≡ Ok self.new) (λ e. (filed self.old discipline.now set o x ≡ Err e) × (self.new ≡ self.old)) }
+        ensures done { MatchResult result (λ _. filed self.old discipline.now set o x ≡ Ok self.new) (λ e. (filed self.old discipline.now set o x ≡ Err e) × (self.new ≡ self.old)) }
+        ensures layout { self.new.layout ≡ self.old.layout }
     {
         file(&mut self.heap, discipline, set, o, x)
     }
@@ -38,7 +38,8 @@ impl Population {
     #[inline(always)]
     pub fn file_first(&mut self, set: usize, o: i64, x: i64) -> Result<(), FaultKind>
         requires set { set < length self.old.layout.sets }
-        ensures { MatchResult result (λ _. filed_first self.old set o x ≡ Ok self.new) (λ e. (filed_first self.old set o x ≡ Err e) × (self.new ≡ self.old)) }
+        ensures done { MatchResult result (λ _. filed_first self.old set o x ≡ Ok self.new) (λ e. (filed_first self.old set o x ≡ Err e) × (self.new ≡ self.old)) }
+        ensures layout { self.new.layout ≡ self.old.layout }
     {
         self.heap.file_first(set, o, x)
     }
@@ -48,7 +49,8 @@ impl Population {
     #[inline(always)]
     pub fn file_last(&mut self, set: usize, o: i64, x: i64) -> Result<(), FaultKind>
         requires set { set < length self.old.layout.sets }
-        ensures { MatchResult result (λ _. filed_last self.old set o x ≡ Ok self.new) (λ e. (filed_last self.old set o x ≡ Err e) × (self.new ≡ self.old)) }
+        ensures done { MatchResult result (λ _. filed_last self.old set o x ≡ Ok self.new) (λ e. (filed_last self.old set o x ≡ Err e) × (self.new ≡ self.old)) }
+        ensures layout { self.new.layout ≡ self.old.layout }
     {
         self.heap.file_last(set, o, x)
     }
@@ -58,7 +60,8 @@ impl Population {
     #[inline(always)]
     pub fn file_before(&mut self, set: usize, o: i64, x: i64, y: i64) -> Result<(), FaultKind>
         requires set { set < length self.old.layout.sets }
-        ensures { MatchResult result (λ _. filed_before self.old set o x y ≡ Ok self.new) (λ e. (filed_before self.old set o x y ≡ Err e) × (self.new ≡ self.old)) }
+        ensures done { MatchResult result (λ _. filed_before self.old set o x y ≡ Ok self.new) (λ e. (filed_before self.old set o x y ≡ Err e) × (self.new ≡ self.old)) }
+        ensures layout { self.new.layout ≡ self.old.layout }
     {
         self.heap.file_before(set, o, x, y)
     }
@@ -68,7 +71,8 @@ impl Population {
     #[inline(always)]
     pub fn file_after(&mut self, set: usize, o: i64, x: i64, y: i64) -> Result<(), FaultKind>
         requires set { set < length self.old.layout.sets }
-        ensures { MatchResult result (λ _. filed_after self.old set o x y ≡ Ok self.new) (λ e. (filed_after self.old set o x y ≡ Err e) × (self.new ≡ self.old)) }
+        ensures done { MatchResult result (λ _. filed_after self.old set o x y ≡ Ok self.new) (λ e. (filed_after self.old set o x y ≡ Err e) × (self.new ≡ self.old)) }
+        ensures layout { self.new.layout ≡ self.old.layout }
     {
         self.heap.file_after(set, o, x, y)
     }
@@ -78,7 +82,8 @@ impl Population {
     #[inline(always)]
     pub fn remove(&mut self, set: usize, o: i64, x: i64) -> Result<(), FaultKind>
         requires set { set < length self.old.layout.sets }
-        ensures { MatchResult result (λ _. removed self.old set o x ≡ Ok self.new) (λ e. (removed self.old set o x ≡ Err e) × (self.new ≡ self.old)) }
+        ensures done { MatchResult result (λ _. removed self.old set o x ≡ Ok self.new) (λ e. (removed self.old set o x ≡ Err e) × (self.new ≡ self.old)) }
+        ensures layout { self.new.layout ≡ self.old.layout }
     {
         self.heap.remove(set, o, x)
     }
@@ -87,7 +92,8 @@ impl Population {
     #[inline(always)]
     pub fn remove_first(&mut self, set: usize, o: i64) -> Result<i64, FaultKind>
         requires set { set < length self.old.layout.sets }
-        ensures { MatchResult result (λ x. first_removed self.old set o ≡ Ok (x, self.new)) (λ e. (first_removed self.old set o ≡ Err e) × (self.new ≡ self.old)) }
+        ensures done { MatchResult result (λ x. first_removed self.old set o ≡ Ok (x, self.new)) (λ e. (first_removed self.old set o ≡ Err e) × (self.new ≡ self.old)) }
+        ensures layout { self.new.layout ≡ self.old.layout }
     {
         self.heap.remove_first(set, o)
     }
@@ -96,7 +102,8 @@ impl Population {
     #[inline(always)]
     pub fn remove_last(&mut self, set: usize, o: i64) -> Result<i64, FaultKind>
         requires set { set < length self.old.layout.sets }
-        ensures { MatchResult result (λ x. last_removed self.old set o ≡ Ok (x, self.new)) (λ e. (last_removed self.old set o ≡ Err e) × (self.new ≡ self.old)) }
+        ensures done { MatchResult result (λ x. last_removed self.old set o ≡ Ok (x, self.new)) (λ e. (last_removed self.old set o ≡ Err e) × (self.new ≡ self.old)) }
+        ensures layout { self.new.layout ≡ self.old.layout }
     {
         self.heap.remove_last(set, o)
     }
@@ -112,11 +119,12 @@ impl Population {
     }
 
     /// The member that comes next to x in the set of an owner, after it or in reverse before it, 0 for none. None where x is
-    /// not in that set, or there is a fault.
+    /// not in that set, or there is a fault. The system is the owner 0.
     #[inline(always)]
     pub fn onward(&mut self, set: usize, o: i64, n: i64, reverse: bool) -> Option<i64>
         requires set { set < length self.old.layout.sets }
         ensures found { IfSome result (λ y. (member_test self.old set o n ≡ Ok true) × (beside reverse self.old set n ≡ Ok y)) }
+        ensures gone { (owner_kind self.old.layout set ≡ System → o ≡ pos 0) → result ≡ None → member_test self.old set o n ≡ Ok true → ⊥ }
         ensures same { self.new ≡ self.old }
     {
         self.heap.onward(set, o, n, reverse)

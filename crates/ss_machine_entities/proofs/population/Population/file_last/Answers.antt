@@ -1,0 +1,10 @@
+use Rattle.std.proofs.Common.{ap, sym, ◌∙◌}
+use Rattle.ss_records.specs.State.{State}
+use Rattle.ss_machine_entities.proofs.Refiled.{last_keeps}
+use Rattle.ss_machine_entities.proofs.population.Population.file_last.Goals as goal
+
+pub invariant_of-self : goal.invariant_of-self
+invariant_of-self c = c.self.invariant ∙ sym (last_keeps c.self.inside.heap.state c.file_last.new.self.state c.file_last.result _ _ _ c.file_last.ensures.done).counts
+
+pub returns-clause-layout : goal.returns-clause-layout
+returns-clause-layout c = (last_keeps c.self.inside.heap.state c.file_last.new.self.state c.file_last.result _ _ _ c.file_last.ensures.done).layout ∙ ap (λ (h : State). h.layout) c.self.view_is
