@@ -131,9 +131,9 @@ fn note_refusable(
     }
 }
 
-/// Notes a number in the histories of an entity in the statistics at some places, as `note_all` does.
+// Does the work of `note_all` for a number; nothing where there is no place.
 #[inline(always)]
-pub(crate) fn note_number(
+fn note_number(
     kept: &mut [Kept],
     places: &[usize],
     entity: i64,
