@@ -17,6 +17,9 @@ use Rattle.ss_machine_world.specs.Seen.{Seen, with_seen, ChangesWithMemory}
 use Rattle.ss_machine_events.specs.Scheduled.{IsNoticeClass, IsUntied, Does, scheduled_known, IsUnfiled}
 use Rattle.ss_machine_events.proofs.Frozen.{is_there, not_there, ties_there}
 
+pub one : {A : Type 0} {x y : A} → Some x ≡ Some y → x ≡ y
+one e = cc
+
 -- ## The rank of a class
 
 -- a class has its rank as its place in the list

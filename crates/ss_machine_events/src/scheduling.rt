@@ -1,12 +1,12 @@
 //! Scheduling: the time of an event, and filing a notice among those that are pending.
 
-ghost use Rattle.std.specs.Prelude.{◌≡◌, ◌<◌, [], length, Ok, IfOk};
+ghost use Rattle.std.specs.Prelude.{◌≡◌, ◌<◌, [], length, slice_get, Some, Ok, IfOk};
 ghost use Rattle.std.specs.List.{All};
 ghost use Rattle.ss_base.specs.declared.value.Value.TheVariants.{Whole};
 ghost use Rattle.ss_world.specs.State.{known_in};
 ghost use Rattle.ss_meaning.specs.Entities.{attribute};
 ghost use Rattle.ss_meaning.specs.Events.{not_past, ties_of, filed_notice};
-ghost use Rattle.ss_meaning.specs.Store.{Store as StoreSeen};
+ghost use Rattle.ss_meaning.specs.Store.{Notices, Store as StoreSeen};
 ghost use Rattle.ss_machine_world.specs.Seen.{Looks, ChangesWithMemory, with_seen};
 ghost use Rattle.ss_machine_events.specs.Scheduled.{time_after, HasField, IsNoticeClass, IsUntied, IsTied, AddsTie, Does, scheduled_known, IsUnfiled};
 
@@ -114,6 +114,17 @@ fn file_untied(scene: &mut Scene, alloc: Global, time: i64, rank: usize, notice:
     false
 }
 
+// The attributes that break ties of the notices of the class of this rank.
+#[inline(always)]
+fn keys_of(scene: &Scene, rank: usize) -> &[RankKey]
+    requires { rank < length scene.now.notices }
+    ensures { (said : Notices) → slice_get scene.now.notices rank ≡ Some said → result.now ≡ said.ties }
+{
+    let notices = scene.notices.as_slice();
+    let said = &notices[rank];
+    said.ties().as_slice()
+}
+
 // A notice of a class with ties is pending, by the values that the attributes which break ties have now; and says whether it is.
 #[inline(never)]
 fn schedule_tied(scene: &mut Scene, alloc: Global, class: usize, notice: i64, time: i64) -> bool
@@ -122,7 +133,7 @@ fn schedule_tied(scene: &mut Scene, alloc: Global, class: usize, notice: i64, ti
     ensures { Does (filed_notice class (Whole notice) time) result scene.old scene.new }
 {
     let rank = scene.rank(class);
-    let keys = scene.notices[rank].ties().as_slice();
+    let keys = keys_of(scene, rank);
     match frozen(scene, alloc, class, notice, keys) {
         Ok(ties) => file_under(scene, Key::with_ties(time, rank, ties), notice),
         Err(_) => false,

@@ -4,6 +4,9 @@ use Rattle.ss_machine_events.specs.Scheduled.{Does, scheduled_known}
 use Rattle.ss_machine_events.proofs.Filing.{files_untied}
 use Rattle.ss_machine_events.proofs.scheduling.schedule_untied.Goals as goal
 
+pub rank-rank-requires-clause-class : goal.rank-rank-requires-clause-class
+rank-rank-requires-clause-class c = c.requires.notices.within
+
 pub returns : goal.returns
 returns c =
     let k = c.requires.notices in let n = c.args.notice in let time = c.args.time in let e = c.args.scene.now in
