@@ -37,7 +37,7 @@ impl Model for Pending {
 }
 
 impl Pending {
-    ghost use Rattle.ss_events.specs.CountedList.{no_work, with_work};
+    ghost use Rattle.ss_events.specs.CountedList.{no_work, with_work, WorksTwice};
     ghost use Rattle.ss_events.specs.Digits.{binary_digits};
     ghost use Rattle.ss_world.specs.PendingList.{none_pending, FitsClass, is_pending, scheduled, IsRefusal, cancelled, next, after_next};
 
@@ -114,6 +114,8 @@ impl Pending {
     pub fn schedule_untied(&mut self, alloc: Global, time: i64, rank: usize, notice: i64) -> bool
         ensures done { result ≡ true → scheduled (record { time = time; rank = rank; ties = [] }) notice self.old.list ≡ Ok self.new.list }
         ensures kept { result ≡ false → self.new.list ≡ self.old.list }
+
+        ensures work { WorksTwice (length self.old.list.entries) self.old.total self.new.total }
     {
         if self.schedule_at_once(time, rank, notice) {
             return true;
@@ -127,6 +129,10 @@ impl Pending {
     fn schedule_slowly(&mut self, alloc: Global, time: i64, rank: usize, notice: i64) -> bool
         ensures done { result ≡ true → scheduled (record { time = time; rank = rank; ties = [] }) notice self.old.list ≡ Ok self.new.list }
         ensures kept { result ≡ false → self.new.list ≡ self.old.list }
+
+        ensures comparisons { self.new.comparisons ≤ 3 * binary_digits (length self.old.list.entries) }
+        ensures moves { self.new.moves ≤ 3 * binary_digits (length self.old.list.entries) + 4 }
+        ensures total { self.new.total ≡ with_work self.old.total self.new.comparisons self.new.moves }
     {
         match self.schedule(Key::with_ties(time, rank, Vec::new(alloc)), notice) {
             Ok(()) => true,

@@ -1,6 +1,9 @@
-use Rattle.std.proofs.Common.{◌≡◌, ◌∙◌, ℤ, w64, to_z, of_z, [], Ok, subst, to_z-of_z}
+use Rattle.std.proofs.Common.{◌≡◌, ◌+◌, ◌∙◌, ℤ, w64, to_z, of_z, [], Ok, length, ap, subst, to_z-of_z, arith}
 use Rattle.ss_world.specs.SortKey.{SortKey}
 use Rattle.ss_world.specs.PendingList.{PendingList, scheduled}
+use Rattle.ss_events.specs.CountedList.{with_work}
+use Rattle.ss_events.specs.Digits.{binary_digits}
+use Rattle.ss_events.proofs.Rises.{work_twice}
 use Rattle.ss_events.proofs.pending.Pending.schedule_untied.Goals as goal
 
 pub returns-then-schedule_at_once-clause-done : goal.returns-then-schedule_at_once-clause-done
@@ -23,3 +26,28 @@ returns-clause-done c = λ did.
 
 pub returns-clause-kept : goal.returns-clause-kept
 returns-clause-kept c = λ not. c.schedule_slowly.ensures.kept not ∙ c.schedule_at_once.ensures.kept c.if-schedule_at_once.false
+
+-- ---- the work
+
+pub returns-then-schedule_at_once-clause-work : goal.returns-then-schedule_at_once-clause-work
+returns-then-schedule_at_once-clause-work c =
+    let f = c.schedule_at_once.ensures in record {
+      comparisons = c.schedule_at_once.new.self.comparisons;
+      moves = c.schedule_at_once.new.self.moves;
+      few_comparisons = omega (arith, f.comparisons);
+      few_moves = omega (arith, f.moves);
+      total = f.total;
+    }
+
+pub returns-clause-work : goal.returns-clause-work
+returns-clause-work c =
+    let a = c.schedule_at_once.new.self in let b = c.schedule_slowly.new.self in
+    let f = c.schedule_at_once.ensures in let g = c.schedule_slowly.ensures in
+    let long = ap (λ (p : PendingList). binary_digits (length p.entries)) (f.kept c.if-schedule_at_once.false) in
+    record {
+      comparisons = a.comparisons + b.comparisons;
+      moves = a.moves + b.moves;
+      few_comparisons = omega (arith, f.comparisons, g.comparisons, long);
+      few_moves = omega (arith, f.moves, g.moves, long);
+      total = g.total ∙ ap (λ t. with_work t b.comparisons b.moves) f.total ∙ work_twice c.args.self.now.total a.comparisons a.moves b.comparisons b.moves;
+    }
