@@ -12,7 +12,6 @@ ghost use Rattle.ss_records_words.specs.Places.{class_at_place, lying};
 ghost use Rattle.ss_records_entities.specs.Parts.{IsKept, state};
 ghost use Rattle.ss_records_entities.specs.Attributes.{IsAssigned, IsChanged, changed_number};
 
-use crate::ties;
 use ss_base::{Alpha, FaultKind, Layout, Mode, Owner, Refused, Value, minus, plus};
 use ss_records_blocks::placing::{give_places_back, place_all};
 use ss_records_blocks::row::{self, Row};
