@@ -1,5 +1,5 @@
 -- Filing a notice among those that are pending.
-use Rattle.std.proofs.Common.{◌≡◌, ℕ, suc, ◌+◌, ◌==◌, ℤ, Bool, true, false, List, [], ◌∷◌, Option, Some, None, Ok, Err, refl, ap, sym, ◌∙◌, subst, arith}
+use Rattle.std.proofs.Common.{◌≡◌, ℕ, suc, ◌+◌, ◌==◌, ℤ, Bool, true, false, List, [], ◌∷◌, Option, Some, Ok, Err, refl, ap, sym, ◌∙◌, subst, arith}
 use Rattle.std.specs.Prelude.{slice_get, IsOk, Result as OkOr, if◌then◌else◌}
 use Rattle.ss_base.specs.declared.fault.FaultKind.{FaultKind}
 use Rattle.ss_base.specs.declared.fault.Refused.{Refused}
@@ -9,7 +9,7 @@ use Rattle.ss_base.specs.declared.value.Value.TheVariants.{Whole}
 use Rattle.ss_world.specs.State.{known_in}
 use Rattle.ss_world.specs.SortKey.{SortKey}
 use Rattle.ss_world.specs.declared.ties.Tie.{Tie}
-use Rattle.ss_meaning.specs.Values.{Trouble, Fails, if_ok, sure}
+use Rattle.ss_meaning.specs.Values.{Trouble, if_ok, sure}
 use Rattle.ss_meaning.specs.Store.{Notices, Store}
 use Rattle.ss_meaning.specs.Events.{Ranked, ranked, ranked_from, ties_of, filed_notice}
 use Rattle.ss_machine_world.specs.Classes.{has_keys}

@@ -9,7 +9,7 @@ use Rattle.ss_base.specs.declared.layout.Discipline.{Discipline}
 use Rattle.ss_world.specs.SortKey.{SortKey}
 use Rattle.ss_world.specs.PendingList.{PendingList, scheduled}
 use Rattle.ss_world.specs.State.{State}
-use Rattle.ss_meaning.specs.Values.{Trouble, Fails, turned, due, unless_fault}
+use Rattle.ss_meaning.specs.Values.{Fails, turned, due, unless_fault}
 use Rattle.ss_meaning.specs.Store.{Notices, Store, with_pending}
 use Rattle.ss_meaning.specs.Events.{not_past}
 use Rattle.ss_machine_time.specs.Times.{Times, Schedules}

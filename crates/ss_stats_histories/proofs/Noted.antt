@@ -1,5 +1,5 @@
 -- What becomes of the histories, as the meaning says it.
-use Rattle.std.proofs.Common.{◌≡◌, ℕ, zero, suc, ◌<◌, length, All, arith, Bool, true, false, ◌||◌, if◌then◌else◌, ℤ, List, [], ◌∷◌, map, fold, Option, Some, None, is_some, Result, Ok, Err, MatchResult, slice_get, ◌∙◌, sym, ap, subst, refl}
+use Rattle.std.proofs.Common.{◌≡◌, ℕ, zero, suc, ◌<◌, length, All, arith, Bool, true, false, if◌then◌else◌, ℤ, List, [], ◌∷◌, map, fold, Option, Some, None, is_some, Result, Ok, Err, MatchResult, slice_get, ◌∙◌, sym, ap, subst, refl}
 use Rattle.std.specs.Option.{option_map, option_or}
 use Rattle.ss_program.specs.declared.expression.Fold.{Fold}
 use Rattle.ss_program.specs.declared.expression.Fold.TheVariants.{Number, Sum, Maximum, Minimum}

@@ -1,6 +1,6 @@
 //! What is done with each of some statistics.
 
-ghost use Rattle.std.specs.Prelude.{◌≡◌, ◌<◌, [], ◌∷◌, true, false, ◌≤ℤ◌, pos, map, fold, length, IfOk, OnOk, IsTrue, MatchResult, IfSome, Some, None};
+ghost use Rattle.std.specs.Prelude.{◌≡◌, ◌<◌, [], true, false, ◌≤ℤ◌, pos, map, fold, length, IfOk, OnOk, IsTrue, MatchResult, IfSome, Some, None};
 ghost use Rattle.std.specs.List.{All};
 ghost use Rattle.std.specs.Ordering.{int_eq};
 ghost use Rattle.ss_base.specs.declared.value.Value.TheVariants.{Whole};

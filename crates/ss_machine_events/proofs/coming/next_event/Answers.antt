@@ -1,4 +1,4 @@
-use Rattle.std.proofs.Common.{◌≡◌, ap, sym, ◌∙◌}
+use Rattle.std.proofs.Common.{ap, sym, ◌∙◌}
 use Rattle.ss_world.specs.PendingList.{next, after_next}
 use Rattle.ss_world.specs.State.{State}
 use Rattle.ss_machine_time.specs.Times.{Times}

@@ -1,4 +1,4 @@
-use Rattle.std.proofs.Common.{rules, ◌≡◌, ◌∙◌, ℤ, List, Some, Ok, length, ap, sym, subst, to_z, of_z, w64, arith}
+use Rattle.std.proofs.Common.{rules, ◌≡◌, ◌∙◌, ℤ, List, Ok, ap, sym, subst, to_z, of_z, w64, arith}
 use Rattle.std.specs.List.{All}
 use Rattle.std.proofs.lemmas.Option.{slice_get_within}
 use Rattle.ss_base.specs.declared.layout.RankKey.{RankKey}

@@ -1,6 +1,5 @@
-use Rattle.std.proofs.Common.{◌≡◌, ◌<◌, List, [], ◌∷◌, length, get_or, refl, ap, sym, arith}
+use Rattle.std.proofs.Common.{◌<◌, length, ap, sym, arith}
 use Rattle.std.specs.Prelude.{is_some}
-use Rattle.ss_events.specs.declared.entry.Entry.{Entry}
 use Rattle.ss_events.proofs.Agendas.{next-none, next-first, at_top}
 use Rattle.ss_events.proofs.pending.Pending.is_awaited.Goals as goal
 

@@ -1,4 +1,4 @@
-use Rattle.std.proofs.Common.{rules, ◌≡◌, ℤ, w64, to_z, of_z, refl, sym, ap, subst, ◌∙◌, Ok}
+use Rattle.std.proofs.Common.{rules, ◌≡◌, w64, to_z, of_z, refl, sym, ap, subst, ◌∙◌, Ok}
 use Rattle.std.specs.Prelude.{pos, slice_index_or}
 use Rattle.std.proofs.lemmas.Int.{to_z-of_z}
 use Rattle.ss_base.specs.declared.value.Value.TheVariants.{Whole}
