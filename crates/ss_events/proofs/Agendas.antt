@@ -229,6 +229,11 @@ module _ (h : HeapEntries) (entries : List Entry) (view : in_order (all_of h) �
       let led = following 0 no_entry follower in omega (arith, led.within))
       (cases_lt 0 (length h.entries))
 
+-- the entry in the first place
+pub at_top : (es : List Entry) → 0 < length es → (e : Entry) × (e ≡ get_or es 0 e)
+at_top [] some = absurd (omega arith)
+at_top (e ∷ es) some = (e, refl)
+
 -- ---- the answers of `least` and `take`
 
 module _ (h : HeapEntries) (p : PendingList) (view : in_order (all_of h) ≡ p.entries) (following : AreAfterHeads h.entries h.followers) where

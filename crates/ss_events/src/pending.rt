@@ -1,4 +1,4 @@
-ghost use Rattle.std.specs.Prelude.{◌≡◌, ℕ, ◌+◌, ◌*◌, ◌<◌, ◌≤◌, true, false, [], IfOk, IfErr, IsOk, OnOk, OnErr, Ok, Err, Some, slice_get, length, map, IsTrue, ◌↔◌};
+ghost use Rattle.std.specs.Prelude.{◌≡◌, ℕ, ◌+◌, ◌*◌, ◌<◌, ◌≤◌, true, false, [], IfOk, IfErr, IsOk, OnOk, OnErr, Ok, Err, Some, is_some, slice_get, length, map, IsTrue, ◌↔◌};
 ghost use Rattle.ss_world.specs.Shape.{shape_of};
 ghost use Rattle.ss_world.specs.SortKey.{SortKey};
 
@@ -37,7 +37,7 @@ impl Model for Pending {
 }
 
 impl Pending {
-    ghost use Rattle.ss_events.specs.CountedList.{no_work, with_work};
+    ghost use Rattle.ss_events.specs.CountedList.{no_work, with_work, WorksTwice};
     ghost use Rattle.ss_events.specs.Digits.{binary_digits};
     ghost use Rattle.ss_world.specs.PendingList.{none_pending, FitsClass, is_pending, scheduled, IsRefusal, cancelled, next, after_next};
 
@@ -108,39 +108,35 @@ impl Pending {
         Ok(())
     }
 
-    /// Schedules a notice without ties. Refused as `schedule` does.
+    /// Schedules a notice without ties, and says whether it did: not where `may_schedule` refuses it, nor where no memory is left. The
+    /// list is then as it was.
     #[inline(always)]
-    pub fn schedule_untied(
-        &mut self,
-        alloc: Global,
-        time: i64,
-        rank: usize,
-        notice: i64,
-    ) -> Result<(), Refused> {
+    pub fn schedule_untied(&mut self, alloc: Global, time: i64, rank: usize, notice: i64) -> bool
+        ensures done { result ≡ true → scheduled (record { time = time; rank = rank; ties = [] }) notice self.old.list ≡ Ok self.new.list }
+        ensures kept { result ≡ false → self.new.list ≡ self.old.list }
+
+        ensures work { WorksTwice (length self.old.list.entries) self.old.total self.new.total }
+    {
         if self.schedule_at_once(time, rank, notice) {
-            return Ok(());
+            return true;
         }
-        if self.schedule_slowly(alloc, time, rank, notice) {
-            return Ok(());
-        }
-        Err(self.unscheduled(notice))
+        self.schedule_slowly(alloc, time, rank, notice)
     }
 
-    // Does the work of `schedule_untied` where it takes room or a search, and says whether it did.
+    // Does the work of `schedule_untied` where it takes room or a search.
     #[cold]
     #[inline(never)]
-    fn schedule_slowly(&mut self, alloc: Global, time: i64, rank: usize, notice: i64) -> bool {
-        self.schedule(Key::with_ties(time, rank, Vec::new(alloc)), notice)
-            .is_ok()
-    }
+    fn schedule_slowly(&mut self, alloc: Global, time: i64, rank: usize, notice: i64) -> bool
+        ensures done { result ≡ true → scheduled (record { time = time; rank = rank; ties = [] }) notice self.old.list ≡ Ok self.new.list }
+        ensures kept { result ≡ false → self.new.list ≡ self.old.list }
 
-    // Why a notice is not scheduled.
-    #[cold]
-    #[inline(never)]
-    fn unscheduled(&self, notice: i64) -> Refused {
-        match self.may_schedule(notice) {
-            Err(kind) => Refused::Fault(kind),
-            Ok(()) => Refused::Memory,
+        ensures comparisons { self.new.comparisons ≤ 3 * binary_digits (length self.old.list.entries) }
+        ensures moves { self.new.moves ≤ 3 * binary_digits (length self.old.list.entries) + 4 }
+        ensures total { self.new.total ≡ with_work self.old.total self.new.comparisons self.new.moves }
+    {
+        match self.schedule(Key::with_ties(time, rank, Vec::new(alloc)), notice) {
+            Ok(()) => true,
+            Err(_) => false,
         }
     }
 
@@ -229,7 +225,11 @@ impl Pending {
 
     /// Whether a notice is pending. What will be read as the first is taken out is read ahead.
     #[inline(always)]
-    pub fn is_awaited(&mut self) -> bool {
+    pub fn is_awaited(&mut self) -> bool
+        ensures value { result ≡ is_some (next self.old.list) }
+        ensures same { self.new ≡ self.old }
+    {
+        self.heap.are_after_heads();
         if self.heap.len() == 0 {
             return false;
         }

@@ -9,7 +9,7 @@ use Rattle.ss_base.specs.declared.value.Value.{Value}
 use Rattle.ss_program.specs.declared.sections.Subject.{Subject}
 use Rattle.ss_world.specs.SortKey.{SortKey}
 use Rattle.ss_world.specs.PendingNotice.{PendingNotice}
-use Rattle.ss_world.specs.PendingList.{PendingList, scheduled, after_next}
+use Rattle.ss_world.specs.PendingList.{PendingList, scheduled, next, after_next}
 use Rattle.ss_stats_histories.specs.Records.{Records, columns_of, why}
 use Rattle.ss_stats_histories.specs.Store.{Column}
 use Rattle.ss_stats_histories.specs.Histories.{all_noting}
@@ -37,10 +37,10 @@ columns t = columns_of t.histories.rows
 abbrev pub IsAt : (old new : Times) → Type 0
 IsAt old new = (new.time ≡ old.time) × (new.pending ≡ old.pending) × (new.histories.statistics ≡ old.histories.statistics)
 
--- time and notices once that which comes next was taken out
-abbrev pub event_taken_out : Option (ℤ × ℤ) → Times → Times
-event_taken_out None t = record t { pending = after_next t.pending }
-event_taken_out (Some n) t = record t { time = n.0; pending = after_next t.pending }
+-- nothing is pending, and nothing changes; or this notice comes next, and once it was taken out the time is its time
+abbrev pub TakesNext : (old new : Times) → Option ℤ → Type 0
+TakesNext old new None = (next old.pending ≡ None) × (new ≡ old)
+TakesNext old new (Some x) = (next old.pending ≡ Some (new.time, x)) × (new ≡ record old { time = new.time; pending = after_next old.pending })
 
 -- the list after a notice is scheduled under a key, whose time is not past, or the fault
 abbrev pub placed : SortKey → (notice : ℤ) → Times → Result PendingList FaultKind

@@ -1,21 +1,17 @@
 //! TIME.V, the notices that are pending, and the histories.
 
-ghost use Rattle.std.specs.Prelude.{◌≡◌, ℕ, ◌≤ℤ◌, [], map, ℤ, pos, true, false, Ok, Err, MatchResult, IfOk, IfSome, OnOk};
-ghost use Rattle.ss_base.specs.declared.value.Value.{Value as ValueSeen};
-ghost use Rattle.std.specs.List.{list_any};
+ghost use Rattle.std.specs.Prelude.{◌≡◌, [], map, pos, true, false, Ok, Err, is_some, MatchResult, IfOk, IfSome, OnOk};
 ghost use Rattle.std.specs.Ordering.{int_eq};
-ghost use Rattle.ss_base.specs.declared.layout.Layout.{Layout as TheLayout};
 ghost use Rattle.ss_base.specs.declared.layout.Owner.TheVariants.{System, Class};
 ghost use Rattle.ss_world.specs.PendingList.{none_pending, is_pending, cancelled, next};
-ghost use Rattle.ss_stats_histories.specs.Places.{is_about};
-ghost use Rattle.ss_stats_histories.specs.Records.{HasRooms, IsOnly, OwnsNone, HasNoHistories, Takes, is_up_to, renewed_where, figured, mean_in, columns_of};
-ghost use Rattle.ss_stats_histories.specs.Histories.{no_histories, starting, ending, all_noting, history_of_subject, folded, renewed};
+ghost use Rattle.ss_stats_histories.specs.Records.{HasRooms, is_up_to, renewed_where, figured, mean_in, columns_of};
+ghost use Rattle.ss_stats_histories.specs.Histories.{no_histories, starting, ending, history_of_subject, folded, renewed};
 ghost use Rattle.ss_stats_histories.specs.Values.{if_ok, sure};
 ghost use Rattle.ss_picture.specs.Suited.{IsMean};
-ghost use Rattle.ss_program.specs.declared.sections.Subject.TheVariants.{OfVariable, OfAttribute, OfCount};
+ghost use Rattle.ss_program.specs.declared.sections.Subject.TheVariants.{OfCount};
 ghost use Rattle.ss_base.specs.declared.value.Value.TheVariants.{Whole};
 ghost use Rattle.ss_machine_time.specs.Figures.{subject_in};
-ghost use Rattle.ss_machine_time.specs.Times.{IsAt, MaySchedule, Schedules, Noted, columns, event_taken_out};
+ghost use Rattle.ss_machine_time.specs.Times.{IsAt, MaySchedule, Schedules, TakesNext, Noted, columns};
 
 use ss_base::{FaultKind, Layout, Owner, Refused, Value};
 use ss_events::{Key, Pending};
@@ -75,14 +71,19 @@ impl Timeline {
         self.time
     }
 
-    /// Whether a notice is pending.
+    /// Whether any notice is pending.
     #[inline(always)]
-    pub fn is_awaited(&mut self) -> bool {
+    pub fn is_awaited(&mut self) -> bool
+        ensures value { result ≡ is_some (next self.old.pending) }
+        ensures same { self.new ≡ self.old }
+    {
         self.pending.is_awaited()
     }
 
-    /// Takes out the notice that comes next, if one is pending, and answers its number. TIME.V is its time.
-    pub fn next(&mut self) -> Option<i64> {
+    /// Takes out the notice that comes next, if one is pending, and answers its number. TIME.V is then its time.
+    pub fn next(&mut self) -> Option<i64>
+        ensures { TakesNext self.old self.new result }
+    {
         match self.pending.take() {
             Some((time, notice)) => {
                 self.time = time;
@@ -122,20 +123,14 @@ impl Timeline {
         self.pending.schedule(key, notice)
     }
 
-    /// A notice without ties is pending for a time and by the rank of its class. Faults: 13 where the time is before TIME.V, then 11,
-    /// then 14 after the last scheduling.
+    /// A notice without ties is pending for a time and by the rank of its class; and says whether it is: not where `may_schedule`
+    /// refuses it, nor where no memory is left. If not, nothing has changed.
     #[inline(always)]
-    pub fn schedule_untied(
-        &mut self,
-        alloc: Global,
-        time: i64,
-        rank: usize,
-        notice: i64,
-    ) -> Result<(), Refused> {
-        if time < self.time {
-            return Err(Refused::Fault(FaultKind::PastTime));
-        }
-        self.pending.schedule_untied(alloc, time, rank, notice)
+    pub fn schedule_untied(&mut self, alloc: Global, time: i64, rank: usize, notice: i64) -> bool
+        ensures done { result ≡ true → Schedules (record { time = time; rank = rank; ties = [] }) notice self.old self.new (Ok tt) }
+        ensures kept { result ≡ false → self.new ≡ self.old }
+    {
+        time >= self.time && self.pending.schedule_untied(alloc, time, rank, notice)
     }
 
     /// A notice is pending no longer. Faults: 12.
@@ -171,9 +166,11 @@ impl Timeline {
         self.histories.note(subject, entity, self.time, value)
     }
 
-    /// Notes N. of the set of an owner in each history of it. The error is that one of them is full, or that there is none.
+    /// Notes N. of the set of an owner in each history of it. Faults: 14 where one of them is full.
     #[inline(always)]
-    pub fn note_count(&mut self, set: usize, owner: i64, number: i64) -> Result<(), Unnoted> {
+    pub fn note_count(&mut self, set: usize, owner: i64, number: i64) -> Result<(), Unnoted>
+        ensures { Noted (OfCount set) owner (Whole number) self.old self.new result }
+    {
         self.histories.note_count(set, owner, self.time, number)
     }
 

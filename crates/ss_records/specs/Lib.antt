@@ -1,5 +1,5 @@
 pub mod Commands
-pub use Rattle.ss_records_entities.specs.Added
+pub use Rattle.ss_records_entities.specs.Attributes
 pub use Rattle.ss_records_entities.specs.Classed
 pub use Rattle.ss_records_entities.specs.Passing
 pub use Rattle.ss_records_entities.specs.Skimming

@@ -1,10 +1,12 @@
 ghost use Rattle.std.specs.Prelude.{◌≡◌, ◌+◌, ◌*◌, ◌^◌, ◌<◌, ◌≤◌, true, false, if◌then◌else◌, length, pos, MatchResult, IfSome, Ok, Err, Some, None, IsOk, slice_get, ⊤, ℕ};
+ghost use Rattle.ss_base.specs.Arithmetic.{plus_of, minus_of};
 ghost use Rattle.ss_base.specs.Layout.{mode_of};
+ghost use Rattle.ss_base.specs.declared.fault.FaultKind.{FaultKind as FaultSeen};
 ghost use Rattle.ss_base.specs.declared.layout.Owner.TheVariants.{Class};
-ghost use Rattle.ss_world.specs.State.{State, first_state, known_in, known_notice_in, kind_of, modes_of, value_in, time_in, created, created_all, destroyed, assigned, timed, no_value, RefusedFor, living_numbers, living_records};
+ghost use Rattle.ss_world.specs.State.{State, first_state, numbered, known_in, known_notice_in, kind_of, modes_of, value_in, time_in, created, created_all, destroyed, assigned, timed, no_value, RefusedFor, living_numbers, living_records};
 ghost use Rattle.ss_world.specs.Disciplines.{first_removed, last_removed, member_test, owned};
-ghost use Rattle.ss_world.specs.Sets.{member_class, owner, owner_kind, first_in, last_in, count_in, next_in, previous_in, owner_of_member, filed_first, filed_last, filed_before, filed_after, removed, Apart};
-ghost use Rattle.ss_records_entities.specs.Added.{Added};
+ghost use Rattle.ss_world.specs.Sets.{member_class, joiner, owner, owner_kind, first_in, last_in, count_in, next_in, previous_in, owner_of_member, filed_first, filed_last, filed_before, filed_after, removed, Apart};
+ghost use Rattle.ss_records_entities.specs.Attributes.{IsAssigned, IsChanged, changed_number};
 ghost use Rattle.ss_records_entities.specs.Classed.{HasClass};
 ghost use Rattle.ss_records_words.specs.Kept.{IsPermanent};
 ghost use Rattle.ss_records_entities.specs.Skimming.{IsSkimmed};
@@ -87,7 +89,10 @@ impl Heap {
 
     /// The class of a temporary entity or a notice by its creation number: none where no entity of that number is living.
     #[inline(always)]
-    pub fn class_of(&self, r: i64) -> Option<usize> {
+    pub fn class_of(&self, r: i64) -> Option<usize>
+        ensures found { IfSome result (λ c. HasClass self.now.state r c) }
+        ensures none { result ≡ None → (kind : FaultSeen) × (numbered self.now.state r ≡ Err kind) }
+    {
         self.records.class_of(r)
     }
 
@@ -138,7 +143,7 @@ impl Heap {
     pub fn whole(&self, class: usize, field: usize, r: i64) -> Result<i64, FaultKind>
         requires class { class < length self.now.state.layout.classes }
         requires mode { slice_get (modes_of self.now.state.layout class) field ≡ Some Mode.Integer }
-        ensures { IfSome result (λ n. value_in self.now.state class field r ≡ Ok (Value.Whole n)) }
+        ensures { MatchResult result (λ n. value_in self.now.state class field r ≡ Ok (Value.Whole n)) (λ e. value_in self.now.state class field r ≡ Err e) }
     {
         self.records.whole(class, field, r)
     }
@@ -147,6 +152,8 @@ impl Heap {
     #[inline(never)]
     pub fn text(&self, class: usize, field: usize, r: i64) -> Result<Alpha, FaultKind>
         requires class { class < length self.now.state.layout.classes }
+        requires mode { slice_get (modes_of self.now.state.layout class) field ≡ Some Mode.Alpha }
+        ensures { MatchResult result (λ t. value_in self.now.state class field r ≡ Ok (Value.Text t)) (λ e. value_in self.now.state class field r ≡ Err e) }
     {
         self.records.text(class, field, r)
     }
@@ -161,6 +168,9 @@ impl Heap {
         text: Alpha,
     ) -> Result<(), FaultKind>
         requires class { class < length self.old.state.layout.classes }
+        requires mode { slice_get (modes_of self.old.state.layout class) field ≡ Some Mode.Alpha }
+        ensures done { MatchResult result (λ _. assigned self.old.state class field r (Value.Text text) ≡ Ok self.new.state) (λ e. (assigned self.old.state class field r (Value.Text text) ≡ Err e) × (self.new.state ≡ self.old.state)) }
+        ensures touches { (self.new.touches ≡ 0) × (self.new.total ≡ self.old.total) }
     {
         self.records.start();
         self.records.set_value(class, field, r, Value::Text(text))
@@ -171,8 +181,7 @@ impl Heap {
     pub fn set_whole(&mut self, class: usize, field: usize, r: i64, n: i64) -> Result<(), FaultKind>
         requires class { class < length self.old.state.layout.classes }
         requires mode { slice_get (modes_of self.old.state.layout class) field ≡ Some Mode.Integer }
-        ensures done { result ≡ true → assigned self.old.state class field r (Value.Whole n) ≡ Ok self.new.state }
-        ensures same { result ≡ false → self.new.state ≡ self.old.state }
+        ensures done { MatchResult result (λ _. IsAssigned self.old.state class field r n self.new.state) (λ e. (assigned self.old.state class field r (Value.Whole n) ≡ Err e) × (self.new.state ≡ self.old.state)) }
         ensures touches { (self.new.touches ≡ 0) × (self.new.total ≡ self.old.total) }
     {
         self.records.start();
@@ -184,6 +193,7 @@ impl Heap {
     pub fn add_whole(&mut self, class: usize, field: usize, r: i64, n: i64) -> Result<(), FaultKind>
         requires class { class < length self.old.state.layout.classes }
         requires mode { slice_get (modes_of self.old.state.layout class) field ≡ Some Mode.Integer }
+        ensures done { MatchResult result (λ _. IsChanged (λ z. plus_of z n) self.old.state class field r self.new.state) (λ e. (changed_number (λ z. plus_of z n) (value_in self.old.state class field r) ≡ Err e) × (self.new.state ≡ self.old.state)) }
         ensures touches { (self.new.touches ≡ 0) × (self.new.total ≡ self.old.total) }
     {
         self.records.start();
@@ -201,6 +211,7 @@ impl Heap {
     ) -> Result<(), FaultKind>
         requires class { class < length self.old.state.layout.classes }
         requires mode { slice_get (modes_of self.old.state.layout class) field ≡ Some Mode.Integer }
+        ensures done { MatchResult result (λ _. IsChanged (λ z. minus_of z n) self.old.state class field r self.new.state) (λ e. (changed_number (λ z. minus_of z n) (value_in self.old.state class field r) ≡ Err e) × (self.new.state ≡ self.old.state)) }
         ensures touches { (self.new.touches ≡ 0) × (self.new.total ≡ self.old.total) }
     {
         self.records.start();
@@ -319,6 +330,7 @@ impl Heap {
     #[inline(always)]
     pub fn look_member(&self, set: usize, x: i64) -> Result<(), FaultKind>
         requires set { set < length self.now.state.layout.sets }
+        ensures { result ≡ no_value (joiner self.now.state set x) }
     {
         self.records.look_member(set, x)
     }
@@ -327,6 +339,7 @@ impl Heap {
     #[inline(always)]
     pub fn look_owner(&self, set: usize, o: i64) -> Result<(), FaultKind>
         requires set { set < length self.now.state.layout.sets }
+        ensures { result ≡ no_value (owner self.now.state set o) }
     {
         self.records.look_owner(set, o)
     }

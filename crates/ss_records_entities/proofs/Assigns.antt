@@ -18,7 +18,7 @@ use Rattle.ss_records_blocks.specs.declared.store.Address.{Address}
 use Rattle.ss_records_blocks.specs.Cells.{Word, number, Cells, IsNumber, MayBeNumber, words_at, word_of, word_at, with_word, put_word}
 use Rattle.ss_world.specs.State.{Record, State, Members, and_then, entity_in, numbered, of_notice, notice, value_in, time_in, number_in, kind_in, kind_of, modes_of, is_notice, with_value, with_time, with_indexed, with_entity, with_entity_of_kind, assigned, timed}
 use Rattle.ss_records_words.specs.Shape.{values_end, links_start}
-use Rattle.ss_records_words.specs.Reading.{plain, class_in_words, record_of, record_at, records_at, value_at, put_two, PutsValue}
+use Rattle.ss_records_words.specs.Reading.{plain, value_of_words, class_in_words, record_of, record_at, records_at, value_at, put_two, PutsValue}
 use Rattle.ss_records_blocks.specs.Writes.{Written}
 use Rattle.ss_records_words.specs.Kept.{Kept, Formed, IsPermanent, state_of}
 use Rattle.ss_records_words.specs.Places.{Made, Directory, Lists, class_at_place}
@@ -26,7 +26,8 @@ use Rattle.ss_records_blocks.proofs.Numbers.{length-with_word}
 use Rattle.ss_records_blocks.proofs.Same.{by_same}
 use Rattle.ss_records_blocks.proofs.Puts.{word_other, word_here, words_written, written_put, written_twice}
 use Rattle.ss_records_blocks.proofs.WordKinds.{number_may}
-use Rattle.ss_records_entities.proofs.ReadWords.{read_as, with_two, two_other, value_read, record_value, record_time}
+use Rattle.ss_records_entities.proofs.ReadWords.{read_as, with_two, two_first, two_second, two_other, value_read, record_value, record_time}
+use Rattle.ss_records_entities.proofs.Apart.{entity_is}
 use Rattle.ss_records_entities.proofs.Keeps.{kept_written, records_written, permanents_same, records_same, permanents_written}
 use Rattle.ss_records_blocks.proofs.Entries.{get_inside}
 
@@ -183,6 +184,19 @@ module _ (l : Layout) (cs : Cells) (sys : Ptr) (d : Directory) (ms : List Member
                 ∙ ap (λ o. record (state_of l cs d ms) { permanents = slice_set (map (records_at l cs) d.classes) c (with_indexed o (number_in x) new) }) row
                 ∙ ap (λ j. record (state_of l cs d ms) { permanents = slice_set (map (records_at l cs) d.classes) c (Some (slice_set (map (λ (q : Address). record_of l (words_at cs q.at)) ps) j new)) }) n
                 ∙ sym (state_made ds us value_put new value c ps (subst (λ a. slice_get d.classes a ≡ Some (Some ps)) same m) h)
+
+      -- it is the value then
+      pub reads_back : value_in (state_of l ds d ms) c f x ≡ Ok v
+      reads_back =
+          let ws = words_at cs p.at in
+          let room : k + 1 < length ws = omega (arith, field_in (mode_of v) mode, head_room l (class_at_place cs p) (suc i) ws (K.formed i p g)) in
+          let class : class_at_place ds p ≡ c = class_put ds us value_put ∙ is in
+          let there : entity_in (state_of l ds d ms) c x ≡ Ok (record_of l (words_at ds p.at)) = ap (entity_in (state_of l ds d ms) c) at ∙ entity_is l ds sys d ms kept_assigned c (suc i) i p refl class g in
+          let a : word_of (words_at ds p.at) k ≡ number w.first = ap (λ vs. word_of vs k) value_put.words ∙ two_first ws k w.first w.second room in
+          let b : word_of (words_at ds p.at) (k + 1) ≡ number w.second = ap (λ vs. word_of vs (k + 1)) value_put.words ∙ two_second ws k w.first w.second room in
+          let read : value_at (mode_of v) ds p.at k ≡ v = (λ t. value_of_words (mode_of v) (plain (a t)) (plain (b t))) ∙ w.value in
+          ap (λ r. and_then r (λ r. Ok (slice_index_or r.values f (Whole (pos 0))))) there
+          ∙ ap Ok (value_read (modes_of l (class_at_place ds p)) (words_at ds p.at) 2 f (mode_of v) (Whole (pos 0)) (subst (λ b. slice_get (modes_of l b) f ≡ Some (mode_of v)) (sym class) mode) ∙ (λ t. value_at (mode_of v) ds p.at (sym start t)) ∙ read)
 
   -- the time of a notice
   module _ (x : ℤ) (at : x ≡ pos (suc i)) (found : notice (state_of l cs d ms) x ≡ Ok (record_of l (words_at cs p.at))) where

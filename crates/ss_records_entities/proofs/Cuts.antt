@@ -1,6 +1,6 @@
 -- The neighbours between which a filing links, and a removal.
 use Rattle.std.proofs.Common.{◌≡◌, ℕ, ◌+◌, ◌<◌, true, false, List, [], ◌∷◌, ◌++◌, length, slice_get, Some, Ok, Err, refl, sym, ap, subst, ◌∙◌, append_assoc, append-nil}
-use Rattle.std.specs.Prelude.{ℤ, Result}
+use Rattle.std.specs.Prelude.{ℤ, Result, MatchResult}
 use denote.RawPtr.{Ptr}
 use Rattle.ss_base.specs.declared.fault.FaultKind.{FaultKind}
 use Rattle.ss_base.specs.declared.fault.FaultKind.TheVariants.{FiledTwice, NotFiled}
@@ -117,6 +117,12 @@ module _ (st : State) (s : ℕ) (o x : ℤ) (m n : ℕ) (jn : joiner st s x ≡ 
 
   pub put_done : (put : ℕ → List ℕ → List ℕ) (new : State) → is_filed st.lists s n ≡ false → new ≡ with_list_of st s m (put n (members_of st.lists s m)) → and_then (joiner st s x) (λ i. and_then (owner st s o) (λ k. put_in put st s k i)) ≡ Ok new
   put_done put new h e = at_both (λ i k. put_in put st s k i) ∙ rw h (ap Ok (sym e))
+
+  pub put_tried : (put : ℕ → List ℕ → List ℕ) (new : State) (r : Result (Unit {0}) FaultKind)
+      → MatchResult r (λ _. (is_filed st.lists s n ≡ false) × (new ≡ with_list_of st s m (put n (members_of st.lists s m)))) (λ e. (e ≡ FiledTwice) × (is_filed st.lists s n ≡ true) × (new ≡ st))
+      → MatchResult r (λ _. and_then (joiner st s x) (λ i. and_then (owner st s o) (λ k. put_in put st s k i)) ≡ Ok new) (λ e. (and_then (joiner st s x) (λ i. and_then (owner st s o) (λ k. put_in put st s k i)) ≡ Err e) × (new ≡ st))
+  put_tried put new (Ok u) h = put_done put new h.0 h.1
+  put_tried put new (Err e) h = (put_twice put h.1 ∙ ap Err (sym h.0), h.2)
 
   pub not_out : contains (members_of st.lists s m) n ≡ false → and_then (joiner st s x) (λ i. and_then (owner st s o) (λ k. taken_out st s k i)) ≡ Err NotFiled
   not_out h = at_both (λ i k. taken_out st s k i) ∙ rw h refl

@@ -1,6 +1,6 @@
 -- Taking the first or the last member out of a set, and the test of membership.
 use Rattle.std.proofs.Common.{◌≡◌, ℕ, zero, suc, Bool, true, ◌+◌, ◌≤◌, ◌<◌, ◌^◌, List, [], length, Ok, Err, refl, sym, ap, subst, ◌∙◌, arith}
-use Rattle.std.specs.Prelude.{ℤ, pos, Result}
+use Rattle.std.specs.Prelude.{ℤ, pos, Result, MatchResult}
 use Rattle.ss_base.specs.declared.fault.FaultKind.{FaultKind}
 use Rattle.ss_base.specs.declared.fault.FaultKind.TheVariants.{EmptySet}
 use Rattle.ss_records_entities.specs.declared.records.Records.{Records}
@@ -57,6 +57,13 @@ none_taken st s n x y look found is none = ap (λ z. and_then z (take st s x)) (
 
 pub first_refused : (st : State) (s : ℕ) (x : ℤ) (e : FaultKind) → owner st s x ≡ Err e → first_removed st s x ≡ Err e
 first_refused st s x e h = ap (λ z. and_then (and_then z (λ n. Ok (pos (head0 (members_of st.lists s n))))) (take st s x)) h
+
+-- the first one is taken, or there is none, for every reference to the owner
+pub drawn : (st new : State) (s m : ℕ) (x : ℤ) → owner st s x ≡ Ok m → (r : Result ℤ FaultKind)
+    → MatchResult r (λ y. (z : ℤ) → owner st s z ≡ Ok m → first_removed st s z ≡ Ok (y, new)) (λ e. ((z : ℤ) → owner st s z ≡ Ok m → first_removed st s z ≡ Err e) × (new ≡ st))
+    → MatchResult r (λ y. first_removed st s x ≡ Ok (y, new)) (λ e. (first_removed st s x ≡ Err e) × (new ≡ st))
+drawn st new s m x om (Ok y) h = h x om
+drawn st new s m x om (Err e) h = (h.0 x om, h.1)
 
 pub last_refused : (st : State) (s : ℕ) (x : ℤ) (e : FaultKind) → owner st s x ≡ Err e → last_removed st s x ≡ Err e
 last_refused st s x e h = ap (λ z. and_then (and_then z (λ n. Ok (pos (last_or 0 (members_of st.lists s n))))) (take st s x)) h

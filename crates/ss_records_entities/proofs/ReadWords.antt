@@ -64,10 +64,10 @@ values_changed (n ∷ ms) ws us k (suc f) m v g e o =
 abbrev pub with_two : List Word → ℕ → ℕ → ℕ → List Word
 with_two ws k a b = with_word (with_word ws k (number a)) (k + 1) (number b)
 
-two_first : (ws : List Word) (k a b : ℕ) → k + 1 < length ws → word_of (with_two ws k a b) k ≡ number a
+pub two_first : (ws : List Word) (k a b : ℕ) → k + 1 < length ws → word_of (with_two ws k a b) k ≡ number a
 two_first ws k a b h = word_other (with_word ws k (number a)) (k + 1) (number b) k (λ z. absurd (omega (arith, z))) ∙ word_here ws k (number a) (omega (arith, h))
 
-two_second : (ws : List Word) (k a b : ℕ) → k + 1 < length ws → word_of (with_two ws k a b) (k + 1) ≡ number b
+pub two_second : (ws : List Word) (k a b : ℕ) → k + 1 < length ws → word_of (with_two ws k a b) (k + 1) ≡ number b
 two_second ws k a b h = word_here (with_word ws k (number a)) (k + 1) (number b) (subst (λ n. k + 1 < n) (sym (length-with_word ws k (number a))) h)
 
 pub two_other : (ws : List Word) (k a b j : ℕ) → (j ≡ k → ⊥) → (j ≡ k + 1 → ⊥) → word_of (with_two ws k a b) j ≡ word_of ws j

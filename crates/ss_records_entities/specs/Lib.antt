@@ -1,4 +1,4 @@
-pub mod Added
+pub mod Attributes
 pub mod Classed
 pub mod Looked
 pub mod Parts

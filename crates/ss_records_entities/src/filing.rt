@@ -1,5 +1,5 @@
 // Filing and removing.
-ghost use Rattle.std.specs.Prelude.{◌≡◌, ℕ, ◌+◌, ◌<◌, ◌≤◌, ℤ, List, [], ◌∷◌, ◌++◌, length, false, true, Result, MatchResult, IfSome, IsOk, Ok, Err, None};
+ghost use Rattle.std.specs.Prelude.{◌≡◌, ℕ, ◌+◌, ◌<◌, ◌≤◌, ℤ, List, [], ◌∷◌, ◌++◌, length, false, true, Result, MatchResult, IsOk, Ok, Err};
 ghost use Rattle.ss_world.specs.State.{State, and_then, is_filed, contains, members_of};
 ghost use Rattle.ss_world.specs.Disciplines.{first_removed, last_removed, member_test};
 ghost use Rattle.ss_world.specs.Sets.{joiner, owner, less, with_list_of, put_in, put_beside, taken_out, filed_first, filed_last, filed_before, filed_after, removed};
@@ -31,6 +31,7 @@ impl Records {
     fn pair(&self, s: usize, o: i64, x: i64) -> Result<Pair, FaultKind>
         requires kept { IsKept self.now }
         requires set { s < length self.now.layout.sets }
+        ensures found { MatchResult result (λ p. Owns self.now s p.owner × Joins self.now s p.x × (joiner (state self.now) s x ≡ Ok p.x.number) × (owner (state self.now) s o ≡ Ok p.owner.number)) (λ f. (g : ℕ → ℕ → Result State FaultKind) → and_then (joiner (state self.now) s x) (λ n. and_then (owner (state self.now) s o) (g n)) ≡ Err f) }
     {
         match self.joiner(s, x) {
             Ok(x) => match self.owner(s, o) {
@@ -168,7 +169,6 @@ impl Records {
     pub fn file_last(&mut self, s: usize, o: i64, x: i64) -> Result<(), FaultKind>
         requires kept { IsKept self.old }
         requires set { s < length self.old.layout.sets }
-        requires touches { self.old.blocks.touches ≡ 0 }
         ensures kept { IsKept self.new }
         ensures done { MatchResult result (λ _. filed_last (state self.old) s o x ≡ Ok (state self.new)) (λ e. (filed_last (state self.old) s o x ≡ Err e) × (state self.new ≡ state self.old)) }
         ensures touches { (self.new.blocks.touches ≤ 12) × (IsOk result → 4 ≤ self.new.blocks.touches) × (self.new.blocks.total ≡ self.old.blocks.total + self.new.blocks.touches) }
@@ -297,7 +297,6 @@ impl Records {
     pub fn remove_first(&mut self, s: usize, o: i64) -> Result<i64, FaultKind>
         requires kept { IsKept self.old }
         requires set { s < length self.old.layout.sets }
-        requires touches { self.old.blocks.touches ≡ 0 }
         ensures kept { IsKept self.new }
         ensures done { MatchResult result (λ x. first_removed (state self.old) s o ≡ Ok (x, state self.new)) (λ e. (first_removed (state self.old) s o ≡ Err e) × (state self.new ≡ state self.old)) }
         ensures touches { (self.new.blocks.touches ≤ 12) × (self.new.blocks.total ≡ self.old.blocks.total + self.new.blocks.touches) }
@@ -343,8 +342,7 @@ impl Records {
         requires owns { Owns self.old s owner }
         requires joins { Joins self.old s x }
         ensures kept { IsKept self.new }
-        ensures done { IsOk result → (is_filed self.old.notes.lists s x.number ≡ false) × (state self.new ≡ with_list_of (state self.old) s owner.number (members_of self.old.notes.lists s owner.number ++ x.number ∷ [])) }
-        ensures same { MatchResult result (λ _. ⊤) (λ _. state self.new ≡ state self.old) }
+        ensures done { MatchResult result (λ _. (is_filed self.old.notes.lists s x.number ≡ false) × (state self.new ≡ with_list_of (state self.old) s owner.number (members_of self.old.notes.lists s owner.number ++ x.number ∷ []))) (λ e. (e ≡ FaultKind.FiledTwice) × (is_filed self.old.notes.lists s x.number ≡ true) × (state self.new ≡ state self.old)) }
         ensures touches { (self.new.blocks.touches ≤ 12) × (IsOk result → 4 ≤ self.new.blocks.touches) × (self.new.blocks.total ≡ self.old.blocks.total + self.new.blocks.touches) }
     {
         let member = self.layout.member_base(s);
@@ -370,15 +368,15 @@ impl Records {
         Ok(())
     }
 
-    // Takes the first member out of the set of an owner, remembers it and answers it. Faults: 8 where there is none. The touches are counted at once.
+    // Takes the first member out of the set of an owner, remembers it and answers it. Faults: 8 where there is none. The touches are
+    // counted at once.
     #[inline(always)]
     fn draw_first(&mut self, s: usize, home: Entry) -> Result<i64, FaultKind>
         requires kept { IsKept self.old }
         requires set { s < length self.old.layout.sets }
         requires owns { Owns self.old s home }
         ensures kept { IsKept self.new }
-        ensures done { MatchResult result (λ x. (o : ℤ) → owner (state self.old) s o ≡ Ok home.number → first_removed (state self.old) s o ≡ Ok (x, state self.new)) (λ _. ⊤) }
-        ensures same { MatchResult result (λ _. ⊤) (λ _. state self.new ≡ state self.old) }
+        ensures done { MatchResult result (λ x. (o : ℤ) → owner (state self.old) s o ≡ Ok home.number → first_removed (state self.old) s o ≡ Ok (x, state self.new)) (λ e. ((o : ℤ) → owner (state self.old) s o ≡ Ok home.number → first_removed (state self.old) s o ≡ Err e) × (state self.new ≡ state self.old)) }
         ensures touches { (self.new.blocks.touches ≤ 12) × (self.new.blocks.total ≡ self.old.blocks.total + self.new.blocks.touches) }
     {
         let set = self.layout.owner_base(s);

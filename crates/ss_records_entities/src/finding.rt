@@ -1,5 +1,6 @@
 // Where the block of an entity lies, by its number.
-ghost use Rattle.std.specs.Prelude.{◌≡◌, ℕ, suc, ◌+◌, ◌^◌, ◌<◌, ◌≤◌, length, MatchResult, IfSome, Ok, Err, Some, false, slice_get};
+ghost use Rattle.std.specs.Prelude.{◌≡◌, ℕ, suc, ◌+◌, ◌^◌, ◌<◌, ◌≤◌, length, MatchResult, MatchOption, IfSome, IsErr, Ok, Err, Some, None, false, slice_get};
+ghost use Rattle.ss_base.specs.declared.fault.FaultKind.{FaultKind as FaultSeen};
 ghost use Rattle.ss_world.specs.State.{entity_in, notice, numbered, and_then, of_class, kind_of, is_notice, in_a_set, owns_members, destroyed};
 ghost use Rattle.ss_records_blocks.specs.Cells.{words_at};
 ghost use Rattle.ss_records_words.specs.Reading.{record_of};
@@ -71,6 +72,7 @@ impl Records {
     #[inline(never)]
     fn search(&self, class: usize, r: i64) -> Option<Address>
         requires kept { IsKept self.now }
+        ensures { MatchOption result (IsErr (and_then (numbered (state self.now) r) (of_class class))) (λ p. Found self.now class r p) }
     {
         match self.of_class(class, r) {
             Ok(place) => Some(place),
@@ -83,6 +85,8 @@ impl Records {
     #[inline(never)]
     fn missing(&self, class: usize, r: i64) -> FaultKind
         requires kept { IsKept self.now }
+        requires none { IsErr (and_then (numbered (state self.now) r) (of_class class)) }
+        ensures { and_then (numbered (state self.now) r) (of_class class) ≡ Err result }
     {
         match self.of_class(class, r) {
             Ok(_) => FaultKind::NoEntity,
@@ -156,7 +160,7 @@ impl Records {
         ensures cells { self.new.blocks.cells ≡ self.old.blocks.cells }
         ensures touches { self.new.blocks.total + self.old.blocks.touches ≡ self.old.blocks.total + self.new.blocks.touches }
     {
-        match self.find_single(class, r) {
+        match self.find(class, r) {
             Ok(place) => {
                 let number = r as u64;
                 if self.in_a_set(class, place, number) {
@@ -219,6 +223,8 @@ impl Records {
     #[inline(always)]
     pub fn class_of(&self, r: i64) -> Option<usize>
         requires kept { IsKept self.now }
+        ensures found { IfSome result (λ c. HasClass (state self.now) r c) }
+        ensures none { result ≡ None → (kind : FaultSeen) × (numbered (state self.now) r ≡ Err kind) }
     {
         match self.remembered_numbered(r) {
             Some(place) => Some(self.blocks.number(place, CLASS) as usize),
@@ -231,6 +237,8 @@ impl Records {
     #[inline(never)]
     fn class_apart(&self, r: i64) -> Option<usize>
         requires kept { IsKept self.now }
+        ensures found { IfSome result (λ c. HasClass (state self.now) r c) }
+        ensures none { result ≡ None → (kind : FaultSeen) × (numbered (state self.now) r ≡ Err kind) }
     {
         match self.numbered(r) {
             Ok(place) => Some(self.blocks.number(place, CLASS) as usize),

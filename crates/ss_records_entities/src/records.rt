@@ -1,17 +1,17 @@
 // The records, and what the block of each says.
-ghost use Rattle.std.specs.Prelude.{◌≡◌, ℕ, List, ◌+◌, ◌-◌, ◌*◌, ◌/◌, ◌^◌, ◌<◌, ◌≤◌, length, MatchResult, IfOk, IfSome, Ok, Err, Some, None, slice_get, true, false, ⊤};
+ghost use Rattle.std.specs.Prelude.{◌≡◌, ℕ, List, ◌+◌, ◌-◌, ◌*◌, ◌/◌, ◌^◌, ◌<◌, ◌≤◌, length, MatchResult, IfOk, Ok, Err, Some, None, slice_get, true, false, ⊤};
 ghost use Rattle.ss_world.specs.State.{Members, kind_of, modes_of, is_notice, first_state, living_numbers, living_records, value_in, time_in, destroyed, created, created_all, is_made, with_made, assigned, timed, no_value, RefusedFor};
 ghost use Rattle.ss_world.specs.Sets.{owner_kind};
 ghost use Rattle.ss_records_blocks.specs.Cells.{words_at};
 ghost use Rattle.ss_records_blocks.specs.Pages.{in_page};
 ghost use Rattle.ss_base.specs.Layout.{mode_of};
+ghost use Rattle.ss_base.specs.Arithmetic.{plus_of, minus_of};
 ghost use Rattle.ss_records_words.specs.Shape.{values_end};
 ghost use Rattle.ss_records_words.specs.Kept.{Kept, Small, IsPermanent, RowsHeld};
 ghost use Rattle.ss_records_words.specs.Places.{class_at_place, lying};
 ghost use Rattle.ss_records_entities.specs.Parts.{IsKept, state};
-ghost use Rattle.ss_records_entities.specs.Added.{Added};
+ghost use Rattle.ss_records_entities.specs.Attributes.{IsAssigned, IsChanged, changed_number};
 
-use crate::ties;
 use ss_base::{Alpha, FaultKind, Layout, Mode, Owner, Refused, Value, minus, plus};
 use ss_records_blocks::placing::{give_places_back, place_all};
 use ss_records_blocks::row::{self, Row};
@@ -173,6 +173,8 @@ impl Records {
     pub fn text(&self, class: usize, field: usize, r: i64) -> Result<Alpha, FaultKind>
         requires kept { IsKept self.now }
         requires class { class < length self.now.layout.classes }
+        requires mode { slice_get (modes_of self.now.layout class) field ≡ Some Mode.Alpha }
+        ensures { MatchResult result (λ t. value_in (state self.now) class field r ≡ Ok (Value.Text t)) (λ e. value_in (state self.now) class field r ≡ Err e) }
     {
         match self.find(class, r) {
             Ok(place) => {
@@ -190,7 +192,7 @@ impl Records {
         requires class { class < length self.old.layout.classes }
         requires mode { slice_get (modes_of self.old.layout class) field ≡ Some Mode.Integer }
         ensures kept { IsKept self.new }
-        ensures done { MatchResult result (λ _. assigned (state self.old) class field r (Value.Whole n) ≡ Ok (state self.new)) (λ e. (assigned (state self.old) class field r (Value.Whole n) ≡ Err e) × (state self.new ≡ state self.old)) }
+        ensures done { MatchResult result (λ _. IsAssigned (state self.old) class field r n (state self.new)) (λ e. (assigned (state self.old) class field r (Value.Whole n) ≡ Err e) × (state self.new ≡ state self.old)) }
         ensures touches { (self.new.blocks.touches ≡ self.old.blocks.touches) × (self.new.blocks.total ≡ self.old.blocks.total) }
         ensures blocks { length self.new.blocks.cells ≡ length self.old.blocks.cells }
     {
@@ -211,6 +213,7 @@ impl Records {
         requires class { class < length self.old.layout.classes }
         requires mode { slice_get (modes_of self.old.layout class) field ≡ Some Mode.Integer }
         ensures kept { IsKept self.new }
+        ensures done { MatchResult result (λ _. IsChanged (λ z. plus_of z n) (state self.old) class field r (state self.new)) (λ e. (changed_number (λ z. plus_of z n) (value_in (state self.old) class field r) ≡ Err e) × (state self.new ≡ state self.old)) }
         ensures touches { (self.new.blocks.touches ≡ self.old.blocks.touches) × (self.new.blocks.total ≡ self.old.blocks.total) }
         ensures blocks { length self.new.blocks.cells ≡ length self.old.blocks.cells }
     {
@@ -242,6 +245,7 @@ impl Records {
         requires class { class < length self.old.layout.classes }
         requires mode { slice_get (modes_of self.old.layout class) field ≡ Some Mode.Integer }
         ensures kept { IsKept self.new }
+        ensures done { MatchResult result (λ _. IsChanged (λ z. minus_of z n) (state self.old) class field r (state self.new)) (λ e. (changed_number (λ z. minus_of z n) (value_in (state self.old) class field r) ≡ Err e) × (state self.new ≡ state self.old)) }
         ensures touches { (self.new.blocks.touches ≡ self.old.blocks.touches) × (self.new.blocks.total ≡ self.old.blocks.total) }
         ensures blocks { length self.new.blocks.cells ≡ length self.old.blocks.cells }
     {

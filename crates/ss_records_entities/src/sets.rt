@@ -1,7 +1,7 @@
 // The sets: their ends, the neighbours of a member, and its owner.
 ghost use Rattle.std.specs.Prelude.{◌≡◌, ℕ, ◌+◌, ◌-◌, ◌^◌, ◌<◌, ◌≤◌, length, slice_get, not, true, false, if◌then◌else◌, ℤ, pos, MatchResult, IfSome, IsOk, Ok, Err, Some};
 ghost use Rattle.std.specs.Ordering.{match_ordering, int_cmp};
-ghost use Rattle.ss_world.specs.State.{State, is_filed, members_of, kind_of, modes_of, value_in};
+ghost use Rattle.ss_world.specs.State.{State, is_filed, members_of, kind_of, modes_of, value_in, no_value};
 ghost use Rattle.ss_world.specs.Sets.{joiner, owner, member_class, first_in, last_in, count_in, next_in, previous_in, owner_of_member, Apart};
 ghost use Rattle.ss_world.specs.Disciplines.{member_test, owned};
 ghost use Rattle.ss_records_words.specs.Kept.{IsPermanent};
@@ -142,7 +142,6 @@ impl Records {
     pub fn count(&mut self, s: usize, o: i64) -> Result<i64, FaultKind>
         requires kept { IsKept self.old }
         requires set { s < length self.old.layout.sets }
-        requires touches { self.old.blocks.touches ≡ 0 }
         ensures value { result ≡ count_in (state self.old) s o }
         ensures kept { IsKept self.new }
         ensures same { state self.new ≡ state self.old }
@@ -378,8 +377,9 @@ impl Records {
     pub fn look_member(&self, s: usize, x: i64) -> Result<(), FaultKind>
         requires kept { IsKept self.now }
         requires set { s < length self.now.layout.sets }
+        ensures { result ≡ no_value (joiner (state self.now) s x) }
     {
-        match self.find(self.layout.member_class(s), x) {
+        match self.joiner(s, x) {
             Ok(_) => Ok(()),
             Err(fault) => Err(fault),
         }
@@ -390,6 +390,7 @@ impl Records {
     pub fn look_owner(&self, s: usize, o: i64) -> Result<(), FaultKind>
         requires kept { IsKept self.now }
         requires set { s < length self.now.layout.sets }
+        ensures { result ≡ no_value (owner (state self.now) s o) }
     {
         match self.owner(s, o) {
             Ok(_) => Ok(()),

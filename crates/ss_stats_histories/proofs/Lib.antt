@@ -8,7 +8,4 @@ pub mod Fullness
 pub mod Noted
 pub mod Bare
 pub mod Unstarted
-mod Quiet
-mod Spared
 pub mod OnePlace
-mod OnlyPlace

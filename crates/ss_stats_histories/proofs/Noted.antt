@@ -1,6 +1,5 @@
 -- What becomes of the histories, as the meaning says it.
-use Rattle.std.proofs.Common.{◌≡◌, ℕ, zero, suc, ◌<◌, length, All, arith, Bool, true, false, ◌||◌, if◌then◌else◌, ℤ, List, [], ◌∷◌, map, fold, Option, Some, None, is_some, Result, Ok, Err, MatchResult, slice_get, ◌∙◌, sym, ap, subst, refl}
-use Rattle.std.specs.List.{list_any}
+use Rattle.std.proofs.Common.{◌≡◌, ℕ, zero, suc, ◌<◌, length, All, arith, Bool, true, false, if◌then◌else◌, ℤ, List, [], ◌∷◌, map, fold, Option, Some, None, is_some, Result, Ok, Err, MatchResult, slice_get, ◌∙◌, sym, ap, subst, refl}
 use Rattle.std.specs.Option.{option_map, option_or}
 use Rattle.ss_program.specs.declared.expression.Fold.{Fold}
 use Rattle.ss_program.specs.declared.expression.Fold.TheVariants.{Number, Sum, Maximum, Minimum}
@@ -19,7 +18,7 @@ use Rattle.ss_meaning.specs.Histories.{starting, ending, noting_in, all_noting, 
 use Rattle.ss_stats_histories.specs.declared.unnoted.Unnoted.{Unnoted}
 use Rattle.ss_stats_histories.specs.declared.unnoted.Unnoted.TheVariants.{Full}
 use Rattle.ss_stats_histories.specs.declared.unnoted.Unnoted.TheVariants as unnoted
-use Rattle.ss_stats_histories.specs.Places.{places_where, is_about, has_some}
+use Rattle.ss_stats_histories.specs.Places.{places_where, is_about}
 use Rattle.ss_stats_histories.specs.Records.{Records, Recorded, Rows, column_of, columns_of, statistics_of, rows_of, rooms_of, noted_to, renewed_to, figure_of, figured, mean_in, why}
 use Rattle.ss_stats_histories.specs.Each.{Shown, shown, bare, begun_shown, ended_shown, noted_by, renewed_one, changed_at, refused_in, refused_at, stops_at, first_at, has_at}
 use Rattle.ss_stats_histories.proofs.Columns.{head_of, tail_of, not_none, joined}
@@ -167,15 +166,6 @@ noted_is s x now v (k ∷ ks) =
     ap (λ (r : Result (List Column) Trouble). if_ok (unless (stopped_by b v (c x)) d) (λ d. turned (λ ds. d ∷ ds) r)) (noted_is s x now v ks) ∙
     both (stopped_by b v (c x)) (first_stopped s x v (map shown ks)) d ds ∙
     ap (λ (d : Column). unless (first_stopped s x v (map shown (k ∷ ks))) (d ∷ ds)) (of_both b x now v (shown k))
-
-some_step : (b : Bool) (ps : List ℕ) → has_some (if b then 0 ∷ map suc ps else map suc ps) ≡ (b || has_some ps)
-some_step true ps = refl
-some_step false [] = refl
-some_step false (p ∷ ps) = refl
-
-pub some_about : {X : Type 0} → (test : X → Bool) (xs : List X) → has_some (places_where test xs) ≡ list_any test xs
-some_about test [] = refl
-some_about test (x ∷ xs) = some_step (test x) (places_where test xs) ∙ ap (λ (b : Bool). test x || b) (some_about test xs)
 
 -- ## What starting afresh changes
 

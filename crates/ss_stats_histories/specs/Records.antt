@@ -5,21 +5,17 @@ use Rattle.std.specs.Map.{lookup}
 use Rattle.ss_base.specs.declared.fault.FaultKind.{FaultKind}
 use Rattle.ss_base.specs.declared.fault.FaultKind.TheVariants.{Overflow}
 use Rattle.ss_base.specs.declared.layout.Owner.{Owner}
-use Rattle.ss_base.specs.declared.layout.Owner.TheVariants.{Class}
 use Rattle.ss_base.specs.declared.layout.Layout.{Layout}
 use Rattle.ss_base.specs.declared.value.Value.{Value}
 use Rattle.ss_base.specs.declared.value.Value.TheVariants.{Whole}
 use Rattle.ss_program.specs.declared.expression.Fold.{Fold}
 use Rattle.ss_program.specs.declared.expression.Fold.TheVariants.{Number, Sum, Maximum, Minimum}
-use Rattle.ss_program.specs.declared.sections.Subject.{Subject}
-use Rattle.ss_program.specs.declared.sections.Subject.TheVariants.{OfCount}
 use Rattle.ss_program.specs.declared.sections.Statistic.{Statistic}
 use Rattle.ss_stats.specs.History.{History, last_moment, number_noted, sum_of, mean_of, maximum_of, minimum_of, is_full, with_noted_value, restarted}
 use Rattle.ss_meaning.specs.Values.{Trouble, Fails, Misfit, turned, due}
 use Rattle.ss_meaning.specs.Store.{Column}
 use Rattle.ss_base.specs.Layout.{same_owner}
-use Rattle.ss_meaning.specs.Histories.{history_of_subject, with_history, all_noting, home, starting, ending}
-use Rattle.ss_stats_histories.specs.Places.{places_where, is_about}
+use Rattle.ss_meaning.specs.Histories.{history_of_subject, with_history, home}
 use Rattle.ss_stats_histories.specs.declared.unnoted.Unnoted.{Unnoted}
 use Rattle.ss_stats_histories.specs.declared.unnoted.Unnoted.TheVariants.{Full}
 use Rattle.ss_stats_histories.specs.declared.unnoted.Unnoted.TheVariants as unnoted
@@ -107,16 +103,6 @@ HasRooms l whose count [] room = ⊤
 HasRooms l whose count (s ∷ ss) [] = ⊥
 HasRooms l whose count (s ∷ ss) (m ∷ room) = (IsTrue (is_home l whose s) → count ≤ℤ pos m) × HasRooms l whose count ss room
 
--- a class owns no set
-abbrev pub OwnsNone : Layout → (class : ℕ) → Type 0
-OwnsNone l class = (set : ℕ) → home l (OfCount set) ≡ Class class → ⊥
-
--- the entities of a class have no history: there is room for any number of them, and none starts or ends
-pub record HasNoHistories (l : Layout) (class : ℕ) (r : Records) : Type 0 where
-  pub rooms : (count : ℤ) → HasRooms l (Class class) count r.statistics r.room
-  pub starts : (here : ℤ → Bool) (now : ℤ) → starting l (Class class) here now r.statistics (columns_of r.rows) ≡ columns_of r.rows
-  pub ends : (entity : ℤ) → ending l class entity r.statistics (columns_of r.rows) ≡ columns_of r.rows
-
 -- the entities 1 to a number
 abbrev pub is_up_to : (count : ℤ) → (entity : ℤ) → Bool
 is_up_to count x = int_le (pos 1) x && int_le x count
@@ -141,14 +127,6 @@ mean_in j x now cs = turned (λ h. mean_of h now) (history_of_subject j x cs)
 abbrev pub renewed_where : Bool → List Column → Result (List Column) Trouble
 renewed_where true cs = Ok cs
 renewed_where false cs = Err Misfit
-
--- whatever number a subject of an entity is, histories note it
-abbrev pub Takes : Subject → (entity now : ℤ) → List Statistic → List Column → Type 0
-Takes subject x now ss cs = (n : ℤ) → (ds : List Column) × (all_noting subject x now (Whole n) ss cs ≡ Ok ds)
-
--- the statistic at a place is the only one of N. of a set
-abbrev pub IsOnly : (set place : ℕ) → List Statistic → Type 0
-IsOnly set place ss = places_where (is_about (OfCount set)) ss ≡ place ∷ []
 
 -- why a value is not noted
 abbrev pub why : Unnoted → Trouble

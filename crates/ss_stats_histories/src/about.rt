@@ -1,6 +1,6 @@
 //! Which statistics are about a subject.
 
-ghost use Rattle.std.specs.Prelude.{◌≡◌, ℕ, true, ◌++◌, ◌∷◌, [], OnOk, IfOk, if◌then◌else◌};
+ghost use Rattle.std.specs.Prelude.{◌≡◌, ◌++◌, ◌∷◌, [], OnOk, IfOk, if◌then◌else◌};
 ghost use Rattle.ss_meaning.specs.Histories.{same_subject};
 ghost use Rattle.ss_program.specs.declared.sections.Subject.{Subject as TheSubject};
 ghost use Rattle.ss_program.specs.declared.sections.Subject.TheVariants.{OfAttribute, OfCount};

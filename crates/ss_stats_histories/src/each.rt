@@ -1,6 +1,6 @@
 //! What is done with each of some statistics.
 
-ghost use Rattle.std.specs.Prelude.{◌≡◌, ◌<◌, [], ◌∷◌, true, false, ◌≤ℤ◌, pos, map, fold, length, IfOk, OnOk, IsTrue, MatchResult, IfSome, Some, None};
+ghost use Rattle.std.specs.Prelude.{◌≡◌, ◌<◌, [], true, false, ◌≤ℤ◌, pos, map, fold, length, IfOk, OnOk, IsTrue, MatchResult, IfSome, Some, None};
 ghost use Rattle.std.specs.List.{All};
 ghost use Rattle.std.specs.Ordering.{int_eq};
 ghost use Rattle.ss_base.specs.declared.value.Value.TheVariants.{Whole};
@@ -131,9 +131,9 @@ fn note_refusable(
     }
 }
 
-/// Notes a number in the histories of an entity in the statistics at some places, as `note_all` does.
+// Does the work of `note_all` for a number; nothing where there is no place.
 #[inline(always)]
-pub(crate) fn note_number(
+fn note_number(
     kept: &mut [Kept],
     places: &[usize],
     entity: i64,

@@ -1,21 +1,19 @@
 //! The histories of all statistics.
 
-ghost use Rattle.std.specs.Prelude.{◌≡◌, ℕ, ◌≤ℤ◌, ◌<◌, [], true, false, ℤ, pos, length, slice_get, Ok, Err, IfOk, OnOk, IfSome, MatchResult};
-ghost use Rattle.ss_base.specs.declared.value.Value.{Value as ValueSeen};
+ghost use Rattle.std.specs.Prelude.{◌≡◌, ◌≤ℤ◌, ◌<◌, [], false, pos, length, slice_get, Ok, Err, IfOk, OnOk, IfSome, MatchResult};
 ghost use Rattle.ss_base.specs.declared.value.Value.TheVariants.{Whole};
 ghost use Rattle.std.specs.Bool.{IsFalse};
-ghost use Rattle.std.specs.List.{All, list_any};
+ghost use Rattle.std.specs.List.{All};
 ghost use Rattle.std.specs.Option.{option_map};
 ghost use Rattle.std.specs.Ordering.{int_eq};
-ghost use Rattle.ss_base.specs.declared.layout.Layout.{Layout as TheLayout};
 ghost use Rattle.ss_base.specs.declared.layout.Owner.TheVariants.{Class};
 ghost use Rattle.ss_program.specs.declared.sections.Statistic.{Statistic};
 ghost use Rattle.ss_program.specs.declared.sections.Subject.{Subject as TheSubject};
-ghost use Rattle.ss_program.specs.declared.sections.Subject.TheVariants.{OfVariable, OfAttribute, OfCount};
+ghost use Rattle.ss_program.specs.declared.sections.Subject.TheVariants.{OfCount};
 ghost use Rattle.ss_picture.specs.Suited.{IsMean};
 ghost use Rattle.ss_meaning.specs.Values.{if_ok, sure};
 ghost use Rattle.ss_meaning.specs.Histories.{no_histories, starting, ending, all_noting, history_of_subject, folded, renewed};
-ghost use Rattle.ss_stats_histories.specs.Records.{columns_of, statistics_of, rows_of, figured, mean_in, HasRooms, IsOnly, OwnsNone, HasNoHistories, Takes, is_up_to, why, renewed_where};
+ghost use Rattle.ss_stats_histories.specs.Records.{columns_of, statistics_of, rows_of, figured, mean_in, HasRooms, is_up_to, why, renewed_where};
 ghost use Rattle.ss_stats_histories.specs.Each.{KeptUntil};
 ghost use Rattle.ss_stats_histories.specs.Places.{is_about, places_where as places_of};
 
@@ -173,15 +171,15 @@ impl Histories {
         owner: i64,
         now: i64,
         number: i64,
-    ) -> Result<(), Unnoted> {
+    ) -> Result<(), Unnoted>
+        requires { self.old.latest ≤ℤ now }
+        ensures noted { MatchResult result (λ _. all_noting (OfCount set) owner now (Whole number) self.old.statistics (columns_of self.old.rows) ≡ Ok (columns_of self.new.rows)) (λ e. (all_noting (OfCount set) owner now (Whole number) self.old.statistics (columns_of self.old.rows) ≡ Err (why e)) × (self.new ≡ self.old)) }
+        ensures statistics { self.new.statistics ≡ self.old.statistics }
+        ensures latest { self.new.latest ≤ℤ now }
+    {
         let places = self.about.count_places(set);
-        match each::note_number(&mut self.kept, places, owner, now, number) {
-            Ok(()) => {
-                self.latest = now;
-                Ok(())
-            }
-            Err(unnoted) => Err(unnoted),
-        }
+        let value = Value::Whole(number);
+        note_at(&mut self.kept, &mut self.latest, places, owner, now, value)
     }
 
     /// What is asked of the history of an entity in a statistic, if it has one. Faults: 14 for a sum of more than 64

@@ -1,6 +1,6 @@
 //! The histories of one statistic.
 
-ghost use Rattle.std.specs.Prelude.{◌≡◌, true, Some, None, is_some, ◌+◌, ◌<◌, ◌≤◌, pos, ◌≤ℤ◌, OnOk, IfSome};
+ghost use Rattle.std.specs.Prelude.{◌≡◌, Some, None, is_some, ◌+◌, ◌<◌, ◌≤◌, pos, ◌≤ℤ◌, OnOk, IfSome};
 ghost use Rattle.std.specs.Ordering.{int_eq};
 ghost use Rattle.std.specs.Option.{option_map, option_copied};
 ghost use Rattle.ss_stats_histories.specs.Each.{refused_in};

@@ -1,6 +1,6 @@
 //! A table of numbers under numbers.
 
-ghost use Rattle.std.specs.Prelude.{◌≡◌, ◌++◌, ◌∷◌, [], ℕ, ◌==◌, ◌&&◌, if◌then◌else◌, length, ◌<◌, OnOk, true};
+ghost use Rattle.std.specs.Prelude.{◌≡◌, ◌++◌, ◌∷◌, [], ℕ, ◌==◌, ◌&&◌, if◌then◌else◌, length, ◌<◌, OnOk};
 ghost use Rattle.ss_stats_histories.specs.Places.{row_at, cell_at};
 
 use std::alloc::{AllocError, Global};

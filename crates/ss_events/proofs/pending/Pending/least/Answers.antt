@@ -1,8 +1,7 @@
-use Rattle.std.proofs.Common.{◌≡◌, ◌<◌, ◌∙◌, List, [], ◌∷◌, Some, length, get_or, refl, ap, sym, subst, arith}
-use Rattle.ss_events.specs.declared.entry.Entry.{Entry}
+use Rattle.std.proofs.Common.{◌≡◌, ◌<◌, ◌∙◌, Some, length, get_or, ap, sym, subst, arith}
 use Rattle.ss_events.specs.CountedList.{with_work}
 use Rattle.ss_events.specs.HeapEntries.{HeapEntries, AreAfterHeads, event_of}
-use Rattle.ss_events.proofs.Agendas.{next-none, next-first}
+use Rattle.ss_events.proofs.Agendas.{next-none, next-first, at_top}
 use Rattle.ss_events.proofs.pending.Pending.least.Goals as goal
 
 pub returns-then-len-eq0-clause-next : goal.returns-then-len-eq0-clause-next
@@ -10,11 +9,6 @@ returns-then-len-eq0-clause-next c =
     let anew = c.reset_counts.ensures in
     let following : AreAfterHeads c.self.inside.heap.entries c.self.inside.heap.followers = subst (λ (h : HeapEntries). AreAfterHeads h.entries h.followers) anew c.are_after_heads.ensures in
     sym (next-none c.self.inside.heap c.args.self.now.list (ap (λ v. v.list.entries) c.self.view_is) following (omega (arith, ap (λ h. length h.entries) anew)))
-
--- the entry in the first place
-at_top : (es : List Entry) → 0 < length es → (e : Entry) × (e ≡ get_or es 0 e)
-at_top [] some = absurd (omega arith)
-at_top (e ∷ es) some = (e, refl)
 
 pub returns-clause-next : goal.returns-clause-next
 returns-clause-next c =

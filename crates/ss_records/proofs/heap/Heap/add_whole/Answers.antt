@@ -1,7 +1,9 @@
-use Rattle.std.proofs.Common.{◌≡◌, true, ap, subst, ◌∙◌}
+use Rattle.std.proofs.Common.{◌≡◌, ap, subst, ◌∙◌}
+use Rattle.std.specs.Prelude.{MatchResult, Err}
 use Rattle.std.proofs.lemmas.Int.{to_z-of_z}
-use Rattle.ss_world.specs.State.{Heaped, State}
-use Rattle.ss_records_entities.specs.Added.{Added}
+use Rattle.ss_base.specs.Arithmetic.{plus_of}
+use Rattle.ss_world.specs.State.{Heaped, State, value_in}
+use Rattle.ss_records_entities.specs.Attributes.{IsChanged, changed_number}
 use Rattle.ss_records_entities.specs.Parts.{state}
 use Rattle.ss_records.proofs.heap.Heap.add_whole.Goals as goal
 
@@ -9,9 +11,4 @@ pub returns-clause-done : goal.returns-clause-done
 returns-clause-done c =
     let e : state c.start.new.self ≡ c.args.self.now.state = ap state c.start.ensures ∙ ap (λ (w : Heaped). w.state) c.self.view_is in
     let fr = c.ranges.r in let fn = c.ranges.n in let h = simp to_z-of_z at c.add_whole.ensures.done in
-    subst (λ (s : State). c.add_whole.result ≡ true → Added s c.args.class c.args.field c.args.r c.args.n (state c.add_whole.new.self)) e h
-
-pub returns-clause-same : goal.returns-clause-same
-returns-clause-same c =
-    let e : state c.start.new.self ≡ c.args.self.now.state = ap state c.start.ensures ∙ ap (λ (w : Heaped). w.state) c.self.view_is in
-    λ h. c.add_whole.ensures.same h ∙ e
+    subst (λ (s : State). MatchResult c.add_whole.result (λ _. IsChanged (λ z. plus_of z c.args.n) s c.args.class c.args.field c.args.r (state c.add_whole.new.self)) (λ f. (changed_number (λ z. plus_of z c.args.n) (value_in s c.args.class c.args.field c.args.r) ≡ Err f) × (state c.add_whole.new.self ≡ s))) e h

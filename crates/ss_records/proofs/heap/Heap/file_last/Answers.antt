@@ -1,4 +1,4 @@
-use Rattle.std.proofs.Common.{◌≡◌, ap, subst, ◌∙◌}
+use Rattle.std.proofs.Common.{◌≡◌, ap, subst}
 use Rattle.std.specs.Prelude.{MatchResult, Ok, Err}
 use Rattle.std.proofs.lemmas.Int.{to_z-of_z}
 use Rattle.ss_world.specs.State.{Heaped, State}
@@ -8,6 +8,6 @@ use Rattle.ss_records.proofs.heap.Heap.file_last.Goals as goal
 
 pub returns-clause-done : goal.returns-clause-done
 returns-clause-done c =
-    let e : state c.start.new.self ≡ c.args.self.now.state = ap state c.start.ensures ∙ ap (λ (w : Heaped). w.state) c.self.view_is in
+    let e : state c.self.inside.records ≡ c.args.self.now.state = ap (λ (w : Heaped). w.state) c.self.view_is in
     let fo = c.ranges.o in let fx = c.ranges.x in let h = simp to_z-of_z at c.file_last.ensures.done in
     subst (λ (s : State). MatchResult c.file_last.result (λ _. filed_last s c.args.set c.args.o c.args.x ≡ Ok (state c.file_last.new.self)) (λ f. (filed_last s c.args.set c.args.o c.args.x ≡ Err f) × (state c.file_last.new.self ≡ s))) e h

@@ -1,22 +1,11 @@
-use Rattle.std.proofs.Common.{arith, ◌≡◌, refl, ap}
+use Rattle.std.proofs.Common.{arith, refl, ap, ◌∙◌}
 use Rattle.std.proofs.lemmas.Int.{ints, to_z-of_z}
+use Rattle.ss_records_blocks.proofs.Same.{false_is_not_true}
+use Rattle.ss_records_entities.specs.Parts.{state}
 use Rattle.ss_records_entities.proofs.Looks.{counts, how_many_small, how_many_value}
-use Rattle.ss_records_entities.specs.Parts.{state, uncounted}
-use Rattle.ss_records_entities.proofs.Still.{kept_still, room_first, one_touch, no_touch}
+use Rattle.ss_records_entities.proofs.Passing.{as_before}
+use Rattle.ss_records_entities.proofs.Still.{kept_still}
 use Rattle.ss_records_entities.proofs.records.Records.count.Goals as goal
-
-pub count-requires-clause-word : goal.count-requires-clause-word
-count-requires-clause-word c = counts c.args.self.now c.requires.kept c.args.s c.requires.set c.in-Ok.owner c.in-Ok.ensures.found.0 c.owner_base-base.result c.owner_base-base.ensures.at
-
-pub overflow_cast-result : goal.overflow_cast-result
-overflow_cast-result c =
-    let h = how_many_small c.args.self.now c.requires.kept c.args.s c.requires.set c.in-Ok.owner c.in-Ok.ensures.found.0 c.owner_base-base.result c.owner_base-base.ensures.at c.count.result c.count.ensures.word in
-    omega (arith, ints, h)
-
-pub returns-in-Ok-clause-value : goal.returns-in-Ok-clause-value
-returns-in-Ok-clause-value c =
-    let fits = c.ranges.o in let f = simp to_z-of_z at c.in-Ok.ensures.found in
-    how_many_value c.args.self.now c.requires.kept c.args.s c.requires.set c.in-Ok.owner f.0 c.owner_base-base.result c.owner_base-base.ensures.at c.count.result c.count.ensures.word c.args.o f.1
 
 pub owner-requires-clause-kept : goal.owner-requires-clause-kept
 owner-requires-clause-kept c = c.requires.kept
@@ -27,29 +16,52 @@ owner-requires-clause-set c = c.requires.set
 pub owner_base-base-requires : goal.owner_base-base-requires
 owner_base-base-requires c = c.requires.set
 
-pub count-requires-clause-room : goal.count-requires-clause-room
-count-requires-clause-room c = let r = c.args.self.now in room_first r.blocks.touches r.blocks.total 0 0 c.requires.touches
+pub overflow_add-base : goal.overflow_add-base
+overflow_add-base c = omega (arith, c.owner_base-base.ensures.bound)
+
+pub peek_count-count-requires : goal.peek_count-count-requires
+peek_count-count-requires c = record { word = counts c.args.self.now c.requires.kept c.args.s c.requires.set c.in-Ok.owner c.in-Ok.ensures.found.0 c.owner_base-base.result c.owner_base-base.ensures.at }
+
+pub start_at-requires : goal.start_at-requires
+start_at-requires c = tt
+
+pub start-requires : goal.start-requires
+start-requires c = tt
+
+pub overflow_cast-result : goal.overflow_cast-result
+overflow_cast-result c =
+    let h = how_many_small c.args.self.now c.requires.kept c.args.s c.requires.set c.in-Ok.owner c.in-Ok.ensures.found.0 c.owner_base-base.result c.owner_base-base.ensures.at c.peek_count-count.result c.peek_count-count.ensures.word in
+    omega (arith, ints, h)
+
+pub returns-in-Ok-clause-value : goal.returns-in-Ok-clause-value
+returns-in-Ok-clause-value c =
+    let fits = c.ranges.o in let f = simp to_z-of_z at c.in-Ok.ensures.found in
+    how_many_value c.args.self.now c.requires.kept c.args.s c.requires.set c.in-Ok.owner f.0 c.owner_base-base.result c.owner_base-base.ensures.at c.peek_count-count.result c.peek_count-count.ensures.word c.args.o f.1
 
 pub returns-in-Ok-clause-kept : goal.returns-in-Ok-clause-kept
 returns-in-Ok-clause-kept c =
-    let r = c.args.self.now in let b = c.count.new.self in let h : uncounted (record r { blocks = b }) ≡ uncounted r = λ i. record r { blocks = record { cells = c.count.ensures.cells i; touches = 0; total = 0 } } in
-    kept_still r (record r { blocks = b }) h c.requires.kept
+    let r = c.args.self.now in let q = record r { blocks = c.start_at.new.self } in
+    kept_still r q (as_before r q refl (c.start_at.ensures.cells ∙ c.peek_count-count.ensures.cells)) c.requires.kept
 
 pub returns-in-Ok-clause-same : goal.returns-in-Ok-clause-same
 returns-in-Ok-clause-same c =
-    let r = c.args.self.now in let b = c.count.new.self in let h : uncounted (record r { blocks = b }) ≡ uncounted r = λ i. record r { blocks = record { cells = c.count.ensures.cells i; touches = 0; total = 0 } } in
-    ap state h
+    let r = c.args.self.now in
+    ap state (as_before r (record r { blocks = c.start_at.new.self }) refl (c.start_at.ensures.cells ∙ c.peek_count-count.ensures.cells))
 
 pub returns-in-Ok-clause-touches : goal.returns-in-Ok-clause-touches
 returns-in-Ok-clause-touches c =
-    let r = c.args.self.now in let b = c.count.new.self in
-    one_touch r.blocks.touches r.blocks.total b.touches b.total c.requires.touches c.count.ensures.touches
+    let n = c.peek_count-count.ensures.touches in let at = c.start_at.ensures.touches in
+    (omega (arith, at.0), λ _. omega (arith, at.0), omega (arith, n.1, at.0, at.1))
 
 pub returns-in-Err-clause-kept : goal.returns-in-Err-clause-kept
-returns-in-Err-clause-kept c = c.requires.kept
+returns-in-Err-clause-kept c =
+    let r = c.args.self.now in let q = record r { blocks = c.start.new.self } in
+    kept_still r q (as_before r q refl c.start.ensures.cells) c.requires.kept
 
 pub returns-in-Err-clause-same : goal.returns-in-Err-clause-same
-returns-in-Err-clause-same c = refl
+returns-in-Err-clause-same c = let r = c.args.self.now in ap state (as_before r (record r { blocks = c.start.new.self }) refl c.start.ensures.cells)
 
 pub returns-in-Err-clause-touches : goal.returns-in-Err-clause-touches
-returns-in-Err-clause-touches c = let r = c.args.self.now in no_touch r.blocks.touches r.blocks.total 0 0 c.requires.touches 1 1
+returns-in-Err-clause-touches c =
+    let f = c.start.ensures.touches in
+    (omega (arith, f.0), λ e. absurd (false_is_not_true e), omega (arith, f.0, f.1))

@@ -13,11 +13,11 @@ use Rattle.ss_records_entities.proofs.Still.{kept_still, start_ties, more_ties, 
 use Rattle.ss_records_entities.proofs.Frees.{by_number}
 use Rattle.ss_records_entities.proofs.records.Records.find_free.Goals as goal
 
-pub find_single-requires-clause-kept : goal.find_single-requires-clause-kept
-find_single-requires-clause-kept c = c.requires.kept
+pub find-requires-clause-kept : goal.find-requires-clause-kept
+find-requires-clause-kept c = c.requires.kept
 
-pub find_single-requires-clause-class : goal.find_single-requires-clause-class
-find_single-requires-clause-class c = c.requires.class
+pub find-requires-clause-class : goal.find-requires-clause-class
+find-requires-clause-class c = c.requires.class
 
 pub in_a_set-requires-clause-kept : goal.in_a_set-requires-clause-kept
 in_a_set-requires-clause-kept c = c.requires.kept

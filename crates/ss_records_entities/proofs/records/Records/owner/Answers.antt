@@ -1,16 +1,24 @@
-use Rattle.std.proofs.Common.{ap, ◌∙◌}
+use Rattle.std.proofs.Common.{sym, ap, ◌∙◌}
 use Rattle.std.proofs.lemmas.Int.{to_z-of_z}
 use Rattle.ss_base.specs.declared.layout.Owner.TheVariants.{Class}
 use Rattle.ss_base.specs.declared.layout.SetLayout.{SetLayout}
 use Rattle.ss_records_entities.specs.Parts.{state}
-use Rattle.ss_world.specs.Sets.{owner_in}
-use Rattle.ss_records_entities.proofs.Owning.{has_number, owns_found, not_owner, system_owns, kind_is}
+use Rattle.ss_world.specs.Sets.{owner_in, owner_kind}
+use Rattle.ss_records_words.specs.Plans.{is_system}
+use Rattle.ss_records_blocks.proofs.Same.{false_is_not_true}
+use Rattle.ss_records_entities.proofs.Owning.{has_number, owns_found, not_owner, of_system, system_owns, kind_is}
 use Rattle.ss_records_entities.proofs.records.Records.owner.Goals as goal
 
+pub returns-then-is_of_system : goal.returns-then-is_of_system
+returns-then-is_of_system c =
+    let r = c.args.self.now in
+    record { found = system_owns r c.args.s c.args.o (of_system (owner_kind r.layout c.args.s) (sym c.is_of_system.ensures ∙ c.if-is_of_system.true)) }
+
+-- the set is not of the system
 pub returns-in-System : goal.returns-in-System
 returns-in-System c =
     let r = c.args.self.now in let k = kind_is r.layout c.args.s (λ (t : SetLayout). t.owner) _ c.requires.set c.in-System.ensures.is in
-    record { found = system_owns r c.args.s c.args.o (ap owner_in k.1 ∙ k.2) }
+    absurd (false_is_not_true (sym c.if-is_of_system.false ∙ c.is_of_system.ensures ∙ ap is_system (ap owner_in k.1 ∙ k.2)))
 
 pub number-requires : goal.number-requires
 number-requires c = has_number c.args.self.now c.requires.kept c.in-Class.class _ c.in-Ok.place c.in-Ok.ensures.found

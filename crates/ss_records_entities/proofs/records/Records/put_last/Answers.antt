@@ -1,4 +1,4 @@
-use Rattle.std.proofs.Common.{◌≡◌, ◌+◌, false, [], refl, sym, ap, ◌∙◌, arith}
+use Rattle.std.proofs.Common.{◌≡◌, ◌+◌, true, false, [], refl, sym, ap, ◌∙◌, arith}
 use Rattle.ss_records_blocks.specs.Cells.{link, number, counter, word_at}
 use Rattle.ss_world.specs.State.{members_of, is_filed}
 use Rattle.ss_records_entities.specs.Parts.{state}
@@ -26,10 +26,11 @@ pub returns-then-next-x : goal.returns-then-next-x
 returns-then-next-x c =
     let r = c.args.self.now in let q = record r { blocks = c.start_at.new.self } in let f = c.start_at.ensures in let look = c.look-next.ensures in
     let h = as_before r q refl (f.cells ∙ look.cells) in
+    let e = c.look-next.result in let x = c.args.x in
+    let filed : is_filed r.notes.lists c.args.s x.number ≡ true = sym (is_filed_value r c.requires.kept c.args.s c.requires.set x c.requires.joins c.member_base-member.result c.member_base-member.ensures.at e look.word look.there) ∙ by_same e.number x.number (λ z i. absurd (c.if-next-x.true i)) (λ z n. rw z refl) in
     record {
       kept = kept_still r q h c.requires.kept;
-      done = λ e. absurd (false_is_not_true e);
-      same = λ e. ap state h;
+      done = (refl, filed, ap state h);
       touches = (omega (arith, f.touches.0), λ e. absurd (false_is_not_true e), omega (arith, look.touches.1, f.touches.0, f.touches.1));
     }
 
@@ -100,7 +101,7 @@ returns-clause-kept c =
     rw (c.link_between.ensures.cells, c.start_at-2.ensures.cells, c.peek_count-count.ensures.cells, c.look-last.ensures.cells, c.look-next.ensures.cells, c.put_before.ensures) (kept_in r c.requires.kept c.args.s c.requires.set c.args.owner x c.requires.owns c.member_base-member.result c.owner_base-set.result c.member_base-member.ensures.at c.owner_base-set.ensures.at c.requires.joins free a (record { place = r.system; number = 0 }) (members_of r.notes.lists c.args.s c.args.owner.number) [] between c.peek_count-count.result (how_many r c.requires.kept c.args.s c.requires.set c.args.owner c.requires.owns c.owner_base-set.result c.owner_base-set.ensures.at c.peek_count-count.result n))
 
 pub returns-clause-done : goal.returns-clause-done
-returns-clause-done c = λ e.
+returns-clause-done c =
     let r = c.args.self.now in let q = c.look-next.result in let x = c.args.x in let a = c.look-last.result in let cells = c.look-next.ensures.cells in let both = c.look-last.ensures.cells ∙ cells in
     let same : q.number ≡ x.number = c.if-next-x.false in
     let free : is_filed r.notes.lists c.args.s x.number ≡ false = sym (is_filed_value r c.requires.kept c.args.s c.requires.set x c.requires.joins c.member_base-member.result c.member_base-member.ensures.at q c.look-next.ensures.word c.look-next.ensures.there) ∙ by_same q.number x.number (λ z i. rw z refl) (λ z n. absurd (n same)) in
@@ -109,9 +110,6 @@ returns-clause-done c = λ e.
     let n : word_at r.blocks.cells c.args.owner.place.at (c.owner_base-set.result + 2) ≡ counter c.peek_count-count.result = (λ i. word_at (sym both i) c.args.owner.place.at (c.owner_base-set.result + 2)) ∙ c.peek_count-count.ensures.word in
     let between = at_last r c.requires.kept c.args.s c.requires.set c.args.owner c.requires.owns c.owner_base-set.result c.owner_base-set.ensures.at a w v in
     (free, rw (c.link_between.ensures.cells, c.start_at-2.ensures.cells, c.peek_count-count.ensures.cells, c.look-last.ensures.cells, c.look-next.ensures.cells, c.put_before.ensures) (state_in r c.requires.kept c.args.s c.requires.set c.args.owner x c.requires.owns c.member_base-member.result c.owner_base-set.result c.member_base-member.ensures.at c.owner_base-set.ensures.at c.requires.joins free a (record { place = r.system; number = 0 }) (members_of r.notes.lists c.args.s c.args.owner.number) [] between c.peek_count-count.result (how_many r c.requires.kept c.args.s c.requires.set c.args.owner c.requires.owns c.owner_base-set.result c.owner_base-set.ensures.at c.peek_count-count.result n)))
-
-pub returns-clause-same : goal.returns-clause-same
-returns-clause-same c = λ e. absurd (false_is_not_true (sym e))
 
 pub returns-clause-touches : goal.returns-clause-touches
 returns-clause-touches c =

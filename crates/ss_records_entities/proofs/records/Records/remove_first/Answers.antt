@@ -1,14 +1,9 @@
-use Rattle.std.proofs.Common.{arith, ◌≡◌, refl, sym, ap, ◌∙◌}
-use Rattle.std.specs.Int.{cast_signed}
-use Rattle.std.proofs.lemmas.Int.{ints, to_z-of_z}
-use mir.Syntax.{w64}
-use Rattle.ss_world.specs.State.{State, members_of}
-use Rattle.ss_world.specs.Sets.{with_list_of, less, first_in}
-use Rattle.ss_records_entities.specs.Parts.{state, uncounted}
-use Rattle.ss_records_entities.proofs.Looks.{as_whole, first_leads, first_small, first_value}
-use Rattle.ss_records_entities.proofs.Cuts.{at_first}
-use Rattle.ss_records_entities.proofs.Still.{kept_still, set_still, owns_still, joins_still, room_first, one_few}
-use Rattle.ss_records_entities.proofs.Ends.{joins_it, has_it, taken, first_in_it, none_taken, first_refused, untouched, one_at_most, one_and_nine}
+use Rattle.std.proofs.Common.{refl, ap, arith}
+use Rattle.std.proofs.lemmas.Int.{to_z-of_z}
+use Rattle.ss_records_entities.specs.Parts.{state}
+use Rattle.ss_records_entities.proofs.Ends.{drawn, first_refused}
+use Rattle.ss_records_entities.proofs.Passing.{as_before}
+use Rattle.ss_records_entities.proofs.Still.{kept_still}
 use Rattle.ss_records_entities.proofs.records.Records.remove_first.Goals as goal
 
 pub owner-requires-clause-kept : goal.owner-requires-clause-kept
@@ -17,110 +12,31 @@ owner-requires-clause-kept c = c.requires.kept
 pub owner-requires-clause-set : goal.owner-requires-clause-set
 owner-requires-clause-set c = c.requires.set
 
-pub owner_base-base-requires : goal.owner_base-base-requires
-owner_base-base-requires c = c.requires.set
+pub draw_first-requires-clause-kept : goal.draw_first-requires-clause-kept
+draw_first-requires-clause-kept c = c.requires.kept
 
-pub follow-first-requires-clause-leads : goal.follow-first-requires-clause-leads
-follow-first-requires-clause-leads c =
-    first_leads c.args.self.now c.requires.kept c.args.s c.requires.set c.in-Ok.owner c.in-Ok.ensures.found.0 c.owner_base-base.result c.owner_base-base.ensures.at
+pub draw_first-requires-clause-set : goal.draw_first-requires-clause-set
+draw_first-requires-clause-set c = c.requires.set
 
-pub follow-first-requires-clause-room : goal.follow-first-requires-clause-room
-follow-first-requires-clause-room c =
-    let r = c.args.self.now in room_first r.blocks.touches r.blocks.total 0 0 c.requires.touches
+pub draw_first-requires-clause-owns : goal.draw_first-requires-clause-owns
+draw_first-requires-clause-owns c = c.in-Ok.ensures.found.0
 
-pub returns-then-first-eq0-clause-kept : goal.returns-then-first-eq0-clause-kept
-returns-then-first-eq0-clause-kept c =
-    let r = c.args.self.now in let e = c.in-Ok.owner in let q = c.follow-first.result in let b = c.follow-first.new.self in let k = c.requires.kept in let own = c.in-Ok.ensures.found.0 in let at = c.owner_base-base in
-    let h : uncounted (record r { blocks = b }) ≡ uncounted r = λ i. record r { blocks = record { cells = c.follow-first.ensures.cells i; touches = 0; total = 0 } } in
-    kept_still r (record r { blocks = b }) h k
-
-pub returns-then-first-eq0-clause-done : goal.returns-then-first-eq0-clause-done
-returns-then-first-eq0-clause-done c =
-    let r = c.args.self.now in let e = c.in-Ok.owner in let q = c.follow-first.result in let b = c.follow-first.new.self in let k = c.requires.kept in let own = c.in-Ok.ensures.found.0 in let at = c.owner_base-base in
-    let h : uncounted (record r { blocks = b }) ≡ uncounted r = λ i. record r { blocks = record { cells = c.follow-first.ensures.cells i; touches = 0; total = 0 } } in
-    let fits = c.ranges.o in let t = simp to_z-of_z at c.in-Ok.ensures.found in
-    let found = sym (first_value r k c.args.s c.requires.set e t.0 at.result at.ensures.at q c.follow-first.ensures.word c.follow-first.ensures.there c.args.o t.1) in
-    let is = as_whole q.number q.number refl (first_small r k c.args.s c.requires.set e own at.result at.ensures.at q c.follow-first.ensures.word c.follow-first.ensures.there) in
-    (none_taken (state r) c.args.s q.number c.args.o (cast_signed w64 q.number) (first_in (state r) c.args.s c.args.o) found is c.if-first-eq0.true, ap state h)
-
-pub returns-then-first-eq0-clause-touches : goal.returns-then-first-eq0-clause-touches
-returns-then-first-eq0-clause-touches c =
-    let r = c.args.self.now in let e = c.in-Ok.owner in let q = c.follow-first.result in let b = c.follow-first.new.self in let k = c.requires.kept in let own = c.in-Ok.ensures.found.0 in let at = c.owner_base-base in
-    one_at_most r.blocks.touches r.blocks.total c.requires.touches b.touches b.total c.follow-first.ensures.touches
-
-pub take_out-requires-clause-kept : goal.take_out-requires-clause-kept
-take_out-requires-clause-kept c =
-    let r = c.args.self.now in let e = c.in-Ok.owner in let q = c.follow-first.result in let b = c.follow-first.new.self in let k = c.requires.kept in let own = c.in-Ok.ensures.found.0 in let at = c.owner_base-base in
-    let h : uncounted (record r { blocks = b }) ≡ uncounted r = λ i. record r { blocks = record { cells = c.follow-first.ensures.cells i; touches = 0; total = 0 } } in
-    kept_still r (record r { blocks = b }) h k
-
-pub take_out-requires-clause-set : goal.take_out-requires-clause-set
-take_out-requires-clause-set c =
-    let r = c.args.self.now in let e = c.in-Ok.owner in let q = c.follow-first.result in let b = c.follow-first.new.self in let k = c.requires.kept in let own = c.in-Ok.ensures.found.0 in let at = c.owner_base-base in
-    let h : uncounted (record r { blocks = b }) ≡ uncounted r = λ i. record r { blocks = record { cells = c.follow-first.ensures.cells i; touches = 0; total = 0 } } in
-    set_still r (record r { blocks = b }) h c.args.s c.requires.set
-
-pub take_out-requires-clause-owns : goal.take_out-requires-clause-owns
-take_out-requires-clause-owns c =
-    let r = c.args.self.now in let e = c.in-Ok.owner in let q = c.follow-first.result in let b = c.follow-first.new.self in let k = c.requires.kept in let own = c.in-Ok.ensures.found.0 in let at = c.owner_base-base in
-    let h : uncounted (record r { blocks = b }) ≡ uncounted r = λ i. record r { blocks = record { cells = c.follow-first.ensures.cells i; touches = 0; total = 0 } } in
-    owns_still r (record r { blocks = b }) h c.args.s e own
-
-pub take_out-requires-clause-joins : goal.take_out-requires-clause-joins
-take_out-requires-clause-joins c =
-    let r = c.args.self.now in let e = c.in-Ok.owner in let q = c.follow-first.result in let b = c.follow-first.new.self in let k = c.requires.kept in let own = c.in-Ok.ensures.found.0 in let at = c.owner_base-base in
-    let h : uncounted (record r { blocks = b }) ≡ uncounted r = λ i. record r { blocks = record { cells = c.follow-first.ensures.cells i; touches = 0; total = 0 } } in
-    let between = at_first r k c.args.s c.requires.set e own at.result at.ensures.at q c.follow-first.ensures.word c.follow-first.ensures.there in
-    let inn = first_in_it r c.args.s e.number (record { place = r.system; number = 0 }) q (members_of r.notes.lists c.args.s e.number) between c.if-first-eq0.false in
-    joins_still r (record r { blocks = b }) h c.args.s q (joins_it r k c.args.s c.requires.set e.number q between.after inn)
-
-pub take_out-requires-clause-there : goal.take_out-requires-clause-there
-take_out-requires-clause-there c =
-    let r = c.args.self.now in let e = c.in-Ok.owner in let q = c.follow-first.result in let b = c.follow-first.new.self in let k = c.requires.kept in let own = c.in-Ok.ensures.found.0 in let at = c.owner_base-base in
-    let between = at_first r k c.args.s c.requires.set e own at.result at.ensures.at q c.follow-first.ensures.word c.follow-first.ensures.there in
-    let inn = first_in_it r c.args.s e.number (record { place = r.system; number = 0 }) q (members_of r.notes.lists c.args.s e.number) between c.if-first-eq0.false in
-    has_it r k c.args.s c.requires.set e.number q between.after inn
-
-pub take_out-requires-clause-touches : goal.take_out-requires-clause-touches
-take_out-requires-clause-touches c =
-    let r = c.args.self.now in let e = c.in-Ok.owner in let q = c.follow-first.result in let b = c.follow-first.new.self in let k = c.requires.kept in let own = c.in-Ok.ensures.found.0 in let at = c.owner_base-base in
-    one_few r.blocks.touches r.blocks.total b.touches b.total c.requires.touches c.follow-first.ensures.touches
-
-pub overflow_cast-result : goal.overflow_cast-result
-overflow_cast-result c =
-    let r = c.args.self.now in let e = c.in-Ok.owner in let q = c.follow-first.result in let b = c.follow-first.new.self in let k = c.requires.kept in let own = c.in-Ok.ensures.found.0 in let at = c.owner_base-base in
-    let small = first_small r k c.args.s c.requires.set e own at.result at.ensures.at q c.follow-first.ensures.word c.follow-first.ensures.there in
-    omega (arith, ints, small)
-
-pub returns-else-first-eq0-clause-kept : goal.returns-else-first-eq0-clause-kept
-returns-else-first-eq0-clause-kept c =
-    c.take_out.ensures.kept
-
-pub returns-else-first-eq0-clause-done : goal.returns-else-first-eq0-clause-done
-returns-else-first-eq0-clause-done c =
-    let r = c.args.self.now in let e = c.in-Ok.owner in let q = c.follow-first.result in let b = c.follow-first.new.self in let k = c.requires.kept in let own = c.in-Ok.ensures.found.0 in let at = c.owner_base-base in
-    let h : uncounted (record r { blocks = b }) ≡ uncounted r = λ i. record r { blocks = record { cells = c.follow-first.ensures.cells i; touches = 0; total = 0 } } in
-    let between = at_first r k c.args.s c.requires.set e own at.result at.ensures.at q c.follow-first.ensures.word c.follow-first.ensures.there in
-    let inn = first_in_it r c.args.s e.number (record { place = r.system; number = 0 }) q (members_of r.notes.lists c.args.s e.number) between c.if-first-eq0.false in
-    let fits = c.ranges.o in let t = simp to_z-of_z at c.in-Ok.ensures.found in
-    let found = sym (first_value r k c.args.s c.requires.set e t.0 at.result at.ensures.at q c.follow-first.ensures.word c.follow-first.ensures.there c.args.o t.1) in
-    let is = as_whole q.number q.number refl (first_small r k c.args.s c.requires.set e own at.result at.ensures.at q c.follow-first.ensures.word c.follow-first.ensures.there) in
-    taken r k c.args.s c.requires.set e.number q between.after inn c.args.o (cast_signed w64 q.number) (state c.take_out.new.self) (first_in (state r) c.args.s c.args.o) t.1 found is
-    (c.take_out.ensures.done ∙ ap (λ (y : State). with_list_of y c.args.s e.number (less q.number (members_of r.notes.lists c.args.s e.number))) (ap state h))
-
-pub returns-else-first-eq0-clause-touches : goal.returns-else-first-eq0-clause-touches
-returns-else-first-eq0-clause-touches c =
-    let r = c.args.self.now in let e = c.in-Ok.owner in let q = c.follow-first.result in let b = c.follow-first.new.self in let k = c.requires.kept in let own = c.in-Ok.ensures.found.0 in let at = c.owner_base-base in
-    let z = c.take_out.new.self in one_and_nine r.blocks.touches r.blocks.total c.requires.touches b.touches b.total c.follow-first.ensures.touches z.blocks.touches z.blocks.total c.take_out.ensures.touches
+pub returns-in-Ok-clause-done : goal.returns-in-Ok-clause-done
+returns-in-Ok-clause-done c =
+    let fo = c.ranges.o in let f = simp to_z-of_z at c.in-Ok.ensures.found in
+    drawn (state c.args.self.now) (state c.draw_first.new.self) c.args.s _ c.args.o f.1 c.draw_first.result c.draw_first.ensures.done
 
 pub returns-in-Err-clause-kept : goal.returns-in-Err-clause-kept
 returns-in-Err-clause-kept c =
-    c.requires.kept
+    let r = c.args.self.now in let q = record r { blocks = c.start.new.self } in
+    kept_still r q (as_before r q refl c.start.ensures.cells) c.requires.kept
 
 pub returns-in-Err-clause-done : goal.returns-in-Err-clause-done
 returns-in-Err-clause-done c =
-    let fits = c.ranges.o in let t = simp to_z-of_z at c.in-Err.ensures.found in (first_refused (state c.args.self.now) c.args.s c.args.o c.in-Err.fault t, refl)
+    let r = c.args.self.now in let fits = c.ranges.o in let t = simp to_z-of_z at c.in-Err.ensures.found in
+    (first_refused (state r) c.args.s c.args.o c.in-Err.fault t, ap state (as_before r (record r { blocks = c.start.new.self }) refl c.start.ensures.cells))
 
 pub returns-in-Err-clause-touches : goal.returns-in-Err-clause-touches
 returns-in-Err-clause-touches c =
-    let r = c.args.self.now in untouched r.blocks.touches r.blocks.total c.requires.touches 12
+    let f = c.start.ensures.touches in
+    (omega (arith, f.0), omega (arith, f.0, f.1))

@@ -12,12 +12,12 @@ value_start-k-requires c = let r = c.args.self.now in few_fields r.layout c.args
 
 pub whole-requires : goal.whole-requires
 whole-requires c =
-    let r = c.args.self.now in let f = c.in-Some.ensures in
-    first_number r.layout r.blocks.cells r.system.at (places r) r.notes.lists c.requires.kept f.index c.in-Some.place f.entry c.args.class f.class _ f.is f.entity c.args.field c.value_start-k.result c.value_start-k.ensures.at Integer c.requires.mode
+    let r = c.args.self.now in let f = c.in-Ok.ensures.found in
+    first_number r.layout r.blocks.cells r.system.at (places r) r.notes.lists c.requires.kept f.index c.in-Ok.place f.entry c.args.class f.class _ f.is f.entity c.args.field c.value_start-k.result c.value_start-k.ensures.at Integer c.requires.mode
 
-pub returns-in-Some : goal.returns-in-Some
-returns-in-Some c =
-    let r = c.args.self.now in let fits = c.ranges.r in let f = simp to_z-of_z at c.in-Some.ensures in
-    let v = is_value r.layout r.blocks.cells r.system.at (places r) r.notes.lists c.requires.kept f.index c.in-Some.place f.entry c.args.class f.class c.args.r f.is f.entity c.args.field c.value_start-k.result c.value_start-k.ensures.at Integer c.requires.mode in
+pub returns-in-Ok : goal.returns-in-Ok
+returns-in-Ok c =
+    let r = c.args.self.now in let fits = c.ranges.r in let f = simp to_z-of_z at c.in-Ok.ensures.found in
+    let v = is_value r.layout r.blocks.cells r.system.at (places r) r.notes.lists c.requires.kept f.index c.in-Ok.place f.entry c.args.class f.class c.args.r f.is f.entity c.args.field c.value_start-k.result c.value_start-k.ensures.at Integer c.requires.mode in
     let w : to_z w64 (of_z w64 c.whole.result) ≡ c.whole.result = search rules in
     v ∙ ap Ok (sym c.whole.ensures) ∙ ap (λ (z : ℤ). Ok (Whole z)) (sym w)

@@ -1,0 +1,3 @@
+pub mod Times
+pub mod Frozen
+pub mod Filing

@@ -1,0 +1,78 @@
+-- What passes in time, as a scene has it, and as the meaning has it.
+use Rattle.std.proofs.Common.{◌≡◌, ℤ, Bool, true, false, List, Ok, Err, refl, ap, sym, ◌∙◌}
+use Rattle.std.specs.Prelude.{int_lt, IsOk, Result as OkOr, if◌then◌else◌}
+use Rattle.ss_base.specs.declared.fault.FaultKind.{FaultKind}
+use Rattle.ss_base.specs.declared.fault.FaultKind.TheVariants.{PastTime}
+use Rattle.ss_base.specs.declared.fault.Refused.{Refused}
+use Rattle.ss_base.specs.declared.fault.Refused.TheVariants.{Fault, Memory}
+use Rattle.ss_base.specs.declared.layout.Discipline.{Discipline}
+use Rattle.ss_world.specs.SortKey.{SortKey}
+use Rattle.ss_world.specs.PendingList.{PendingList, scheduled}
+use Rattle.ss_world.specs.State.{State}
+use Rattle.ss_meaning.specs.Values.{Fails, turned, due, unless_fault}
+use Rattle.ss_meaning.specs.Store.{Notices, Store, with_pending}
+use Rattle.ss_meaning.specs.Events.{not_past}
+use Rattle.ss_machine_time.specs.Times.{Times, Schedules}
+use Rattle.ss_machine_world.specs.Seen.{Seen, IsRight, with_seen}
+use Rattle.ss_machine_events.specs.Scheduled.{scheduled_known}
+
+-- a scene, by what passes in time in it
+abbrev pub timed_as : List Discipline → List Notices → State → Times → Seen
+timed_as ds ns h t = record {
+  disciplines = ds;
+  notices = ns;
+  statistics = t.histories.statistics;
+  heap = h;
+  time = t.time;
+  pending = t.pending;
+  histories = t.histories.rows;
+}
+
+-- whether a time is past is never without an answer
+pub not_past_right : (t : ℤ) (s : Store) → IsRight (not_past t s)
+not_past_right t s = by (int_lt t s.scene.time)
+  where
+    by : (b : Bool) → IsRight (unless_fault b PastTime (Ok t))
+    by true e = cc
+    by false e = cc
+
+-- ## Scheduling under a key
+
+abbrev pub placed_in : SortKey → (notice : ℤ) → Seen → OkOr PendingList FaultKind
+placed_in key n e = if int_lt key.time e.time then Err PastTime else scheduled key n e.pending
+
+module _ (past : Bool) (r : OkOr PendingList FaultKind) (s : Store) where
+  pub known_well : IsOk (if past then Err PastTime else r) → IsOk (unless_fault past PastTime (turned (with_pending s) (due r)))
+  known_well ok = by past r ok
+    where
+      by : (b : Bool) (r : OkOr PendingList FaultKind) → IsOk (if b then Err PastTime else r) → IsOk (unless_fault b PastTime (turned (with_pending s) (due r)))
+      by true r ok = absurd cc
+      by false (Ok p) ok = refl
+      by false (Err k) ok = absurd cc
+
+  pub known_fault : (kind : FaultKind) → (if past then Err PastTime else r) ≡ Err kind → unless_fault past PastTime (turned (with_pending s) (due r)) ≡ Err (Fails kind)
+  known_fault kind e = by past r e
+    where
+      by : (b : Bool) (r : OkOr PendingList FaultKind) → (if b then Err PastTime else r) ≡ Err kind → unless_fault b PastTime (turned (with_pending s) (due r)) ≡ Err (Fails kind)
+      by true r e = cc
+      by false (Ok p) e = absurd cc
+      by false (Err k) e = cc
+
+  known_ok : (p : PendingList) → (if past then Err PastTime else r) ≡ Ok p → unless_fault past PastTime (turned (with_pending s) (due r)) ≡ Ok (with_pending s p)
+  known_ok p e = by past r e
+    where
+      by : (b : Bool) (r : OkOr PendingList FaultKind) → (if b then Err PastTime else r) ≡ Ok p → unless_fault b PastTime (turned (with_pending s) (due r)) ≡ Ok (with_pending s p)
+      by true r e = absurd cc
+      by false (Ok q) e = let same : q ≡ p = cc in ap (λ q. Ok (with_pending s q)) same
+      by false (Err k) e = absurd cc
+
+-- a notice is scheduled
+pub settles : (ds : List Discipline) (ns : List Notices) (h : State) (t u : Times) (key : SortKey) (n : ℤ) → Schedules key n t u (Ok tt) → (s : Store) → scheduled_known key n (with_seen s (timed_as ds ns h t)) ≡ Ok (with_seen s (timed_as ds ns h u))
+settles ds ns h t u key n e s =
+    known_ok (int_lt key.time t.time) (scheduled key n t.pending) (with_seen s (timed_as ds ns h t)) u.pending e.0
+    ∙ ap (λ (w : Times). Ok (with_seen s (timed_as ds ns h w))) (sym e.1)
+
+-- or it isn't, and nothing changes
+pub same_times : (t u : Times) (key : SortKey) (n : ℤ) (r : Refused) → Schedules key n t u (Err r) → u ≡ t
+same_times t u key n (Fault kind) e = e.1
+same_times t u key n Memory e = e.1

@@ -1,0 +1,14 @@
+use Rattle.std.proofs.Common.{◌≡◌, ap, subst, ◌∙◌}
+use Rattle.std.specs.Prelude.{MatchResult, Err}
+use Rattle.std.proofs.lemmas.Int.{to_z-of_z}
+use Rattle.ss_base.specs.Arithmetic.{minus_of}
+use Rattle.ss_world.specs.State.{Heaped, State, value_in}
+use Rattle.ss_records_entities.specs.Attributes.{IsChanged, changed_number}
+use Rattle.ss_records_entities.specs.Parts.{state}
+use Rattle.ss_records.proofs.heap.Heap.subtract_whole.Goals as goal
+
+pub returns-clause-done : goal.returns-clause-done
+returns-clause-done c =
+    let e : state c.start.new.self ≡ c.args.self.now.state = ap state c.start.ensures ∙ ap (λ (w : Heaped). w.state) c.self.view_is in
+    let fr = c.ranges.r in let fn = c.ranges.n in let h = simp to_z-of_z at c.subtract_whole.ensures.done in
+    subst (λ (s : State). MatchResult c.subtract_whole.result (λ _. IsChanged (λ z. minus_of z c.args.n) s c.args.class c.args.field c.args.r (state c.subtract_whole.new.self)) (λ f. (changed_number (λ z. minus_of z c.args.n) (value_in s c.args.class c.args.field c.args.r) ≡ Err f) × (state c.subtract_whole.new.self ≡ s))) e h

@@ -1,0 +1,13 @@
+use Rattle.std.proofs.Common.{◌≡◌, ap, subst}
+use Rattle.std.specs.Prelude.{MatchResult, Ok, Err}
+use Rattle.std.proofs.lemmas.Int.{to_z-of_z}
+use Rattle.ss_base.specs.declared.value.Value.TheVariants.{Whole}
+use Rattle.ss_world.specs.State.{Heaped, State, value_in}
+use Rattle.ss_records_entities.specs.Parts.{state}
+use Rattle.ss_records.proofs.heap.Heap.whole.Goals as goal
+
+pub returns : goal.returns
+returns c =
+    let e : state c.self.inside.records ≡ c.args.self.now.state = ap (λ (w : Heaped). w.state) c.self.view_is in
+    let fits = c.ranges.r in let h = simp to_z-of_z at c.whole.ensures in
+    subst (λ (s : State). MatchResult c.whole.result (λ n. value_in s c.args.class c.args.field c.args.r ≡ Ok (Whole n)) (λ k. value_in s c.args.class c.args.field c.args.r ≡ Err k)) e h
