@@ -208,6 +208,16 @@ impl State {
         }
     }
 
+    // There is no memory for the frame of an event: the fault that is due as it begins, or out of memory where none is.
+    #[cold]
+    #[inline(never)]
+    fn unbegun(&mut self, rank: usize, class: usize, notice: i64) -> Option<Here> {
+        match self.let_go(rank, class, notice) {
+            Ok(()) => self.give_tick_back(),
+            Err(kind) => self.fault_of_event(kind, rank),
+        }
+    }
+
     // The event of a notice begins.
     #[inline(always)]
     fn begin_event(
@@ -221,7 +231,7 @@ impl State {
         let rank = self.scene.rank(class);
         let entry = &events[rank];
         let Ok(frame) = self.enter(here, entry, cell) else {
-            return self.give_tick_back();
+            return self.unbegun(rank, class, notice);
         };
         let begun = match self.read_given(class, notice, &entry.given, frame as usize) {
             Ok(()) => self.let_go(rank, class, notice),
