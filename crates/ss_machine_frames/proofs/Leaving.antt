@@ -17,6 +17,12 @@ pub record Picked (first count : ℕ) (locals vs : List Value) : Type 0 where
   pub long : length vs ≡ count
   pub each : (k : ℕ) (v : Value) → slice_get vs k ≡ Some v → slice_get locals (first + k) ≡ Some v
 
+picked_more : (n : ℕ) (x : Value) (locals ws : List Value) → Picked 0 n locals ws → (k : ℕ) (v : Value) → slice_get (x ∷ ws) k ≡ Some v → slice_get (x ∷ locals) (0 + k) ≡ Some v
+picked_more n x locals ws p zero v h = let z : 0 + 0 ≡ 0 = omega arith in ap (slice_get (x ∷ locals)) z ∙ h
+picked_more n x locals ws p (suc k) v h =
+    let z : 0 + suc k ≡ suc (0 + k) = omega arith in
+    ap (slice_get (x ∷ locals)) z ∙ p.each k v h
+
 picked_front : (count : ℕ) (locals vs : List Value) → front count locals ≡ Some vs → Picked 0 count locals vs
 picked_front zero locals vs e = let q : [] ≡ vs = cc in subst (λ vs. Picked 0 zero locals vs) q (record { long = refl; each = λ k v p. absurd cc })
 picked_front (suc n) [] vs e = absurd cc
@@ -27,13 +33,7 @@ picked_front (suc n) (x ∷ locals) vs e = by (front n locals) refl e
     by (Some ws) q e =
         let p = picked_front n locals ws q in
         let same : x ∷ ws ≡ vs = cc in
-        subst (λ vs. Picked 0 (suc n) (x ∷ locals) vs) same (record { long = ap suc p.long; each = one ws p })
-      where
-        one : (ws : List Value) → Picked 0 n locals ws → (k : ℕ) (v : Value) → slice_get (x ∷ ws) k ≡ Some v → slice_get (x ∷ locals) (0 + k) ≡ Some v
-        one ws p zero v h = let z : 0 ≡ 0 + 0 = omega arith in ap (slice_get (x ∷ locals)) (sym z) ∙ h
-        one ws p (suc k) v h =
-            let z : 0 + suc k ≡ suc (0 + k) = omega arith in
-            ap (slice_get (x ∷ locals)) z ∙ p.each k v h
+        subst (λ vs. Picked 0 (suc n) (x ∷ locals) vs) same (record { long = ap suc p.long; each = picked_more n x locals ws p })
 
 pub picked : (first count : ℕ) (locals vs : List Value) → yielded first count locals ≡ Some vs → Picked first count locals vs
 picked zero count locals vs e = picked_front count locals vs e

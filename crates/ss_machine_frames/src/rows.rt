@@ -105,7 +105,8 @@ impl Rows {
     /// How many places there are.
     #[inline(always)]
     pub fn len(&self) -> usize
-        ensures { result ≡ length self.now.numbers }
+        ensures numbers { result ≡ length self.now.numbers }
+        ensures texts { result ≡ length self.now.texts }
     {
         self.numbers.len()
     }
@@ -138,6 +139,7 @@ impl Rows {
     #[inline(never)]
     pub fn lengthen(&mut self, length: usize) -> Result<(), AllocError>
         ensures grown { Grown self.old self.new }
+        ensures even { length self.new.texts ≡ length self.new.numbers }
         ensures room { OnOk result (length ≤ length self.new.numbers) }
         ensures small { OnOk result (length < 2 ^ 32) }
         ensures most { OnOk result (length self.old.numbers ≤ length → length self.new.numbers ≡ length) }
