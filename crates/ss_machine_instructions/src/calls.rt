@@ -3,6 +3,7 @@
 use crate::flow::{Ending, Here};
 use crate::state::State;
 use ss_code_instructions::entry::Entry;
+use ss_code_instructions::instruction::Instruction;
 use ss_machine_frames::frames::Frame;
 use std::alloc::AllocError;
 

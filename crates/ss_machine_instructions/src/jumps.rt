@@ -1,14 +1,22 @@
 //! Tests and jumps.
 
+ghost use Rattle.std.specs.Prelude.{◌≡◌, Some};
+ghost use Rattle.ss_base.specs.declared.value.Value.TheVariants.{Text};
+ghost use Rattle.ss_meaning.specs.Values.{allows, related};
+ghost use Rattle.ss_machine_instructions.specs.Doing.{Can, Does};
+
 use crate::flow::Here;
 use crate::state::State;
 use ss_base::Alpha;
 use ss_code_instructions::address::Address;
+use ss_code_instructions::instruction::Instruction;
 use ss_program::condition::Relation;
 use std::cmp::Ordering;
 
 // Whether an order is one of those that a relation allows.
-fn allows(relation: Relation, order: Ordering) -> bool {
+fn allows(relation: Relation, order: Ordering) -> bool
+    ensures { result ≡ allows relation order }
+{
     match relation {
         Relation::Equal => order.is_eq(),
         Relation::NotEqual => order.is_ne(),
@@ -21,7 +29,9 @@ fn allows(relation: Relation, order: Ordering) -> bool {
 
 // Whether two texts stand in a relation.
 #[inline(never)]
-fn are_related(relation: Relation, left: Alpha, right: Alpha) -> bool {
+fn are_related(relation: Relation, left: Alpha, right: Alpha) -> bool
+    ensures { related relation (Text left) (Text right) ≡ Some result }
+{
     allows(relation, left.cmp(&right))
 }
 
@@ -34,7 +44,10 @@ impl State {
         left: &Address,
         right: &Address,
         skip: u32,
-    ) -> Option<Here> {
+    ) -> Option<Here>
+        requires { Can here self.now (Instruction.UnlessEqual left.now right.now skip) }
+        ensures { Does here self.now self.now result (Instruction.UnlessEqual left.now right.now skip) }
+    {
         here.on_if(self.number(here, left) == self.number(here, right), skip)
     }
 
@@ -46,7 +59,10 @@ impl State {
         left: &Address,
         right: &Address,
         skip: u32,
-    ) -> Option<Here> {
+    ) -> Option<Here>
+        requires { Can here self.now (Instruction.UnlessNotEqual left.now right.now skip) }
+        ensures { Does here self.now self.now result (Instruction.UnlessNotEqual left.now right.now skip) }
+    {
         here.on_if(self.number(here, left) != self.number(here, right), skip)
     }
 
@@ -58,7 +74,10 @@ impl State {
         left: &Address,
         right: &Address,
         skip: u32,
-    ) -> Option<Here> {
+    ) -> Option<Here>
+        requires { Can here self.now (Instruction.UnlessLess left.now right.now skip) }
+        ensures { Does here self.now self.now result (Instruction.UnlessLess left.now right.now skip) }
+    {
         here.on_if(self.number(here, left) < self.number(here, right), skip)
     }
 
@@ -70,7 +89,10 @@ impl State {
         left: &Address,
         right: &Address,
         skip: u32,
-    ) -> Option<Here> {
+    ) -> Option<Here>
+        requires { Can here self.now (Instruction.UnlessGreater left.now right.now skip) }
+        ensures { Does here self.now self.now result (Instruction.UnlessGreater left.now right.now skip) }
+    {
         here.on_if(self.number(here, left) > self.number(here, right), skip)
     }
 
@@ -82,7 +104,10 @@ impl State {
         left: &Address,
         right: &Address,
         skip: u32,
-    ) -> Option<Here> {
+    ) -> Option<Here>
+        requires { Can here self.now (Instruction.UnlessLessOrEqual left.now right.now skip) }
+        ensures { Does here self.now self.now result (Instruction.UnlessLessOrEqual left.now right.now skip) }
+    {
         here.on_if(self.number(here, left) <= self.number(here, right), skip)
     }
 
@@ -94,7 +119,10 @@ impl State {
         left: &Address,
         right: &Address,
         skip: u32,
-    ) -> Option<Here> {
+    ) -> Option<Here>
+        requires { Can here self.now (Instruction.UnlessGreaterOrEqual left.now right.now skip) }
+        ensures { Does here self.now self.now result (Instruction.UnlessGreaterOrEqual left.now right.now skip) }
+    {
         here.on_if(self.number(here, left) >= self.number(here, right), skip)
     }
 
@@ -107,7 +135,10 @@ impl State {
         left: &Address,
         right: &Address,
         skip: u32,
-    ) -> Option<Here> {
+    ) -> Option<Here>
+        requires { Can here self.now (Instruction.UnlessTexts left.now right.now skip relation) }
+        ensures { Does here self.now self.now result (Instruction.UnlessTexts left.now right.now skip relation) }
+    {
         let holds = are_related(relation, self.text(here, left), self.text(here, right));
         here.on_if(holds, skip)
     }
@@ -121,7 +152,10 @@ impl State {
         owner: &Address,
         skip: u32,
         negated: bool,
-    ) -> Option<Here> {
+    ) -> Option<Here>
+        requires { Can here self.old (Instruction.UnlessEmpty set owner.now skip negated) }
+        ensures { Does here self.old self.new result (Instruction.UnlessEmpty set owner.now skip negated) }
+    {
         let owner = self.number(here, owner);
         let answer = match self.scene.population.member_count(set as usize, owner) {
             Ok(count) => Ok(count == 0),
@@ -139,7 +173,10 @@ impl State {
         both: (&Address, &Address),
         skip: u32,
         negated: bool,
-    ) -> Option<Here> {
+    ) -> Option<Here>
+        requires { Can here self.old (Instruction.UnlessMember set both.0.now both.1.now skip negated) }
+        ensures { Does here self.old self.new result (Instruction.UnlessMember set both.entry.0.now both.entry.1.now skip negated) }
+    {
         let (member, owner) = (self.number(here, both.0), self.number(here, both.1));
         let answer = self.scene.population.is_in(set as usize, owner, member);
         self.branch(here, answer, negated, skip)
@@ -147,14 +184,20 @@ impl State {
 
     /// Await.
     #[inline(always)]
-    pub fn await_event(&mut self, here: Here, skip: u32) -> Option<Here> {
+    pub fn await_event(&mut self, here: Here, skip: u32) -> Option<Here>
+        requires { Can here self.old (Instruction.Await skip) }
+        ensures { Does here self.old self.new result (Instruction.Await skip) }
+    {
         let holds = self.scene.timeline.is_awaited();
         here.on_if(holds, skip)
     }
 
     /// NextEvent.
     #[inline(always)]
-    pub fn next_event(&mut self, here: Here, back: u32) -> Option<Here> {
+    pub fn next_event(&mut self, here: Here, back: u32) -> Option<Here>
+        requires { Can here self.old (Instruction.NextEvent back) }
+        ensures { Does here self.old self.new result (Instruction.NextEvent back) }
+    {
         if self.scene.timeline.is_awaited() {
             here.back(back)
         } else {

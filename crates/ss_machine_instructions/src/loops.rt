@@ -1,9 +1,14 @@
 //! FOR over numbers.
 
+ghost use Rattle.std.specs.Prelude.{◌≡◌, pos, ◌≤ℤ◌};
+ghost use Rattle.ss_machine_instructions.specs.Doing.{Can, Does};
+ghost use Rattle.ss_machine_instructions.specs.Ways.{next_in};
+
 use crate::flow::{Ending, Here};
 use crate::state::State;
 use ss_base::FaultKind;
 use ss_code_instructions::address::Address;
+use ss_code_instructions::instruction::Instruction;
 
 // Where the limit and the step of a loop lie above its item.
 const LIMIT: usize = 1;
@@ -13,7 +18,10 @@ const STEP: usize = 2;
 // The next item of a loop, where it is within the limit. A step is at least 1, so that an item that is not below the limit has none.
 // How far it is below is then a number without a sign.
 #[inline(always)]
-fn next_item(item: i64, step: i64, limit: i64) -> Option<i64> {
+fn next_item(item: i64, step: i64, limit: i64) -> Option<i64>
+    requires { pos 1 ≤ℤ step }
+    ensures { result ≡ next_in item step limit }
+{
     if item >= limit {
         return None;
     }
@@ -27,7 +35,10 @@ fn next_item(item: i64, step: i64, limit: i64) -> Option<i64> {
 impl State {
     /// Begin.
     #[inline(always)]
-    pub fn begin(&mut self, here: Here, cell: u32, skip: u32) -> Option<Here> {
+    pub fn begin(&mut self, here: Here, cell: u32, skip: u32) -> Option<Here>
+        requires { Can here self.old (Instruction.Begin cell skip) }
+        ensures { Does here self.old self.new result (Instruction.Begin cell skip) }
+    {
         let at = self.cell(here, cell);
         if self.rows.number_at(at + STEP) < 1 {
             return self.fault(FaultKind::LoopStep);
@@ -38,7 +49,10 @@ impl State {
 
     /// BeginClass.
     #[inline(always)]
-    pub fn begin_class(&mut self, here: Here, class: u32, cell: u32, skip: u32) -> Option<Here> {
+    pub fn begin_class(&mut self, here: Here, class: u32, cell: u32, skip: u32) -> Option<Here>
+        requires { Can here self.old (Instruction.BeginClass class cell skip) }
+        ensures { Does here self.old self.new result (Instruction.BeginClass class cell skip) }
+    {
         let count = self.scene.population.count(class as usize);
         let at = self.cell(here, cell);
         self.rows.set_number_at(at, 1);
@@ -49,7 +63,10 @@ impl State {
 
     /// Turn.
     #[inline(always)]
-    pub fn turn(&mut self, here: Here) -> Option<Here> {
+    pub fn turn(&mut self, here: Here) -> Option<Here>
+        requires { Can here self.old (Instruction.Turn) }
+        ensures { Does here self.old self.new result (Instruction.Turn) }
+    {
         if !self.has_taken_tick() {
             return self.stop(Ending::Paused);
         }
@@ -58,7 +75,10 @@ impl State {
 
     /// Take.
     #[inline(always)]
-    pub fn take(&mut self, here: Here, cell: u32, to: &Address) -> Option<Here> {
+    pub fn take(&mut self, here: Here, cell: u32, to: &Address) -> Option<Here>
+        requires { Can here self.old (Instruction.Take cell to.now) }
+        ensures { Does here self.old self.new result (Instruction.Take cell to.now) }
+    {
         if !self.has_taken_tick() {
             return self.stop(Ending::Paused);
         }
@@ -69,7 +89,10 @@ impl State {
 
     /// Next.
     #[inline(always)]
-    pub fn next(&mut self, here: Here, cell: u32, back: u32) -> Option<Here> {
+    pub fn next(&mut self, here: Here, cell: u32, back: u32) -> Option<Here>
+        requires { Can here self.old (Instruction.Next cell back) }
+        ensures { Does here self.old self.new result (Instruction.Next cell back) }
+    {
         let at = self.cell(here, cell);
         let item = self.rows.number_at(at);
         let step = self.rows.number_at(at + STEP);

@@ -1,13 +1,20 @@
 //! Values: moves and calculations.
 
+ghost use Rattle.std.specs.Prelude.{◌≡◌};
+ghost use Rattle.ss_meaning.specs.Values.{distance};
+ghost use Rattle.ss_machine_instructions.specs.Doing.{Can, Does, CanDeliver, IsDelivered, as_value};
+
 use crate::flow::Here;
 use crate::state::State;
 use ss_base::{FaultKind, div_f, minus, mod_f, plus, times};
 use ss_code_instructions::address::Address;
+use ss_code_instructions::instruction::Instruction;
 
 // The distance of a number from 0.
 #[inline(always)]
-fn distance(number: i64) -> Result<i64, FaultKind> {
+fn distance(number: i64) -> Result<i64, FaultKind>
+    ensures { result ≡ distance number }
+{
     if number < 0 {
         return minus(0, number);
     }
@@ -22,7 +29,10 @@ impl State {
         here: Here,
         to: &Address,
         answer: Result<i64, FaultKind>,
-    ) -> Option<Here> {
+    ) -> Option<Here>
+        requires { CanDeliver here self.old to.now (as_value answer) }
+        ensures { IsDelivered here self.old self.new result to.now (as_value answer) }
+    {
         match answer {
             Ok(number) => {
                 self.set_number(here, to, number);
@@ -34,7 +44,10 @@ impl State {
 
     /// Move.
     #[inline(always)]
-    pub fn move_number(&mut self, here: Here, from: &Address, to: &Address) -> Option<Here> {
+    pub fn move_number(&mut self, here: Here, from: &Address, to: &Address) -> Option<Here>
+        requires { Can here self.old (Instruction.Move from.now to.now) }
+        ensures { Does here self.old self.new result (Instruction.Move from.now to.now) }
+    {
         let number = self.number(here, from);
         self.set_number(here, to, number);
         here.on()
@@ -42,7 +55,10 @@ impl State {
 
     /// MoveText.
     #[inline(always)]
-    pub fn move_text(&mut self, here: Here, from: &Address, to: &Address) -> Option<Here> {
+    pub fn move_text(&mut self, here: Here, from: &Address, to: &Address) -> Option<Here>
+        requires { Can here self.old (Instruction.MoveText from.now to.now) }
+        ensures { Does here self.old self.new result (Instruction.MoveText from.now to.now) }
+    {
         let text = self.text(here, from);
         self.set_text(here, to, text);
         here.on()
@@ -56,7 +72,10 @@ impl State {
         left: &Address,
         right: &Address,
         to: &Address,
-    ) -> Option<Here> {
+    ) -> Option<Here>
+        requires { Can here self.old (Instruction.Add left.now right.now to.now) }
+        ensures { Does here self.old self.new result (Instruction.Add left.now right.now to.now) }
+    {
         let answer = plus(self.number(here, left), self.number(here, right));
         self.put(here, to, answer)
     }
@@ -69,7 +88,10 @@ impl State {
         left: &Address,
         right: &Address,
         to: &Address,
-    ) -> Option<Here> {
+    ) -> Option<Here>
+        requires { Can here self.old (Instruction.Subtract left.now right.now to.now) }
+        ensures { Does here self.old self.new result (Instruction.Subtract left.now right.now to.now) }
+    {
         let answer = minus(self.number(here, left), self.number(here, right));
         self.put(here, to, answer)
     }
@@ -82,7 +104,10 @@ impl State {
         left: &Address,
         right: &Address,
         to: &Address,
-    ) -> Option<Here> {
+    ) -> Option<Here>
+        requires { Can here self.old (Instruction.Multiply left.now right.now to.now) }
+        ensures { Does here self.old self.new result (Instruction.Multiply left.now right.now to.now) }
+    {
         let answer = times(self.number(here, left), self.number(here, right));
         self.put(here, to, answer)
     }
@@ -95,7 +120,10 @@ impl State {
         left: &Address,
         right: &Address,
         to: &Address,
-    ) -> Option<Here> {
+    ) -> Option<Here>
+        requires { Can here self.old (Instruction.Quotient left.now right.now to.now) }
+        ensures { Does here self.old self.new result (Instruction.Quotient left.now right.now to.now) }
+    {
         let answer = div_f(self.number(here, left), self.number(here, right));
         self.put(here, to, answer)
     }
@@ -108,7 +136,10 @@ impl State {
         left: &Address,
         right: &Address,
         to: &Address,
-    ) -> Option<Here> {
+    ) -> Option<Here>
+        requires { Can here self.old (Instruction.Remainder left.now right.now to.now) }
+        ensures { Does here self.old self.new result (Instruction.Remainder left.now right.now to.now) }
+    {
         let answer = mod_f(self.number(here, left), self.number(here, right));
         self.put(here, to, answer)
     }
@@ -121,7 +152,10 @@ impl State {
         left: &Address,
         right: &Address,
         to: &Address,
-    ) -> Option<Here> {
+    ) -> Option<Here>
+        requires { Can here self.old (Instruction.Least left.now right.now to.now) }
+        ensures { Does here self.old self.new result (Instruction.Least left.now right.now to.now) }
+    {
         let number = self.number(here, left).min(self.number(here, right));
         self.set_number(here, to, number);
         here.on()
@@ -135,7 +169,10 @@ impl State {
         left: &Address,
         right: &Address,
         to: &Address,
-    ) -> Option<Here> {
+    ) -> Option<Here>
+        requires { Can here self.old (Instruction.Greatest left.now right.now to.now) }
+        ensures { Does here self.old self.new result (Instruction.Greatest left.now right.now to.now) }
+    {
         let number = self.number(here, left).max(self.number(here, right));
         self.set_number(here, to, number);
         here.on()
@@ -143,7 +180,10 @@ impl State {
 
     /// Absolute.
     #[inline(always)]
-    pub fn absolute(&mut self, here: Here, of: &Address, to: &Address) -> Option<Here> {
+    pub fn absolute(&mut self, here: Here, of: &Address, to: &Address) -> Option<Here>
+        requires { Can here self.old (Instruction.Absolute of.now to.now) }
+        ensures { Does here self.old self.new result (Instruction.Absolute of.now to.now) }
+    {
         let answer = distance(self.number(here, of));
         self.put(here, to, answer)
     }

@@ -1,0 +1,6 @@
+pub mod Placing
+pub mod Delivering
+pub mod Calculating
+pub mod Comparing
+pub mod Ticking
+pub mod Looping
