@@ -2,11 +2,11 @@
 
 ghost use Rattle.std.specs.Prelude.{◌≡◌};
 ghost use Rattle.ss_meaning.specs.Values.{distance};
-ghost use Rattle.ss_machine_instructions.specs.Doing.{Can, Does, CanDeliver, IsDelivered, as_value};
+ghost use Rattle.ss_machine_instructions.specs.Doing.{Can, Does, CanDeliver, IsDelivered, as_value, as_text};
 
 use crate::flow::Here;
 use crate::state::State;
-use ss_base::{FaultKind, div_f, minus, mod_f, plus, times};
+use ss_base::{Alpha, FaultKind, div_f, minus, mod_f, plus, times};
 use ss_code_instructions::address::Address;
 use ss_code_instructions::instruction::Instruction;
 
@@ -42,6 +42,26 @@ impl State {
         }
     }
 
+    /// A text that was found goes to an address, unless there was a fault.
+    #[inline(always)]
+    pub fn put_text(
+        &mut self,
+        here: Here,
+        to: &Address,
+        answer: Result<Alpha, FaultKind>,
+    ) -> Option<Here>
+        requires { CanDeliver here self.old to.now (as_text answer) }
+        ensures { IsDelivered here self.old self.new result to.now (as_text answer) }
+    {
+        match answer {
+            Ok(text) => {
+                self.set_text(here, to, text);
+                here.on()
+            }
+            Err(kind) => self.fault(kind),
+        }
+    }
+
     /// Move.
     #[inline(always)]
     pub fn move_number(&mut self, here: Here, from: &Address, to: &Address) -> Option<Here>
@@ -49,8 +69,7 @@ impl State {
         ensures { Does here self.old self.new result (Instruction.Move from.now to.now) }
     {
         let number = self.number(here, from);
-        self.set_number(here, to, number);
-        here.on()
+        self.put(here, to, Ok(number))
     }
 
     /// MoveText.
@@ -60,8 +79,7 @@ impl State {
         ensures { Does here self.old self.new result (Instruction.MoveText from.now to.now) }
     {
         let text = self.text(here, from);
-        self.set_text(here, to, text);
-        here.on()
+        self.put_text(here, to, Ok(text))
     }
 
     /// Add.
@@ -157,8 +175,7 @@ impl State {
         ensures { Does here self.old self.new result (Instruction.Least left.now right.now to.now) }
     {
         let number = self.number(here, left).min(self.number(here, right));
-        self.set_number(here, to, number);
-        here.on()
+        self.put(here, to, Ok(number))
     }
 
     /// Greatest.
@@ -174,8 +191,7 @@ impl State {
         ensures { Does here self.old self.new result (Instruction.Greatest left.now right.now to.now) }
     {
         let number = self.number(here, left).max(self.number(here, right));
-        self.set_number(here, to, number);
-        here.on()
+        self.put(here, to, Ok(number))
     }
 
     /// Absolute.
