@@ -1,7 +1,7 @@
 //! Tests and jumps.
 
 ghost use Rattle.std.specs.Prelude.{◌≡◌, Some};
-ghost use Rattle.ss_base.specs.declared.value.Value.TheVariants.{Text};
+ghost use Rattle.ss_base.specs.declared.value.Value.TheVariants.{Whole, Text};
 ghost use Rattle.ss_meaning.specs.Values.{allows, related};
 ghost use Rattle.ss_machine_instructions.specs.Doing.{Can, Does};
 
@@ -35,6 +35,54 @@ fn are_related(relation: Relation, left: Alpha, right: Alpha) -> bool
     allows(relation, left.cmp(&right))
 }
 
+// Whether two numbers are equal.
+#[inline(always)]
+fn is_equal(left: i64, right: i64) -> bool
+    ensures { related Relation.Equal (Whole left) (Whole right) ≡ Some result }
+{
+    left == right
+}
+
+// Whether they are not.
+#[inline(always)]
+fn is_other(left: i64, right: i64) -> bool
+    ensures { related Relation.NotEqual (Whole left) (Whole right) ≡ Some result }
+{
+    left != right
+}
+
+// Whether the left is less.
+#[inline(always)]
+fn is_less(left: i64, right: i64) -> bool
+    ensures { related Relation.Less (Whole left) (Whole right) ≡ Some result }
+{
+    left < right
+}
+
+// Whether it is greater.
+#[inline(always)]
+fn is_greater(left: i64, right: i64) -> bool
+    ensures { related Relation.Greater (Whole left) (Whole right) ≡ Some result }
+{
+    left > right
+}
+
+// Whether it is less or equal.
+#[inline(always)]
+fn is_at_most(left: i64, right: i64) -> bool
+    ensures { related Relation.LessOrEqual (Whole left) (Whole right) ≡ Some result }
+{
+    left <= right
+}
+
+// Whether it is greater or equal.
+#[inline(always)]
+fn is_at_least(left: i64, right: i64) -> bool
+    ensures { related Relation.GreaterOrEqual (Whole left) (Whole right) ≡ Some result }
+{
+    left >= right
+}
+
 impl State {
     /// UnlessEqual.
     #[inline(always)]
@@ -48,7 +96,8 @@ impl State {
         requires { Can here self.now (Instruction.UnlessEqual left.now right.now skip) }
         ensures { Does here self.now self.now result (Instruction.UnlessEqual left.now right.now skip) }
     {
-        here.on_if(self.number(here, left) == self.number(here, right), skip)
+        let holds = is_equal(self.number(here, left), self.number(here, right));
+        here.on_if(holds, skip)
     }
 
     /// UnlessNotEqual.
@@ -63,7 +112,8 @@ impl State {
         requires { Can here self.now (Instruction.UnlessNotEqual left.now right.now skip) }
         ensures { Does here self.now self.now result (Instruction.UnlessNotEqual left.now right.now skip) }
     {
-        here.on_if(self.number(here, left) != self.number(here, right), skip)
+        let holds = is_other(self.number(here, left), self.number(here, right));
+        here.on_if(holds, skip)
     }
 
     /// UnlessLess.
@@ -78,7 +128,8 @@ impl State {
         requires { Can here self.now (Instruction.UnlessLess left.now right.now skip) }
         ensures { Does here self.now self.now result (Instruction.UnlessLess left.now right.now skip) }
     {
-        here.on_if(self.number(here, left) < self.number(here, right), skip)
+        let holds = is_less(self.number(here, left), self.number(here, right));
+        here.on_if(holds, skip)
     }
 
     /// UnlessGreater.
@@ -93,7 +144,8 @@ impl State {
         requires { Can here self.now (Instruction.UnlessGreater left.now right.now skip) }
         ensures { Does here self.now self.now result (Instruction.UnlessGreater left.now right.now skip) }
     {
-        here.on_if(self.number(here, left) > self.number(here, right), skip)
+        let holds = is_greater(self.number(here, left), self.number(here, right));
+        here.on_if(holds, skip)
     }
 
     /// UnlessLessOrEqual.
@@ -108,7 +160,8 @@ impl State {
         requires { Can here self.now (Instruction.UnlessLessOrEqual left.now right.now skip) }
         ensures { Does here self.now self.now result (Instruction.UnlessLessOrEqual left.now right.now skip) }
     {
-        here.on_if(self.number(here, left) <= self.number(here, right), skip)
+        let holds = is_at_most(self.number(here, left), self.number(here, right));
+        here.on_if(holds, skip)
     }
 
     /// UnlessGreaterOrEqual.
@@ -123,7 +176,8 @@ impl State {
         requires { Can here self.now (Instruction.UnlessGreaterOrEqual left.now right.now skip) }
         ensures { Does here self.now self.now result (Instruction.UnlessGreaterOrEqual left.now right.now skip) }
     {
-        here.on_if(self.number(here, left) >= self.number(here, right), skip)
+        let holds = is_at_least(self.number(here, left), self.number(here, right));
+        here.on_if(holds, skip)
     }
 
     /// UnlessTexts.

@@ -12,11 +12,11 @@ number-requires c = let z = c.requires in absolute_in z.0 z.1 c.args.here c.args
 pub put-requires : goal.put-requires
 put-requires c =
     let z = c.requires in
-    let e : distance c.number.result ≡ c.distance.result = search rules in
-    (z.0, z.1, z.2.placed.line, _, absolutes z.0 z.1 c.args.here c.args.self.now (Runs c.args.of.now c.args.to.now) z.2 c.args.of.now c.args.to.now c.number.result c.distance.result z.2.runs.carries c.number.ensures e)
+    let e : distance c.number.result ≡ c.distance-answer.result = search rules in
+    (z.0, z.1, z.2.placed.line, _, absolutes z.0 z.1 c.args.here c.args.self.now (Runs c.args.of.now c.args.to.now) z.2 c.args.of.now c.args.to.now c.number.result c.distance-answer.result z.2.runs.carries c.number.ensures e)
 
 pub returns : goal.returns
 returns c = λ w core r.
-    let e : distance c.number.result ≡ c.distance.result = search rules in
-    let d = absolutes w core c.args.here c.args.self.now (Runs c.args.of.now c.args.to.now) r c.args.of.now c.args.to.now c.number.result c.distance.result r.runs.carries c.number.ensures e in
+    let e : distance c.number.result ≡ c.distance-answer.result = search rules in
+    let d = absolutes w core c.args.here c.args.self.now (Runs c.args.of.now c.args.to.now) r c.args.of.now c.args.to.now c.number.result c.distance-answer.result r.runs.carries c.number.ensures e in
     calm w core c.args.here c.args.self.now (Runs c.args.of.now c.args.to.now) r c.put.new.self c.put.result (ap is_due r.runs.carries.2.2) (c.put.ensures w core r.placed.line _ d)
