@@ -1,6 +1,7 @@
 //! FOR over numbers.
 
-ghost use Rattle.std.specs.Prelude.{◌≡◌, pos, ◌≤ℤ◌};
+ghost use Rattle.std.specs.Prelude.{◌≡◌, false, not, pos, int_lt};
+ghost use Rattle.ss_code_instructions.specs.Machine.{has_item};
 ghost use Rattle.ss_machine_instructions.specs.Doing.{Can, Does};
 ghost use Rattle.ss_machine_instructions.specs.Ways.{next_in};
 
@@ -19,7 +20,7 @@ const STEP: usize = 2;
 // How far it is below is then a number without a sign.
 #[inline(always)]
 fn next_item(item: i64, step: i64, limit: i64) -> Option<i64>
-    requires { pos 1 ≤ℤ step }
+    requires { int_lt step (pos 1) ≡ false }
     ensures { result ≡ next_in item step limit }
 {
     if item >= limit {
@@ -32,6 +33,22 @@ fn next_item(item: i64, step: i64, limit: i64) -> Option<i64>
     Some(item.wrapping_add(step))
 }
 
+// Whether a number is an item of a loop.
+#[inline(always)]
+fn is_item(number: i64, limit: i64) -> bool
+    ensures { result ≡ has_item number limit }
+{
+    number <= limit
+}
+
+// Whether a step is at least 1.
+#[inline(always)]
+fn rises(step: i64) -> bool
+    ensures { int_lt step (pos 1) ≡ not result }
+{
+    step >= 1
+}
+
 impl State {
     /// Begin.
     #[inline(always)]
@@ -40,11 +57,13 @@ impl State {
         ensures { Does here self.old self.new result (Instruction.Begin cell skip) }
     {
         let at = self.cell(here, cell);
-        if self.rows.number_at(at + STEP) < 1 {
+        let step = self.rows.number_at(at + STEP);
+        let limit = self.rows.number_at(at + LIMIT);
+        let item = self.rows.number_at(at);
+        if !rises(step) {
             return self.fault(FaultKind::LoopStep);
         }
-        let has_items = self.rows.number_at(at) <= self.rows.number_at(at + LIMIT);
-        here.on_if(has_items, skip)
+        here.on_if(is_item(item, limit), skip)
     }
 
     /// BeginClass.
@@ -58,7 +77,7 @@ impl State {
         self.rows.set_number_at(at, 1);
         self.rows.set_number_at(at + LIMIT, count);
         self.rows.set_number_at(at + STEP, 1);
-        here.on_if(1 <= count, skip)
+        here.on_if(is_item(1, count), skip)
     }
 
     /// Turn.
