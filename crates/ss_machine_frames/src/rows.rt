@@ -137,18 +137,33 @@ impl Rows {
     /// At least so many places. The error comes where memory was refused, and where a place would have no number. Then there may
     /// be more places than before.
     #[inline(never)]
-    pub fn lengthen(&mut self, length: usize) -> Result<(), AllocError>
+    pub fn lengthen(&mut self, count: usize) -> Result<(), AllocError>
         ensures grown { Grown self.old self.new }
         ensures even { length self.new.texts ≡ length self.new.numbers }
-        ensures room { OnOk result (length ≤ length self.new.numbers) }
-        ensures small { OnOk result (length < 2 ^ 32) }
-        ensures most { OnOk result (length self.old.numbers ≤ length → length self.new.numbers ≡ length) }
+        ensures room { OnOk result (count ≤ length self.new.numbers) }
+        ensures small { OnOk result (count < 2 ^ 32) }
+        ensures most { OnOk result (length self.old.numbers ≤ count → length self.new.numbers ≡ count) }
     {
-        if length > u32::MAX as usize {
+        if count > u32::MAX as usize {
             return Err(AllocError);
         }
-        while self.len() < length {
+        while self.len() < count {
             self.push_both(0, Alpha::empty())?;
+        }
+        Ok(())
+    }
+
+    /// At least so many places, as `lengthen`. Where there are as many, nothing changes.
+    #[inline(always)]
+    pub fn reach(&mut self, count: usize) -> Result<(), AllocError>
+        requires { length self.old.numbers < 2 ^ 32 }
+        ensures grown { Grown self.old self.new }
+        ensures even { length self.new.texts ≡ length self.new.numbers }
+        ensures room { OnOk result (count ≤ length self.new.numbers) }
+        ensures small { OnOk result (length self.new.numbers < 2 ^ 32) }
+    {
+        if self.len() < count {
+            self.lengthen(count)?;
         }
         Ok(())
     }

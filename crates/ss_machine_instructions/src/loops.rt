@@ -83,8 +83,8 @@ impl State {
     /// Turn.
     #[inline(always)]
     pub fn turn(&mut self, here: Here) -> Option<Here>
-        requires { Can here self.old (Instruction.Turn) }
-        ensures { Does here self.old self.new result (Instruction.Turn) }
+        requires { Can here self.old Instruction.Turn }
+        ensures { Does here self.old self.new result Instruction.Turn }
     {
         if !self.has_taken_tick() {
             return self.stop(Ending::Paused);

@@ -6,8 +6,8 @@ abbrev pub invariant-loop : goal.invariant-loop
 invariant-loop l =
     record {
       grown : Grown l.fn.self l.self;
-      most : length l.fn.self.numbers ≤ l.length → length l.self.numbers ≤ l.length;
+      most : length l.fn.self.numbers ≤ l.count → length l.self.numbers ≤ l.count;
     }
 
 abbrev pub decreases-loop : goal.decreases-loop
-decreases-loop l = l.length - length l.self.numbers
+decreases-loop l = l.count - length l.self.numbers
