@@ -4,3 +4,4 @@ pub mod Calculating
 pub mod Comparing
 pub mod Ticking
 pub mod Looping
+pub mod Calling
