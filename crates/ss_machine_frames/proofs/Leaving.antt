@@ -26,12 +26,12 @@ picked_more n x locals ws p (suc k) v h =
 picked_front : (count : ℕ) (locals vs : List Value) → front count locals ≡ Some vs → Picked 0 count locals vs
 picked_front zero locals vs e = let q : [] ≡ vs = cc in subst (λ vs. Picked 0 zero locals vs) q (record { long = refl; each = λ k v p. absurd cc })
 picked_front (suc n) [] vs e = absurd cc
-picked_front (suc n) (x ∷ locals) vs e = by (front n locals) refl e
+picked_front (suc n) (x ∷ locals) vs e = by (λ ws q. picked_front n locals ws q) (front n locals) refl e
   where
-    by : (o : Option (List Value)) → front n locals ≡ o → prepended x o ≡ Some vs → Picked 0 (suc n) (x ∷ locals) vs
-    by None q e = absurd cc
-    by (Some ws) q e =
-        let p = picked_front n locals ws q in
+    by : ((ws : List Value) → front n locals ≡ Some ws → Picked 0 n locals ws) → (o : Option (List Value)) → front n locals ≡ o → prepended x o ≡ Some vs → Picked 0 (suc n) (x ∷ locals) vs
+    by rest None q e = absurd cc
+    by rest (Some ws) q e =
+        let p = rest ws q in
         let same : x ∷ ws ≡ vs = cc in
         subst (λ vs. Picked 0 (suc n) (x ∷ locals) vs) same (record { long = ap suc p.long; each = picked_more n x locals ws p })
 
