@@ -5,3 +5,4 @@ pub mod Comparing
 pub mod Ticking
 pub mod Looping
 pub mod Calling
+pub mod Stepping
