@@ -1,5 +1,5 @@
 -- A section is entered: what it is given lies in the caller's topmost cells, which are its first variables then.
-use Rattle.std.proofs.Common.{◌≡◌, inl, inr, ℕ, zero, suc, ◌+◌, ◌<◌, ◌≤◌, ◌^◌, Bool, true, false, List, [], ◌∷◌, ◌++◌, length, map, Option, Some, None, refl, sym, ap, ◌∙◌, subst, arith, if◌then◌else◌}
+use Rattle.std.proofs.Common.{◌≡◌, inr, ℕ, zero, suc, ◌+◌, ◌<◌, ◌≤◌, ◌^◌, true, List, [], ◌∷◌, ◌++◌, length, map, Some, None, refl, sym, ap, ◌∙◌, subst, arith, if◌then◌else◌}
 use Rattle.ss_base.specs.declared.layout.Mode.{Mode}
 use Rattle.ss_base.specs.declared.layout.Mode.TheVariants.{Integer, Alpha}
 use Rattle.ss_base.specs.declared.value.Value.{Value}
@@ -8,9 +8,9 @@ use Rattle.ss_base.specs.Layout.{mode_of, first_value}
 use Rattle.ss_meaning.specs.Values.{same_mode}
 use Rattle.ss_meaning.specs.Store.{Store, first_values, prepended, taken_by_modes, appended, opened}
 use Rattle.ss_meaning.specs.Fitting.{Hold}
-use Rattle.ss_code_instructions.specs.States.{Called, Frame, Core, TakenOff, take_off}
+use Rattle.ss_code_instructions.specs.States.{Called, Core, TakenOff, take_off}
 use Rattle.ss_machine_frames.specs.declared.frames.Frame.{Frame as Call}
-use Rattle.ss_machine_frames.specs.Rows.{TwoRows, with_value, cleared, ValueAt, Agree, Grown}
+use Rattle.ss_machine_frames.specs.Rows.{TwoRows, with_value, cleared, Agree, Grown}
 use Rattle.ss_machine_frames.specs.Holding.{AllAt, CellsAt, CallsAt, Held}
 use Rattle.ss_machine_frames.proofs.Lists.{set_length}
 use Rattle.ss_machine_frames.proofs.Places.{agree_out, agree_within, agree_on, elsewhere_value, value_same, value_agrees, all_agree, cells_agree, low_under, calls_agree}

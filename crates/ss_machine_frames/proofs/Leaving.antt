@@ -1,13 +1,13 @@
 -- A section is left: what it yields lies on the caller's cells then, the first on top.
-use Rattle.std.proofs.Common.{◌≡◌, ℕ, zero, suc, ◌+◌, ◌<◌, ◌≤◌, ◌^◌, List, [], ◌∷◌, ◌++◌, length, Option, Some, None, refl, sym, ap, ◌∙◌, subst, arith, length-append}
+use Rattle.std.proofs.Common.{◌≡◌, ℕ, zero, suc, ◌+◌, List, [], ◌∷◌, ◌++◌, length, Option, Some, None, refl, ap, ◌∙◌, subst, arith, length-append}
 use Rattle.std.specs.Prelude.{slice_get}
 use Rattle.ss_base.specs.declared.value.Value.{Value}
 use Rattle.ss_base.specs.declared.value.Value.TheVariants.{Whole, Text}
-use Rattle.ss_meaning.specs.Store.{Store, prepended, front, yielded}
+use Rattle.ss_meaning.specs.Store.{prepended, front, yielded}
 use Rattle.ss_code_instructions.specs.States.{Frame, Core, core_at}
 use Rattle.ss_machine_frames.specs.declared.frames.Frame.{Frame as Call}
 use Rattle.ss_machine_frames.specs.Rows.{TwoRows, ValueAt, Agree, Yielded}
-use Rattle.ss_machine_frames.specs.Holding.{AllAt, CellsAt, CallsAt, Held}
+use Rattle.ss_machine_frames.specs.Holding.{CellsAt, CallsAt, Held}
 use Rattle.ss_machine_frames.proofs.Places.{agree_within, all_agree, cells_agree, all_get, low_under, calls_agree}
 
 -- ## What is yielded

@@ -1,15 +1,14 @@
 -- What an instruction does is a step of the definition.
 use Rattle.std.proofs.Common.{◌≡◌, ℕ, zero, suc, Bool, true, false, List, Option, Some, None, refl, sym, ap, ◌∙◌, subst}
-use Rattle.std.specs.Prelude.{slice_get}
 use Rattle.ss_meaning.specs.Meaning as endings
 use Rattle.ss_code_instructions.specs.declared.instruction.Instruction.{Instruction as Running}
-use Rattle.ss_code_instructions.specs.States.{Core, MachineState, Moved, To}
-use Rattle.ss_code_instructions.specs.Machine.{Stepped, Goes, Over, act, is_due, with_rest, when_due, step_at, step}
+use Rattle.ss_code_instructions.specs.States.{Core, Moved}
+use Rattle.ss_code_instructions.specs.Machine.{Goes, Over, act, is_due, with_rest, when_due, step_at, step}
 use Rattle.ss_machine_instructions.specs.declared.flow.Ending.{Ending}
 use Rattle.ss_machine_instructions.specs.declared.flow.Ending.TheVariants.{Ended, Paused, Faulted, NoMemory, NoOutput, NoInput}
 use Rattle.ss_machine_instructions.specs.declared.flow.Here.{Here}
 use Rattle.ss_machine_instructions.specs.declared.state.State.{State}
-use Rattle.ss_machine_instructions.specs.Doing.{Compiled, Ready, Holds, Leads, Stops, Left, LeftBy, NoTick, OneTick, IsPaused, Due, Comes, IsOver, IsStep, line_or, state_of}
+use Rattle.ss_machine_instructions.specs.Doing.{Compiled, Ready, Leads, Stops, Left, LeftBy, Due, Comes, IsOver, IsStep, line_or, state_of}
 
 module _ (w : Compiled) (c : Core) (here : Here) (s : State) (run : Running) (r : Ready w c here s run) (report : List ℕ) where
   abbrev Does : Moved

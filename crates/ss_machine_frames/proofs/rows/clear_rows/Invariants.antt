@@ -1,4 +1,4 @@
-use Rattle.std.proofs.Common.{◌≡◌, ◌+◌, drop, length}
+use Rattle.std.proofs.Common.{◌≡◌, ◌+◌, drop}
 use Rattle.ss_machine_frames.specs.Rows.{TwoRows, cleared}
 use Rattle.ss_machine_frames.proofs.rows.clear_rows.Given as goal
 

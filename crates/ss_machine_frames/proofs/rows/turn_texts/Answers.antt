@@ -1,4 +1,4 @@
-use Rattle.std.proofs.Common.{rules, ◌≡◌, ◌+◌, ◌++◌, length, take, drop, reverse}
+use Rattle.std.proofs.Common.{rules, ◌≡◌, take, drop, reverse}
 use Rattle.ss_machine_frames.proofs.Lists.{turned_part}
 use Rattle.ss_machine_frames.proofs.rows.turn_texts.Goals as goal
 

@@ -1,4 +1,4 @@
-use Rattle.std.proofs.Common.{◌≡◌, ◌≤◌, ◌-◌, length}
+use Rattle.std.proofs.Common.{◌≤◌, ◌-◌, length}
 use Rattle.ss_machine_frames.specs.Rows.{Grown}
 use Rattle.ss_machine_frames.proofs.rows.Rows.lengthen.Given as goal
 

@@ -1,6 +1,5 @@
-use Rattle.std.proofs.Common.{rules, ◌≡◌, ◌+◌, Some, ap, ◌∙◌, arith, false, true}
+use Rattle.std.proofs.Common.{rules, ◌≡◌, ◌+◌, Some, ap, arith, false, true}
 use Rattle.std.specs.Prelude.{slice_get}
-use Rattle.ss_base.specs.declared.value.Value.TheVariants.{Whole}
 use Rattle.ss_code_instructions.specs.declared.instruction.Instruction.TheVariants.{Take as Runs}
 use Rattle.ss_code_instructions.specs.Machine.{is_due}
 use Rattle.ss_machine_instructions.proofs.Placing.{small}
