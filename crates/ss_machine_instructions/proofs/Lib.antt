@@ -6,3 +6,4 @@ pub mod Ticking
 pub mod Looping
 pub mod Calling
 pub mod Stepping
+pub mod Asking

@@ -3,11 +3,13 @@
 ghost use Rattle.std.specs.Prelude.{◌≡◌, Some};
 ghost use Rattle.ss_base.specs.declared.value.Value.TheVariants.{Whole, Text};
 ghost use Rattle.ss_meaning.specs.Values.{allows, related};
+ghost use Rattle.ss_meaning.specs.Sets.{is_none};
 ghost use Rattle.ss_machine_instructions.specs.Doing.{Can, Does};
+ghost use Rattle.ss_machine_instructions.specs.Ways.{none_of};
 
 use crate::flow::Here;
 use crate::state::State;
-use ss_base::Alpha;
+use ss_base::{Alpha, FaultKind};
 use ss_code_instructions::address::Address;
 use ss_code_instructions::instruction::Instruction;
 use ss_program::condition::Relation;
@@ -33,6 +35,25 @@ fn are_related(relation: Relation, left: Alpha, right: Alpha) -> bool
     ensures { related relation (Text left) (Text right) ≡ Some result }
 {
     allows(relation, left.cmp(&right))
+}
+
+// Whether a number is 0.
+#[inline(always)]
+fn is_none(number: i64) -> bool
+    ensures { result ≡ is_none number }
+{
+    number == 0
+}
+
+// Whether a count is 0, or the fault.
+#[inline(always)]
+fn are_none(count: Result<i64, FaultKind>) -> Result<bool, FaultKind>
+    ensures { result ≡ none_of count }
+{
+    match count {
+        Ok(count) => Ok(is_none(count)),
+        Err(kind) => Err(kind),
+    }
 }
 
 // Whether two numbers are equal.
@@ -211,10 +232,7 @@ impl State {
         ensures { Does here self.old self.new result (Instruction.UnlessEmpty set owner.now skip negated) }
     {
         let owner = self.number(here, owner);
-        let answer = match self.scene.population.member_count(set as usize, owner) {
-            Ok(count) => Ok(count == 0),
-            Err(kind) => Err(kind),
-        };
+        let answer = are_none(self.scene.population.member_count(set as usize, owner));
         self.branch(here, answer, negated, skip)
     }
 
