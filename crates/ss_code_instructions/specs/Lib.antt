@@ -6,5 +6,6 @@ pub mod Translation
 pub mod Size
 pub mod Running
 pub mod Shape
+pub mod Carried
 pub mod Laws
 pub mod Examples

@@ -1,8 +1,13 @@
 //! The rows in which values lie.
 
+ghost use Rattle.std.specs.Prelude.{◌≡◌, [], ◌+◌, ◌<◌, ◌≤◌, ◌^◌, length, Some, slice_get, IfOk, OnOk, OnErr};
+ghost use Rattle.ss_base.specs.Layout.{mode_of};
+ghost use Rattle.ss_machine_frames.specs.Rows.{TwoRows, place_at, with_number, with_text, with_value, with_last, cleared, ValueAt, Grown, Turned, MovedDown, Yielded};
+
 use ss_base::{Alpha, Mode, Value};
 use ss_code_instructions::address::Address;
 use std::alloc::{AllocError, Global};
+use std::marker::Model;
 
 /// The values of a run: whole numbers in one row, texts in another, of the same length. The global variables come first, then
 /// the constants, then the frames of open calls. Of each place only the row of its mode matters.
@@ -12,15 +17,85 @@ pub struct Rows {
     texts: Vec<Alpha>,
 }
 
+impl Model for Rows {
+    ghost use Rattle.std.specs.Prelude.{◌≡◌, length};
+    ghost use Rattle.ss_machine_frames.specs.Rows.{TwoRows};
+
+    ghost Value = { TwoRows };
+
+    ghost view = { λ r. record { numbers = r.numbers.items; texts = r.texts.items } };
+
+    ghost invariant = { λ r. length r.texts.items ≡ length r.numbers.items };
+}
+
 /// The place of an address, where the frame begins here.
 #[inline(always)]
-pub fn place_of(frame: u32, address: &Address) -> usize {
+pub fn place_of(frame: u32, address: &Address) -> usize
+    ensures { result ≡ place_at frame address.now }
+{
     (frame & address.mask) as usize + address.number as usize
+}
+
+// So many numbers from a place on change their order.
+fn turn_numbers(row: &mut [i64], from: usize, count: usize)
+    requires { from + count ≤ length row.old }
+    ensures { Turned row.old row.new from count }
+{
+    row[from..from + count].reverse();
+}
+
+// So many texts from a place on change their order.
+fn turn_texts(row: &mut [Alpha], from: usize, count: usize)
+    requires { from + count ≤ length row.old }
+    ensures { Turned row.old row.new from count }
+{
+    row[from..from + count].reverse();
+}
+
+// So many numbers from a place on go down to another one.
+fn move_numbers(row: &mut [i64], from: usize, to: usize, count: usize)
+    requires down { to ≤ from }
+    requires within { from + count ≤ length row.old }
+    ensures { MovedDown row.old row.new from to count }
+{
+    for i in 0..count {
+        row[to + i] = row[from + i];
+    }
+}
+
+// So many texts from a place on go down to another one.
+fn move_texts(row: &mut [Alpha], from: usize, to: usize, count: usize)
+    requires down { to ≤ from }
+    requires within { from + count ≤ length row.old }
+    ensures { MovedDown row.old row.new from to count }
+{
+    for i in 0..count {
+        row[to + i] = row[from + i];
+    }
+}
+
+// Variables of these modes, from a place on, hold 0 or the empty text.
+#[inline(always)]
+fn clear_rows(numbers: &mut [i64], texts: &mut [Alpha], from: usize, modes: &[Mode])
+    requires long { length texts.old ≡ length numbers.old }
+    requires within { from + length modes.now ≤ length numbers.old }
+    ensures { record { numbers = numbers.new; texts = texts.new } ≡ cleared (record { numbers = numbers.old; texts = texts.old }) from modes.now }
+{
+    let mut place = from;
+    for mode in modes {
+        match mode {
+            Mode::Integer => numbers[place] = 0,
+            Mode::Alpha => texts[place] = Alpha::empty(),
+        }
+        place += 1;
+    }
 }
 
 impl Rows {
     /// No place yet.
-    pub fn new(alloc: Global) -> Rows {
+    pub fn new(alloc: Global) -> Rows
+        ensures { result ≡ record { numbers = []; texts = [] } }
+    {
         Rows {
             numbers: Vec::new(alloc),
             texts: Vec::new(alloc),
@@ -29,90 +104,148 @@ impl Rows {
 
     /// How many places there are.
     #[inline(always)]
-    pub fn len(&self) -> usize {
+    pub fn len(&self) -> usize
+        ensures numbers { result ≡ length self.now.numbers }
+        ensures texts { result ≡ length self.now.texts }
+    {
         self.numbers.len()
     }
 
-    /// One place more, which holds a value.
-    pub fn push(&mut self, value: Value) -> Result<(), AllocError> {
+    // One place more, which holds this number and this text.
+    fn push_both(&mut self, number: i64, text: Alpha) -> Result<(), AllocError>
+        ensures ok { OnOk result (self.new ≡ record { numbers = self.old.numbers ++ number ∷ []; texts = self.old.texts ++ text ∷ [] }) }
+        ensures err { OnErr result (self.new ≡ self.old) }
+    {
+        self.numbers.reserve(1)?;
+        self.texts.reserve(1)?;
+        self.numbers.push_reserved(number);
+        self.texts.push_reserved(text);
+        Ok(())
+    }
+
+    /// One place more, which holds a value. The error comes where memory was refused, and then nothing changes.
+    pub fn push(&mut self, value: Value) -> Result<(), AllocError>
+        ensures ok { OnOk result (self.new ≡ with_last self.old value) }
+        ensures err { OnErr result (self.new ≡ self.old) }
+    {
         match value {
-            Value::Whole(number) => {
-                self.numbers.push(number)?;
-                self.texts.push(Alpha::empty())?;
-            }
-            Value::Text(text) => {
-                self.numbers.push(0)?;
-                self.texts.push(text)?;
-            }
+            Value::Whole(number) => self.push_both(number, Alpha::empty()),
+            Value::Text(text) => self.push_both(0, text),
+        }
+    }
+
+    /// At least so many places. The error comes where memory was refused, and where a place would have no number. Then there may
+    /// be more places than before.
+    #[inline(never)]
+    pub fn lengthen(&mut self, count: usize) -> Result<(), AllocError>
+        ensures grown { Grown self.old self.new }
+        ensures even { length self.new.texts ≡ length self.new.numbers }
+        ensures room { OnOk result (count ≤ length self.new.numbers) }
+        ensures small { OnOk result (count < 2 ^ 32) }
+        ensures most { OnOk result (length self.old.numbers ≤ count → length self.new.numbers ≡ count) }
+    {
+        if count > u32::MAX as usize {
+            return Err(AllocError);
+        }
+        while self.len() < count {
+            self.push_both(0, Alpha::empty())?;
         }
         Ok(())
     }
 
-    /// At least so many places. The error comes where memory was refused, and where a place would have no number.
-    #[inline(never)]
-    pub fn lengthen(&mut self, length: usize) -> Result<(), AllocError> {
-        if length > u32::MAX as usize {
-            return Err(AllocError);
-        }
-        while self.texts.len() < length {
-            self.texts.push(Alpha::empty())?;
-        }
-        while self.numbers.len() < length {
-            self.numbers.push(0)?;
+    /// At least so many places, as `lengthen`. Where there are as many, nothing changes.
+    #[inline(always)]
+    pub fn reach(&mut self, count: usize) -> Result<(), AllocError>
+        requires { length self.old.numbers < 2 ^ 32 }
+        ensures grown { Grown self.old self.new }
+        ensures even { length self.new.texts ≡ length self.new.numbers }
+        ensures room { OnOk result (count ≤ length self.new.numbers) }
+        ensures small { OnOk result (length self.new.numbers < 2 ^ 32) }
+    {
+        if self.len() < count {
+            self.lengthen(count)?;
         }
         Ok(())
     }
 
     /// The number at a place.
     #[inline(always)]
-    pub fn number_at(&self, place: usize) -> i64 {
+    pub fn number_at(&self, place: usize) -> i64
+        requires { place < length self.now.numbers }
+        ensures { slice_get self.now.numbers place ≡ Some result }
+    {
         self.numbers[place]
     }
 
     /// A number goes to a place.
     #[inline(always)]
-    pub fn set_number_at(&mut self, place: usize, number: i64) {
+    pub fn set_number_at(&mut self, place: usize, number: i64)
+        requires { place < length self.old.numbers }
+        ensures { self.new ≡ with_number self.old place number }
+    {
         self.numbers[place] = number;
     }
 
     /// The text at a place.
     #[inline(always)]
-    pub fn text_at(&self, place: usize) -> Alpha {
+    pub fn text_at(&self, place: usize) -> Alpha
+        requires { place < length self.now.numbers }
+        ensures { slice_get self.now.texts place ≡ Some result }
+    {
         self.texts[place]
     }
 
     /// A text goes to a place.
     #[inline(always)]
-    pub fn set_text_at(&mut self, place: usize, text: Alpha) {
+    pub fn set_text_at(&mut self, place: usize, text: Alpha)
+        requires { place < length self.old.numbers }
+        ensures { self.new ≡ with_text self.old place text }
+    {
         self.texts[place] = text;
     }
 
     /// The number at an address.
     #[inline(always)]
-    pub fn number(&self, frame: u32, address: &Address) -> i64 {
+    pub fn number(&self, frame: u32, address: &Address) -> i64
+        requires { place_at frame address.now < length self.now.numbers }
+        ensures { slice_get self.now.numbers (place_at frame address.now) ≡ Some result }
+    {
         self.numbers[place_of(frame, address)]
     }
 
     /// A number goes to an address.
     #[inline(always)]
-    pub fn set_number(&mut self, frame: u32, address: &Address, number: i64) {
+    pub fn set_number(&mut self, frame: u32, address: &Address, number: i64)
+        requires { place_at frame address.now < length self.old.numbers }
+        ensures { self.new ≡ with_number self.old (place_at frame address.now) number }
+    {
         self.numbers[place_of(frame, address)] = number;
     }
 
     /// The text at an address.
     #[inline(always)]
-    pub fn text(&self, frame: u32, address: &Address) -> Alpha {
+    pub fn text(&self, frame: u32, address: &Address) -> Alpha
+        requires { place_at frame address.now < length self.now.numbers }
+        ensures { slice_get self.now.texts (place_at frame address.now) ≡ Some result }
+    {
         self.texts[place_of(frame, address)]
     }
 
     /// A text goes to an address.
     #[inline(always)]
-    pub fn set_text(&mut self, frame: u32, address: &Address, text: Alpha) {
+    pub fn set_text(&mut self, frame: u32, address: &Address, text: Alpha)
+        requires { place_at frame address.now < length self.old.numbers }
+        ensures { self.new ≡ with_text self.old (place_at frame address.now) text }
+    {
         self.texts[place_of(frame, address)] = text;
     }
 
     /// The value of a mode at a place.
-    pub fn value_at(&self, place: usize, mode: Mode) -> Value {
+    pub fn value_at(&self, place: usize, mode: Mode) -> Value
+        requires { place < length self.now.numbers }
+        ensures mode { mode_of result ≡ mode }
+        ensures value { ValueAt self.now place result }
+    {
         match mode {
             Mode::Integer => Value::Whole(self.numbers[place]),
             Mode::Alpha => Value::Text(self.texts[place]),
@@ -120,7 +253,10 @@ impl Rows {
     }
 
     /// A value goes to a place.
-    pub fn set_value_at(&mut self, place: usize, value: Value) {
+    pub fn set_value_at(&mut self, place: usize, value: Value)
+        requires { place < length self.old.numbers }
+        ensures { self.new ≡ with_value self.old place value }
+    {
         match value {
             Value::Whole(number) => self.numbers[place] = number,
             Value::Text(text) => self.texts[place] = text,
@@ -129,34 +265,22 @@ impl Rows {
 
     /// Variables of these modes, from a place on, hold 0 or the empty text.
     #[inline(always)]
-    pub fn clear(&mut self, from: usize, modes: &[Mode]) {
-        let mut place = from;
-        for mode in modes {
-            match mode {
-                Mode::Integer => self.numbers[place] = 0,
-                Mode::Alpha => self.texts[place] = Alpha::empty(),
-            }
-            place += 1;
-        }
-    }
-
-    // So many values from a place on change their order.
-    fn reverse(&mut self, from: usize, count: usize) {
-        self.numbers[from..from + count].reverse();
-        self.texts[from..from + count].reverse();
-    }
-
-    // So many values from a place on go down to another one.
-    fn move_down(&mut self, from: usize, to: usize, count: usize) {
-        for i in 0..count {
-            self.numbers[to + i] = self.numbers[from + i];
-            self.texts[to + i] = self.texts[from + i];
-        }
+    pub fn clear(&mut self, from: usize, modes: &[Mode])
+        requires { from + length modes.now ≤ length self.old.numbers }
+        ensures { self.new ≡ cleared self.old from modes.now }
+    {
+        clear_rows(&mut self.numbers, &mut self.texts, from, modes);
     }
 
     /// So many values from a place on go down to another one, the first of them on top.
-    pub fn yield_down(&mut self, from: usize, to: usize, count: usize) {
-        self.reverse(from, count);
-        self.move_down(from, to, count);
+    pub fn yield_down(&mut self, from: usize, to: usize, count: usize)
+        requires down { to ≤ from }
+        requires within { from + count ≤ length self.old.numbers }
+        ensures { Yielded self.old self.new from to count }
+    {
+        turn_numbers(&mut self.numbers, from, count);
+        turn_texts(&mut self.texts, from, count);
+        move_numbers(&mut self.numbers, from, to, count);
+        move_texts(&mut self.texts, from, to, count);
     }
 }

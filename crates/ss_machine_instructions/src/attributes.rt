@@ -35,17 +35,11 @@ impl State {
         to: &Address,
     ) -> Option<Here> {
         let entity = self.number(here, entity);
-        match self
+        let answer = self
             .scene
             .population
-            .text(class as usize, field as usize, entity)
-        {
-            Ok(text) => {
-                self.set_text(here, to, text);
-                here.on()
-            }
-            Err(kind) => self.fault(kind),
-        }
+            .text(class as usize, field as usize, entity);
+        self.put_text(here, to, answer)
     }
 
     /// SetAttribute.

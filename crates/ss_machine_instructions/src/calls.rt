@@ -1,8 +1,16 @@
 //! Calls.
 
+ghost use Rattle.std.specs.Prelude.{◌≡◌, ◌+◌, ◌<◌, ◌≤◌, ◌^◌, ℕ, length, slice_get, Some, IfOk, OnErr};
+ghost use Rattle.ss_code_instructions.specs.Carried.{IsSized};
+ghost use Rattle.ss_machine_frames.specs.Rows.{Yielded};
+ghost use Rattle.ss_machine_instructions.specs.Doing.{Can, Does, CanWhere, DoesWhere};
+ghost use Rattle.ss_machine_instructions.specs.Entered.{Enters, IsRefused};
+ghost use Rattle.ss_machine_instructions.specs.declared.flow.Here.{Here as HereSeen};
+
 use crate::flow::{Ending, Here};
 use crate::state::State;
 use ss_code_instructions::entry::Entry;
+use ss_code_instructions::instruction::Instruction;
 use ss_machine_frames::frames::Frame;
 use std::alloc::AllocError;
 
@@ -10,12 +18,15 @@ impl State {
     /// A section begins, whose frame begins at a cell: what it is given lies there already, its other variables hold their
     /// first values, and there is room for its cells. It answers where the frame begins.
     #[inline(always)]
-    pub fn enter(&mut self, here: Here, entry: &Entry, cell: u32) -> Result<u32, AllocError> {
+    pub fn enter(&mut self, here: Here, entry: &Entry, cell: u32) -> Result<u32, AllocError>
+        requires sized { IsSized entry.now }
+        requires small { length self.old.rows.numbers < 2 ^ 32 }
+        requires place { here.place + 1 < 2 ^ 64 }
+        ensures ok { IfOk result (λ frame. Enters here self.old self.new entry.now cell frame) }
+        ensures err { OnErr result (IsRefused self.old self.new) }
+    {
         let frame = self.cell(here, cell);
-        let room = frame + entry.room;
-        if self.rows.len() < room {
-            self.rows.lengthen(room)?;
-        }
+        self.rows.reach(frame + entry.room)?;
         self.rows.clear(frame + entry.given.len(), &entry.others);
         self.frames.push(Frame {
             back: here.place + 1,
@@ -28,7 +39,10 @@ impl State {
 
     /// Call.
     #[inline(always)]
-    pub fn call(&mut self, here: Here, entry: &Entry, cell: u32) -> Option<Here> {
+    pub fn call(&mut self, here: Here, entry: &Entry, cell: u32) -> Option<Here>
+        requires { (routine : ℕ) × CanWhere (λ w. slice_get w.run.routines routine ≡ Some entry.now) here self.old (Instruction.Call routine cell) }
+        ensures { (routine : ℕ) → DoesWhere (λ w. slice_get w.run.routines routine ≡ Some entry.now) here self.old self.new result (Instruction.Call routine cell) }
+    {
         if !self.has_taken_tick() {
             return self.stop(Ending::Paused);
         }
@@ -40,7 +54,10 @@ impl State {
 
     /// Leave.
     #[inline(always)]
-    pub fn leave(&mut self, here: Here) -> Option<Here> {
+    pub fn leave(&mut self, here: Here) -> Option<Here>
+        requires { Can here self.old Instruction.Leave }
+        ensures { Does here self.old self.new result Instruction.Leave }
+    {
         match self.frames.pop() {
             None => self.stop(Ending::Ended),
             Some(frame) => {
@@ -54,13 +71,19 @@ impl State {
 
     /// Halt.
     #[inline(always)]
-    pub fn halt(&mut self) -> Option<Here> {
+    pub fn halt(&mut self) -> Option<Here>
+        ensures { (here : HereSeen) → Does here self.old self.new result Instruction.Halt }
+    {
         self.stop(Ending::Ended)
     }
 
     // What is yielded goes where the frame begins, the first on top.
     #[inline(never)]
-    fn yield_values(&mut self, to: usize, frame: Frame) {
+    fn yield_values(&mut self, to: usize, frame: Frame)
+        requires { to + frame.given + frame.yielding ≤ length self.old.rows.numbers }
+        ensures rows { Yielded self.old.rows self.new.rows (to + frame.given) to frame.yielding }
+        ensures same { self.new ≡ record self.old { rows = self.new.rows } }
+    {
         let from = to + frame.given as usize;
         self.rows.yield_down(from, to, frame.yielding as usize);
     }

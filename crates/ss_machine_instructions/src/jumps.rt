@@ -1,14 +1,24 @@
 //! Tests and jumps.
 
+ghost use Rattle.std.specs.Prelude.{◌≡◌, Some};
+ghost use Rattle.ss_base.specs.declared.value.Value.TheVariants.{Whole, Text};
+ghost use Rattle.ss_meaning.specs.Values.{allows, related};
+ghost use Rattle.ss_meaning.specs.Sets.{is_none};
+ghost use Rattle.ss_machine_instructions.specs.Doing.{Can, Does};
+ghost use Rattle.ss_machine_instructions.specs.Ways.{none_of};
+
 use crate::flow::Here;
 use crate::state::State;
-use ss_base::Alpha;
+use ss_base::{Alpha, FaultKind};
 use ss_code_instructions::address::Address;
+use ss_code_instructions::instruction::Instruction;
 use ss_program::condition::Relation;
 use std::cmp::Ordering;
 
 // Whether an order is one of those that a relation allows.
-fn allows(relation: Relation, order: Ordering) -> bool {
+fn allows(relation: Relation, order: Ordering) -> bool
+    ensures { result ≡ allows relation order }
+{
     match relation {
         Relation::Equal => order.is_eq(),
         Relation::NotEqual => order.is_ne(),
@@ -21,8 +31,77 @@ fn allows(relation: Relation, order: Ordering) -> bool {
 
 // Whether two texts stand in a relation.
 #[inline(never)]
-fn are_related(relation: Relation, left: Alpha, right: Alpha) -> bool {
+fn are_related(relation: Relation, left: Alpha, right: Alpha) -> bool
+    ensures { related relation (Text left) (Text right) ≡ Some result }
+{
     allows(relation, left.cmp(&right))
+}
+
+// Whether a number is 0.
+#[inline(always)]
+fn is_none(number: i64) -> bool
+    ensures { result ≡ is_none number }
+{
+    number == 0
+}
+
+// Whether a count is 0, or the fault.
+#[inline(always)]
+fn are_none(count: Result<i64, FaultKind>) -> Result<bool, FaultKind>
+    ensures { result ≡ none_of count }
+{
+    match count {
+        Ok(count) => Ok(is_none(count)),
+        Err(kind) => Err(kind),
+    }
+}
+
+// Whether two numbers are equal.
+#[inline(always)]
+fn is_equal(left: i64, right: i64) -> bool
+    ensures { related Relation.Equal (Whole left) (Whole right) ≡ Some result }
+{
+    left == right
+}
+
+// Whether they are not.
+#[inline(always)]
+fn is_other(left: i64, right: i64) -> bool
+    ensures { related Relation.NotEqual (Whole left) (Whole right) ≡ Some result }
+{
+    left != right
+}
+
+// Whether the left is less.
+#[inline(always)]
+fn is_less(left: i64, right: i64) -> bool
+    ensures { related Relation.Less (Whole left) (Whole right) ≡ Some result }
+{
+    left < right
+}
+
+// Whether it is greater.
+#[inline(always)]
+fn is_greater(left: i64, right: i64) -> bool
+    ensures { related Relation.Greater (Whole left) (Whole right) ≡ Some result }
+{
+    left > right
+}
+
+// Whether it is less or equal.
+#[inline(always)]
+fn is_at_most(left: i64, right: i64) -> bool
+    ensures { related Relation.LessOrEqual (Whole left) (Whole right) ≡ Some result }
+{
+    left <= right
+}
+
+// Whether it is greater or equal.
+#[inline(always)]
+fn is_at_least(left: i64, right: i64) -> bool
+    ensures { related Relation.GreaterOrEqual (Whole left) (Whole right) ≡ Some result }
+{
+    left >= right
 }
 
 impl State {
@@ -34,8 +113,12 @@ impl State {
         left: &Address,
         right: &Address,
         skip: u32,
-    ) -> Option<Here> {
-        here.on_if(self.number(here, left) == self.number(here, right), skip)
+    ) -> Option<Here>
+        requires { Can here self.now (Instruction.UnlessEqual left.now right.now skip) }
+        ensures { Does here self.now self.now result (Instruction.UnlessEqual left.now right.now skip) }
+    {
+        let holds = is_equal(self.number(here, left), self.number(here, right));
+        here.on_if(holds, skip)
     }
 
     /// UnlessNotEqual.
@@ -46,8 +129,12 @@ impl State {
         left: &Address,
         right: &Address,
         skip: u32,
-    ) -> Option<Here> {
-        here.on_if(self.number(here, left) != self.number(here, right), skip)
+    ) -> Option<Here>
+        requires { Can here self.now (Instruction.UnlessNotEqual left.now right.now skip) }
+        ensures { Does here self.now self.now result (Instruction.UnlessNotEqual left.now right.now skip) }
+    {
+        let holds = is_other(self.number(here, left), self.number(here, right));
+        here.on_if(holds, skip)
     }
 
     /// UnlessLess.
@@ -58,8 +145,12 @@ impl State {
         left: &Address,
         right: &Address,
         skip: u32,
-    ) -> Option<Here> {
-        here.on_if(self.number(here, left) < self.number(here, right), skip)
+    ) -> Option<Here>
+        requires { Can here self.now (Instruction.UnlessLess left.now right.now skip) }
+        ensures { Does here self.now self.now result (Instruction.UnlessLess left.now right.now skip) }
+    {
+        let holds = is_less(self.number(here, left), self.number(here, right));
+        here.on_if(holds, skip)
     }
 
     /// UnlessGreater.
@@ -70,8 +161,12 @@ impl State {
         left: &Address,
         right: &Address,
         skip: u32,
-    ) -> Option<Here> {
-        here.on_if(self.number(here, left) > self.number(here, right), skip)
+    ) -> Option<Here>
+        requires { Can here self.now (Instruction.UnlessGreater left.now right.now skip) }
+        ensures { Does here self.now self.now result (Instruction.UnlessGreater left.now right.now skip) }
+    {
+        let holds = is_greater(self.number(here, left), self.number(here, right));
+        here.on_if(holds, skip)
     }
 
     /// UnlessLessOrEqual.
@@ -82,8 +177,12 @@ impl State {
         left: &Address,
         right: &Address,
         skip: u32,
-    ) -> Option<Here> {
-        here.on_if(self.number(here, left) <= self.number(here, right), skip)
+    ) -> Option<Here>
+        requires { Can here self.now (Instruction.UnlessLessOrEqual left.now right.now skip) }
+        ensures { Does here self.now self.now result (Instruction.UnlessLessOrEqual left.now right.now skip) }
+    {
+        let holds = is_at_most(self.number(here, left), self.number(here, right));
+        here.on_if(holds, skip)
     }
 
     /// UnlessGreaterOrEqual.
@@ -94,8 +193,12 @@ impl State {
         left: &Address,
         right: &Address,
         skip: u32,
-    ) -> Option<Here> {
-        here.on_if(self.number(here, left) >= self.number(here, right), skip)
+    ) -> Option<Here>
+        requires { Can here self.now (Instruction.UnlessGreaterOrEqual left.now right.now skip) }
+        ensures { Does here self.now self.now result (Instruction.UnlessGreaterOrEqual left.now right.now skip) }
+    {
+        let holds = is_at_least(self.number(here, left), self.number(here, right));
+        here.on_if(holds, skip)
     }
 
     /// UnlessTexts.
@@ -107,7 +210,10 @@ impl State {
         left: &Address,
         right: &Address,
         skip: u32,
-    ) -> Option<Here> {
+    ) -> Option<Here>
+        requires { Can here self.now (Instruction.UnlessTexts left.now right.now skip relation) }
+        ensures { Does here self.now self.now result (Instruction.UnlessTexts left.now right.now skip relation) }
+    {
         let holds = are_related(relation, self.text(here, left), self.text(here, right));
         here.on_if(holds, skip)
     }
@@ -121,12 +227,12 @@ impl State {
         owner: &Address,
         skip: u32,
         negated: bool,
-    ) -> Option<Here> {
+    ) -> Option<Here>
+        requires { Can here self.old (Instruction.UnlessEmpty set owner.now skip negated) }
+        ensures { Does here self.old self.new result (Instruction.UnlessEmpty set owner.now skip negated) }
+    {
         let owner = self.number(here, owner);
-        let answer = match self.scene.population.member_count(set as usize, owner) {
-            Ok(count) => Ok(count == 0),
-            Err(kind) => Err(kind),
-        };
+        let answer = are_none(self.scene.population.member_count(set as usize, owner));
         self.branch(here, answer, negated, skip)
     }
 
@@ -139,7 +245,10 @@ impl State {
         both: (&Address, &Address),
         skip: u32,
         negated: bool,
-    ) -> Option<Here> {
+    ) -> Option<Here>
+        requires { Can here self.old (Instruction.UnlessMember set both.0.now both.1.now skip negated) }
+        ensures { Does here self.old self.new result (Instruction.UnlessMember set both.entry.0.now both.entry.1.now skip negated) }
+    {
         let (member, owner) = (self.number(here, both.0), self.number(here, both.1));
         let answer = self.scene.population.is_in(set as usize, owner, member);
         self.branch(here, answer, negated, skip)
@@ -147,14 +256,20 @@ impl State {
 
     /// Await.
     #[inline(always)]
-    pub fn await_event(&mut self, here: Here, skip: u32) -> Option<Here> {
+    pub fn await_event(&mut self, here: Here, skip: u32) -> Option<Here>
+        requires { Can here self.old (Instruction.Await skip) }
+        ensures { Does here self.old self.new result (Instruction.Await skip) }
+    {
         let holds = self.scene.timeline.is_awaited();
         here.on_if(holds, skip)
     }
 
     /// NextEvent.
     #[inline(always)]
-    pub fn next_event(&mut self, here: Here, back: u32) -> Option<Here> {
+    pub fn next_event(&mut self, here: Here, back: u32) -> Option<Here>
+        requires { Can here self.old (Instruction.NextEvent back) }
+        ensures { Does here self.old self.new result (Instruction.NextEvent back) }
+    {
         if self.scene.timeline.is_awaited() {
             here.back(back)
         } else {

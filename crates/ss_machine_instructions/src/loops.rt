@@ -1,9 +1,15 @@
 //! FOR over numbers.
 
+ghost use Rattle.std.specs.Prelude.{◌≡◌, false, not, pos, int_lt};
+ghost use Rattle.ss_code_instructions.specs.Machine.{has_item};
+ghost use Rattle.ss_machine_instructions.specs.Doing.{Can, Does};
+ghost use Rattle.ss_machine_instructions.specs.Ways.{next_in};
+
 use crate::flow::{Ending, Here};
 use crate::state::State;
 use ss_base::FaultKind;
 use ss_code_instructions::address::Address;
+use ss_code_instructions::instruction::Instruction;
 
 // Where the limit and the step of a loop lie above its item.
 const LIMIT: usize = 1;
@@ -13,7 +19,10 @@ const STEP: usize = 2;
 // The next item of a loop, where it is within the limit. A step is at least 1, so that an item that is not below the limit has none.
 // How far it is below is then a number without a sign.
 #[inline(always)]
-fn next_item(item: i64, step: i64, limit: i64) -> Option<i64> {
+fn next_item(item: i64, step: i64, limit: i64) -> Option<i64>
+    requires { int_lt step (pos 1) ≡ false }
+    ensures { result ≡ next_in item step limit }
+{
     if item >= limit {
         return None;
     }
@@ -24,32 +33,59 @@ fn next_item(item: i64, step: i64, limit: i64) -> Option<i64> {
     Some(item.wrapping_add(step))
 }
 
+// Whether a number is an item of a loop.
+#[inline(always)]
+fn is_item(number: i64, limit: i64) -> bool
+    ensures { result ≡ has_item number limit }
+{
+    number <= limit
+}
+
+// Whether a step is at least 1.
+#[inline(always)]
+fn rises(step: i64) -> bool
+    ensures { int_lt step (pos 1) ≡ not result }
+{
+    step >= 1
+}
+
 impl State {
     /// Begin.
     #[inline(always)]
-    pub fn begin(&mut self, here: Here, cell: u32, skip: u32) -> Option<Here> {
+    pub fn begin(&mut self, here: Here, cell: u32, skip: u32) -> Option<Here>
+        requires { Can here self.old (Instruction.Begin cell skip) }
+        ensures { Does here self.old self.new result (Instruction.Begin cell skip) }
+    {
         let at = self.cell(here, cell);
-        if self.rows.number_at(at + STEP) < 1 {
+        let step = self.rows.number_at(at + STEP);
+        let limit = self.rows.number_at(at + LIMIT);
+        let item = self.rows.number_at(at);
+        if !rises(step) {
             return self.fault(FaultKind::LoopStep);
         }
-        let has_items = self.rows.number_at(at) <= self.rows.number_at(at + LIMIT);
-        here.on_if(has_items, skip)
+        here.on_if(is_item(item, limit), skip)
     }
 
     /// BeginClass.
     #[inline(always)]
-    pub fn begin_class(&mut self, here: Here, class: u32, cell: u32, skip: u32) -> Option<Here> {
+    pub fn begin_class(&mut self, here: Here, class: u32, cell: u32, skip: u32) -> Option<Here>
+        requires { Can here self.old (Instruction.BeginClass class cell skip) }
+        ensures { Does here self.old self.new result (Instruction.BeginClass class cell skip) }
+    {
         let count = self.scene.population.count(class as usize);
         let at = self.cell(here, cell);
         self.rows.set_number_at(at, 1);
         self.rows.set_number_at(at + LIMIT, count);
         self.rows.set_number_at(at + STEP, 1);
-        here.on_if(1 <= count, skip)
+        here.on_if(is_item(1, count), skip)
     }
 
     /// Turn.
     #[inline(always)]
-    pub fn turn(&mut self, here: Here) -> Option<Here> {
+    pub fn turn(&mut self, here: Here) -> Option<Here>
+        requires { Can here self.old Instruction.Turn }
+        ensures { Does here self.old self.new result Instruction.Turn }
+    {
         if !self.has_taken_tick() {
             return self.stop(Ending::Paused);
         }
@@ -58,7 +94,10 @@ impl State {
 
     /// Take.
     #[inline(always)]
-    pub fn take(&mut self, here: Here, cell: u32, to: &Address) -> Option<Here> {
+    pub fn take(&mut self, here: Here, cell: u32, to: &Address) -> Option<Here>
+        requires { Can here self.old (Instruction.Take cell to.now) }
+        ensures { Does here self.old self.new result (Instruction.Take cell to.now) }
+    {
         if !self.has_taken_tick() {
             return self.stop(Ending::Paused);
         }
@@ -69,7 +108,10 @@ impl State {
 
     /// Next.
     #[inline(always)]
-    pub fn next(&mut self, here: Here, cell: u32, back: u32) -> Option<Here> {
+    pub fn next(&mut self, here: Here, cell: u32, back: u32) -> Option<Here>
+        requires { Can here self.old (Instruction.Next cell back) }
+        ensures { Does here self.old self.new result (Instruction.Next cell back) }
+    {
         let at = self.cell(here, cell);
         let item = self.rows.number_at(at);
         let step = self.rows.number_at(at + STEP);

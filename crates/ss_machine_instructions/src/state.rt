@@ -1,5 +1,9 @@
 //! What the machine works on.
 
+ghost use Rattle.std.specs.Prelude.{◌≡◌, ◌+◌, ◌<◌, ◌^◌, ℕ, suc, true, false, length, slice_get, Some, None};
+ghost use Rattle.ss_machine_frames.specs.Rows.{place_at, with_number, with_text};
+ghost use Rattle.ss_machine_instructions.specs.Ways.{stopped, faulted, on_unless, faulted_by, branched, faulted_test, refused_by};
+
 use crate::flow::{Ending, Here};
 use ss_base::{Alpha, FaultKind, Line, Refused};
 use ss_code_instructions::address::Address;
@@ -28,51 +32,75 @@ pub struct State {
 impl State {
     /// The number at an address.
     #[inline(always)]
-    pub fn number(&self, here: Here, address: &Address) -> i64 {
+    pub fn number(&self, here: Here, address: &Address) -> i64
+        requires { place_at here.frame address.now < length self.now.rows.numbers }
+        ensures { slice_get self.now.rows.numbers (place_at here.frame address.now) ≡ Some result }
+    {
         self.rows.number(here.frame, address)
     }
 
     /// A number goes to an address.
     #[inline(always)]
-    pub fn set_number(&mut self, here: Here, address: &Address, number: i64) {
+    pub fn set_number(&mut self, here: Here, address: &Address, number: i64)
+        requires { place_at here.frame address.now < length self.old.rows.numbers }
+        ensures { self.new ≡ record self.old { rows = with_number self.old.rows (place_at here.frame address.now) number } }
+    {
         self.rows.set_number(here.frame, address, number);
     }
 
     /// The text at an address.
     #[inline(always)]
-    pub fn text(&self, here: Here, address: &Address) -> Alpha {
+    pub fn text(&self, here: Here, address: &Address) -> Alpha
+        requires { place_at here.frame address.now < length self.now.rows.numbers }
+        ensures { slice_get self.now.rows.texts (place_at here.frame address.now) ≡ Some result }
+    {
         self.rows.text(here.frame, address)
     }
 
     /// A text goes to an address.
     #[inline(always)]
-    pub fn set_text(&mut self, here: Here, address: &Address, text: Alpha) {
+    pub fn set_text(&mut self, here: Here, address: &Address, text: Alpha)
+        requires { place_at here.frame address.now < length self.old.rows.numbers }
+        ensures { self.new ≡ record self.old { rows = with_text self.old.rows (place_at here.frame address.now) text } }
+    {
         self.rows.set_text(here.frame, address, text);
     }
 
     /// The place of a cell of the frame.
     #[inline(always)]
-    pub fn cell(&self, here: Here, cell: u32) -> usize {
+    pub fn cell(&self, here: Here, cell: u32) -> usize
+        ensures { result ≡ here.frame + cell }
+    {
         here.frame as usize + cell as usize
     }
 
     /// It does not go on.
     #[inline(always)]
-    pub fn stop(&mut self, ending: Ending) -> Option<Here> {
+    pub fn stop(&mut self, ending: Ending) -> Option<Here>
+        ensures none { result ≡ None }
+        ensures stopped { self.new ≡ stopped ending self.old }
+    {
         self.ending = ending;
         None
     }
 
     /// A fault.
     #[inline(always)]
-    pub fn fault(&mut self, kind: FaultKind) -> Option<Here> {
+    pub fn fault(&mut self, kind: FaultKind) -> Option<Here>
+        ensures none { result ≡ None }
+        ensures faulted { self.new ≡ faulted kind self.old }
+    {
         self.fault = kind;
         self.stop(Ending::Faulted)
     }
 
     /// On to the next instruction, unless there was a fault.
     #[inline(always)]
-    pub fn done(&mut self, here: Here, answer: Result<(), FaultKind>) -> Option<Here> {
+    pub fn done(&mut self, here: Here, answer: Result<(), FaultKind>) -> Option<Here>
+        requires { here.place + 1 < 2 ^ 64 }
+        ensures way { result ≡ on_unless here answer }
+        ensures state { self.new ≡ faulted_by answer self.old }
+    {
         match answer {
             Ok(()) => here.on(),
             Err(kind) => self.fault(kind),
@@ -81,7 +109,10 @@ impl State {
 
     /// Where memory was refused, or there was a fault.
     #[inline(always)]
-    pub fn refused(&mut self, refused: Refused) -> Option<Here> {
+    pub fn refused(&mut self, refused: Refused) -> Option<Here>
+        ensures none { result ≡ None }
+        ensures state { self.new ≡ refused_by refused self.old }
+    {
         match refused {
             Refused::Fault(kind) => self.fault(kind),
             Refused::Memory => self.stop(Ending::NoMemory),
@@ -96,7 +127,11 @@ impl State {
         answer: Result<bool, FaultKind>,
         negated: bool,
         skip: u32,
-    ) -> Option<Here> {
+    ) -> Option<Here>
+        requires { here.place + 1 + skip < 2 ^ 64 }
+        ensures way { result ≡ branched here answer negated skip }
+        ensures state { self.new ≡ faulted_test answer self.old }
+    {
         match answer {
             Ok(holds) => here.on_if(holds != negated, skip),
             Err(kind) => self.fault(kind),
@@ -105,7 +140,10 @@ impl State {
 
     /// A tick is taken, and it goes on; where none is left, it does not.
     #[inline(always)]
-    pub fn has_taken_tick(&mut self) -> bool {
+    pub fn has_taken_tick(&mut self) -> bool
+        ensures none { result ≡ false → (self.old.ticks ≡ 0) × (self.new ≡ self.old) }
+        ensures taken { result ≡ true → (t : ℕ) × (self.old.ticks ≡ suc t) × (self.new ≡ record self.old { ticks = t }) }
+    {
         if self.ticks == 0 {
             return false;
         }
@@ -115,7 +153,11 @@ impl State {
 
     /// The instruction that took a tick is not carried out: memory was refused.
     #[inline(always)]
-    pub fn give_tick_back(&mut self) -> Option<Here> {
+    pub fn give_tick_back(&mut self) -> Option<Here>
+        requires { self.old.ticks + 1 < 2 ^ 64 }
+        ensures none { result ≡ None }
+        ensures state { self.new ≡ record self.old { ticks = self.old.ticks + 1; ending = Ending.NoMemory } }
+    {
         self.ticks += 1;
         self.stop(Ending::NoMemory)
     }

@@ -1,0 +1,140 @@
+-- Items of lists that are cut, joined, turned and written to.
+use Rattle.std.proofs.Common.{◌≡◌, ◌≢◌, ◌⊎◌, inl, inr, ℕ, zero, suc, ◌+◌, ◌-◌, ◌<◌, ◌≤◌, List, [], ◌∷◌, ◌++◌, length, take, drop, get_or, Some, refl, sym, ap, ◌∙◌, arith}
+use Rattle.std.specs.Prelude.{slice_get, slice_set, reverse}
+use Rattle.std.proofs.lemmas.Option.{slice_get-get_or}
+use Rattle.std.proofs.lemmas.List.{length-take-le, length-reverse, length-drop, get_or-reverse}
+use Rattle.ss_machine_frames.specs.Rows.{Turned, MovedDown, TurnedDown}
+
+pub set_same : {A : Type 0} (xs : List A) (i : ℕ) (v : A) → i < length xs → slice_get (slice_set xs i v) i ≡ Some v
+set_same [] i v h = absurd (omega (arith, h))
+set_same (x ∷ xs) zero v h = refl
+set_same (x ∷ xs) (suc i) v h = set_same xs i v (omega (arith, h))
+
+pub set_other : {A : Type 0} (xs : List A) (i j : ℕ) (v : A) → j ≢ i → slice_get (slice_set xs i v) j ≡ slice_get xs j
+set_other [] i j v h = refl
+set_other (x ∷ xs) zero zero v h = absurd (h refl)
+set_other (x ∷ xs) zero (suc j) v h = refl
+set_other (x ∷ xs) (suc i) zero v h = refl
+set_other (x ∷ xs) (suc i) (suc j) v h = set_other xs i j v (λ e. h (ap suc e))
+
+pub set_length : {A : Type 0} (xs : List A) (i : ℕ) (v : A) → length (slice_set xs i v) ≡ length xs
+set_length [] i v = refl
+set_length (x ∷ xs) zero v = refl
+set_length (x ∷ xs) (suc i) v = ap suc (set_length xs i v)
+
+below_or : (i n : ℕ) → i < n + 1 → (i < n) ⊎ (i ≡ n)
+below_or zero zero h = inr refl
+below_or zero (suc n) h = inl (omega arith)
+below_or (suc i) zero h = absurd (omega (arith, h))
+below_or (suc i) (suc n) h = more (below_or i n (omega (arith, h)))
+  where
+    more : (i < n) ⊎ (i ≡ n) → (suc i < suc n) ⊎ (suc i ≡ suc n)
+    more (inl l) = inl (omega (arith, l))
+    more (inr e) = inr (ap suc e)
+
+-- ## Parts of lists
+
+get_left : {A : Type 0} (xs ys : List A) (j : ℕ) → j < length xs → slice_get (xs ++ ys) j ≡ slice_get xs j
+get_left [] ys j h = absurd (omega (arith, h))
+get_left (x ∷ xs) ys zero h = refl
+get_left (x ∷ xs) ys (suc j) h = get_left xs ys j (omega (arith, h))
+
+get_right : {A : Type 0} (xs ys : List A) (n i : ℕ) → n ≡ length xs + i → slice_get (xs ++ ys) n ≡ slice_get ys i
+get_right [] ys n i e = let q : n ≡ i = omega (arith, e) in ap (slice_get ys) q
+get_right (x ∷ xs) ys zero i e = absurd (omega (arith, e))
+get_right (x ∷ xs) ys (suc n) i e = get_right xs ys n i (omega (arith, e))
+
+get_take : {A : Type 0} (xs : List A) (n j : ℕ) → j < n → slice_get (take n xs) j ≡ slice_get xs j
+get_take xs zero j h = absurd (omega (arith, h))
+get_take [] (suc n) j h = refl
+get_take (x ∷ xs) (suc n) zero h = refl
+get_take (x ∷ xs) (suc n) (suc j) h = get_take xs n j (omega (arith, h))
+
+get_drop : {A : Type 0} (xs : List A) (n j k : ℕ) → k ≡ n + j → slice_get (drop n xs) j ≡ slice_get xs k
+get_drop [] zero j k e = refl
+get_drop [] (suc n) j k e = refl
+get_drop (x ∷ xs) zero j k e = let q : j ≡ k = omega (arith, e) in ap (slice_get (x ∷ xs)) q
+get_drop (x ∷ xs) (suc n) j zero e = absurd (omega (arith, e))
+get_drop (x ∷ xs) (suc n) j (suc k) e = get_drop xs n j k (omega (arith, e))
+
+get_reverse : {A : Type 0} (xs : List A) (k i : ℕ) → k + i + 1 ≡ length xs → slice_get (reverse xs) i ≡ slice_get xs k
+get_reverse [] k i e = absurd (omega (arith, e))
+get_reverse (d ∷ xs) k i e =
+    let q : length (d ∷ xs) - 1 - i ≡ k = omega (arith, e) in
+    slice_get-get_or (reverse (d ∷ xs)) i d (omega (arith, e, length-reverse (d ∷ xs)))
+    ∙ ap Some (get_or-reverse (d ∷ xs) i d (omega (arith, e)) ∙ ap (λ j. get_or (d ∷ xs) j d) q)
+    ∙ sym (slice_get-get_or (d ∷ xs) k d (omega (arith, e)))
+
+-- ## Items that change their order and go down
+
+-- a part is turned where it lies
+pub turned_part : {A : Type 0} (xs new part : List A) (from count : ℕ) → from + count ≤ length xs → length new ≡ length xs → part ≡ reverse (take count (drop from xs)) → new ≡ take from xs ++ (part ++ drop count (drop from xs)) → Turned xs new from count
+turned_part xs new part from count le long p e = record {
+  long = long;
+  moved = λ k i s.
+    ap (λ l. slice_get l (from + i)) e
+    ∙ get_right (take from xs) (part ++ drop count (drop from xs)) (from + i) i (omega (arith, first))
+    ∙ get_left part (drop count (drop from xs)) i (omega (arith, s, part_long))
+    ∙ ap (λ l. slice_get l i) p
+    ∙ get_reverse (take count (drop from xs)) k i (omega (arith, s, middle))
+    ∙ get_take (drop from xs) count k (omega (arith, s))
+    ∙ get_drop xs from k (from + k) refl;
+  below = λ j lt.
+    ap (λ l. slice_get l j) e
+    ∙ get_left (take from xs) (part ++ drop count (drop from xs)) j (omega (arith, lt, first))
+    ∙ get_take xs from j lt;
+}
+  where
+    first : length (take from xs) ≡ from
+    first = length-take-le from xs (omega (arith, le))
+
+    middle : length (take count (drop from xs)) ≡ count
+    middle = length-take-le count (drop from xs) (omega (arith, le, length-drop from xs))
+
+    part_long : length part ≡ count
+    part_long = ap length p ∙ length-reverse (take count (drop from xs)) ∙ middle
+
+-- so many of the items have gone down, and those that are still to go lie where they lay
+pub record GoingDown {A : Type 0} (old new : List A) (from to done : ℕ) : Type 0 where
+  pub long : length new ≡ length old
+  pub moved : (i : ℕ) → i < done → slice_get new (to + i) ≡ slice_get old (from + i)
+  pub below : (j : ℕ) → j < to → slice_get new j ≡ slice_get old j
+  pub ahead : (j : ℕ) → to + done ≤ j → slice_get new j ≡ slice_get old j
+
+pub going_none : {A : Type 0} (xs : List A) (from to : ℕ) → GoingDown xs xs from to 0
+going_none xs from to = record {
+  long = refl;
+  moved = λ i lt. absurd (omega (arith, lt));
+  below = λ j lt. refl;
+  ahead = λ j le. refl;
+}
+
+pub going_more : {A : Type 0} (old xs new : List A) (from to done : ℕ) (x : A) → to ≤ from → from + done < length old → GoingDown old xs from to done → slice_get xs (from + done) ≡ Some x → new ≡ slice_set xs (to + done) x → GoingDown old new from to (done + 1)
+going_more old xs new from to done x down lt g read e = record {
+  long = ap length e ∙ set_length xs (to + done) x ∙ g.long;
+  moved = λ i s. by i s (i_or i s);
+  below = λ j s. ap (λ l. slice_get l j) e ∙ set_other xs (to + done) j x (λ q. omega (arith, q, s)) ∙ g.below j s;
+  ahead = λ j s. ap (λ l. slice_get l j) e ∙ set_other xs (to + done) j x (λ q. omega (arith, q, s)) ∙ g.ahead j (omega (arith, s));
+}
+  where
+    i_or : (i : ℕ) → i < done + 1 → (i < done) ⊎ (i ≡ done)
+    i_or i s = below_or i done s
+
+    by : (i : ℕ) → i < done + 1 → (i < done) ⊎ (i ≡ done) → slice_get new (to + i) ≡ slice_get old (from + i)
+    by i s (inl h) = ap (λ l. slice_get l (to + i)) e ∙ set_other xs (to + done) (to + i) x (λ q. omega (arith, q, h)) ∙ g.moved i h
+    by i s (inr q) =
+        ap (λ j. slice_get new (to + j)) q
+        ∙ ap (λ l. slice_get l (to + done)) e
+        ∙ set_same xs (to + done) x (omega (arith, down, lt, g.long))
+        ∙ sym read ∙ g.ahead (from + done) (omega (arith, down)) ∙ sym (ap (λ j. slice_get old (from + j)) q)
+
+pub gone_down : {A : Type 0} (old new : List A) (from to count : ℕ) → GoingDown old new from to count → MovedDown old new from to count
+gone_down old new from to count g = record { long = g.long; moved = g.moved; below = g.below }
+
+-- turned, and then moved
+pub turned_down : {A : Type 0} (old mid new : List A) (from to count : ℕ) → to ≤ from → Turned old mid from count → MovedDown mid new from to count → TurnedDown old new from to count
+turned_down old mid new from to count down t m = record {
+  long = m.long ∙ t.long;
+  moved = λ k i s. m.moved i (omega (arith, s)) ∙ t.moved k i s;
+  below = λ j s. m.below j s ∙ t.below j (omega (arith, s, down));
+}

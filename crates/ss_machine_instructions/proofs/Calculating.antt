@@ -1,0 +1,94 @@
+-- Moves and calculations: the operands are read, and the answer is to go to the target.
+use Rattle.std.proofs.Common.{◌≡◌, ◌+◌, ◌<◌, length, Some, Ok, sym, ap, ◌∙◌, subst}
+use Rattle.std.specs.Prelude.{ℤ, slice_get, Result as OkOr}
+use Rattle.ss_base.specs.declared.fault.FaultKind.{FaultKind}
+use Rattle.ss_base.specs.declared.layout.Mode.{Mode}
+use Rattle.ss_base.specs.declared.layout.Mode.TheVariants.{Integer}
+use Rattle.ss_base.specs.declared.value.Value.{Value}
+use Rattle.ss_base.specs.declared.value.Value.TheVariants.{Whole}
+use Rattle.ss_base.specs.Layout.{mode_of}
+use Rattle.ss_program.specs.declared.expression.Operator.{Operator}
+use Rattle.ss_meaning.specs.Values.{turned, due, computed, calculated, distance, absolute}
+use Rattle.ss_code_instructions.specs.declared.address.Address.{Address}
+use Rattle.ss_code_instructions.specs.declared.instruction.Instruction.{Instruction as Running}
+use Rattle.ss_code_instructions.specs.Instructions as i
+use Rattle.ss_code_instructions.specs.Instructions.{Instruction}
+use Rattle.ss_code_instructions.specs.States.{Core, deliver}
+use Rattle.ss_code_instructions.specs.Machine.{act}
+use Rattle.ss_code_instructions.specs.Shape.{Suits}
+use Rattle.ss_code_instructions.specs.Carried.{Moves, Calculates, From, To, Is}
+use Rattle.ss_machine_frames.specs.Rows.{place_at}
+use Rattle.ss_machine_frames.proofs.Reading.{Only, only_number, reads, read_within, reads_both, BothWithin, both_within}
+use Rattle.ss_machine_instructions.specs.declared.flow.Here.{Here}
+use Rattle.ss_machine_instructions.specs.declared.state.State.{State}
+use Rattle.ss_machine_instructions.specs.Doing.{Compiled, Ready, Delivers, as_value}
+use Rattle.ss_machine_instructions.proofs.Placing.{site, stands, suits, deep_at, deep_here, gives_mode}
+use Rattle.ss_machine_instructions.proofs.Delivering.{delivers, deliver_is, number_right}
+
+module _ (w : Compiled) (c : Core) (here : Here) (s : State) (run : Running) (r : Ready w c here s run) where
+  abbrev SuitsHere : Instruction → Type 0
+  SuitsHere x = Suits w.program w.code c.place r.placed.locals r.placed.cells x
+
+  -- ## Two numbers into one
+
+  pub calculates_in : (op : Operator) (left right to : Address) → Calculates w.code w.run.constants r.placed op left right to → BothWithin (site w c here s run r) (stands w c here s run r) left right
+  calculates_in op left right to z =
+      let y = subst SuitsHere z.2.2.2 (suits w c here s run r) in
+      both_within (site w c here s run r) (stands w c here s run r) z.0 z.2.0 Integer Integer r.placed.cells y.0 left right y.1 z.1 z.2.1 (deep_here w c here s run r)
+
+  pub calculates : (op : Operator) (left right to : Address) (u v : ℤ) (answer : OkOr ℤ FaultKind) → Calculates w.code w.run.constants r.placed op left right to → slice_get s.rows.numbers (place_at here.frame left) ≡ Some u → slice_get s.rows.numbers (place_at here.frame right) ≡ Some v → computed op u v ≡ answer → Delivers w c r.placed.line (act w.code r.placed.line r.placed.instruction c) here s to (as_value answer)
+  calculates op left right to u v answer z at_left at_right e =
+      let t = site w c here s run r in
+      let st = stands w c here s run r in
+      let is = z.2.2.2 in
+      let y = subst SuitsHere is (suits w c here s run r) in
+      let both = reads_both t st z.0 z.2.0 Integer Integer r.placed.cells y.0 left right c.cells (Whole u) (Whole v) y.1 z.1 z.2.1 r.holds.held.cells r.fits.cells (only_number s.rows (place_at here.frame left) u at_left) (only_number s.rows (place_at here.frame right) v at_right) in
+      let target = z.2.2.0 in
+      delivers w c here s run r (as_value answer) to target Integer y.0 y.2.0 both.below
+      (ap (λ x. act w.code r.placed.line x c) is
+      ∙ both.is (λ x y below. deliver r.placed.line target (calculated op x y) below c)
+      ∙ ap (λ a. deliver r.placed.line target (turned Whole (due a)) both.below c) e
+      ∙ deliver_is r.placed.line target answer both.below c)
+      y.2.1 z.2.2.1 (deep_at w c here s run r (c.place + 1) r.placed.locals y.2.0 y.2.2) (number_right answer) both.modes both.cells
+
+  -- ## One number into one
+
+  pub absolute_in : (of to : Address) → From w.code w.run.constants r.placed of (λ y. To w.code w.run.constants r.placed to (λ t. Is w.code w.run.constants r.placed (i.Absolute y t))) → place_at here.frame of < length s.rows.numbers
+  absolute_in of to z =
+      let y = subst SuitsHere z.2.2 (suits w c here s run r) in
+      read_within (site w c here s run r) (stands w c here s run r) z.0 Integer r.placed.cells y.0 of y.1 z.1 (deep_here w c here s run r)
+
+  pub absolutes : (of to : Address) (u : ℤ) (answer : OkOr ℤ FaultKind) → From w.code w.run.constants r.placed of (λ y. To w.code w.run.constants r.placed to (λ t. Is w.code w.run.constants r.placed (i.Absolute y t))) → slice_get s.rows.numbers (place_at here.frame of) ≡ Some u → distance u ≡ answer → Delivers w c r.placed.line (act w.code r.placed.line r.placed.instruction c) here s to (as_value answer)
+  absolutes of to u answer z at e =
+      let t = site w c here s run r in
+      let st = stands w c here s run r in
+      let is = z.2.2 in
+      let y = subst SuitsHere is (suits w c here s run r) in
+      let one = reads t st z.0 Integer r.placed.cells y.0 of c.cells (Whole u) y.1 z.1 r.holds.held.cells r.fits.cells (only_number s.rows (place_at here.frame of) u at) in
+      let target = z.2.0 in
+      delivers w c here s run r (as_value answer) to target Integer y.0 y.2.0 one.below
+      (ap (λ x. act w.code r.placed.line x c) is
+      ∙ one.is (λ x below. deliver r.placed.line target (absolute x) below c)
+      ∙ ap (λ a. deliver r.placed.line target (turned Whole (due a)) one.below c) e
+      ∙ deliver_is r.placed.line target answer one.below c)
+      y.2.1 z.2.1 (deep_at w c here s run r (c.place + 1) r.placed.locals y.2.0 y.2.2) (number_right answer) one.modes one.cells
+
+  -- ## A value that is moved
+
+  pub moves_in : (mode : Mode) (from to : Address) → Moves w.code w.run.constants r.placed mode from to → place_at here.frame from < length s.rows.numbers
+  moves_in mode from to z =
+      let y = subst SuitsHere z.2.1.2 (suits w c here s run r) in
+      read_within (site w c here s run r) (stands w c here s run r) z.0 y.0 r.placed.cells y.1.0 from y.1.1 z.1 (deep_here w c here s run r)
+
+  pub moves : (mode : Mode) (from to : Address) (v : Value) → Moves w.code w.run.constants r.placed mode from to → mode_of v ≡ mode → Only s.rows (place_at here.frame from) mode v → Delivers w c r.placed.line (act w.code r.placed.line r.placed.instruction c) here s to (Ok v)
+  moves mode from to v z right only =
+      let t = site w c here s run r in
+      let st = stands w c here s run r in
+      let is = z.2.1.2 in
+      let y = subst SuitsHere is (suits w c here s run r) in
+      let same : y.0 ≡ mode = gives_mode w c here s run r z.0 y.0 mode y.1.0 y.1.1 z.2.0 in
+      let one = reads t st z.0 y.0 r.placed.cells y.1.0 from c.cells v y.1.1 z.1 r.holds.held.cells r.fits.cells (subst (λ n. Only s.rows (place_at here.frame from) n v) (sym same) only) in
+      let target = z.2.1.0 in
+      delivers w c here s run r (Ok v) to target y.0 y.1.0 y.1.2.0 one.below
+      (ap (λ x. act w.code r.placed.line x c) is ∙ one.is (λ v below. deliver r.placed.line target (Ok v) below c))
+      y.1.2.1 z.2.1.1 (deep_at w c here s run r (c.place + 1) r.placed.locals y.1.2.0 y.1.2.2) (right ∙ sym same) one.modes one.cells

@@ -1,0 +1,25 @@
+use Rattle.std.proofs.Common.{rules, ◌≡◌, ◌∷◌, arith}
+use Rattle.ss_code_instructions.specs.declared.instruction.Instruction.TheVariants.{Leave as Runs}
+use Rattle.ss_machine_instructions.proofs.Calling.{leaves_end, leaves, yields_within, leaves_with, leaves_without}
+use Rattle.ss_machine_instructions.proofs.calls.State.leave.Goals as goal
+
+pub returns-in-None : goal.returns-in-None
+returns-in-None c = λ w core r.
+    leaves_end w core c.args.here c.args.self.now Runs r c.stop.new.self c.stop.result r.runs.carries (search rules) (search rules) c.stop.ensures.none
+
+pub yield_values-requires : goal.yield_values-requires
+yield_values-requires c =
+    let z = c.requires in
+    let e : c.args.self.now.frames ≡ c.in-Some.frame ∷ c.pop.new.self = search rules in
+    let v = leaves z.0 z.1 c.args.here c.args.self.now Runs z.2 c.in-Some.frame c.pop.new.self z.2.runs.carries e in
+    yields_within z.0 z.1 c.args.here c.args.self.now Runs z.2 c.in-Some.frame c.pop.new.self v
+
+pub returns-in-Some-then : goal.returns-in-Some-then
+returns-in-Some-then c = λ w core r.
+    let e : c.args.self.now.frames ≡ c.in-Some.frame ∷ c.pop.new.self = search rules in
+    leaves_with w core c.args.here c.args.self.now Runs r c.in-Some.frame c.pop.new.self c.yield_values.new.self.rows c.yield_values.new.self c.to.result r.runs.carries e c.yield_values.ensures.rows (search rules) c.to.ensures
+
+pub returns-in-Some : goal.returns-in-Some
+returns-in-Some c = λ w core r.
+    let e : c.args.self.now.frames ≡ c.in-Some.frame ∷ c.pop.new.self = search rules in
+    leaves_without w core c.args.here c.args.self.now Runs r c.in-Some.frame c.pop.new.self _ c.to.result r.runs.carries e (omega arith) (search rules) c.to.ensures

@@ -1,0 +1,27 @@
+use Rattle.std.proofs.Common.{rules, subst}
+use Rattle.ss_code_instructions.specs.declared.instruction.Instruction.TheVariants.{UnlessMember as Runs}
+use Rattle.ss_code_instructions.specs.Shape.{Suits}
+use Rattle.ss_machine_instructions.proofs.Placing.{suits}
+use Rattle.ss_machine_instructions.proofs.Comparing.{jump_small}
+use Rattle.ss_machine_instructions.proofs.Asking.{set_within, members_in, members}
+use Rattle.ss_machine_instructions.proofs.jumps.State.unless_member.Goals as goal
+
+pub number-requires : goal.number-requires
+number-requires c = let z = c.requires in (members_in z.0 z.1 c.args.here c.args.self.now (Runs c.args.set c.args.both.0.now c.args.both.1.now c.args.skip c.args.negated) z.2 c.args.set c.args.skip c.args.negated c.args.both.0.now c.args.both.1.now z.2.runs.carries).0
+
+pub number-2-requires : goal.number-2-requires
+number-2-requires c = let z = c.requires in (members_in z.0 z.1 c.args.here c.args.self.now (Runs c.args.set c.args.both.0.now c.args.both.1.now c.args.skip c.args.negated) z.2 c.args.set c.args.skip c.args.negated c.args.both.0.now c.args.both.1.now z.2.runs.carries).1
+
+pub is_in-answer-requires : goal.is_in-answer-requires
+is_in-answer-requires c =
+    let z = c.requires in
+    let y = subst (Suits z.0.program z.0.code z.1.place z.2.placed.locals z.2.placed.cells) z.2.runs.carries.2.2 (suits z.0 z.1 c.args.here c.args.self.now (Runs c.args.set c.args.both.0.now c.args.both.1.now c.args.skip c.args.negated) z.2) in
+    let lt = set_within z.0 z.1 c.args.here c.args.self.now (Runs c.args.set c.args.both.0.now c.args.both.1.now c.args.skip c.args.negated) z.2 c.args.set z.2.runs.carries.2.0 y.0 in
+    search rules
+
+pub branch-requires : goal.branch-requires
+branch-requires c = let z = c.requires in jump_small z.0 z.1 c.args.here c.args.self.now (Runs c.args.set c.args.both.0.now c.args.both.1.now c.args.skip c.args.negated) z.2 c.args.skip c.type_inv.skip
+
+pub returns : goal.returns
+returns c = λ w core r.
+    members w core c.args.here c.args.self.now (Runs c.args.set c.args.both.0.now c.args.both.1.now c.args.skip c.args.negated) r c.args.set c.args.skip c.args.negated c.args.both.0.now c.args.both.1.now c.number.result c.number-2.result c.branch.new.self c.branch.result r.runs.carries c.number.ensures c.number-2.ensures (search rules) (search rules)

@@ -1,0 +1,22 @@
+use Rattle.std.proofs.Common.{rules, ◌≡◌, ap}
+use Rattle.ss_code_instructions.specs.declared.instruction.Instruction.TheVariants.{Absolute as Runs}
+use Rattle.ss_code_instructions.specs.Machine.{is_due}
+use Rattle.ss_meaning.specs.Values.{distance}
+use Rattle.ss_machine_instructions.proofs.Placing.{calm}
+use Rattle.ss_machine_instructions.proofs.Calculating.{absolute_in, absolutes}
+use Rattle.ss_machine_instructions.proofs.numbers.State.absolute.Goals as goal
+
+pub number-requires : goal.number-requires
+number-requires c = let z = c.requires in absolute_in z.0 z.1 c.args.here c.args.self.now (Runs c.args.of.now c.args.to.now) z.2 c.args.of.now c.args.to.now z.2.runs.carries
+
+pub put-requires : goal.put-requires
+put-requires c =
+    let z = c.requires in
+    let e : distance c.number.result ≡ c.distance-answer.result = search rules in
+    (z.0, z.1, z.2.placed.line, _, absolutes z.0 z.1 c.args.here c.args.self.now (Runs c.args.of.now c.args.to.now) z.2 c.args.of.now c.args.to.now c.number.result c.distance-answer.result z.2.runs.carries c.number.ensures e)
+
+pub returns : goal.returns
+returns c = λ w core r.
+    let e : distance c.number.result ≡ c.distance-answer.result = search rules in
+    let d = absolutes w core c.args.here c.args.self.now (Runs c.args.of.now c.args.to.now) r c.args.of.now c.args.to.now c.number.result c.distance-answer.result r.runs.carries c.number.ensures e in
+    calm w core c.args.here c.args.self.now (Runs c.args.of.now c.args.to.now) r c.put.new.self c.put.result (ap is_due r.runs.carries.2.2) (c.put.ensures w core r.placed.line _ d)

@@ -1,0 +1,25 @@
+use Rattle.std.proofs.Common.{refl, ap}
+use Rattle.ss_base.specs.declared.layout.Mode.TheVariants.{Integer}
+use Rattle.ss_base.specs.declared.value.Value.TheVariants.{Whole}
+use Rattle.ss_code_instructions.specs.declared.instruction.Instruction.TheVariants.{Move as Runs}
+use Rattle.ss_code_instructions.specs.Machine.{is_due}
+use Rattle.ss_machine_frames.specs.Rows.{place_at}
+use Rattle.ss_machine_frames.proofs.Reading.{only_number}
+use Rattle.ss_machine_instructions.proofs.Placing.{calm}
+use Rattle.ss_machine_instructions.proofs.Calculating.{moves_in, moves}
+use Rattle.ss_machine_instructions.proofs.numbers.State.move_number.Goals as goal
+
+pub number-number-requires : goal.number-number-requires
+number-number-requires c = let z = c.requires in moves_in z.0 z.1 c.args.here c.args.self.now (Runs c.args.from.now c.args.to.now) z.2 Integer c.args.from.now c.args.to.now z.2.runs.carries
+
+pub put-requires : goal.put-requires
+put-requires c =
+    let z = c.requires in
+    let only = only_number c.args.self.now.rows (place_at c.args.here.frame c.args.from.now) c.number-number.result c.number-number.ensures in
+    (z.0, z.1, z.2.placed.line, _, moves z.0 z.1 c.args.here c.args.self.now (Runs c.args.from.now c.args.to.now) z.2 Integer c.args.from.now c.args.to.now (Whole c.number-number.result) z.2.runs.carries refl only)
+
+pub returns : goal.returns
+returns c = λ w core r.
+    let only = only_number c.args.self.now.rows (place_at c.args.here.frame c.args.from.now) c.number-number.result c.number-number.ensures in
+    let d = moves w core c.args.here c.args.self.now (Runs c.args.from.now c.args.to.now) r Integer c.args.from.now c.args.to.now (Whole c.number-number.result) r.runs.carries refl only in
+    calm w core c.args.here c.args.self.now (Runs c.args.from.now c.args.to.now) r c.put.new.self c.put.result (ap is_due r.runs.carries.2.1.2) (c.put.ensures w core r.placed.line _ d)

@@ -1,0 +1,3 @@
+pub mod Doing
+pub mod Ways
+pub mod Entered
