@@ -49,6 +49,7 @@ needs_look (Some e) o = true
 
 -- ## When a reference need not be looked at
 
+-- whether two variables are one
 abbrev pub same_variable : Variable → Variable → Bool
 same_variable (Global k) (Global j) = k == j
 same_variable (Global k) (Local j) = false
@@ -60,6 +61,7 @@ abbrev pub is_fetch_of : Variable → Expression → Bool
 is_fetch_of x (Fetch y) = same_variable x y
 is_fetch_of x _ = false
 
+-- an expression is a constant
 abbrev pub is_constant : Expression → Bool
 is_constant (Constant v) = true
 is_constant _ = false
