@@ -1,5 +1,5 @@
 -- Small programs with their code, worked out by hand from the language's rules and the table of instructions.
-use Rattle.std.specs.Prelude.{◌≡◌, ℕ, List, [], ◌∷◌, map, length, ℤ, pos, codes, Some, None, false, refl}
+use Rattle.std.specs.Prelude.{◌≡◌, ℕ, List, [], ◌∷◌, map, length, ℤ, pos, codes, Some, None, true, false, refl}
 use Rattle.ss_base.specs.declared.value.Value.TheVariants.{Whole}
 use Rattle.ss_base.specs.declared.layout.Mode.TheVariants.{Integer}
 use Rattle.ss_program.specs.declared.expression.Variable.TheVariants.{Global, Local}
@@ -7,14 +7,16 @@ use Rattle.ss_program.specs.declared.expression.Sign.TheVariants.{Plus}
 use Rattle.ss_program.specs.declared.expression.Operator.TheVariants as operators
 use Rattle.ss_program.specs.declared.condition.Relation.TheVariants.{Less}
 use Rattle.ss_program.specs.declared.head.GuardKind.TheVariants as guards
+use Rattle.ss_program.specs.declared.head.PhraseKind.TheVariants as kinds
 use Rattle.ss_program.specs.declared.sections.Subject.TheVariants.{OfVariable, OfCount}
 use Rattle.ss_program.specs.declared.sections.Weighting.TheVariants.{Tally}
 use Rattle.ss_program.specs.declared.statement.End.TheVariants as ends
-use Rattle.ss_program.specs.Program.{Constant, Attribute, Calculate, Compare, Numbers, Members, AtEnd, Entity, ToVariable, ToAttribute, ByDiscipline, At, Let, Change, Call, If, Loop, For, File, RemoveEnd, ScheduleNew, Simulate, Read, Program}
-use Rattle.ss_meaning.specs.Building.{line, num, global, local, to_local, block, only, print_line, program_of_main, workshop, job, queue, bell}
+use Rattle.ss_program.specs.Program.{Constant, Attribute, Calculate, Compare, Numbers, Members, AtEnd, From, TheSystem, Entity, ToVariable, ToAttribute, ToCount, ByDiscipline, At, Let, Change, Call, Return, Stop, If, Loop, For, Find, File, RemoveEnd, ScheduleNew, Simulate, Read, Program}
+use Rattle.ss_meaning.specs.Building.{line, num, global, local, to_local, block, only, print_line, program_of_main, workshop, machine, machines, job, queue, pool, bell}
 use Rattle.ss_code_instructions.specs.Instructions.{Instruction, Placed, Held, Taken, Stays, Into, Onto, Last}
 use Rattle.ss_code_instructions.specs.Instructions as i
 use Rattle.ss_code_instructions.specs.Translation.{code_of}
+use Rattle.ss_code_instructions.specs.Size.{code_size}
 
 abbrev instruction_of : Placed → Instruction
 instruction_of x = x.instruction
@@ -84,6 +86,30 @@ pub code_of_a_walk : instructions a_walk ≡
     ∷ i.Leave ∷ []
 code_of_a_walk = refl
 
+-- FOR EACH JOB IN POOL FROM JOB IN REVERSE ORDER UNLESS RANK LT 5, FIND THE FIRST CASE, IF FOUND RETURN ELSE STOP: each side finds no cells of the loop
+abbrev a_case : Program
+a_case = workshop 0 (Find (line 3) (Members (Global job) pool TheSystem (From (global job)) true)
+    (record { kind = kinds.Unless; condition = only (Compare Less (Attribute job 0 (global job)) (num (pos 5))) } ∷ [])
+    (block (Return ∷ [])) (block (Stop ∷ [])) ∷ [])
+
+pub code_of_a_case : instructions a_case ≡
+    i.LookOwner pool None ∷ i.Move (Held (Global job)) (Onto 0) ∷ i.BeginAt true false pool None 0 6
+    ∷ i.Take 0 (Global job)
+    ∷ i.Attribute job 0 (Held (Global job)) (Onto 2) ∷ i.Unless Less (Taken 2) (number (pos 5)) 1 ∷ i.Jump 1
+    ∷ i.Jump 4
+    ∷ i.NextMember true pool None 0 5 ∷ i.Forget 2
+    ∷ i.Halt ∷ i.Jump 2
+    ∷ i.Forget 2 ∷ i.Leave
+    ∷ i.Leave
+    ∷ i.Leave ∷ []
+code_of_a_case = refl
+
+pub heights_of_a_case : heights a_case ≡ 0 ∷ 0 ∷ 1 ∷ 2 ∷ 2 ∷ 3 ∷ 2 ∷ 2 ∷ 2 ∷ 2 ∷ 0 ∷ 0 ∷ 2 ∷ 0 ∷ 0 ∷ 0 ∷ []
+heights_of_a_case = refl
+
+pub size_of_a_case : code_size a_case ≡ 16
+size_of_a_case = refl
+
 -- LET RANK = RANK + 1: the value begins with a look at the entity
 abbrev a_raise : Program
 a_raise = workshop 0 (Let (line 3) (ToAttribute job 0 (global job)) (Calculate operators.Add (Attribute job 0 (global job)) (num (pos 1))) ∷ [])
@@ -130,6 +156,26 @@ pub code_of_an_event : instructions an_event ≡
     ∷ i.Leave ∷ []
 code_of_an_event = refl
 
+-- SCHEDULE A BELL CALLED TONE(TONE) AT 5 and ADD 1 TO N.MACHINE: the reference in a cell stays below the time, and is forgotten at last
+abbrev a_name : Program
+a_name = workshop 0 (ScheduleNew (line 3) bell (ToAttribute bell 0 (Attribute bell 0 (global bell))) [] (At (num (pos 5)))
+    ∷ Change (line 4) Plus (ToCount machines) (num (pos 1)) ∷ [])
+
+pub code_of_a_name : instructions a_name ≡
+    i.Attribute bell 0 (Held (Global bell)) (Onto 0) ∷ i.LookEntity bell (Stays 0)
+    ∷ i.At (number (pos 5)) (Onto 1) ∷ i.MakeNotice bell 1 0 (Onto 2)
+    ∷ i.SetAttribute bell 0 (Stays 0) (Stays 2) ∷ i.FileNotice bell (Taken 2) (Taken 1) ∷ i.Forget 1
+    ∷ i.Calculate operators.Add (Held (Global 4)) (number (pos 1)) (Onto 0) ∷ i.LookCount machine ∷ i.Move (Taken 0) (Into (Global 4))
+    ∷ i.Leave
+    ∷ i.Leave ∷ []
+code_of_a_name = refl
+
+pub heights_of_a_name : heights a_name ≡ 0 ∷ 1 ∷ 1 ∷ 2 ∷ 3 ∷ 3 ∷ 1 ∷ 0 ∷ 1 ∷ 1 ∷ 0 ∷ 0 ∷ []
+heights_of_a_name = refl
+
+pub size_of_a_name : code_size a_name ≡ 12
+size_of_a_name = refl
+
 -- A statistic watches X, and one how many are in QUEUE. READ X, FOR X = 1 TO 3, FILE JOB IN QUEUE(Y), REMOVE THE FIRST X FROM QUEUE(RANK), SCHEDULE A BELL
 -- CALLED X AT 5: what X takes lies in a cell before; FILE and REMOVE are as without statistics
 abbrev watched : Program
@@ -153,3 +199,6 @@ pub code_of_watched : instructions watched ≡
     ∷ i.Leave
     ∷ i.Leave ∷ []
 code_of_watched = refl
+
+pub size_of_watched : code_size watched ≡ 20
+size_of_watched = refl

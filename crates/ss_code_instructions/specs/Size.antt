@@ -231,11 +231,11 @@ module _ (p : Program) where
     statement_size (Create l class t) = to_place_size t 1
     statement_size (CreateEvery l classes) = length classes
     statement_size (Destroy l class e) = operand_size e + 1
-    statement_size (File l set e position o) = file_size set e (beside position) (expression_of o)
-    statement_size (RemoveEnd l end set t o) = remove_end_size set t (expression_of o)
-    statement_size (Remove l set e o) = remove_size set e (expression_of o)
-    statement_size (ScheduleNew l class t given when) = schedule_new_size class t given when
-    statement_size (Schedule l class e given when) = schedule_size class e given when
+    statement_size (File l set e position o) = file_size e (beside position) (expression_of o)
+    statement_size (RemoveEnd l end set t o) = remove_end_size t (expression_of o)
+    statement_size (Remove l set e o) = remove_size e (expression_of o)
+    statement_size (ScheduleNew l class t given when) = schedule_new_size t given when
+    statement_size (Schedule l class e given when) = schedule_size e given when
     statement_size (Cancel l class e) = operand_size e + 1
     statement_size (Reset l restarts) = restarts_size restarts
     statement_size (Print l items pictures) = items_size items + 1
@@ -255,7 +255,7 @@ module _ (p : Program) where
 
   abbrev pub events_size : List Event → ℕ
   events_size [] = 0
-  events_size (e ∷ es) = saved_size e.saved + section_size e.body + events_size es
+  events_size (e ∷ es) = section_size e.body + events_size es
 
   -- how many instructions a program has
   abbrev pub code_size : ℕ
