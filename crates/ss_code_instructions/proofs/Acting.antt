@@ -26,7 +26,7 @@ abbrev pub Saying : Store → Core → Type 0
 Saying s c = Same s c.store
 
 abbrev pub Keeps : Store → Moved → Type 0
-Keeps s = Every (Saying s)
+Keeps s m = Every (Saying s) m
 
 module _ (s : Store) where
   abbrev WrittenSame : Written → Type 0
