@@ -1,5 +1,5 @@
 -- No instruction changes what the program says once and for all.
-use Rattle.std.proofs.Common.{ℕ, ◌+◌, ◌==◌, Bool, true, false, List, [], ◌∷◌, length, Some, Ok, Err, ℤ, refl, ◌∙◌}
+use Rattle.std.proofs.Common.{ℕ, ◌==◌, Bool, true, false, List, [], ◌∷◌, length, Some, Ok, Err, ℤ, refl, ◌∙◌}
 use Rattle.std.specs.Prelude.{Result, int_lt, pos, ◌+ℤ◌, slice_get}
 use Rattle.ss_base.specs.declared.line.Line.{Line}
 use Rattle.ss_base.specs.declared.value.Value.{Value}
@@ -26,7 +26,7 @@ abbrev pub Saying : Store → Core → Type 0
 Saying s c = Same s c.store
 
 abbrev pub Keeps : Store → Moved → Type 0
-Keeps s = Every (Saying s)
+Keeps s m = Every (Saying s) m
 
 module _ (s : Store) where
   abbrev WrittenSame : Written → Type 0

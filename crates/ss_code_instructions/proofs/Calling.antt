@@ -165,7 +165,8 @@ due_calls true s (suc n) m x t k e = let q = rested true s.core s.report n m x k
 
 at_calls : (o : Option Placed) (code : Code) (s x : MachineState) → step_at o code s ≡ Goes x → After s s.ticks x
 at_calls None code s x e = absurd cc
-at_calls (Some i) code s x e = due_calls (is_due i.instruction) s s.ticks (act code i.line i.instruction s.core) x refl (act_calls code i.line i.instruction s.core) e
+at_calls (Some placed) code s x e =
+    due_calls (is_due placed.instruction) s s.ticks (act code placed.line placed.instruction s.core) x refl (act_calls code placed.line placed.instruction s.core) e
 
 pub ticks_and_calls : TicksAndCalls
 ticks_and_calls code s t e = at_calls (slice_get code.places s.core.place) code s t e

@@ -1,6 +1,6 @@
 -- An instruction holds at most four numbers or indices.
-use Rattle.std.proofs.Common.{◌≤◌, ℕ, arith}
-use Rattle.ss_code_instructions.specs.Instructions.{First, Last, Ranked, Before, After, Instruction}
+use Rattle.std.proofs.Common.{arith}
+use Rattle.ss_code_instructions.specs.Instructions.{First, Last, Ranked, Before, After}
 use Rattle.ss_code_instructions.specs.Instructions as i
 use Rattle.ss_code_instructions.specs.Laws.{HoldsFour}
 

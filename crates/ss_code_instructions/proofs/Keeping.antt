@@ -77,6 +77,10 @@ noted_same : (subject : Subject) (n : ℤ) (v : Value) (s : Store) → Only (Sam
 noted_same subject n v s =
     made (Same s) (with_histories s) (all_noting subject n s.scene.time v s.scene.setting.statistics s.scene.histories) (λ hs. refl)
 
+-- the same of a store with another heap
+heaped_same : (subject : Subject) (n : ℤ) (v : Value) (s : Store) (h : State) → Only (Same s) (noted subject n v (with_heap s h))
+heaped_same subject n v s h = same_on s (with_heap s h) (noted subject n v (with_heap s h)) refl (noted_same subject n v (with_heap s h))
+
 put_same : (x : Variable) (v : Value) (s : Store) → Only (Same s) (put x v s)
 put_same (Global k) v s = made (Same s) (λ vs. record s { globals = vs }) (put_at s.globals k v) (λ vs. refl)
 put_same (Local k) v s = made (Same s) (λ vs. record s { locals = vs }) (put_at s.locals k v) (λ vs. refl)
@@ -90,7 +94,7 @@ variable_same (Local k) v s = put_same (Local k) v s
 pub attribute_same : (class field : ℕ) (x v : Value) (s : Store) → Only (Same s) (assigned_attribute class field x v s)
 attribute_same class field x v s =
     each (Same s) (entity class x s) _ (λ n. fitting (Same s) (is_of_mode v (field_at class field s)) _
-    (each (Same s) (due (assigned s.scene.heap class field n v)) _ (λ h. noted_same (OfAttribute class field) n v (with_heap s h))))
+    (each (Same s) (due (assigned s.scene.heap class field n v)) _ (λ h. heaped_same (OfAttribute class field) n v s h)))
 
 pub changed_same : (sign : Sign) (class field : ℕ) (x y : Value) (s : Store) → Only (Same s) (changed_attribute sign class field x y s)
 changed_same sign class field x y s = each (Same s) (attribute class field x s) _ (λ v. each (Same s) (calculated (operator_of sign) v y) _ (λ w. attribute_same class field x w s))
@@ -111,7 +115,7 @@ pub without_same : (class : ℕ) (x : Value) (s : Store) → Only (Same s) (with
 without_same class x s = each (Same s) (entity class x s) _ (λ n. unless (Same s) (is_pending n s.scene.pending.entries) Scheduled (gone class x s) (gone_same class x s))
 
 recounted_same : (set : ℕ) (owner : ℤ) (s : Store) (h : State) → Only (Same s) (recounted set owner s h)
-recounted_same set owner s h = each (Same s) (due (count_in h set owner)) _ (λ n. noted_same (OfCount set) owner (Whole n) (with_heap s h))
+recounted_same set owner s h = each (Same s) (due (count_in h set owner)) _ (λ n. heaped_same (OfCount set) owner (Whole n) s h)
 
 pub filed_same : (f : Filing) (set : ℕ) (x : Value) (o : Option Value) (s : Store) → Only (Same s) (filed_in f set x o s)
 filed_same f set x o s =

@@ -77,7 +77,7 @@ operand_length s e = leaf_length e (expression_code s (next s) e) (expression_si
 
 -- an instruction in front
 pub front : (x : Placed) (c : List Placed) (n : ℕ) → length c ≡ n → length (x ∷ c) ≡ 1 + n
-front x c n q = ap suc q
+front x c n q = omega (arith, q)
 
 with_length : (s : Site) (e : Expression) (make : Operand → Instruction) → length (t.with_operand s e make) ≡ operand_size e + 1
 with_length s e make = one_length s e (expression_code s (next s) e) make (expression_size e) (expression_length s (next s) e)
@@ -157,7 +157,7 @@ if_length s c a (x ∷ b) m (suc n) p q =
 
 loop_length : (s : Site) (gs : List Guard) (body : List Placed) (n : ℕ) → length body ≡ n → length (t.loop_code s gs body) ≡ z.guards_size gs + (1 + (n + (z.guards_size gs + 1)))
 loop_length s gs body n q =
-    let g = t.guards_code s 1 gs in
+    let g : List Placed = t.guards_code s 1 gs in
     let r : Placed = place s (i.Repeat (length body + length g + 1)) in
     omega (arith, length-append (t.guards_code s (length body + length g + 2) gs) (place s i.Turn ∷ (body ++ (g ++ (r ∷ [])))), length-append body (g ++ (r ∷ [])), length-append g (r ∷ []), guards_length s 1 gs, guards_length s (length body + length g + 2) gs, q)
 
@@ -300,18 +300,18 @@ number_end_length s = forget_to_length s (t.number_loop s) 3 (omega arith)
 for_length : (s : Site) (head : Head) (turn : List Placed) (n : ℕ) → length turn ≡ n → length (t.for_code s head turn) ≡ z.for_size s.scope.program head n
 for_length s (Numbers x a b c) turn n q =
     let u : Site = t.number_loop s in
-    let turns = t.turns_code u (height s) x turn (i.Next (height s)) in
-    let rest = place u (i.Begin (height s) (length turns)) ∷ (turns ++ t.forget_to s u) in
+    let turns : List Placed = t.turns_code u (height s) x turn (i.Next (height s)) in
+    let rest : List Placed = place u (i.Begin (height s) (length turns)) ∷ (turns ++ t.forget_to s u) in
     omega (arith, length-append (t.range_code s a b c) rest, length-append turns (t.forget_to s u), range_length s a b c, turns_length u (height s) x turn (i.Next (height s)) n q, number_end_length s)
 for_length s (Each x class) turn n q =
     let u : Site = t.number_loop s in
-    let turns = t.turns_code u (height s) x turn (i.Next (height s)) in
+    let turns : List Placed = t.turns_code u (height s) x turn (i.Next (height s)) in
     omega (arith, length-append turns (t.forget_to s u), turns_length u (height s) x turn (i.Next (height s)) n q, number_end_length s)
 for_length s (Members x set o start reverse) turn n q =
     let u : Site = t.owner_cell s o in
     let v : Site = t.walk_loop s o in
-    let turns = t.turns_code v (height u) x turn (i.NextMember reverse set (t.owner_kept s o) (height u)) in
-    let rest = t.begin_code u reverse set (t.owner_kept s o) start (length turns) ∷ (turns ++ t.forget_to s v) in
+    let turns : List Placed = t.turns_code v (height u) x turn (i.NextMember reverse set (t.owner_kept s o) (height u)) in
+    let rest : List Placed = t.begin_code u reverse set (t.owner_kept s o) start (length turns) ∷ (turns ++ t.forget_to s v) in
     omega (arith, length-append (t.owner_code s o) (t.start_code u set (t.owner_kept s o) start ++ rest), length-append (t.start_code u set (t.owner_kept s o) start) rest, length-append turns (t.forget_to s v), walk_owner_length s o, start_length u set (t.owner_kept s o) start, turns_length v (height u) x turn (i.NextMember reverse set (t.owner_kept s o) (height u)) n q, walk_end_length s o)
 
 loop_end_length : (s : Site) (head : Head) → length (t.forget_to s (t.in_loop s head)) ≡ 1
@@ -322,9 +322,9 @@ loop_end_length s (Members x set o start reverse) = walk_end_length s o
 find_length : (s : Site) (head : Head) (ps : List Phrase) (found none' : List Placed) (m n : ℕ) → length found ≡ m → length none' ≡ n → length (t.find_code s head ps found none') ≡ z.for_size s.scope.program head (z.phrases_size ps 1) + (n + (1 + (1 + m)))
 find_length s head ps found none' m n p q =
     let u : Site = t.in_loop s head in
-    let turn = t.phrases_code u ps (place u (i.Jump (length none' + 3)) ∷ []) in
-    let end = t.forget_to s u ++ found in
-    let rest = place s (i.Jump (length found + 1)) ∷ end in
+    let turn : List Placed = t.phrases_code u ps (place u (i.Jump (length none' + 3)) ∷ []) in
+    let end : List Placed = t.forget_to s u ++ found in
+    let rest : List Placed = place s (i.Jump (length found + 1)) ∷ end in
     omega (arith, length-append (t.for_code s head turn) (none' ++ rest), length-append none' rest, length-append (t.forget_to s u) found, for_length s head turn (z.phrases_size ps 1) (phrases_length u ps (place u (i.Jump (length none' + 3)) ∷ []) 1 refl), loop_end_length s head, p, q)
 
 -- ## Sets
@@ -372,7 +372,9 @@ notice_length : (s u : Site) (class : ℕ) (p : Place) (make : To → Placed) �
 notice_length s u class (ToVariable x) make q =
     let file : Placed = place u (i.FileNotice class (i.Held x) (i.Taken (height s))) in
     after_code (t.variable_code u x (λ to. make to ∷ [])) file (1 + z.kept_size s.scope.program x) (variable_length u x (λ to. make to ∷ []) 1 (λ to. refl) ∙ ap (λ p. 1 + z.kept_size p x) q)
-notice_length s u class (ToAttribute c field r) make q = ap (λ k. suc (suc (suc k))) (forget_to_length s (after s r) (z.operand_cells r) (operand_height s r) ∙ one_cell r)
+notice_length s u class (ToAttribute c field r) make q =
+    let e : length (t.forget_to s (after s r)) ≡ z.operand_cells r = forget_to_length s (after s r) (z.operand_cells r) (operand_height s r) ∙ one_cell r in
+    omega (arith, e)
 notice_length s u class (ToCount c) make q = refl
 
 schedule_new_length : (s : Site) (class : ℕ) (p : Place) (given : List Expression) (when : When) → length (t.schedule_new_code s class p given when) ≡ z.schedule_new_size s.scope.program p given when
@@ -380,7 +382,7 @@ schedule_new_length s class p given when =
     let s1 : Site = t.after_place s p in
     let s2 : Site = t.after_values s1 given in
     let make : To → Placed = λ to. place (t.above s2 Integer) (i.MakeNotice class (height s1) (length given) to) in
-    let last = t.notice_code s (t.above s1 Integer) class p make in
+    let last : List Placed = t.notice_code s (t.above s1 Integer) class p make in
     omega (arith, length-append (t.place_code s p) (t.values_code s1 given ++ (t.when_code s2 when ++ last)), length-append (t.values_code s1 given) (t.when_code s2 when ++ last), length-append (t.when_code s2 when) last,
     place_length s p, values_length s1 given, when_length s2 when, notice_length s (t.above s1 Integer) class p make refl)
 
@@ -388,7 +390,7 @@ schedule_length : (s : Site) (class : ℕ) (e : Expression) (given : List Expres
 schedule_length s class e given when =
     let s1 : Site = after s e in
     let s2 : Site = t.after_values s1 given in
-    let last = place (t.above s2 Integer) (i.Reschedule class (operand s e) (height s1) (length given)) ∷ [] in
+    let last : List Placed = place (t.above s2 Integer) (i.Reschedule class (operand s e) (height s1) (length given)) ∷ [] in
     omega (arith, length-append (t.entity_code s true class e) (t.values_code s1 given ++ (t.when_code s2 when ++ last)), length-append (t.values_code s1 given) (t.when_code s2 when ++ last), length-append (t.when_code s2 when) last,
     looked_length s true e (i.LookEntity class), values_length s1 given, when_length s2 when)
 
@@ -416,7 +418,7 @@ mutual
   statement_length s first (Change l sign p e) = change_length (t.at_line s l) sign p e
   statement_length s first (Call l routine given yielding) =
       let u : Site = t.at_line s l in
-      let tail = place (t.after_values u given) (i.Call routine (height s)) ∷ t.gives_code u yielding in
+      let tail : List Placed = place (t.after_values u given) (i.Call routine (height s)) ∷ t.gives_code u yielding in
       omega (arith, length-append (t.values_code u given) tail, values_length u given, gives_length u yielding)
   statement_length s first Return = refl
   statement_length s first Stop = refl
