@@ -296,9 +296,9 @@ few_ticks n made used ticks few u = omega (arith, few, u)
 
 -- what was to do at first, and what is to do now, with a code of length l
 few_steps : (l n made used ticks now first : ℕ) → ticks * (2 * l + 1) + now + made ≤ n * (2 * l + 1) + first → first ≤ (l - 0) + 0 → ticks + used ≡ n → 1 ≤ l → made ≤ (3 * used + 4) * l
-few_steps l n made used ticks now first fall most u some =
+few_steps l n made used ticks now first fall most u least =
     let same : (ticks + used) * (2 * l + 1) ≡ n * (2 * l + 1) = ap (λ k. k * (2 * l + 1)) u in
-    omega (arith, fall, most, same, times_least used l some)
+    omega (arith, fall, most, same, times_least used l least)
 
 pub steps_are_bounded : StepsAreBounded
 steps_are_bounded p input n made used x e u =
