@@ -280,6 +280,7 @@ times_least : (u l : ℕ) → 1 ≤ l → u ≤ u * l
 times_least zero l q = omega arith
 times_least (suc u) l q = omega (arith, q, times_least u l q)
 
+-- MAIN ends with an instruction of its own
 at_least_one : (l m a b : ℕ) → l ≡ m + a → m ≡ b + 1 → 1 ≤ l
 at_least_one l m a b e f = omega (arith, e, f)
 
