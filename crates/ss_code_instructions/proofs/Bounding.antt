@@ -17,7 +17,7 @@ use Rattle.ss_meaning.specs.Loops.{range_of, indices}
 use Rattle.ss_meaning.specs.Statements.{read_value}
 use Rattle.ss_code_instructions.specs.Instructions.{Taken, Target, Instruction, Placed}
 use Rattle.ss_code_instructions.specs.Instructions as i
-use Rattle.ss_code_instructions.specs.States.{Frame, Core, MachineState, Done, Breaks, Moved, To, Sends, Rest, Stuck, did, back_if, take_off, deliver_with, put_to, onward, onward_if, back_if}
+use Rattle.ss_code_instructions.specs.States.{Frame, Core, MachineState, Done, Breaks, Moved, To, Sends, Rest, Stuck, did, back_if, take_off, deliver_with, put_to, onward, onward_if}
 use Rattle.ss_code_instructions.specs.Machine.{Code, changed_attribute, assignable_count, Walk, walk_at, walk_cells, has_item, next_item, walk_further, values_shown, cells_of_kinds, leave, act, is_due, Stepped, Goes, Over, NoStep, with_rest, when_due, step_at, step}
 use Rattle.ss_program.specs.Program.{Program}
 use Rattle.ss_meaning.specs.Expressions.{unless}
@@ -252,8 +252,8 @@ module _ (code : Code) where
   falls_more lands n s t on (Goes x) q e =
       let f : left_to_do code x < left_to_do code s = step_falls code lands s x q in
       omega (arith, on x e, f)
-  falls_more lands n s t on (Over k ticks) q e = absurd cc
-  falls_more lands n s t on NoStep q e = absurd cc
+  falls_more lands n s t on (Over k ticks) _ e = absurd cc
+  falls_more lands n s t on NoStep _ e = absurd cc
 
   -- so many steps leave less to do by as many
   pub many_fall : Lands code → (n : ℕ) (s t : MachineState) → steps code n s ≡ Underway t → left_to_do code t + n ≤ left_to_do code s
@@ -266,8 +266,8 @@ module _ (code : Code) where
 
   ticks_more : (n : ℕ) (s t : MachineState) → ((x : MachineState) → steps code n x ≡ Underway t → x.ticks ≤ t.ticks + n) → (k : Stepped) → step code s ≡ k → after_one_step k s (steps code n) ≡ Underway t → s.ticks ≤ t.ticks + suc n
   ticks_more n s t on (Goes x) q e = omega (arith, on x e, at_ticks (slice_get code.places s.core.place) s x q)
-  ticks_more n s t on (Over k ticks) q e = absurd cc
-  ticks_more n s t on NoStep q e = absurd cc
+  ticks_more n s t on (Over k ticks) _ e = absurd cc
+  ticks_more n s t on NoStep _ e = absurd cc
 
   -- and each takes one tick at most
   pub many_ticks : (n : ℕ) (s t : MachineState) → steps code n s ≡ Underway t → s.ticks ≤ t.ticks + n
@@ -280,18 +280,35 @@ times_least : (u l : ℕ) → 1 ≤ l → u ≤ u * l
 times_least zero l q = omega arith
 times_least (suc u) l q = omega (arith, q, times_least u l q)
 
+-- MAIN ends with an instruction of its own
+at_least_one : (l m a b : ℕ) → l ≡ m + a → m ≡ b + 1 → 1 ≤ l
+at_least_one l m a b e f = omega (arith, e, f)
+
 never_empty : (p : Program) → 1 ≤ length (code_of p).places
 never_empty p =
-    omega (arith, length-append (main_code p) (all_routines p ++ all_events p), length-append (block_code (first_site (main_scope p)) 0 p.main) (place (first_site (main_scope p)) i.Leave ∷ []))
+    let body = block_code (first_site (main_scope p)) 0 p.main in
+    let leave = place (first_site (main_scope p)) i.Leave in
+    at_least_one (length (code_of p).places) (length (main_code p)) (length (all_routines p ++ all_events p)) (length body)
+    (length-append (main_code p) (all_routines p ++ all_events p)) (length-append body (leave ∷ []))
+
+-- so many ticks are at most so many steps
+few_ticks : (n made used ticks : ℕ) → n ≤ ticks + made → ticks + used ≡ n → used ≤ made
+few_ticks n made used ticks few u = omega (arith, few, u)
+
+-- what was to do at first, and what is to do now, with a code of length l
+few_steps : (l n made used ticks now first : ℕ) → ticks * (2 * l + 1) + now + made ≤ n * (2 * l + 1) + first → first ≤ (l - 0) + 0 → ticks + used ≡ n → 1 ≤ l → made ≤ (3 * used + 4) * l
+few_steps l n made used ticks now first fall most u least =
+    let same : (ticks + used) * (2 * l + 1) ≡ n * (2 * l + 1) = ap (λ k. k * (2 * l + 1)) u in
+    omega (arith, fall, most, same, times_least used l least)
 
 pub steps_are_bounded : StepsAreBounded
 steps_are_bounded p input n made used x e u =
     let s : MachineState = start (code_of p) input n in
-    let few : n ≤ x.ticks + made = many_ticks (code_of p) made s x e in
-    let fall : left_to_do (code_of p) x + made ≤ left_to_do (code_of p) s = many_fall (code_of p) (jumps_land p) made s x e in
-    let first : left_at (code_of p) 0 [] ≤ (length (code_of p).places - 0) + 0 = left_most (is_due_at (slice_get (code_of p).places 0)) (length (code_of p).places - 0) 0 in
-    let ticks : (x.ticks + used) * (2 * length (code_of p).places + 1) ≡ n * (2 * length (code_of p).places + 1) = ap (λ k. k * (2 * length (code_of p).places + 1)) u in
+    let l : ℕ = length (code_of p).places in
     record {
-      least = omega (arith, few, u);
-      most = omega (arith, fall, first, ticks, times_least used (length (code_of p).places) (never_empty p));
+      least = few_ticks n made used x.ticks (many_ticks (code_of p) made s x e) u;
+      most =
+          few_steps l n made used x.ticks (left_at (code_of p) x.core.place x.core.frames) (left_at (code_of p) 0 [])
+          (many_fall (code_of p) (jumps_land p) made s x e)
+          (left_most (is_due_at (slice_get (code_of p).places 0)) (l - 0) 0) u (never_empty p);
     }

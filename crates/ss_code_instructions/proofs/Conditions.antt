@@ -1,6 +1,7 @@
 -- The code of conditions.
 use Rattle.std.proofs.Common.{◌≡◌, ℕ, ◌+◌, Bool, true, false, not, List, [], ◌∷◌, ◌++◌, length, Option, Some, None, Ok, Err, refl, sym, ap, ◌∙◌, subst, arith, length-append}
 use Rattle.std.specs.Prelude.{Result as OkOr}
+use Rattle.ss_base.specs.declared.fault.FaultKind.{FaultKind}
 use Rattle.ss_base.specs.declared.line.Line.{Line}
 use Rattle.ss_base.specs.declared.value.Value.{Value}
 use Rattle.ss_meaning.specs.Words.{is_ended}
@@ -9,7 +10,7 @@ use Rattle.ss_program.specs.declared.head.GuardKind.TheVariants as guards
 use Rattle.ss_program.specs.Program.{Expression, SetOwner, Test, Compare, DataEnded, Empty, Member, Condition, Guard}
 use Rattle.ss_meaning.specs.Values.{Trouble, Fails, Misfit, if_ok, turned, due, sure, related}
 use Rattle.ss_meaning.specs.Store.{Store}
-use Rattle.ss_meaning.specs.Sets.{owner_number, is_empty, is_in}
+use Rattle.ss_meaning.specs.Sets.{member, is_empty, is_in}
 use Rattle.ss_meaning.specs.Expressions.{value, member_value, owner_value, unless, passed, both, either, all_hold, holds, passes, all_pass}
 use Rattle.ss_meaning.specs.Parts.{World, WentOn, Part, outcome_then, looked, look}
 use Rattle.ss_code_instructions.specs.Instructions.{Placed}
@@ -29,6 +30,10 @@ turned_did l (Ok a) g go = refl
 turned_did l (Err (Fails k)) g go = refl
 turned_did l (Err Misfit) g go = refl
 
+-- where the first of two fails
+first_fails : {A B : Type 0} (r : OkOr A Trouble) (f : A → OkOr B Trouble) (kind : FaultKind) → r ≡ Err (Fails kind) → if_ok r f ≡ Err (Fails kind)
+first_fails r f kind q = ap (λ r. if_ok r f) q
+
 module _ (code : Code) (n : ℕ) (t : Site) where
   -- whether an entity is in a set
   member_lands : (skip : ℕ) (negated : Bool) (set : ℕ) (e : Expression) (o : SetOwner) → Lands code n (height t) same (test_code t skip (Member negated set e o)) (past skip) done (look t.line (passed (Member negated set e o)))
@@ -36,8 +41,8 @@ module _ (code : Code) (n : ℕ) (t : Site) where
     by = λ p cells frames w high has in_.
         let c = looked_code t (may_fault (expression_of o)) e (i.LookMember set) ++ with_owner (after t e) o (λ y. i.UnlessMember negated set (operand t e) y skip) in
         subst (λ z. Reaches code (at p cells frames w) (arrive (λ b w'. at (past skip b (p + length c)) cells frames w') frames z)) (in_set (member_value set e w.store) w)
-        (member_owner_run code n t set e o (λ x y. i.UnlessMember negated set x y skip) (λ v u. is_in set v u) (λ q cells0 frames s below b. onward_if skip (unless negated b) below (core_at q cells0 frames s)) (λ b w'. at (past skip b (p + length c)) cells frames w') (λ b. WentOn (unless negated b))
-        (λ v u s kind q. ap (λ r. if_ok r (λ n. if_ok (owner_number set u s) _)) q) (λ x y. refl) (λ x y p cells frames s. refl) p cells frames w high has in_
+        (member_owner_run code n {A = Bool} {B = Bool} t set e o (λ x y. i.UnlessMember negated set x y skip) (λ v u. is_in set v u) (λ q cells0 frames s below b. onward_if skip (unless negated b) below (core_at q cells0 frames s)) (λ b w'. at (past skip b (p + length c)) cells frames w') (λ b. WentOn (unless negated b))
+        (λ v u s kind q. first_fails (member set v s) _ kind q) (λ x y. refl) (λ x y p cells frames s. refl) p cells frames w high has in_
         (λ q cells0 b len. onwards (subst (λ j. Reaches code (at (past skip (unless negated b) (q + 1)) cells frames w) (Comes (at (past skip (unless negated b) j) cells frames w))) len here)));
   }
     where

@@ -1,6 +1,6 @@
 -- What an instruction finds in its operands, and what it leaves at its target.
 use Rattle.std.proofs.Common.{◌≡◌, ℕ, zero, suc, ◌+◌, Bool, false, List, [], ◌∷◌, ◌++◌, length, Option, Some, None, Ok, Err, refl, sym, ap, ◌∙◌, subst, arith, if◌then◌else◌}
-use Rattle.std.proofs.lemmas.Bool.{eq-eqb}
+use Rattle.std.proofs.lemmas.Bool.{eq-eqb, le-ltb}
 use Rattle.std.specs.Prelude.{nat_lt, Result as OkOr}
 use Rattle.ss_base.specs.declared.fault.FaultKind.{FaultKind}
 use Rattle.ss_base.specs.declared.line.Line.{Line}
@@ -14,9 +14,9 @@ use Rattle.ss_meaning.specs.Expressions.{value}
 use Rattle.ss_meaning.specs.Parts.{World, WentOn, Part, outcome_then, looked, look, settle, change, settle_with}
 use Rattle.ss_code_instructions.specs.Instructions.{Operand, Held, Taken, Stays, Target, Into, Onto, Placed}
 use Rattle.ss_code_instructions.specs.Instructions as i
-use Rattle.ss_code_instructions.specs.States.{Frame, MachineState, Moved, did, core_at, or_zero, with_value, with_values, lies_above, deliver, deliver_with, onward}
+use Rattle.ss_code_instructions.specs.States.{Frame, MachineState, Moved, did, core_at, or_zero, with_value, with_values, lies_above, Written, deliver, deliver_with, onward}
 use Rattle.ss_code_instructions.specs.Machine.{Code}
-use Rattle.ss_code_instructions.specs.Translation.{Site, height, place, leaf, or_cell, or_in_cell, operand, after, unless_leaf, operand_code, expression_code, next}
+use Rattle.ss_code_instructions.specs.Translation.{Site, height, place, leaf, or_cell, or_in_cell, expression_mode, operand, after, unless_leaf, operand_code, expression_code, next}
 use Rattle.ss_code_instructions.proofs.Steps.{HasAt, has_front, has_back, Comes, Reaches, here, free, reaches_on, at, arrive}
 use Rattle.ss_code_instructions.proofs.Parts.{Within, Leads, onwards, breaks, whatever, at_the_height, Runs, same, put_on, went}
 
@@ -46,20 +46,20 @@ delivers code l to (Err (Fails kind)) p cells cells0 frames w h = breaks
 delivers code l to (Err Misfit) p cells cells0 frames w h = whatever
 delivers code l (Into x) (Ok b) p cells cells0 frames w h = written (assigned_variable x b.0 b.1)
   where
-    written : (o : OkOr Store Trouble) → Leads code w (did l (turned (λ t. record { cells = cells; store = t }) o) (λ q. onward q.cells (core_at p cells0 frames w.store) q.store)) (arrive (λ v w'. at (p + 1) cells frames w') frames (outcome_then (outcome_then (looked l o (record w { store = b.1 })) settle) (λ _. WentOn b.0)))
+    written : (o : OkOr Store Trouble) → Leads code w (did {A = Written} l (turned {B = Written} (λ t. record { cells = cells; store = t }) o) (λ q. onward q.cells (core_at p cells0 frames w.store) q.store)) (arrive (λ v w'. at (p + 1) cells frames w') frames (outcome_then (outcome_then (looked l o (record w { store = b.1 })) settle) (λ _. WentOn b.0)))
     written (Ok t) = onwards here
     written (Err (Fails kind)) = breaks
     written (Err Misfit) = whatever
 delivers code l (Onto k) (Ok b) p cells cells0 frames w h =
-    subst (λ t. Leads code w (did l (where_fit t (Ok (record { cells = b.0 ∷ cells; store = b.1 }))) (λ q. onward q.cells (core_at p cells0 frames w.store) q.store)) (Comes (at (p + 1) (b.0 ∷ cells) frames (record w { store = b.1 })))) (sym (eq-eqb (length cells) k h)) (onwards here)
+    subst (λ t. Leads code w (did {A = Written} l (where_fit {A = Written} t (Ok (record { cells = b.0 ∷ cells; store = b.1 }))) (λ q. onward q.cells (core_at p cells0 frames w.store) q.store)) (Comes (at (p + 1) (b.0 ∷ cells) frames (record w { store = b.1 })))) (sym (eq-eqb (length cells) k h)) (onwards here)
 
 -- where the store stays
 pub computes : (code : Code) (l : Line) (to : Target) (r : OkOr Value Trouble) (p : ℕ) (cells cells0 : List Value) (frames : List Frame) (w : World) → Tops to (length cells) → Leads code w (deliver l to r cells (core_at p cells0 frames w.store)) (arrive (λ v w'. at (p + 1) (on to v cells) frames w') frames (outcome_then (looked l r w) (put_then l to)))
 computes code l to r p cells cells0 frames w h =
     subst (λ o. Leads code w (deliver l to r cells (core_at p cells0 frames w.store)) (arrive (λ v w'. at (p + 1) (on to v cells) frames w') frames (outcome_then o (put_then l to)))) (back r)
-    (delivers code l to (turned (λ v. (v, w.store)) r) p cells cells0 frames w h)
+    (delivers code l to (turned {B = Value × Store} (λ v. (v, w.store)) r) p cells cells0 frames w h)
   where
-    back : (r : OkOr Value Trouble) → outcome_then (looked l (turned (λ v. (v, w.store)) r) w) settle_with ≡ looked l r w
+    back : (r : OkOr Value Trouble) → outcome_then (looked l (turned {B = Value × Store} (λ v. (v, w.store)) r) w) settle_with ≡ looked l r w
     back (Ok v) = refl
     back (Err (Fails kind)) = refl
     back (Err Misfit) = refl
@@ -76,7 +76,7 @@ held_length (Some x) m v cells ms e = e
 held_length None m v cells ms e = ap suc e
 
 pub held_height : (t : Site) (e : Expression) (v : Value) (cells : List Value) → length cells ≡ height t → length (held (leaf e) v cells) ≡ height (after t e)
-held_height t e v cells h = held_length (leaf e) _ v cells t.cells h
+held_height t e v cells h = held_length (leaf e) (expression_mode t.scope e) v cells t.cells h
 
 pub sure_is : {A : Type 0} (o : Option A) (a : A) → sure o ≡ Ok a → o ≡ Some a
 sure_is None a e = absurd cc
@@ -91,17 +91,17 @@ leaf_reads (Constant u) x v s q r cells go =
 leaf_reads (Fetch y) x v s q r cells go =
     let e : Held y ≡ x = cc in
     subst (λ x. with_value x s cells go ≡ go v cells) e (ap (λ o. go (or_zero o) cells) (sure_is (fetched y s) v r))
-leaf_reads (Attribute class field e) x v s q r cells go = absurd cc
-leaf_reads (OfSystemSet query set) x v s q r cells go = absurd cc
-leaf_reads (OfSet query set e) x v s q r cells go = absurd cc
-leaf_reads (OfMember query set e) x v s q r cells go = absurd cc
-leaf_reads Clock x v s q r cells go = absurd cc
-leaf_reads (TimeOf e) x v s q r cells go = absurd cc
-leaf_reads (Figure fold j) x v s q r cells go = absurd cc
-leaf_reads (FigureOf fold j e) x v s q r cells go = absurd cc
-leaf_reads (Signed sign e) x v s q r cells go = absurd cc
-leaf_reads (Absolute e) x v s q r cells go = absurd cc
-leaf_reads (Calculate op a b) x v s q r cells go = absurd cc
+leaf_reads (Attribute class field e) x v s q _ cells go = absurd cc
+leaf_reads (OfSystemSet query set) x v s q _ cells go = absurd cc
+leaf_reads (OfSet query set e) x v s q _ cells go = absurd cc
+leaf_reads (OfMember query set e) x v s q _ cells go = absurd cc
+leaf_reads Clock x v s q _ cells go = absurd cc
+leaf_reads (TimeOf e) x v s q _ cells go = absurd cc
+leaf_reads (Figure fold j) x v s q _ cells go = absurd cc
+leaf_reads (FigureOf fold j e) x v s q _ cells go = absurd cc
+leaf_reads (Signed sign e) x v s q _ cells go = absurd cc
+leaf_reads (Absolute e) x v s q _ cells go = absurd cc
+leaf_reads (Calculate op a b) x v s q _ cells go = absurd cc
 
 -- an operand gives the value of its expression, and takes its cell off
 pub reads : (t : Site) (e : Expression) (v : Value) (s : Store) (cells : List Value) (go : Value → List Value → Moved) → length cells ≡ height t → value e s ≡ Ok v → with_value (operand t e) s (held (leaf e) v cells) go ≡ go v cells
@@ -113,52 +113,53 @@ reads t e v s cells go h q = by (leaf e) refl
 
 -- two operands, of which the second may lie above the first
 less_not : (n : ℕ) → nat_lt (suc n) n ≡ false
-less_not zero = refl
-less_not (suc n) = less_not n
+less_not n = le-ltb (suc n) n (omega arith)
+
+-- a constant and a variable lie above nothing
+leaf_below : (e : Expression) (x y : Operand) → leaf e ≡ Some x → lies_above x y ≡ false
+leaf_below (Constant u) x y q = let e : i.Constant u ≡ x = cc in subst (λ x. lies_above x y ≡ false) e refl
+leaf_below (Fetch z) x y q = let e : Held z ≡ x = cc in subst (λ x. lies_above x y ≡ false) e refl
+leaf_below (Attribute class field e) x y q = absurd cc
+leaf_below (OfSystemSet query set) x y q = absurd cc
+leaf_below (OfSet query set e) x y q = absurd cc
+leaf_below (OfMember query set e) x y q = absurd cc
+leaf_below Clock x y q = absurd cc
+leaf_below (TimeOf e) x y q = absurd cc
+leaf_below (Figure fold j) x y q = absurd cc
+leaf_below (FigureOf fold j e) x y q = absurd cc
+leaf_below (Signed sign e) x y q = absurd cc
+leaf_below (Absolute e) x y q = absurd cc
+leaf_below (Calculate op c d) x y q = absurd cc
+
+-- and takes no cell
+never_taken : (e : Expression) (k : ℕ) → leaf e ≡ Some (Taken k) → ⊥
+never_taken (Constant u) k q = cc
+never_taken (Fetch z) k q = cc
+never_taken (Attribute class field e) k q = cc
+never_taken (OfSystemSet query set) k q = cc
+never_taken (OfSet query set e) k q = cc
+never_taken (OfMember query set e) k q = cc
+never_taken Clock k q = cc
+never_taken (TimeOf e) k q = cc
+never_taken (Figure fold j) k q = cc
+never_taken (FigureOf fold j e) k q = cc
+never_taken (Signed sign e) k q = cc
+never_taken (Absolute e) k q = cc
+never_taken (Calculate op c d) k q = cc
+
+second_above : (h : ℕ) (e : Expression) (o : Option Operand) → leaf e ≡ o → lies_above (Taken h) (or_cell (suc h) o) ≡ false
+second_above h e None q = less_not h
+second_above h e (Some (i.Constant v)) q = refl
+second_above h e (Some (Held x)) q = refl
+second_above h e (Some (Taken k)) q = absurd (never_taken e k q)
+second_above h e (Some (Stays k)) q = refl
 
 pub not_above : (t : Site) (a b : Expression) → lies_above (operand t a) (operand (after t a) b) ≡ false
-not_above t a b = by (leaf a) refl (leaf b)
+not_above t a b = by (leaf a) refl
   where
-    of_leaf : (e : Expression) (x : Operand) (y : Operand) → leaf e ≡ Some x → lies_above x y ≡ false
-    of_leaf (Constant u) x y q = let e : i.Constant u ≡ x = cc in subst (λ x. lies_above x y ≡ false) e refl
-    of_leaf (Fetch z) x y q = let e : Held z ≡ x = cc in subst (λ x. lies_above x y ≡ false) e refl
-    of_leaf (Attribute class field e) x y q = absurd cc
-    of_leaf (OfSystemSet query set) x y q = absurd cc
-    of_leaf (OfSet query set e) x y q = absurd cc
-    of_leaf (OfMember query set e) x y q = absurd cc
-    of_leaf Clock x y q = absurd cc
-    of_leaf (TimeOf e) x y q = absurd cc
-    of_leaf (Figure fold j) x y q = absurd cc
-    of_leaf (FigureOf fold j e) x y q = absurd cc
-    of_leaf (Signed sign e) x y q = absurd cc
-    of_leaf (Absolute e) x y q = absurd cc
-    of_leaf (Calculate op c d) x y q = absurd cc
-
-    of_second : (o : Option Operand) → leaf b ≡ o → lies_above (Taken (height t)) (or_cell (suc (height t)) o) ≡ false
-    of_second None q = less_not (height t)
-    of_second (Some (i.Constant v)) q = refl
-    of_second (Some (Held x)) q = refl
-    of_second (Some (Stays k)) q = refl
-    of_second (Some (Taken k)) q = absurd (never b k q)
-      where
-        never : (e : Expression) (k : ℕ) → leaf e ≡ Some (Taken k) → ⊥
-        never (Constant u) k q = cc
-        never (Fetch z) k q = cc
-        never (Attribute class field e) k q = cc
-        never (OfSystemSet query set) k q = cc
-        never (OfSet query set e) k q = cc
-        never (OfMember query set e) k q = cc
-        never Clock k q = cc
-        never (TimeOf e) k q = cc
-        never (Figure fold j) k q = cc
-        never (FigureOf fold j e) k q = cc
-        never (Signed sign e) k q = cc
-        never (Absolute e) k q = cc
-        never (Calculate op c d) k q = cc
-
-    by : (o : Option Operand) → leaf a ≡ o → (p : Option Operand) → lies_above (or_cell (height t) o) (or_cell (length (or_in_cell o _ t.cells)) (leaf b)) ≡ false
-    by (Some x) q p = of_leaf a x _ q
-    by None q p = of_second (leaf b) refl
+    by : (o : Option Operand) → leaf a ≡ o → lies_above (or_cell (height t) o) (or_cell (length (or_in_cell o (expression_mode t.scope a) t.cells)) (leaf b)) ≡ false
+    by (Some x) q = leaf_below a x (or_cell (height t) (leaf b)) q
+    by None q = second_above (height t) b (leaf b) refl
 
 pub reads_both : (t : Site) (a b : Expression) (x y : Value) (s : Store) (cells : List Value) (go : Value → Value → List Value → Moved) → length cells ≡ height t → value a s ≡ Ok x → value b s ≡ Ok y → with_values (operand t a) (operand (after t a) b) s (held (leaf b) y (held (leaf a) x cells)) go ≡ go x y cells
 reads_both t a b x y s cells go h p q =
@@ -182,17 +183,17 @@ leaf_fine (Fetch y) x s kind q r = by (fetched y s) r
     by : (o : Option Value) → sure o ≡ Err (Fails kind) → ⊥
     by None r = cc
     by (Some v) r = cc
-leaf_fine (Attribute class field e) x s kind q r = cc
-leaf_fine (OfSystemSet query set) x s kind q r = cc
-leaf_fine (OfSet query set e) x s kind q r = cc
-leaf_fine (OfMember query set e) x s kind q r = cc
-leaf_fine Clock x s kind q r = cc
-leaf_fine (TimeOf e) x s kind q r = cc
-leaf_fine (Figure fold j) x s kind q r = cc
-leaf_fine (FigureOf fold j e) x s kind q r = cc
-leaf_fine (Signed sign e) x s kind q r = cc
-leaf_fine (Absolute e) x s kind q r = cc
-leaf_fine (Calculate op a b) x s kind q r = cc
+leaf_fine (Attribute class field e) x s kind q _ = cc
+leaf_fine (OfSystemSet query set) x s kind q _ = cc
+leaf_fine (OfSet query set e) x s kind q _ = cc
+leaf_fine (OfMember query set e) x s kind q _ = cc
+leaf_fine Clock x s kind q _ = cc
+leaf_fine (TimeOf e) x s kind q _ = cc
+leaf_fine (Figure fold j) x s kind q _ = cc
+leaf_fine (FigureOf fold j e) x s kind q _ = cc
+leaf_fine (Signed sign e) x s kind q _ = cc
+leaf_fine (Absolute e) x s kind q _ = cc
+leaf_fine (Calculate op a b) x s kind q _ = cc
 
 module _ (code : Code) (n : ℕ) where
   -- the code of an operand evaluates its expression
@@ -203,13 +204,13 @@ module _ (code : Code) (n : ℕ) where
   leaf_runs t e x q = record {
     by = λ place cells frames w high has in_.
         let p : place ≡ place + 0 = omega arith in
-        subst (λ p. Reaches code (at place cells frames w) (arrive (λ v w'. at p cells frames w') frames (look t.line (value e) w))) p (by place cells frames w (value e w.store) refl);
+        subst (λ p. Reaches code (at place cells frames w) (arrive (λ v w'. at p cells frames w') frames (look t.line (value e) w))) p (comes place cells frames w (value e w.store) refl);
   }
     where
-      by : (place : ℕ) (cells : List Value) (frames : List Frame) (w : World) (r : OkOr Value Trouble) → value e w.store ≡ r → Reaches code (at place cells frames w) (arrive (λ v w'. at place cells frames w') frames (looked t.line r w))
-      by place cells frames w (Ok v) p = here
-      by place cells frames w (Err (Fails kind)) p = absurd (leaf_fine e x w.store kind q p)
-      by place cells frames w (Err Misfit) p = free
+      comes : (place : ℕ) (cells : List Value) (frames : List Frame) (w : World) (r : OkOr Value Trouble) → value e w.store ≡ r → Reaches code (at place cells frames w) (arrive (λ v w'. at place cells frames w') frames (looked t.line r w))
+      comes place cells frames w (Ok v) p = here
+      comes place cells frames w (Err (Fails kind)) p = absurd (leaf_fine e x w.store kind q p)
+      comes place cells frames w (Err Misfit) p = free
 
   pub operand_runs : (t : Site) (e : Expression) → Runs code n (height t) same (expression_code t (next t) e) put_on (look t.line (value e)) → Evaluates t e
   operand_runs t e r = by (leaf e) refl

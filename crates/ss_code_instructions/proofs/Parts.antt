@@ -2,6 +2,7 @@
 use Rattle.std.proofs.Common.{◌≡◌, ℕ, zero, suc, ◌+◌, ◌<◌, ◌≤◌, ◌==◌, Bool, true, false, List, [], ◌∷◌, ◌++◌, length, Option, Some, None, Ok, Err, refl, sym, ap, ◌∙◌, subst, arith, length-append, append-nil, if◌then◌else◌}
 use Rattle.std.proofs.lemmas.Bool.{eq-eqb}
 use Rattle.std.specs.Prelude.{slice_get, Result as OkOr}
+use Rattle.ss_base.specs.declared.fault.FaultKind.{FaultKind}
 use Rattle.ss_base.specs.declared.line.Line.{Line}
 use Rattle.ss_base.specs.declared.value.Value.{Value}
 use Rattle.ss_meaning.specs.Values.{Trouble, Fails, Misfit, if_ok, turned, sure}
@@ -35,7 +36,7 @@ pub data Leads (code : Code) (w : World) : Moved → Goal → Type 0 where
   onwards : {c : Core} {g : Goal} → Reaches code (with_core c w) g → Leads code w (To c) g
   writes : {bytes : List ℕ} {c : Core} {g : Goal} → Reaches code (with_core c (record w { report = w.report ++ bytes })) g → Leads code w (Sends bytes c) g
   ends : Leads code w (Rest Done) (Finishes (run_at Ended w))
-  breaks : {kind : _} {l : Line} → Leads code w (Rest (Breaks kind l)) (Finishes (run_at (Fault kind l) w))
+  breaks : {kind : FaultKind} {l : Line} → Leads code w (Rest (Breaks kind l)) (Finishes (run_at (Fault kind l) w))
   whatever : {m : Moved} → Leads code w m Free
 
 module _ (code : Code) where
