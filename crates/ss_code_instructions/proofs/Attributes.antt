@@ -94,11 +94,11 @@ first_look class x (Calculate op a b) v s t q f h = by (λ q. first_look class x
         let c = constant_value a s i in
         ap (λ r. if_ok r (λ x. if_ok (value b s) (λ y. calculated op x y))) c.1
         ∙ err_first (value b s) _ t (right q)
-first_look class x (Constant c) v s t q f h = absurd cc
-first_look class x (Fetch y) v s t q f h = absurd cc
-first_look class x (OfSystemSet query set) v s t q f h = absurd cc
-first_look class x Clock v s t q f h = absurd cc
-first_look class x (Figure fold j) v s t q f h = absurd cc
+first_look class x (Constant c) v s t q f h = absurd (false≢true q)
+first_look class x (Fetch y) v s t q f h = absurd (false≢true q)
+first_look class x (OfSystemSet query set) v s t q f h = absurd (false≢true q)
+first_look class x Clock v s t q f h = absurd (false≢true q)
+first_look class x (Figure fold j) v s t q f h = absurd (false≢true q)
 
 leaf_if : (e : Expression) → not (is_leaf e) ≡ false → is_leaf e ≡ true
 leaf_if e q = by (is_leaf e) q
