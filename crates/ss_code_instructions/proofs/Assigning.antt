@@ -5,7 +5,7 @@ use Rattle.ss_base.specs.declared.fault.FaultKind.TheVariants.{CreatedTwice}
 use Rattle.ss_base.specs.declared.line.Line.{Line}
 use Rattle.ss_base.specs.declared.layout.Mode.TheVariants.{Integer}
 use Rattle.ss_base.specs.declared.value.Value.{Value}
-use Rattle.ss_world.specs.State.{is_made}
+use Rattle.ss_meaning.specs.State.{is_made}
 use Rattle.ss_program.specs.declared.expression.Variable.{Variable}
 use Rattle.ss_program.specs.declared.expression.Variable.TheVariants.{Global}
 use Rattle.ss_program.specs.declared.statement.CountedClass.{CountedClass}
@@ -16,7 +16,7 @@ use Rattle.ss_meaning.specs.Places.{InVariable, InCount, assigned_variable}
 use Rattle.ss_meaning.specs.Parts.{World, WentOn, Left, Outcome, Part, outcome_then, looked, settle, write}
 use Rattle.ss_code_instructions.specs.Instructions.{Operand, Target, Into, Placed}
 use Rattle.ss_code_instructions.specs.Instructions as i
-use Rattle.ss_code_instructions.specs.States.{Frame, MachineState, Moved, did, core_at, with_value, onward, deliver}
+use Rattle.ss_code_instructions.specs.States.{Frame, MachineState, Moved, Written, did, core_at, with_value, onward, deliver}
 use Rattle.ss_code_instructions.specs.Machine.{Code, assignable_count}
 use Rattle.ss_code_instructions.specs.Translation.{Site, height, above, place, next, is_kept, variable_code, assignment, count_code}
 use Rattle.ss_code_instructions.proofs.Steps.{HasAt, Reaches, here, at, arrive}
@@ -43,7 +43,7 @@ module _ (code : Code) where
   pub assigns : (u : Site) (x : Variable) (from : Operand) (v : Value) (q : ℕ) (cells0 cells : List Value) (frames : List Frame) (w : World) → ((go : Value → List Value → Moved) → with_value from w.store cells0 go ≡ go v cells) → slice_get code.places q ≡ Some (place u (assignment u x from)) → Reaches code (at q cells0 frames w) (arrive (λ o w'. at (q + 1) cells frames w') frames (write u.line (InVariable x) v w))
   assigns u x from v q cells0 cells frames w reads has = by (is_kept u x) has
     where
-      moved : (r : OkOr Store Trouble) → Leads code w (did u.line (turned (λ t. record { cells = cells; store = t }) r) (λ b. onward b.cells (core_at q cells0 frames w.store) b.store)) (arrive (λ o w'. at (q + 1) cells frames w') frames (outcome_then (looked u.line r w) settle))
+      moved : (r : OkOr Store Trouble) → Leads code w (did {A = Written} u.line (turned (λ t. record { cells = cells; store = t }) r) (λ b. onward b.cells (core_at q cells0 frames w.store) b.store)) (arrive (λ o w'. at (q + 1) cells frames w') frames (outcome_then (looked u.line r w) settle))
       moved (Ok t) = onwards here
       moved (Err (Fails kind)) = breaks
       moved (Err Misfit) = whatever

@@ -1,6 +1,6 @@
 -- The code that assigns attributes.
 use Rattle.std.proofs.Common.{◌≡◌, ℕ, ◌+◌, ◌-◌, Bool, true, false, not, List, [], ◌∷◌, ◌++◌, length, Some, Ok, Err, ℤ, refl, sym, ap, ◌∙◌, subst, arith, length-append, ◌⊎◌, inl, inr}
-use Rattle.std.proofs.lemmas.Bool.{eqb-true, and_parts}
+use Rattle.std.proofs.lemmas.Bool.{eqb-true, and_parts, false≢true}
 use Rattle.std.specs.Prelude.{Result as OkOr, slice_get, ◌==◌, ◌&&◌, if◌then◌else◌}
 use Rattle.ss_base.specs.declared.fault.FaultKind.{FaultKind}
 use Rattle.ss_base.specs.declared.line.Line.{Line}
@@ -71,11 +71,11 @@ constant_value (Calculate op a b) s q = absurd cc
 
 -- it fails as the look does
 pub first_look : (class : ℕ) (x : Variable) (e : Expression) (v : Value) (s : Store) (t : Trouble) → looks_first class x e ≡ true → fetched x s ≡ Some v → entity class v s ≡ Err t → value e s ≡ Err t
-first_look class x (Attribute k field e) v s t q f h = by (is_leaf e) q
+first_look class x (Attribute k field e) v s t q f h = by (λ q. first_look class x e v s t q f h) (is_leaf e) q
   where
-    by : (b : Bool) → (if b then (k == class) && is_fetch_of x e else looks_first class x e) ≡ true → value (Attribute k field e) s ≡ Err t
-    by false q = err_first (value e s) _ t (first_look class x e v s t q f h)
-    by true q =
+    by : (looks_first class x e ≡ true → value e s ≡ Err t) → (b : Bool) → (if b then (k == class) && is_fetch_of x e else looks_first class x e) ≡ true → value (Attribute k field e) s ≡ Err t
+    by inner false q = err_first (value e s) _ t (inner q)
+    by inner true q =
         let p = and_parts (k == class) (is_fetch_of x e) q in
         ap (λ r. if_ok r (λ y. attribute k field y s)) (fetch_value x e v s p.1 f)
         ∙ ap (λ c. attribute c field v s) (eqb-true k class p.0)
@@ -86,19 +86,19 @@ first_look class x (TimeOf e) v s t q f h = err_first (value e s) _ t (first_loo
 first_look class x (FigureOf fold j e) v s t q f h = err_first (value e s) _ t (first_look class x e v s t q f h)
 first_look class x (Signed sign e) v s t q f h = err_first (value e s) _ t (first_look class x e v s t q f h)
 first_look class x (Absolute e) v s t q f h = err_first (value e s) _ t (first_look class x e v s t q f h)
-first_look class x (Calculate op a b) v s t q f h = by (is_constant a) refl q
+first_look class x (Calculate op a b) v s t q f h = by (λ q. first_look class x a v s t q f h) (λ q. first_look class x b v s t q f h) (is_constant a) refl q
   where
-    by : (c : Bool) → is_constant a ≡ c → (if c then looks_first class x b else looks_first class x a) ≡ true → value (Calculate op a b) s ≡ Err t
-    by false i q = err_first (value a s) _ t (first_look class x a v s t q f h)
-    by true i q =
+    by : (looks_first class x a ≡ true → value a s ≡ Err t) → (looks_first class x b ≡ true → value b s ≡ Err t) → (c : Bool) → is_constant a ≡ c → (if c then looks_first class x b else looks_first class x a) ≡ true → value (Calculate op a b) s ≡ Err t
+    by left right false i q = err_first (value a s) _ t (left q)
+    by left right true i q =
         let c = constant_value a s i in
         ap (λ r. if_ok r (λ x. if_ok (value b s) (λ y. calculated op x y))) c.1
-        ∙ err_first (value b s) _ t (first_look class x b v s t q f h)
-first_look class x (Constant c) v s t q f h = absurd cc
-first_look class x (Fetch y) v s t q f h = absurd cc
-first_look class x (OfSystemSet query set) v s t q f h = absurd cc
-first_look class x Clock v s t q f h = absurd cc
-first_look class x (Figure fold j) v s t q f h = absurd cc
+        ∙ err_first (value b s) _ t (right q)
+first_look class x (Constant c) v s t q f h = absurd (false≢true q)
+first_look class x (Fetch y) v s t q f h = absurd (false≢true q)
+first_look class x (OfSystemSet query set) v s t q f h = absurd (false≢true q)
+first_look class x Clock v s t q f h = absurd (false≢true q)
+first_look class x (Figure fold j) v s t q f h = absurd (false≢true q)
 
 leaf_if : (e : Expression) → not (is_leaf e) ≡ false → is_leaf e ≡ true
 leaf_if e q = by (is_leaf e) q
@@ -185,17 +185,17 @@ module _ (code : Code) (n : ℕ) where
       leaf_faults t (after (after t r) (Constant c)).cells class field r (i.Constant c) v c kind q cells frames w high p h (low_constant (operand t r) c) (λ cs go. refl) has.0
   valued_faults t class field r (Fetch y) v kind q cells frames w high p h leaf_ has =
       leaf_faults t (after (after t r) (Fetch y)).cells class field r (Held y) v (or_zero (fetched y w.store)) kind q cells frames w high p h (low_held (operand t r) y) (λ cs go. refl) has.0
-  valued_faults t class field r (Attribute k f e) v kind q cells frames w high p h leaf_ has = absurd cc
-  valued_faults t class field r (OfSystemSet query set) v kind q cells frames w high p h leaf_ has = absurd cc
-  valued_faults t class field r (OfSet query set e) v kind q cells frames w high p h leaf_ has = absurd cc
-  valued_faults t class field r (OfMember query set e) v kind q cells frames w high p h leaf_ has = absurd cc
-  valued_faults t class field r Clock v kind q cells frames w high p h leaf_ has = absurd cc
-  valued_faults t class field r (TimeOf e) v kind q cells frames w high p h leaf_ has = absurd cc
-  valued_faults t class field r (Figure fold j) v kind q cells frames w high p h leaf_ has = absurd cc
-  valued_faults t class field r (FigureOf fold j e) v kind q cells frames w high p h leaf_ has = absurd cc
-  valued_faults t class field r (Signed sign e) v kind q cells frames w high p h leaf_ has = absurd cc
-  valued_faults t class field r (Absolute e) v kind q cells frames w high p h leaf_ has = absurd cc
-  valued_faults t class field r (Calculate op a b) v kind q cells frames w high p h leaf_ has = absurd cc
+  valued_faults t class field r (Attribute k f e) v kind q cells frames w high p h leaf_ has = absurd (false≢true leaf_)
+  valued_faults t class field r (OfSystemSet query set) v kind q cells frames w high p h leaf_ has = absurd (false≢true leaf_)
+  valued_faults t class field r (OfSet query set e) v kind q cells frames w high p h leaf_ has = absurd (false≢true leaf_)
+  valued_faults t class field r (OfMember query set e) v kind q cells frames w high p h leaf_ has = absurd (false≢true leaf_)
+  valued_faults t class field r Clock v kind q cells frames w high p h leaf_ has = absurd (false≢true leaf_)
+  valued_faults t class field r (TimeOf e) v kind q cells frames w high p h leaf_ has = absurd (false≢true leaf_)
+  valued_faults t class field r (Figure fold j) v kind q cells frames w high p h leaf_ has = absurd (false≢true leaf_)
+  valued_faults t class field r (FigureOf fold j e) v kind q cells frames w high p h leaf_ has = absurd (false≢true leaf_)
+  valued_faults t class field r (Signed sign e) v kind q cells frames w high p h leaf_ has = absurd (false≢true leaf_)
+  valued_faults t class field r (Absolute e) v kind q cells frames w high p h leaf_ has = absurd (false≢true leaf_)
+  valued_faults t class field r (Calculate op a b) v kind q cells frames w high p h leaf_ has = absurd (false≢true leaf_)
 
   -- the reference is evaluated, and looked at, before the value
   abbrev let_part : Line → (class field : ℕ) → Expression → Value → Part (Unit {0})
@@ -224,7 +224,7 @@ module _ (code : Code) (n : ℕ) where
           go v found (p + length c) (p + length (c ++ rest)) end has' (entity class v w.store) refl))
         where
           go : (v : Value) → value r w.store ≡ Ok v → (j end : ℕ) → j + length (value_code t class field r e) ≡ end → HasAt code.places j (value_code t class field r e) → (m : OkOr ℤ Trouble) → entity class v w.store ≡ m → Reaches code (at j (held (leaf r) v cells) frames w) (arrive (λ o w'. at end cells frames w') frames (outcome_then (looked t.line m w) (λ n w. outcome_then (look t.line (value e) w) (write t.line (InAttribute class field v)))))
-          go v found j end len h (Ok n) known = valued t class field r e v j end cells frames w in_ high found len h
+          go v found j end len h (Ok x) known = valued t class field r e v j end cells frames w in_ high found len h
           go v found j end len h (Err Misfit) known = free
           go v found j end len h (Err (Fails kind)) known = by (unlooked class r e v w.store (Fails kind) q found known)
             where

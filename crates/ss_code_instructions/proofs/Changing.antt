@@ -1,5 +1,6 @@
 -- The code of ADD and SUBTRACT where an attribute is changed: the value lies below the reference.
 use Rattle.std.proofs.Common.{◌≡◌, ℕ, zero, suc, ◌+◌, Bool, true, false, List, [], ◌∷◌, ◌++◌, length, Option, Some, None, Ok, Err, ℤ, refl, sym, ap, ◌∙◌, subst, arith, length-append}
+use Rattle.std.proofs.lemmas.Bool.{lt-ltb}
 use Rattle.std.specs.Prelude.{nat_lt, Result as OkOr, if◌then◌else◌}
 use Rattle.ss_base.specs.declared.line.Line.{Line}
 use Rattle.ss_base.specs.declared.value.Value.{Value}
@@ -24,8 +25,7 @@ use Rattle.ss_code_instructions.proofs.Expressions.{evaluates}
 use Rattle.ss_code_instructions.proofs.Attributes.{low_constant, low_held, err_first, two_change}
 
 less_so : (n : ℕ) → nat_lt n (suc n) ≡ true
-less_so zero = refl
-less_so (suc n) = less_so n
+less_so n = lt-ltb n (suc n) (omega arith)
 
 -- a constant or a variable lies above nothing, and below no cell
 leaf_low : (e : Expression) (x y : Operand) → leaf e ≡ Some x → lies_above x y ≡ false
@@ -102,8 +102,8 @@ module _ (code : Code) (n : ℕ) where
   -- what the instruction does is what the meaning's look, sum and write do
   change_is : (l : Line) (sign : Sign) (class field : ℕ) (v z : Value) (w : World) (m : OkOr ℤ Trouble) → entity class v w.store ≡ m → change l (changed_attribute sign class field v z) w ≡ outcome_then (looked l (turned (InAttribute class field) (turned (λ n. v) m)) w) (λ p w. outcome_then (look l (λ s. if_ok (held_at p s) (λ x. calculated (operator_of sign) x z)) w) (write l p))
   change_is l sign class field v z w (Err t) e =
-      ap (λ r. outcome_then (looked l r w) settle) (err_first (attribute class field v w.store) _ t (err_first (entity class v w.store) _ t e))
-      ∙ fails t
+      let lost : changed_attribute sign class field v z w.store ≡ Err t = err_first (attribute class field v w.store) _ t (err_first (entity class v w.store) _ t e) in
+      ap (λ r. outcome_then (looked l r w) settle) lost ∙ fails t
     where
       fails : (t : Trouble) → outcome_then (looked l (Err t) w) settle ≡ outcome_then (looked l (turned (InAttribute class field) (turned (λ (n : ℤ). v) (Err t))) w) (λ p w. outcome_then (look l (λ s. if_ok (held_at p s) (λ x. calculated (operator_of sign) x z)) w) (write l p))
       fails (Fails kind) = refl

@@ -8,14 +8,18 @@ use Rattle.ss_code_instructions.specs.States.{Frame, MachineState, Moved, To, Se
 use Rattle.ss_code_instructions.specs.Machine.{Code, act, is_due}
 use Rattle.ss_code_instructions.proofs.Keeping.{Same}
 use Rattle.ss_code_instructions.proofs.Acting.{Keeps, act_keeps}
-use Rattle.ss_code_instructions.proofs.Steps.{Comes, Reaches, here, reaches_on, Kept, kept, at, arrive}
-use Rattle.ss_code_instructions.proofs.Parts.{Within, Leads, onwards, writes, ends, breaks, whatever, with_core, ticked, tick_run, out_run}
+use Rattle.ss_code_instructions.proofs.Steps.{Goal, Comes, Reaches, here, reaches_on, Kept, kept, at, arrive}
+use Rattle.ss_code_instructions.proofs.Parts.{Within, Leads, onwards, writes, with_core, ticked, tick_run, out_run}
 
--- what an instruction leads to, and then another part
+-- what an instruction leads to, and then where the machine goes from there
+leads_on : {code : Code} (w : World) (m : Moved) (x : MachineState) (r : Goal) → Keeps w.store m → Leads code w m (Comes x) → (x.ticks ≤ w.ticks → Same w.store x.core.store → Reaches code x r) → Leads code w m r
+leads_on w m x r q (onwards f) h = let t = kept f in onwards (reaches_on f (h t.fewer (t.same ∙ q)))
+leads_on w m x r q (writes f) h = let t = kept f in writes (reaches_on f (h t.fewer (t.same ∙ q)))
+
+-- the same of a part, and then another one
 pub leads_join : {A B : Type 0} {code : Code} (w : World) (m : Moved) (k : A → World → MachineState) (k' : B → World → MachineState) (frames : List Frame) (o : Outcome A) (f : A → Part B) → Keeps w.store m → Leads code w m (arrive k frames o) → ((a : A) (w' : World) → (k a w').ticks ≤ w.ticks → Same w.store (k a w').core.store → Reaches code (k a w') (arrive k' frames (f a w'))) → Leads code w m (arrive k' frames (outcome_then o f))
 leads_join w m k k' frames (Left e w') f q g h = g
-leads_join w m k k' frames (WentOn a w') f q (onwards r) h = let t = kept r in onwards (reaches_on r (h a w' t.fewer (t.same ∙ q)))
-leads_join w m k k' frames (WentOn a w') f q (writes r) h = let t = kept r in writes (reaches_on r (h a w' t.fewer (t.same ∙ q)))
+leads_join w m k k' frames (WentOn a w') f q g h = leads_on w m (k a w') (arrive k' frames (f a w')) q g (h a w')
 
 -- where a turn leads: to where the next one begins, or to an end of the loop
 abbrev pub turned : {C A : Type 0} → (C → List Value → List Value) → ℕ → (A → ℕ) → List Value → List Frame → Next C A → World → MachineState

@@ -96,8 +96,8 @@ module _ (code : Code) (n : ℕ) where
       works v u on_top r found q h g =
           step_leads code last (core_at q (on_top (held (leaf e) v cells)) frames w.store) w _ _ h (calm (operand t e) (bearer (after t e) y))
           (acts (operand t e) (bearer (after t e) y) q (on_top (held (leaf e) v cells)) frames w.store
-          ∙ found.reads (held (leaf e) v cells) (λ u above. with_value (operand t e) w.store above (λ v below. did t.line (op v u w.store) (next q (on_top (held (leaf e) v cells)) frames w.store below))) (held_height t e v cells high)
-          ∙ reads t e v w.store cells (λ v below. did t.line (op v u w.store) (next q (on_top (held (leaf e) v cells)) frames w.store below)) high r)
+          ∙ found.reads (held (leaf e) v cells) (λ u above. with_value (operand t e) w.store above (λ x below. did t.line (op x u w.store) (next q (on_top (held (leaf e) v cells)) frames w.store below))) (held_height t e v cells high)
+          ∙ reads t e v w.store cells (λ x below. did t.line (op x u w.store) (next q (on_top (held (leaf e) v cells)) frames w.store below)) high r)
           (did_leads code t.line (op v u w.store) _ w k frames go (λ a m. g (on_top (held (leaf e) v cells)) a))
 
       -- from the owner on
@@ -113,11 +113,11 @@ module _ (code : Code) (n : ℕ) where
       unlooked v r q (Err Misfit) z h g = free
       unlooked v r q (Err (Fails kind)) z h g =
           let s = still (after t e) y q in
-          let h' : slice_get code.places (p + length c) ≡ Some last = (subst (λ b. HasAt code.places (p + length c) (b ++ last ∷ [])) s.empty h).0 in
-          step_leads code last (core_at (p + length c) (held (leaf e) v cells) frames w.store) w _ _ h' (calm (operand t e) (bearer (after t e) y))
+          let h' : HasAt code.places (p + length c) (last ∷ []) = subst (λ b. HasAt code.places (p + length c) (b ++ last ∷ [])) s.empty h in
+          step_leads code last (core_at (p + length c) (held (leaf e) v cells) frames w.store) w _ _ h'.0 (calm (operand t e) (bearer (after t e) y))
           (acts (operand t e) (bearer (after t e) y) (p + length c) (held (leaf e) v cells) frames w.store
-          ∙ s.gives w.store (held (leaf e) v cells) (λ u above. with_value (operand t e) w.store above (λ v below. did t.line (op v u w.store) (next (p + length c) (held (leaf e) v cells) frames w.store below)))
-          ∙ reads t e v w.store cells (λ v below. did t.line (op v (s.given w.store) w.store) (next (p + length c) (held (leaf e) v cells) frames w.store below)) high r
+          ∙ s.gives w.store (held (leaf e) v cells) (λ u above. with_value (operand t e) w.store above (λ x below. did t.line (op x u w.store) (next (p + length c) (held (leaf e) v cells) frames w.store below)))
+          ∙ reads t e v w.store cells (λ x below. did t.line (op x (s.given w.store) w.store) (next (p + length c) (held (leaf e) v cells) frames w.store below)) high r
           ∙ ap (λ z. did t.line z (next (p + length c) (held (leaf e) v cells) frames w.store cells)) (first v (s.given w.store) w.store kind z))
           breaks
 

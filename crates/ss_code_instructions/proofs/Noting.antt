@@ -16,15 +16,15 @@ Quiet s r = (r ≡ Ok s) ⊎ (r ≡ Err Misfit)
 columns_quiet : (subject : Subject) (x now : ℤ) (v : Value) (ss : List Statistic) (cs : List Column) → watch ss subject ≡ false → (all_noting subject x now v ss cs ≡ Ok cs) ⊎ (all_noting subject x now v ss cs ≡ Err Misfit)
 columns_quiet subject x now v [] cs q = inl refl
 columns_quiet subject x now v (s ∷ ss) [] q = inr refl
-columns_quiet subject x now v (s ∷ ss) (c ∷ cs) q = by (same_subject s.subject subject) q
+columns_quiet subject x now v (s ∷ ss) (c ∷ cs) q = by (λ q. columns_quiet subject x now v ss cs q) (same_subject s.subject subject) q
   where
     rest : (r : OkOr (List Column) Trouble) → (r ≡ Ok cs) ⊎ (r ≡ Err Misfit) → (turned (λ ds. c ∷ ds) r ≡ Ok (c ∷ cs)) ⊎ (turned (λ ds. c ∷ ds) r ≡ Err Misfit)
     rest r (inl e) = inl (ap (turned (λ ds. c ∷ ds)) e)
     rest r (inr e) = inr (ap (turned (λ ds. c ∷ ds)) e)
 
-    by : (b : Bool) → (if b then true else watch ss subject) ≡ false → (if_ok (if b then noting x now v c else Ok c) (λ d. turned (λ ds. d ∷ ds) (all_noting subject x now v ss cs)) ≡ Ok (c ∷ cs)) ⊎ (if_ok (if b then noting x now v c else Ok c) (λ d. turned (λ ds. d ∷ ds) (all_noting subject x now v ss cs)) ≡ Err Misfit)
-    by true q = absurd cc
-    by false q = rest (all_noting subject x now v ss cs) (columns_quiet subject x now v ss cs q)
+    by : (watch ss subject ≡ false → (all_noting subject x now v ss cs ≡ Ok cs) ⊎ (all_noting subject x now v ss cs ≡ Err Misfit)) → (b : Bool) → (if b then true else watch ss subject) ≡ false → (if_ok (if b then noting x now v c else Ok c) (λ d. turned (λ ds. d ∷ ds) (all_noting subject x now v ss cs)) ≡ Ok (c ∷ cs)) ⊎ (if_ok (if b then noting x now v c else Ok c) (λ d. turned (λ ds. d ∷ ds) (all_noting subject x now v ss cs)) ≡ Err Misfit)
+    by others true q = absurd cc
+    by others false q = rest (all_noting subject x now v ss cs) (others q)
 
 pub noted_quiet : (subject : Subject) (x : ℤ) (v : Value) (s : Store) → watch s.scene.setting.statistics subject ≡ false → Quiet s (noted subject x v s)
 noted_quiet subject x v s q = by (all_noting subject x s.scene.time v s.scene.setting.statistics s.scene.histories) (columns_quiet subject x s.scene.time v s.scene.setting.statistics s.scene.histories q)
