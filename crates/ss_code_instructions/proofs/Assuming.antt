@@ -1,11 +1,10 @@
 -- What is shown of the code of each statement and of each list of them, and what is assumed of calls and of events.
-use Rattle.std.proofs.Common.{◌≡◌, ℕ, suc, ◌+◌, List, [], ◌∷◌, ◌++◌, length, refl}
+use Rattle.std.proofs.Common.{◌≡◌, ℕ, suc, ◌+◌, List, [], ◌∷◌, ◌++◌, length}
 use Rattle.ss_base.specs.declared.line.Line.{Line}
 use Rattle.ss_base.specs.declared.value.Value.{Value}
 use Rattle.ss_program.specs.Program.{Statement, Block, Done, Then}
 use Rattle.ss_meaning.specs.Parts.{World}
 use Rattle.ss_meaning.specs.Statements.{Calls, effect, effects}
-use Rattle.ss_code_instructions.specs.Instructions.{Placed}
 use Rattle.ss_code_instructions.specs.Instructions as i
 use Rattle.ss_code_instructions.specs.States.{Frame, core_at}
 use Rattle.ss_code_instructions.specs.Machine.{Code, act}

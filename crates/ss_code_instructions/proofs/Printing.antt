@@ -15,8 +15,8 @@ use Rattle.ss_meaning.specs.Parts.{World, outcome_then, looked, look, send}
 use Rattle.ss_meaning.specs.Statements.{print}
 use Rattle.ss_code_instructions.specs.Instructions.{Stays, Placed, ItemKind, ShowsValue, ShowsMean, ShowsMeanOf, Lines}
 use Rattle.ss_code_instructions.specs.Instructions as i
-use Rattle.ss_code_instructions.specs.States.{Frame, Moved, Sends, did, fit, core_at, onward, with_block}
-use Rattle.ss_code_instructions.specs.Machine.{Code, act, is_due, mean_item, item_before, values_shown, cells_of_kind, cells_of_kinds, print_lines}
+use Rattle.ss_code_instructions.specs.States.{Frame, Moved, Sends, did, fit, core_at, onward}
+use Rattle.ss_code_instructions.specs.Machine.{Code, act, is_due, mean_item, item_before, values_shown, cells_of_kinds, print_lines}
 use Rattle.ss_code_instructions.specs.Translation.{Site, height, above, with_cells, place, next, expression_code, expression_mode, items_code, after_items, item_kind, lines_of}
 use Rattle.ss_code_instructions.proofs.Keeping.{Only, each, made_from}
 use Rattle.ss_code_instructions.proofs.Steps.{here, at}

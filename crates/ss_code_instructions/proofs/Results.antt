@@ -1,5 +1,5 @@
 -- What a routine yields goes to places.
-use Rattle.std.proofs.Common.{◌≡◌, ℕ, zero, suc, ◌+◌, false, List, [], ◌∷◌, ◌++◌, length, Option, Some, None, Ok, Err, ℤ, refl, sym, ap, ◌∙◌, subst, arith, length-append}
+use Rattle.std.proofs.Common.{◌≡◌, ℕ, suc, ◌+◌, false, List, [], ◌∷◌, ◌++◌, length, Option, Some, None, Ok, Err, ℤ, refl, ap, ◌∙◌, subst, arith, length-append}
 use Rattle.std.specs.Prelude.{Result as OkOr}
 use Rattle.ss_base.specs.declared.layout.Mode.{Mode}
 use Rattle.ss_base.specs.declared.layout.Mode.TheVariants.{Integer}
@@ -17,7 +17,7 @@ use Rattle.ss_meaning.specs.Parts.{World, WentOn, outcome_then, looked, settle, 
 use Rattle.ss_meaning.specs.Statements.{give_to, give_each}
 use Rattle.ss_code_instructions.specs.Instructions.{Operand, Taken, Placed}
 use Rattle.ss_code_instructions.specs.Instructions as i
-use Rattle.ss_code_instructions.specs.States.{Frame, MachineState, Moved, with_value, with_values}
+use Rattle.ss_code_instructions.specs.States.{MachineState, Moved, with_value, with_values}
 use Rattle.ss_code_instructions.specs.Machine.{Code}
 use Rattle.ss_code_instructions.specs.Translation.{Site, height, above, place, leaf, or_cell, operand, after, operand_code, place_mode, results_cells, with_results, give_code, gives_code}
 use Rattle.ss_code_instructions.proofs.Steps.{Reaches, at, arrive}

@@ -1,7 +1,6 @@
 -- The code of SCHEDULE.
 use Rattle.std.proofs.Common.{◌≡◌, ℕ, suc, ◌+◌, ◌-◌, false, true, List, [], ◌∷◌, ◌++◌, length, Option, Some, None, Ok, ℤ, refl, sym, ap, ◌∙◌, subst, arith, length-append}
-use Rattle.std.specs.Prelude.{slice_get, Result as OkOr}
-use Rattle.ss_base.specs.declared.layout.Mode.{Mode}
+use Rattle.std.specs.Prelude.{slice_get}
 use Rattle.ss_base.specs.declared.layout.Mode.TheVariants.{Integer}
 use Rattle.ss_base.specs.declared.value.Value.{Value}
 use Rattle.ss_base.specs.declared.value.Value.TheVariants.{Whole}
@@ -19,9 +18,9 @@ use Rattle.ss_code_instructions.specs.Instructions.{Operand, Held, Taken, Stays,
 use Rattle.ss_code_instructions.specs.Instructions as i
 use Rattle.ss_code_instructions.specs.States.{Frame, MachineState, Moved, did, fit, or_zero, core_at, with_value, with_values, onward, deliver_with}
 use Rattle.ss_code_instructions.specs.Machine.{Code}
-use Rattle.ss_code_instructions.specs.Translation.{Site, height, with_cells, above, place, next, leaf, or_in_cell, expression_mode, operand, after, stay, forget, forget_to, values_code, after_values, entity_code, count_code, when_code, after_place, variable_code, schedule_new_code, schedule_code}
+use Rattle.ss_code_instructions.specs.Translation.{Site, height, with_cells, above, place, next, leaf, or_in_cell, expression_mode, operand, after, stay, forget_to, values_code, after_values, entity_code, count_code, when_code, variable_code, schedule_new_code, schedule_code}
 use Rattle.ss_code_instructions.proofs.Steps.{HasAt, has_front, has_back, Comes, Reaches, here, at, arrive, join, follow}
-use Rattle.ss_code_instructions.proofs.Parts.{Within, onwards, step_leads, did_leads, at_the_height, Runs, same, done, onto, went, turned_then}
+use Rattle.ss_code_instructions.proofs.Parts.{onwards, step_leads, did_leads, at_the_height, Runs, same, done, onto, went, turned_then}
 use Rattle.ss_code_instructions.proofs.Operands.{on, Tops, put_then, delivers, held, held_height, reads}
 use Rattle.ss_code_instructions.proofs.Members.{top_cell}
 use Rattle.ss_code_instructions.proofs.Forgetting.{forget_run}

@@ -6,15 +6,14 @@ use Rattle.ss_meaning.specs.Store.{yielded}
 use Rattle.ss_meaning.specs.Events.{is_awaited}
 use Rattle.ss_meaning.specs.Parts.{World, Returned, Stopped, WentOn, Left, Part, outcome_then, choose, Next, Again, Over, go_on, loop}
 use Rattle.ss_meaning.specs.Statements.{Calls, next_due, event_turn, simulate}
-use Rattle.ss_meaning.specs.Meaning.{with_locals}
-use Rattle.ss_code_instructions.specs.Instructions.{Placed, Instruction}
+use Rattle.ss_code_instructions.specs.Instructions.{Placed}
 use Rattle.ss_code_instructions.specs.Instructions as i
 use Rattle.ss_code_instructions.specs.States.{Frame, To, fit, core_at, past, backwards}
 use Rattle.ss_code_instructions.specs.Machine.{Code, act}
 use Rattle.ss_code_instructions.specs.Translation.{Site, height, place}
 use Rattle.ss_code_instructions.proofs.Keeping.{Same}
 use Rattle.ss_code_instructions.proofs.Acting.{act_keeps}
-use Rattle.ss_code_instructions.proofs.Steps.{HasAt, Comes, Reaches, here, at, left_to, landed, arrive}
+use Rattle.ss_code_instructions.proofs.Steps.{HasAt, Reaches, here, at, left_to, landed, arrive}
 use Rattle.ss_code_instructions.proofs.Parts.{Within, Leads, onwards, ends, whatever, step_leads, tick_run, out_run, ticked, Runs, same, done}
 use Rattle.ss_code_instructions.proofs.Loops.{leads_join, turned, Turns, loop_run}
 use Rattle.ss_code_instructions.proofs.Looping.{leap}

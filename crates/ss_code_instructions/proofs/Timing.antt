@@ -1,5 +1,5 @@
 -- The code of a time, of values and then a time, and of a reference that is looked at: what SCHEDULE begins with.
-use Rattle.std.proofs.Common.{◌≡◌, ℕ, suc, ◌+◌, false, true, List, [], ◌∷◌, ◌++◌, length, Ok, Err, ℤ, refl, sym, ap, ◌∙◌, subst, arith, length-append}
+use Rattle.std.proofs.Common.{◌≡◌, ℕ, ◌+◌, false, true, List, [], ◌∷◌, ◌++◌, length, Ok, Err, ℤ, refl, sym, ◌∙◌, subst, arith, length-append}
 use Rattle.std.specs.Prelude.{Result as OkOr}
 use Rattle.ss_base.specs.declared.value.Value.{Value}
 use Rattle.ss_base.specs.declared.value.Value.TheVariants.{Whole}
@@ -10,7 +10,7 @@ use Rattle.ss_meaning.specs.Entities.{entity}
 use Rattle.ss_meaning.specs.Events.{Moment, AtTime, Later, time_at}
 use Rattle.ss_meaning.specs.Expressions.{value, values, looked_at, entity_value, time_value}
 use Rattle.ss_meaning.specs.Parts.{World, Part, outcome_then, looked, look}
-use Rattle.ss_code_instructions.specs.Instructions.{Operand, Onto, Placed, Instruction}
+use Rattle.ss_code_instructions.specs.Instructions.{Operand, Placed, Instruction}
 use Rattle.ss_code_instructions.specs.Instructions as i
 use Rattle.ss_code_instructions.specs.States.{Frame, MachineState, did, core_at, with_value, onward, deliver}
 use Rattle.ss_code_instructions.specs.Machine.{Code, act, is_due}
