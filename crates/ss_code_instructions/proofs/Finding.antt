@@ -37,7 +37,7 @@ module _ (code : Code) (n : ℕ) (t : Site) (head : Head) (fr : ForRuns code n t
 
   -- ## FOR
 
-  pub for_runs : (c : List Placed) (m : Part (Unit {0})) → Runs code n (height u) same c done m → Runs code n (height t) same (for_code t head (phrases_code u ps c)) done (λ w. then_nothing (over n t.line head (phrases t.line ps (body_turn m)) w))
+  pub for_runs : (c : List Placed) (m : Part (Unit {0})) → Runs code n (height (in_loop t head)) same c done m → Runs code n (height t) same (for_code t head (phrases_code (in_loop t head) ps c)) done (λ w. then_nothing (over n t.line head (phrases t.line ps (body_turn m)) w))
   for_runs c m r = record {
     by = λ p cells frames w high has in_.
         let turn : List Placed = phrases_code u ps c in

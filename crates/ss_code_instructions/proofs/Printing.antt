@@ -48,7 +48,7 @@ AsMany k vs = k ≡ length vs
 -- one value more
 one_many : {A : Type 0} (k : ℕ) (r : OkOr A Trouble) (f : A → Value) (o : OkOr (List Value) Trouble) → Only (AsMany k) o → Only (AsMany (1 + k)) (if_ok r (λ a. turned (λ vs. f a ∷ vs) o))
 one_many k r f o h =
-    each (AsMany (1 + k)) r _ (λ a. made_from (AsMany (1 + k)) (AsMany k) (λ vs. f a ∷ vs) o h (λ vs q. omega (arith, q)))
+    each (AsMany (1 + k)) r _ (λ a. made_from (AsMany (1 + k)) (AsMany k) (λ vs. f a ∷ vs) o h (λ vs q. let e : 1 + k ≡ suc (length vs) = omega (arith, q) in e))
 
 none_many : {A : Type 0} (k : ℕ) (r : OkOr A Trouble) (o : OkOr (List Value) Trouble) → Only (AsMany k) o → Only (AsMany (0 + k)) (if_ok r (λ a. o))
 none_many k r o h = let e : k ≡ 0 + k = omega arith in each (AsMany (0 + k)) r _ (λ a. subst (λ j. Only (AsMany j) o) e h)

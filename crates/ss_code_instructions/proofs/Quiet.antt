@@ -1,5 +1,5 @@
 -- Making a notice leaves the variables, and what the program says.
-use Rattle.std.proofs.Common.{◌≡◌, ℕ, ◌+◌, List, [], ◌∷◌, Ok, Err, ℤ, refl, ◌∙◌}
+use Rattle.std.proofs.Common.{ℕ, ◌+◌, List, [], ◌∷◌, Ok, Err, ℤ, refl, ◌∙◌}
 use Rattle.std.specs.Prelude.{Result as OkOr}
 use Rattle.ss_base.specs.declared.line.Line.{Line}
 use Rattle.ss_base.specs.declared.value.Value.{Value}
