@@ -61,7 +61,7 @@ module _ (code : Code) (n : ℕ) (t : Site) (head : Head) (fr : ForRuns code n t
     abbrev side : List Placed
     side = forget_to t u ++ ca
 
-    -- both sides, behind the loop
+    -- both sides, after the loop
     abbrev both_sides : List Placed
     both_sides = cb ++ (place t (Jump (length ca + 1)) ∷ side)
 
