@@ -1,7 +1,7 @@
 -- The turns of a FOR over the members of a set. At the head of a turn the cells hold the member, and the one that comes after it.
 use Rattle.std.proofs.Common.{◌≡◌, ℕ, zero, suc, ◌+◌, ◌-◌, ◌≤◌, Bool, true, false, List, [], ◌∷◌, ◌++◌, length, Option, Some, Ok, Err, ℤ, pos, refl, sym, ap, ◌∙◌, subst, arith}
 use Rattle.std.proofs.lemmas.Bool.{ne_eqb}
-use Rattle.std.specs.Prelude.{slice_get, Result as OkOr, if◌then◌else◌}
+use Rattle.std.specs.Prelude.{slice_get, is_some, Result as OkOr, if◌then◌else◌}
 use Rattle.ss_base.specs.declared.fault.FaultKind.{FaultKind}
 use Rattle.ss_base.specs.declared.value.Value.{Value}
 use Rattle.ss_base.specs.declared.value.Value.TheVariants.{Whole}
@@ -9,7 +9,7 @@ use Rattle.ss_world.specs.State.{and_then}
 use Rattle.ss_world.specs.Sets.{joiner, follower, precursor, companions}
 use Rattle.ss_program.specs.declared.expression.Variable.{Variable}
 use Rattle.ss_program.specs.Program.{SetOwner}
-use Rattle.ss_meaning.specs.Values.{Trouble, Fails, Misfit, if_ok, turned, due, is_some, where_fit}
+use Rattle.ss_meaning.specs.Values.{Trouble, Fails, Misfit, if_ok, turned, due, where_fit}
 use Rattle.ss_meaning.specs.Store.{Store}
 use Rattle.ss_meaning.specs.Sets.{set_at, is_in, is_none, coming, or_gone, goes_on}
 use Rattle.ss_meaning.specs.Loops.{Turn, GoesOn, EndsLoop, IsFound, visit, next_member, member_turn}
@@ -102,7 +102,7 @@ module _ (code : Code) (n : ℕ) (t : Site) (x : Variable) (turn : List Placed) 
         -- another turn
         further : (a : ℤ) → coming reverse set z w.store ≡ Ok a → is_none z ≡ false → Leads code w (walk_further far (walk j z) (walk z a) (own ++ cells) c) (arrive ends frames (loop k turn_of z w))
         further a known some =
-            let back : end - far ≡ p = omega (arith, len) in
+            let back : end - (length take_ + length turn) ≡ p = omega (arith, len) in
             subst (λ v. Leads code w v (arrive ends frames (loop k turn_of z w))) (sym (ap (λ (b : Bool). if b then back_if far false (hold j z) c else back_if far true (hold z a) c) some))
             (onwards (subst (λ q. Reaches code (at q (hold z a) frames w) (arrive ends frames (loop k turn_of z w))) (sym back) (again z a w lek known in_)))
 
