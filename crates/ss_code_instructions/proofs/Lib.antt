@@ -25,6 +25,7 @@ pub mod Giving
 pub mod Loops
 pub mod Looping
 pub mod Ranging
+pub mod Joining
 pub mod Walking
 pub mod Pieces
 pub mod Holding
