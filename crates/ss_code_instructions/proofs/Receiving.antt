@@ -51,17 +51,17 @@ leaf_later (Constant c) x v s u q r g l cells go =
 leaf_later (Fetch y) x v s u q r g l cells go =
     let e : Held y ≡ x = cc in
     subst (λ x. with_value x u cells go ≡ go v cells) e (ap (λ o. go (or_zero o) cells) (fetched_alike y s u g l ∙ sure_is (fetched y s) v r))
-leaf_later (Attribute class field e) x v s u q r g l cells go = absurd cc
-leaf_later (OfSystemSet query set) x v s u q r g l cells go = absurd cc
-leaf_later (OfSet query set e) x v s u q r g l cells go = absurd cc
-leaf_later (OfMember query set e) x v s u q r g l cells go = absurd cc
-leaf_later Clock x v s u q r g l cells go = absurd cc
-leaf_later (TimeOf e) x v s u q r g l cells go = absurd cc
-leaf_later (Figure fold j) x v s u q r g l cells go = absurd cc
-leaf_later (FigureOf fold j e) x v s u q r g l cells go = absurd cc
-leaf_later (Signed sign e) x v s u q r g l cells go = absurd cc
-leaf_later (Absolute e) x v s u q r g l cells go = absurd cc
-leaf_later (Calculate op a b) x v s u q r g l cells go = absurd cc
+leaf_later (Attribute class field e) x v s u q _ _ _ cells go = absurd cc
+leaf_later (OfSystemSet query set) x v s u q _ _ _ cells go = absurd cc
+leaf_later (OfSet query set e) x v s u q _ _ _ cells go = absurd cc
+leaf_later (OfMember query set e) x v s u q _ _ _ cells go = absurd cc
+leaf_later Clock x v s u q _ _ _ cells go = absurd cc
+leaf_later (TimeOf e) x v s u q _ _ _ cells go = absurd cc
+leaf_later (Figure fold j) x v s u q _ _ _ cells go = absurd cc
+leaf_later (FigureOf fold j e) x v s u q _ _ _ cells go = absurd cc
+leaf_later (Signed sign e) x v s u q _ _ _ cells go = absurd cc
+leaf_later (Absolute e) x v s u q _ _ _ cells go = absurd cc
+leaf_later (Calculate op a b) x v s u q _ _ _ cells go = absurd cc
 
 -- a part that leaves the variables, and what the program says
 abbrev pub Quietly : Part Value → Type 0
