@@ -32,7 +32,7 @@ use Rattle.ss_code_instructions.proofs.Expressions.{value_runs}
 use Rattle.ss_code_instructions.proofs.Attributes.{err_first}
 use Rattle.ss_code_instructions.proofs.Forgetting.{forget_run}
 use Rattle.ss_code_instructions.proofs.Members.{top_cell}
-use Rattle.ss_code_instructions.proofs.Joining.{Joined}
+use Rattle.ss_code_instructions.proofs.Joining.{Joined, joined_joins}
 use Rattle.ss_code_instructions.proofs.Looping.{leads, past_loop}
 use Rattle.ss_code_instructions.proofs.Taking.{visit_run, visit_out}
 
@@ -163,7 +163,7 @@ known_follows true set n t x s q j =
 member_follows : (reverse : Bool) (set : ℕ) (t : SetLayout) (x : ℤ) (s : Store) → Joined s.scene.heap → set_at set s ≡ Some t → IsMember s.scene.heap set x → Follows reverse set s x
 member_follows reverse set t x s joined q m =
     subst (Follows reverse set s) m.2
-    (known_follows reverse set m.1 t (pos m.1) s q (joined set m.0 m.1 (before_end s.scene.heap.layout.sets set t q) m.3))
+    (known_follows reverse set m.1 t (pos m.1) s q (joined_joins s.scene.heap joined set m.0 m.1 (before_end s.scene.heap.layout.sets set t q) m.3))
 
 -- a walk begins at an end of a set
 pub begun_follows : (reverse : Bool) (set : ℕ) (y : Option Value) (x : ℤ) (s : Store) → Joined s.scene.heap → begun reverse set y s ≡ Ok x → is_none x ≡ false → Follows reverse set s x
