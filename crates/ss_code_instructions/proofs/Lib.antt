@@ -1,6 +1,8 @@
 mod Keeping
 mod Moving
 mod Acting
+pub mod Joining
+pub mod Staying
 pub mod Calling
 pub mod Steps
 pub mod Parts
@@ -25,7 +27,6 @@ pub mod Giving
 pub mod Loops
 pub mod Looping
 pub mod Ranging
-pub mod Joining
 pub mod Walking
 pub mod Pieces
 pub mod Holding
