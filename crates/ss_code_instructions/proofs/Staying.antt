@@ -35,10 +35,11 @@ use Rattle.ss_meaning.specs.Statements.{with_input, read_value}
 use Rattle.ss_meaning.proofs.Fine.{Sane}
 use Rattle.ss_code_instructions.specs.Instructions.{Taken, Target, Into, Onto, Instruction, EntryPoint}
 use Rattle.ss_code_instructions.specs.Instructions as i
-use Rattle.ss_code_instructions.specs.States.{Called, ARoutine, AnEvent, Frame, Core, Moved, Stuck, did, back_if, cell_at, take_off, Written, put_to, deliver_with, onward}
+use Rattle.ss_code_instructions.specs.States.{Called, ARoutine, AnEvent, Frame, Core, Moved, To, Sends, Rest, Stuck, did, back_if, cell_at, take_off, Written, put_to, deliver_with, onward}
 use Rattle.ss_code_instructions.specs.Machine.{Code, changed_attribute, assignable_count, Walk, walk_at, walk_cells, has_item, next_item, walk_further, values_shown, cells_of_kinds, enter, leave, take_event, act}
-use Rattle.ss_code_instructions.proofs.Keeping.{Only, Where, each, then_only, made, made_from, fitting, unless}
+use Rattle.ss_code_instructions.proofs.Keeping.{Only, Where, Same, each, then_only, made, made_from, fitting, unless}
 use Rattle.ss_code_instructions.proofs.Moving.{Every, did_only, did_any, fit_any, fit_where, if_every, high, block, number, value, values, bearer, position, three, walk}
+use Rattle.ss_code_instructions.proofs.Acting.{Saying, act_keeps}
 use Rattle.ss_code_instructions.proofs.Joining.{Joined, assigned_joined, timed_joined, created_joined, created_all_joined, first_filed, last_filed, before_filed, after_filed, filed_joined, removed_joined, first_removed_joined, last_removed_joined, destroyed_joined}
 
 -- where each member of a set lives in the one store, it does in the other
@@ -353,3 +354,33 @@ act_remains code l (i.Read mode to) c = delivers c.store l to (read_value mode c
 act_remains code l (i.Print lines h) c =
     fit_any (Staying c.store) (slice_get code.prints lines) _ (λ p. block (Staying c.store) (cells_of_kinds p.items) h c.cells _ (λ vs below. fit_any (Staying c.store) (values_shown p.items vs c.store) _ (λ items. fit_any (Staying c.store) (printed p.pictures items) _ (λ bytes j. j))))
 act_remains code l (i.Skip count) c = value (Staying c.store) count c.store c.cells _ (λ v below. did_any (Staying c.store) l (empty_lines v) _ (λ bytes j. j))
+
+-- ## Both at once: what the program says, and that each member of a set lives
+
+abbrev pub Lasts : Store → Store → Type 0
+Lasts s t = Same s t × Stays s t
+
+abbrev pub Lasting : Store → Core → Type 0
+Lasting s c = Lasts s c.store
+
+abbrev pub Endures : Store → Moved → Type 0
+Endures s m = Every (Lasting s) m
+
+every_both : (P Q : Core → Type 0) (m : Moved) → Every P m → Every Q m → Every (λ c. P c × Q c) m
+every_both P Q (To c) p q = (p, q)
+every_both P Q (Sends bytes c) p q = (p, q)
+every_both P Q (Rest f) p q = tt
+every_both P Q Stuck p q = tt
+
+pub act_lasts : (code : Code) (l : Line) (x : Instruction) (c : Core) → Endures c.store (act code l x c)
+act_lasts code l x c = every_both (Saying c.store) (Staying c.store) (act code l x c) (act_keeps code l x c) (act_remains code l x c)
+
+pub lasts_then : (s t u : Store) → Lasts s t → Lasts t u → Lasts s u
+lasts_then s t u p q = (q.0 ∙ p.0, λ j. q.1 (p.1 j))
+
+-- a store in which the program says what its code says, and each member of a set lives
+abbrev pub Suits : Code → Store → Type 0
+Suits code s = (s.scene.setting ≡ code.setting) × Joined s.scene.heap
+
+pub suits_on : (code : Code) (s t : Store) → Lasts s t → Suits code s → Suits code t
+suits_on code s t p q = (p.0 ∙ q.0, p.1 q.1)
