@@ -51,6 +51,9 @@ item_cell h step limit item cells e =
     ∙ ap (λ (b : Bool). if b then Some (Whole limit) else cell_at h (Whole item ∷ cells)) (ne_eqb (suc (length cells)) h q)
     ∙ top_cell h (Whole item) cells e
 
+three_more : (k : ℕ) → suc (suc (suc k)) - k ≡ 3
+three_more k = omega arith
+
 module _ (limit step : ℤ) where
   no_more : (k : ℕ) (item : ℤ) → int_le item limit ≡ false → items_from k limit step item ≡ []
   no_more zero item q = refl
@@ -80,7 +83,7 @@ module _ (code : Code) (n : ℕ) (t : Site) (x : Variable) (turn : List Placed) 
     -- what the FOR keeps goes
     forget : (q to : ℕ) (item : ℤ) (w : World) → HasAt code.places q (forget_to t (number_loop t)) → q + 1 ≡ to → Reaches code (at q (hold_item step limit item cells) frames w) (Comes (at to cells frames w))
     forget q to item w h e =
-        let three : suc (suc (suc (height t))) - height t ≡ 3 = omega arith in
+        let three : suc (suc (suc (height t))) - height t ≡ 3 = three_more (height t) in
         let end : q + length (forget_to t (number_loop t)) ≡ to = omega (arith, one, e) in
         subst (λ j. Reaches code (at q (hold_item step limit item cells) frames w) (Comes (at j cells frames w))) end
         (forget_run code n (number_loop t) (height (number_loop t) - height t) q (Whole step ∷ Whole limit ∷ Whole item ∷ []) cells frames w three h)
