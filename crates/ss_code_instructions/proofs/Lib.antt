@@ -1,6 +1,8 @@
 mod Keeping
 mod Moving
 mod Acting
+pub mod Joining
+pub mod Staying
 pub mod Calling
 pub mod Steps
 pub mod Parts

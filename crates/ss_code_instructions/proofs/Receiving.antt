@@ -23,7 +23,7 @@ use Rattle.ss_code_instructions.specs.Instructions as i
 use Rattle.ss_code_instructions.specs.States.{Frame, MachineState, Moved, did, or_zero, core_at, with_value, with_values, deliver_with, onward}
 use Rattle.ss_code_instructions.specs.Machine.{Code, act, is_due}
 use Rattle.ss_code_instructions.specs.Translation.{Site, height, above, place, leaf, or_cell, operand, after, operand_code, next, stay, count_code, to_place_code, reads_code}
-use Rattle.ss_code_instructions.proofs.Keeping.{Only, Same, each, made, fitting}
+use Rattle.ss_code_instructions.proofs.Keeping.{Only, Same, made, fitting}
 use Rattle.ss_code_instructions.proofs.Steps.{HasAt, has_front, has_back, Reaches, reaches_on, Kept, kept, at, arrive, join}
 use Rattle.ss_code_instructions.proofs.Parts.{onwards, step_leads, did_leads, at_the_height, Runs, same, done, went, seq, none}
 use Rattle.ss_code_instructions.proofs.Operands.{on, Tops, put_then, delivers, held, held_height, sure_is, not_above, one_join}
@@ -51,17 +51,17 @@ leaf_later (Constant c) x v s u q r g l cells go =
 leaf_later (Fetch y) x v s u q r g l cells go =
     let e : Held y ≡ x = cc in
     subst (λ x. with_value x u cells go ≡ go v cells) e (ap (λ o. go (or_zero o) cells) (fetched_alike y s u g l ∙ sure_is (fetched y s) v r))
-leaf_later (Attribute class field e) x v s u q r g l cells go = absurd cc
-leaf_later (OfSystemSet query set) x v s u q r g l cells go = absurd cc
-leaf_later (OfSet query set e) x v s u q r g l cells go = absurd cc
-leaf_later (OfMember query set e) x v s u q r g l cells go = absurd cc
-leaf_later Clock x v s u q r g l cells go = absurd cc
-leaf_later (TimeOf e) x v s u q r g l cells go = absurd cc
-leaf_later (Figure fold j) x v s u q r g l cells go = absurd cc
-leaf_later (FigureOf fold j e) x v s u q r g l cells go = absurd cc
-leaf_later (Signed sign e) x v s u q r g l cells go = absurd cc
-leaf_later (Absolute e) x v s u q r g l cells go = absurd cc
-leaf_later (Calculate op a b) x v s u q r g l cells go = absurd cc
+leaf_later (Attribute class field e) x v s u q _ _ _ cells go = absurd cc
+leaf_later (OfSystemSet query set) x v s u q _ _ _ cells go = absurd cc
+leaf_later (OfSet query set e) x v s u q _ _ _ cells go = absurd cc
+leaf_later (OfMember query set e) x v s u q _ _ _ cells go = absurd cc
+leaf_later Clock x v s u q _ _ _ cells go = absurd cc
+leaf_later (TimeOf e) x v s u q _ _ _ cells go = absurd cc
+leaf_later (Figure fold j) x v s u q _ _ _ cells go = absurd cc
+leaf_later (FigureOf fold j e) x v s u q _ _ _ cells go = absurd cc
+leaf_later (Signed sign e) x v s u q _ _ _ cells go = absurd cc
+leaf_later (Absolute e) x v s u q _ _ _ cells go = absurd cc
+leaf_later (Calculate op a b) x v s u q _ _ _ cells go = absurd cc
 
 -- a part that leaves the variables, and what the program says
 abbrev pub Quietly : Part Value → Type 0
@@ -153,7 +153,7 @@ module _ (code : Code) (n : ℕ) where
         ((runs (after t r) (next (after t r)) refl refl).by (p + length c + 1) (held (leaf r) v cells) frames w (held_height t r v cells high) (has_front code.places (p + length c + 1) s last h1) in_))
         (λ z w' gave k.
         subst (λ j. Reaches code (at (p + length c + 1 + length s) (z ∷ held (leaf r) v cells) frames w') (arrive (λ o w'. at j cells frames w') frames (write t.line (InAttribute class field v) z w'))) end
-        (two_change code n set_ (operand t r) (Taken (height (after t r))) (assigned_attribute class field) v z (p + length c + 1 + length s) (z ∷ held (leaf r) v cells) cells frames w' refl refl (λ go. top_takes t r v z w.store w'.store cells go high found (quiet w w' z gave)) (has_back code.places (p + length c + 1) s last h1).0))))))));
+        (two_change code n set_ (operand t r) (Taken (height (after t r))) (assigned_attribute class field) v z (p + length c + 1 + length s) (z ∷ held (leaf r) v cells) cells frames w' refl refl (λ go. top_takes t r v z w.store w'.store cells go high found (quiet w w' z gave)) (has_back code.places (p + length c + 1) s last h1).0)))))));
   }
     where
       abbrev placed : Line → (class field : ℕ) → Part Value → Value → Part (Unit {0})
