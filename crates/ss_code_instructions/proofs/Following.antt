@@ -6,19 +6,19 @@ use Rattle.ss_meaning.specs.Parts.{World, Outcome, WentOn, Left, Part, outcome_t
 use Rattle.ss_code_instructions.specs.Instructions.{Placed}
 use Rattle.ss_code_instructions.specs.States.{Frame, MachineState, Moved, fit}
 use Rattle.ss_code_instructions.specs.Machine.{Code}
-use Rattle.ss_code_instructions.proofs.Keeping.{Same}
-use Rattle.ss_code_instructions.proofs.Steps.{has_front, has_back, Reaches, reaches_on, Kept, kept, at, arrive}
+use Rattle.ss_code_instructions.proofs.Staying.{Lasts, suits_on}
+use Rattle.ss_code_instructions.proofs.Steps.{has_front, has_back, Reaches, Kept, at, arrive, join_known}
 use Rattle.ss_code_instructions.proofs.Parts.{Within, within_on, Leads, whatever, ticked, Lands, Runs}
 
--- ## Worlds. No other file of calls and events says what is within; so what else has to hold of a world is added here alone
+-- ## Worlds
 
 -- with a tick less
 pub within_ticked : {code : Code} {n t : ℕ} {w : World} → Within code (suc n) w → w.ticks ≡ suc t → Within code n (ticked t w)
 within_ticked i e = record { ticks = omega (arith, i.ticks, e); says = i.says }
 
--- with another store, in which the program says the same
-pub within_store : {code : Code} {n : ℕ} {w : World} {s : Store} → Within code n w → Same w.store s → Within code n (record w { store = s })
-within_store i e = record { ticks = i.ticks; says = e ∙ i.says }
+-- with another store, in which the program says the same, and each member of a set goes on to live
+pub within_store : {code : Code} {n : ℕ} {w : World} {s : Store} → Within code n w → Lasts w.store s → Within code n (record w { store = s })
+within_store {code} {n} {w} {s} i e = record { ticks = i.ticks; says = suits_on code w.store s e i.says }
 
 -- ## A part, and what follows
 
@@ -27,12 +27,7 @@ abbrev pub IfWentOn : {A : Type 0} → (A → Type 0) → Outcome A → Type 0
 IfWentOn P (WentOn a w) = P a
 IfWentOn P (Left e w) = Unit {0}
 
--- where it is known how the part went
-pub join_known : {A B : Type 0} {code : Code} (s : MachineState) (k : A → World → MachineState) (k' : B → World → MachineState) (frames : List Frame) (r : Outcome A) (f : A → Part B) → Reaches code s (arrive k frames r) → ((a : A) (w : World) → r ≡ WentOn a w → Kept s (k a w) → Reaches code (k a w) (arrive k' frames (f a w))) → Reaches code s (arrive k' frames (outcome_then r f))
-join_known s k k' frames (WentOn a w) f g h = reaches_on g (h a w refl (kept g))
-join_known s k k' frames (Left e w) f g h = g
-
--- where its value has a property
+-- where the value of a part has a property
 pub join_such : {A B : Type 0} {code : Code} (P : A → Type 0) (s : MachineState) (k : A → World → MachineState) (k' : B → World → MachineState) (frames : List Frame) (r : Outcome A) (f : A → Part B) → IfWentOn P r → Reaches code s (arrive k frames r) → ((a : A) (w : World) → P a → Kept s (k a w) → Reaches code (k a w) (arrive k' frames (f a w))) → Reaches code s (arrive k' frames (outcome_then r f))
 join_such P s k k' frames r f such g h = join_known s k k' frames r f g (λ a w e q. h a w (subst (IfWentOn P) e such) q)
 

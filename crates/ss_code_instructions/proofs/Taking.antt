@@ -14,7 +14,7 @@ use Rattle.ss_code_instructions.specs.States.{Frame, MachineState, Moved, did, f
 use Rattle.ss_code_instructions.specs.Machine.{Code}
 use Rattle.ss_code_instructions.specs.Translation.{Site, place, is_kept, take_code}
 use Rattle.ss_code_instructions.proofs.Keeping.{Only, Same, variable_same}
-use Rattle.ss_code_instructions.proofs.Staying.{Stays as StaysIn, variable_stays, suits_on}
+use Rattle.ss_code_instructions.proofs.Staying.{Stays as StaysJoined, variable_stays, suits_on}
 use Rattle.ss_code_instructions.proofs.Steps.{HasAt, Reaches, at, arrive}
 use Rattle.ss_code_instructions.proofs.Parts.{Within, Leads, onwards, step_leads, ticked, tick_run, out_run, then_then}
 use Rattle.ss_code_instructions.proofs.Assigning.{change_leads}
@@ -31,7 +31,7 @@ module _ (code : Code) (n : ℕ) where
       within : (t : ℕ) (s : Store) → w.ticks ≡ suc t → assigned_variable x (Whole item) w.store ≡ Ok s → Within code n (after t s)
       within t s e q = record {
         ticks = (let few : t ≤ n = omega (arith, e, in_.ticks) in few);
-        says = suits_on code w.store s (subst (Only (Same w.store)) q (variable_same x (Whole item) w.store), subst (Only (StaysIn w.store)) q (variable_stays x (Whole item) w.store)) in_.says;
+        says = suits_on code w.store s (subst (Only (Same w.store)) q (variable_same x (Whole item) w.store), subst (Only (StaysJoined w.store)) q (variable_stays x (Whole item) w.store)) in_.says;
       }
 
       -- the assignment at a place, and what follows at the next
