@@ -18,7 +18,7 @@ within_ticked i e = record { ticks = omega (arith, i.ticks, e); says = i.says }
 
 -- with another store, in which the program says the same, and each member of a set goes on to live
 pub within_store : {code : Code} {n : ℕ} {w : World} {s : Store} → Within code n w → Lasts w.store s → Within code n (record w { store = s })
-within_store {code} {n} {w} {s} i e = record { ticks = i.ticks; says = suits_on code w.store s e i.says }
+within_store {code} {w} {s} i e = record { ticks = i.ticks; says = suits_on code w.store s e i.says }
 
 -- ## A part, and what follows
 

@@ -21,8 +21,7 @@ pub record Within (code : Code) (n : ℕ) (w : World) : Type 0 where
   pub says : Suits code w.store
 
 pub within_on : {code : Code} {n p q : ℕ} {cells cells' : List Value} {frames frames' : List Frame} {w w' : World} → Within code n w → Kept (at p cells frames w) (at q cells' frames' w') → Within code n w'
-within_on {code} {n} {p} {q} {cells} {cells'} {frames} {frames'} {w} {w'} i k =
-    record { ticks = omega (arith, i.ticks, k.fewer); says = suits_on code w.store w'.store k.same i.says }
+within_on {code} {w} {w'} i k = record { ticks = omega (arith, i.ticks, k.fewer); says = suits_on code w.store w'.store k.same i.says }
 
 abbrev pub with_core : Core → World → MachineState
 with_core c w = record { core = c; report = w.report; ticks = w.ticks }

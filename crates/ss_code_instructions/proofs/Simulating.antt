@@ -11,29 +11,12 @@ use Rattle.ss_code_instructions.specs.Instructions as i
 use Rattle.ss_code_instructions.specs.States.{Frame, To, fit, core_at, past, backwards}
 use Rattle.ss_code_instructions.specs.Machine.{Code, act}
 use Rattle.ss_code_instructions.specs.Translation.{Site, height, place}
-use Rattle.ss_code_instructions.proofs.Keeping.{Same}
-use Rattle.ss_code_instructions.proofs.Acting.{act_keeps}
+use Rattle.ss_code_instructions.proofs.Staying.{act_lasts}
 use Rattle.ss_code_instructions.proofs.Steps.{HasAt, Reaches, here, at, left_to, landed, arrive}
 use Rattle.ss_code_instructions.proofs.Parts.{Within, Leads, onwards, ends, whatever, step_leads, tick_run, out_run, ticked, Runs, same, done}
 use Rattle.ss_code_instructions.proofs.Loops.{leads_join, turned, Turns, loop_run}
 use Rattle.ss_code_instructions.proofs.Looping.{leap}
 use Rattle.ss_code_instructions.proofs.Assuming.{CallsRun}
-
--- ## Turns of which each needs that the ticks left are fewer than the bound
-
-module _ (code : Code) where
-  -- one turn more than the bound within which each turn runs
-  pub one_more : {C A : Type 0} {n p : ℕ} {hold : C → List Value → List Value} {to : A → ℕ} {cells : List Value} {frames : List Frame} {turn : C → Part (Next C A)} → Turns code n p hold to cells frames turn → (c : C) (w : World) → w.ticks ≤ suc n → w.store.scene.setting ≡ code.setting → Reaches code (at p (hold c cells) frames w) (arrive (λ a w'. at (to a) cells frames w') frames (loop (suc n) turn c w))
-  one_more {C} {A} {n} {p} {hold} {to} {cells} {frames} {turn} t c w le says =
-      tick_run code {A = A} t.head (core_at p (hold c cells) frames w.store) frames w (λ a w'. at (to a) cells frames w') (λ w. outcome_then (turn c w) (go_on (loop n turn))) t.has t.due (λ j e.
-      leads_join (ticked j w) (act code t.head.line t.head.instruction (core_at p (hold c cells) frames w.store)) (turned hold p to cells frames) (λ a w'. at (to a) cells frames w') frames (turn c (ticked j w)) (go_on (loop n turn))
-      (act_keeps code t.head.line t.head.instruction (core_at p (hold c cells) frames w.store))
-      (t.each c (ticked j w) (record { ticks = (let few : j ≤ n = omega (arith, e, le) in few); says = says }))
-      (λ o w' fewer same_. again o w' j (let few : j ≤ n = omega (arith, e, le) in few) fewer same_))
-    where
-      again : (o : Next C A) (w' : World) (j : ℕ) → j ≤ n → (turned hold p to cells frames o w').ticks ≤ j → Same w.store (turned hold p to cells frames o w').core.store → Reaches code (turned hold p to cells frames o w') (arrive (λ a w''. at (to a) cells frames w'') frames (go_on (loop n turn) o w'))
-      again (Again d) w' j few fewer same_ = loop_run code t n (omega arith) d w' (omega (arith, few, fewer)) (same_ ∙ says)
-      again (Over a) w' j few fewer same_ = here
 
 -- ## START SIMULATION: event after event
 
@@ -55,7 +38,7 @@ module _ (code : Code) (n : ℕ) (t : Site) where
       due = refl;
       each = λ c w in_.
           leads_join w (act code t.line (i.TakeEvent (height t)) (core_at p cells frames w.store)) (λ (o : Unit {0}) w'. at (p + 1) cells frames w') (turned {C = Unit {0}} {A = Unit {0}} done p (λ o. p + 2) cells frames) frames (h.event w) (λ _. next_due)
-          (act_keeps code t.line (i.TakeEvent (height t)) (core_at p cells frames w.store))
+          (act_lasts code t.line (i.TakeEvent (height t)) (core_at p cells frames w.store))
           (ok.event m e t.line (height t) p cells frames w high in_)
           (λ o w' fewer same_. next_run w' (is_awaited w'.store) refl);
     }
@@ -72,7 +55,7 @@ module _ (code : Code) (n : ℕ) (t : Site) where
     events_run zero e p cells frames w high has in_ =
         out_run code {A = Unit {0}} take_place (core_at p cells frames w.store) frames w (λ (o : Unit {0}) w'. at (p + 2) cells frames w') has.0 refl (omega (arith, e, in_.ticks))
     events_run (suc m) e p cells frames w high has in_ =
-        one_more code (event_turns m e p cells frames high has) tt w (omega (arith, e, in_.ticks)) in_.says
+        loop_run code (event_turns m e p cells frames high has) (suc m) (omega arith) tt w (omega (arith, e, in_.ticks)) in_.says
 
     pub simulate_runs : Runs code n (height t) same simulate_code done (simulate n h.event)
     simulate_runs = record { by = λ p cells frames w high has in_. sides p cells frames w high has in_ (is_awaited w.store) refl }
