@@ -20,7 +20,7 @@ use Rattle.ss_code_instructions.proofs.Placing.{Sited, file_runs}
 use Rattle.ss_code_instructions.proofs.Plain.{destroy_runs, cancel_runs, skip_runs, creates_run, restarts_run}
 use Rattle.ss_code_instructions.proofs.Giving.{values_run}
 use Rattle.ss_code_instructions.proofs.Looping.{guarded_runs}
-use Rattle.ss_code_instructions.proofs.Heads.{Walks, head_for}
+use Rattle.ss_code_instructions.proofs.Heads.{head_for}
 use Rattle.ss_code_instructions.proofs.Finding.{for_runs, find_runs}
 use Rattle.ss_code_instructions.proofs.Printing.{print_runs}
 use Rattle.ss_code_instructions.proofs.Following.{seq_such}
@@ -42,8 +42,8 @@ module _ (code : Code) (n : ℕ) where
   if_runs t c ca [] ma mb ra rb = if_alone_run code n t (λ skip. condition_code t skip c) (look t.line (holds c)) (λ skip. condition_lands code n t skip c) {ca = ca} {ma = ma} {mb = mb} ra rb
   if_runs t c ca (x ∷ cb) ma mb ra rb = if_run code n t (λ skip. condition_code t skip c) (look t.line (holds c)) (λ skip. condition_lands code n t skip c) {ca = ca} {cb = x ∷ cb} {ma = ma} {mb = mb} ra rb
 
-  -- what is assumed: of calls and events, and of walks; and of a site, that the code is that of its program
-  module _ (h : Calls) (ok : CallsRun code n h) (walks : Walks code n) where
+  -- what is assumed: of calls and events; and of a site, that the code is that of its program
+  module _ (h : Calls) (ok : CallsRun code n h) where
     mutual
       pub statement_runs : (t : Site) → Sited code t → (first : ℕ) (s : Statement) → StatementRuns code n h t first s
       statement_runs t sited first (Let l p e) prints = let_runs code n (at_line t l) p e
@@ -64,11 +64,11 @@ module _ (code : Code) (n : ℕ) where
       statement_runs t sited first (Loop l gs a) prints =
           guarded_runs code n (at_line t l) gs (block_code t first a) (effects h n a) (block_runs t sited first a prints)
       statement_runs t sited first (For l head ps a) prints =
-          for_runs code n (at_line t l) head (head_for code n walks (at_line t l) head) ps (block_code (in_loop t head) first a) (effects h n a)
+          for_runs code n (at_line t l) head (head_for code n (at_line t l) head) ps (block_code (in_loop t head) first a) (effects h n a)
           (subst (λ k. Runs code n k same (block_code (in_loop t head) first a) done (effects h n a)) (line_high t l head)
           (block_runs (in_loop t head) sited first a prints))
       statement_runs t sited first (Find l head ps a b) prints =
-          find_runs code n (at_line t l) head (head_for code n walks (at_line t l) head) ps
+          find_runs code n (at_line t l) head (head_for code n (at_line t l) head) ps
           (block_code t first a) (block_code t (first + length (block_prints a)) b) (effects h n a) (effects h n b)
           (block_runs t sited first a (has_front code.prints first (block_prints a) (block_prints b) prints))
           (block_runs t sited (first + length (block_prints a)) b (has_back code.prints first (block_prints a) (block_prints b) prints))

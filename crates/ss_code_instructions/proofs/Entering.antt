@@ -17,12 +17,12 @@ use Rattle.ss_code_instructions.specs.States.{Called, ARoutine, AnEvent, Frame, 
 use Rattle.ss_code_instructions.specs.Machine.{Code, act, enter_with, enter, take_event}
 use Rattle.ss_code_instructions.specs.Translation.{Site, place, block_prints, block_code, section_code, first_site, routine_scope, event_scope, routine_entry, event_entry}
 use Rattle.ss_code_instructions.proofs.Keeping.{Only, Where, ComingSame, BeginningSame, event_same, begun_same}
+use Rattle.ss_code_instructions.proofs.Staying.{ComingStays, event_stays, BeginningStays, begun_stays, Lasts, lasts_then}
 use Rattle.ss_code_instructions.proofs.Steps.{HasAt, has_front, has_back, Reaches, reaches_on, at, arrive, landed}
 use Rattle.ss_code_instructions.proofs.Parts.{Within, Leads, onwards, whatever, ticked, tick_run, out_run, did_leads, at_the_height, onto}
 use Rattle.ss_code_instructions.proofs.Placing.{Sited}
 use Rattle.ss_code_instructions.proofs.Stacked.{block_takes}
 use Rattle.ss_code_instructions.proofs.Following.{within_ticked, within_store, IfWentOn, needed_leads}
-use Rattle.ss_code_instructions.proofs.Heads.{Walks}
 use Rattle.ss_code_instructions.proofs.Assuming.{CallsRun}
 use Rattle.ss_code_instructions.proofs.Simulating.{leave_run}
 use Rattle.ss_code_instructions.proofs.Blocks.{block_runs}
@@ -73,14 +73,14 @@ module _ (code : Code) where
   back_run n t p f frames s (Left OutOfTicks w) has g = g
   back_run n t p f frames s (Left Wrong w) has g = g
 
-  module _ (n : ℕ) (h : Calls) (ok : CallsRun code n h) (walks : Walks code n) where
+  module _ (n : ℕ) (h : Calls) (ok : CallsRun code n h) where
     -- a section from its beginning on
     section_run : (s : Scope) → Sited code (first_site s) → (body : Block) (first p : ℕ) → HasAt code.places p (section_code s first body) → HasAt code.prints first (block_prints body) → (f : Frame) (frames : List Frame) (w : World) → Within code n w → Reaches code (at p [] (f ∷ frames) w) (arrive (λ us w'. at f.back (us ++ f.cells) frames w') frames (come_back f.first f.count f.locals (effects h n body w)))
     section_run s sited body first p lies prints f frames w in_ =
         let b : List Placed = block_code (first_site s) first body in
         let last : List Placed = place (first_site s) i.Leave ∷ [] in
         back_run n (first_site s) (p + length b) f frames (at p [] (f ∷ frames) w) (effects h n body w) (has_back code.places p b last lies).0
-        ((block_runs code n h ok walks (first_site s) sited first body prints).by p [] (f ∷ frames) w refl (has_front code.places p b last lies) in_)
+        ((block_runs code n h ok (first_site s) sited first body prints).by p [] (f ∷ frames) w refl (has_front code.places p b last lies) in_)
 
     -- An instruction that enters a section leads to what the section does. The meaning may have another store by then, in which the section begins.
     enclosed_leads : (s : Scope) → Sited code (first_site s) → (body : Block) (first : ℕ) (e : EntryPoint) → HasAt code.places e.place (section_code s first body) → HasAt code.prints first (block_prints body) → (called : Called) (vs : List Value) (q : ℕ) (cells0 cells : List Value) (frames : List Frame) (w : World) (u : Store) → Within code n (record w { store = u }) → Leads code w (enter e called vs cells (core_at q cells0 frames w.store) u) (arrive (λ us w'. at (q + 1) (us ++ cells) frames w') frames (enclosed e.given e.others (effects h n body) vs e.yielding (record w { store = u })))
@@ -88,11 +88,13 @@ module _ (code : Code) where
         let w1 : World = record w { store = u } in
         needed_leads code (opened e.given e.others vs) (λ variables. enter_with variables e called cells (core_at q cells0 frames w.store) u) w w1 (λ us w'. at (q + 1) (us ++ cells) frames w') frames (λ ls w. come_back (length e.given) e.yielding w.store.locals (effects h n body (with_locals ls w))) (λ ls known.
         let f : Frame = record { back = q + 1; cells = cells; locals = u.locals; first = length e.given; count = e.yielding; called = called } in
-        onwards (section_run s sited body first e.place lies prints f frames (with_locals ls w1) (within_store in_ refl)))
+        let v : Store = record u { locals = ls } in
+        let lasts : Lasts u v = (refl, λ j. j) in
+        onwards (section_run s sited body first e.place lies prints f frames (with_locals ls w1) (within_store {w = w1} {s = v} in_ lasts)))
 
   -- ## Calls and events of a program
 
-  module _ (p : Program) (linked : Linked code p) (walks : (n : ℕ) → Walks code n) where
+  module _ (p : Program) (linked : Linked code p) where
     routine_leads : (n : ℕ) → CallsRun code n (calls p n) → (l : Line) (routine cell count : ℕ) (vs : List Value) (o : Option Routine) (e : Option EntryPoint) → slice_get code.routines routine ≡ e → RoutineAt code p o e → (q : ℕ) (cells : List Value) (frames : List Frame) (w : World) → length cells ≡ cell → Within code n w → Leads code w (act code l (i.Call routine cell) (core_at q (onto vs cells) frames w.store)) (arrive (λ us w'. at (q + 1) (us ++ cells) frames w') frames (routine_called o (calls p n) n vs count w))
     routine_leads n ok l routine cell count vs None e known link q cells frames w high in_ = whatever
     routine_leads n ok l routine cell count vs (Some r) None known link q cells frames w high in_ = absurd link
@@ -118,7 +120,7 @@ module _ (code : Code) where
         opens (Some ls) t =
             subst (λ m. Leads code w m (arrive k frames (outcome_then (needed (Some ls) w) (λ ls w. come_back (length r.given) (length r.yielding) w.store.locals (effects (calls p n) n r.body (with_locals ls w)))))) (sym (enters (opened_many r.given (r.yielding ++ r.others) vs ls t)))
             (subst (λ b. Leads code w (enter entry (ARoutine routine) vs cells core w.store) (arrive k frames (outcome_then (needed b w) (λ ls w. come_back (length r.given) (length r.yielding) w.store.locals (effects (calls p n) n r.body (with_locals ls w)))))) t
-            (enclosed_leads n (calls p n) ok (walks n) (routine_scope p r) linked.setting r.body link.first entry link.lies link.prints (ARoutine routine) vs q (onto vs cells) cells frames w w.store (within_store in_ refl)))
+            (enclosed_leads n (calls p n) ok (routine_scope p r) linked.setting r.body link.first entry link.lies link.prints (ARoutine routine) vs q (onto vs cells) cells frames w w.store (within_store {w = w} {s = w.store} in_ (refl, λ j. j))))
 
         sides : (b : Bool) → (count == length r.yielding) ≡ b → Leads code w (act code l (i.Call routine cell) core) (arrive k frames (if b then enclosed r.given (r.yielding ++ r.others) (effects (calls p n) n r.body) vs count w else Left Wrong w))
         sides false t = whatever
@@ -145,14 +147,16 @@ module _ (code : Code) where
         ∙ at_the_height cell cells (enter entry (AnEvent b.rank) b.given cells core b.store) high))
         (nothing_yielded w (enter entry (AnEvent b.rank) b.given cells core b.store) (q + 1) cells frames (enclosed v.given v.others (effects (calls p n) n v.body) b.given 0 w1)
         (enclosed_such v.given v.others (effects (calls p n) n v.body) b.given 0 w1)
-        (enclosed_leads n (calls p n) ok (walks n) (event_scope p v) linked.setting v.body link.first entry link.lies link.prints (AnEvent b.rank) b.given q cells cells frames w b.store in_))
+        (enclosed_leads n (calls p n) ok (event_scope p v) linked.setting v.body link.first entry link.lies link.prints (AnEvent b.rank) b.given q cells cells frames w b.store in_))
 
-    -- the program says the same once an event has begun
+    -- the program says the same once an event has begun, and each member of a set lives
     begun_within : (n : ℕ) (w : World) (c : Coming) (b : Beginning) → next_event w.store ≡ Some c → event_begun c ≡ Ok b → Within code n w → Within code n (record w { store = b.store })
     begun_within n w c b e f in_ =
         let came : ComingSame w.store c = subst (Where (ComingSame w.store)) e (event_same w.store) in
         let began : BeginningSame c.store b = subst (Only (BeginningSame c.store)) f (begun_same c) in
-        within_store in_ (began ∙ came)
+        let came_stays : ComingStays w.store c = subst (Where (ComingStays w.store)) e (event_stays w.store) in
+        let began_stays : BeginningStays c.store b = subst (Only (BeginningStays c.store)) f (begun_stays c) in
+        within_store {w = w} {s = b.store} in_ (lasts_then w.store c.store b.store (came, came_stays) (began, began_stays))
 
     -- the event that comes next; a fault has the line of its routine
     event_leads : (n : ℕ) → CallsRun code n (calls p n) → (l : Line) (cell q : ℕ) (cells : List Value) (frames : List Frame) (w : World) → length cells ≡ cell → Within code n w → Leads code w (act code l (i.TakeEvent cell) (core_at q cells frames w.store)) (arrive (λ (u : Unit {0}) w'. at (q + 1) cells frames w') frames (event_taken p.events (calls p n) n w))

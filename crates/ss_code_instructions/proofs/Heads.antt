@@ -14,6 +14,7 @@ use Rattle.ss_code_instructions.proofs.Steps.{HasAt, has_back, Reaches, at, arri
 use Rattle.ss_code_instructions.proofs.Parts.{Within, Lands, same, done}
 use Rattle.ss_code_instructions.proofs.Looping.{leads, past_loop}
 use Rattle.ss_code_instructions.proofs.Ranging.{each_run, numbers_run}
+use Rattle.ss_code_instructions.proofs.Walking.{members_run}
 
 -- ## How the code of a FOR ends: with one instruction, which forgets what the FOR keeps
 
@@ -88,19 +89,20 @@ module _ (code : Code) (n : ℕ) (t : Site) where
       p + length (for_code t head turn) ≡ end + 2 → HasAt code.places (end + found) (forget_to t (in_loop t head)) → Within code n w →
       Reaches code (at p cells frames w) (arrive (λ b w'. at (past_loop found b end) cells frames w') frames (over n t.line head m w))
 
-  pub numbers_for : (x : Variable) (a b : Expression) (c : Option Expression) → ForRuns (Numbers x a b c)
+  numbers_for : (x : Variable) (a b : Expression) (c : Option Expression) → ForRuns (Numbers x a b c)
   numbers_for x a b c turn m found r p end cells frames w high has len found_has in_ =
       numbers_run code n t x turn m found r (forgets_one t (Numbers x a b c)) a b c p end cells frames w high has len found_has in_
 
-  pub each_for : (x : Variable) (class : ℕ) → ForRuns (Each x class)
+  each_for : (x : Variable) (class : ℕ) → ForRuns (Each x class)
   each_for x class turn m found r p end cells frames w high has len found_has in_ =
       each_run code n t x turn m found r (forgets_one t (Each x class)) class p end cells frames w high has len found_has in_
 
--- what is assumed of a FOR over the members of a set
-abbrev pub Walks : Code → ℕ → Type 0
-Walks code n = (t : Site) (x : Variable) (set : ℕ) (o : SetOwner) (start : Start) (reverse : Bool) → ForRuns code n t (Members x set o start reverse)
+  members_for : (x : Variable) (set : ℕ) (o : SetOwner) (start : Start) (reverse : Bool) → ForRuns (Members x set o start reverse)
+  members_for x set o start reverse turn m found r p end cells frames w high has len found_has in_ =
+      members_run code n t x turn m found set o reverse r (forgets_one t (Members x set o start reverse)) start p end cells frames w high has len found_has in_
 
-pub head_for : (code : Code) (n : ℕ) → Walks code n → (t : Site) (head : Head) → ForRuns code n t head
-head_for code n walks t (Numbers x a b c) = numbers_for code n t x a b c
-head_for code n walks t (Each x class) = each_for code n t x class
-head_for code n walks t (Members x set o start reverse) = walks t x set o start reverse
+  -- so it is whatever the head
+  pub head_for : (head : Head) → ForRuns head
+  head_for (Numbers x a b c) = numbers_for x a b c
+  head_for (Each x class) = each_for x class
+  head_for (Members x set o start reverse) = members_for x set o start reverse

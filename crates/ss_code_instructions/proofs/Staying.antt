@@ -201,7 +201,7 @@ reset_stays k x s =
 
 -- ## Events
 
-abbrev ComingStays : Store → Coming → Type 0
+abbrev pub ComingStays : Store → Coming → Type 0
 ComingStays s c = Stays s c.store
 
 coming_stays : (o : Option Ranked) (time x : ℤ) (s : Store) → Where (ComingStays s) (coming_as o time x s)
@@ -212,17 +212,17 @@ next_stays : (o : Option (ℤ × ℤ)) (s : Store) → Where (ComingStays s) (co
 next_stays None s = tt
 next_stays (Some n) s = coming_stays (ranked_as (notice s.scene.heap n.1) s) n.0 n.1 s
 
-event_stays : (s : Store) → Where (ComingStays s) (next_event s)
+pub event_stays : (s : Store) → Where (ComingStays s) (next_event s)
 event_stays s = next_stays (next s.scene.pending) s
 
 saved_stays : (saved : Option ℕ) (class : ℕ) (x : Value) (s : Store) → Only (Stays s) (saved_or_gone saved class x s)
 saved_stays (Some k) class x s = variable_stays (Global k) x s
 saved_stays None class x s = gone_stays class x s
 
-abbrev BeginningStays : Store → Beginning → Type 0
+abbrev pub BeginningStays : Store → Beginning → Type 0
 BeginningStays s b = Stays s b.store
 
-begun_stays : (c : Coming) → Only (BeginningStays c.store) (event_begun c)
+pub begun_stays : (c : Coming) → Only (BeginningStays c.store) (event_begun c)
 begun_stays c =
     each (BeginningStays c.store) (attributes_given c.ranked.said.class 0 c.ranked.said.given c.notice c.store) _ (λ vs.
     made_from (BeginningStays c.store) (Stays c.store) (λ t. record { rank = c.ranked.rank; given = vs; store = t }) (saved_or_gone c.ranked.said.saved c.ranked.said.class c.notice c.store) (saved_stays c.ranked.said.saved c.ranked.said.class c.notice c.store) (λ t q. q))

@@ -12,9 +12,9 @@ use Rattle.ss_code_instructions.specs.Machine.{Code}
 use Rattle.ss_code_instructions.specs.Running.{start, GoesRight, Behaves}
 use Rattle.ss_code_instructions.specs.Laws.{CodeBehaves}
 use Rattle.ss_code_instructions.specs.Translation.{Site, place, block_code, block_prints, main_scope, first_site, routine_code, event_code, routines_code, events_code, routines_prints, events_prints, routine_entries, event_entries, main_prints, prints_before_events, main_code, all_routines, all_events, code_of}
+use Rattle.ss_code_instructions.proofs.Joining.{first_joined}
 use Rattle.ss_code_instructions.proofs.Steps.{HasAt, has_front, has_back, has_all, Finishes, Reaches, reaches_on, in_steps, Agrees, agrees, at, arrive}
 use Rattle.ss_code_instructions.proofs.Parts.{Within, ends, step_leads}
-use Rattle.ss_code_instructions.proofs.Heads.{Walks}
 use Rattle.ss_code_instructions.proofs.Blocks.{block_runs}
 use Rattle.ss_code_instructions.proofs.Entering.{RoutineAt, EventAt, Linked, calls_run}
 
@@ -94,9 +94,9 @@ module _ (p : Program) where
 
   -- ## MAIN, and the end of a run
 
-  -- as a run begins the program says what its code says
+  -- as a run begins the program says what its code says, and no set has a member
   first_within : (input : List ℕ) (n : ℕ) → Within code n (first_world p input n)
-  first_within input n = record { ticks = (let all : n ≤ n = omega arith in all); says = refl }
+  first_within input n = record { ticks = (let all : n ≤ n = omega arith in all); says = (refl, first_joined p.layout) }
 
   main_end : (u : Site) (q : ℕ) (s : MachineState) (o : Outcome (Unit {0})) → slice_get code.places q ≡ Some (place u i.Leave) → (run_of o).ending ≢ WentWrong → Reaches code s (arrive (λ (a : Unit {0}) w'. at q [] [] w') [] o) → Reaches code s (Finishes (run_of o))
   main_end u q s (WentOn a w) has right g =
@@ -107,23 +107,22 @@ module _ (p : Program) where
   main_end u q s (Left OutOfTicks w) has right g = g
   main_end u q s (Left Wrong w) has right g = absurd (right refl)
 
-  module _ (walks : (n : ℕ) → Walks code n) where
-    -- the simulation, for each program that does not go wrong, well typed or not
-    pub program_runs : (input : List ℕ) (n : ℕ) → GoesRight p input n → Reaches code (start code input n) (Finishes (meaning p input n))
-    program_runs input n right =
-        let t : Site = first_site (main_scope p) in
-        let b : List Placed = block_code t 0 p.main in
-        let last : List Placed = place t i.Leave ∷ [] in
-        main_end t (0 + length b) (start code input n) (effects (calls p n) n p.main (first_world p input n)) (has_back code.places 0 b last main_here).0 right
-        ((block_runs code n (calls p n) (calls_run code p program_linked walks n) (walks n) t refl 0 p.main (has_front code.prints 0 (block_prints p.main) later_prints all_prints)).by 0 [] [] (first_world p input n) refl (has_front code.places 0 b last main_here) (first_within input n))
+  -- the simulation, for each program that does not go wrong, well typed or not
+  pub program_runs : (input : List ℕ) (n : ℕ) → GoesRight p input n → Reaches code (start code input n) (Finishes (meaning p input n))
+  program_runs input n right =
+      let t : Site = first_site (main_scope p) in
+      let b : List Placed = block_code t 0 p.main in
+      let last : List Placed = place t i.Leave ∷ [] in
+      main_end t (0 + length b) (start code input n) (effects (calls p n) n p.main (first_world p input n)) (has_back code.places 0 b last main_here).0 right
+      ((block_runs code n (calls p n) (calls_run code p program_linked n) t refl 0 p.main (has_front code.prints 0 (block_prints p.main) later_prints all_prints)).by 0 [] [] (first_world p input n) refl (has_front code.places 0 b last main_here) (first_within input n))
 
-    pub behaves : Behaves p code
-    behaves = record {
-      ends = λ input n right. in_steps (program_runs input n right);
-      only = λ input n m r right e. subst (Agrees (meaning p input n)) e (agrees (program_runs input n right) m);
-      never_stuck = λ input n m right e. subst (Agrees (meaning p input n)) e (agrees (program_runs input n right) m);
-    }
+  pub behaves : Behaves p code
+  behaves = record {
+    ends = λ input n right. in_steps (program_runs input n right);
+    only = λ input n m r right e. subst (Agrees (meaning p input n)) e (agrees (program_runs input n right) m);
+    never_stuck = λ input n m right e. subst (Agrees (meaning p input n)) e (agrees (program_runs input n right) m);
+  }
 
--- where walks are simulated, the code of each program does what the program means
-pub code_behaves : ((p : Program) (n : ℕ) → Walks (code_of p) n) → CodeBehaves
-code_behaves walks p = behaves p (walks p)
+-- the code of each program does what the program means
+pub code_behaves : CodeBehaves
+code_behaves p = behaves p
