@@ -14,7 +14,7 @@ use Rattle.ss_code_instructions.specs.Translation.{Site, height, expression_mode
 use Rattle.ss_code_instructions.proofs.Keeping.{Only, each, made_from}
 use Rattle.ss_code_instructions.proofs.Parts.{at_the_height, onto}
 use Rattle.ss_code_instructions.proofs.Members.{top_cell}
-use Rattle.ss_code_instructions.proofs.Changing.{by_order}
+use Rattle.ss_code_instructions.proofs.Changing.{next_above, by_order}
 
 -- ## How many
 
@@ -64,10 +64,6 @@ under_cell [] h v cells e = top_cell h v cells e
 under_cell (u ∷ more) h v cells e =
     let q : length (more ++ (v ∷ cells)) ≡ h → ⊥ = λ f. omega (arith, e, f, length-append more (v ∷ cells)) in
     ap (λ (b : Bool). if b then Some u else cell_at h (more ++ (v ∷ cells))) (ne_eqb (length (more ++ (v ∷ cells))) h q) ∙ under_cell more h v cells e
-
-next_above : (n : ℕ) → nat_lt n (suc n) ≡ true
-next_above zero = refl
-next_above (suc n) = next_above n
 
 -- the two topmost cells, the upper one first
 pub two_off : (h : ℕ) (v z : Value) (s : Store) (cells : List Value) (go : Value → Value → List Value → Moved) → length cells ≡ h → with_values (Taken (suc h)) (Taken h) s (v ∷ z ∷ cells) go ≡ go v z cells
