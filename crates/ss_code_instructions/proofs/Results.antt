@@ -23,13 +23,12 @@ use Rattle.ss_code_instructions.specs.Translation.{Site, height, above, place, l
 use Rattle.ss_code_instructions.proofs.Steps.{Reaches, at, arrive}
 use Rattle.ss_code_instructions.proofs.Parts.{at_the_height, Runs, done, put_on, seq, none}
 use Rattle.ss_code_instructions.proofs.Parts.{above as above_cells}
-use Rattle.ss_code_instructions.proofs.Operands.{held, leaf_reads, one_join}
+use Rattle.ss_code_instructions.proofs.Operands.{held, leaf_reads, leaf_low, one_join}
 use Rattle.ss_code_instructions.proofs.Expressions.{evaluates}
 use Rattle.ss_code_instructions.proofs.Assigning.{assigns, count_run}
 use Rattle.ss_code_instructions.proofs.Attributes.{err_first, two_change}
 use Rattle.ss_code_instructions.proofs.Changing.{by_order}
 use Rattle.ss_code_instructions.proofs.Stacked.{two_off}
-use Rattle.ss_code_instructions.proofs.Leaves.{leaf_low}
 use Rattle.ss_code_instructions.proofs.Assuming.{heap_on}
 
 -- a value in the topmost cell, and a reference that was evaluated above it

@@ -19,7 +19,7 @@ use Rattle.ss_code_instructions.specs.Instructions as i
 use Rattle.ss_code_instructions.specs.States.{Frame, MachineState, Moved, did, fit, or_zero, core_at, with_value, with_values, onward, deliver_with}
 use Rattle.ss_code_instructions.specs.Machine.{Code}
 use Rattle.ss_code_instructions.specs.Translation.{Site, height, with_cells, above, place, next, leaf, or_in_cell, expression_mode, operand, after, stay, forget_to, values_code, after_values, entity_code, count_code, when_code, variable_code, schedule_new_code, schedule_code}
-use Rattle.ss_code_instructions.proofs.Steps.{HasAt, has_front, has_back, Comes, Reaches, here, at, arrive, join, follow}
+use Rattle.ss_code_instructions.proofs.Steps.{HasAt, has_front, has_back, Comes, Reaches, here, at, arrive, join, join_known, follow}
 use Rattle.ss_code_instructions.proofs.Parts.{onwards, step_leads, did_leads, at_the_height, Runs, same, done, onto, went, turned_then}
 use Rattle.ss_code_instructions.proofs.Operands.{on, Tops, put_then, delivers, held, held_height, reads}
 use Rattle.ss_code_instructions.proofs.Members.{top_cell}
@@ -29,7 +29,6 @@ use Rattle.ss_code_instructions.proofs.Attributes.{two_change}
 use Rattle.ss_code_instructions.proofs.Changing.{by_order}
 use Rattle.ss_code_instructions.proofs.Receiving.{Alike}
 use Rattle.ss_code_instructions.proofs.Stacked.{block_takes, two_off}
-use Rattle.ss_code_instructions.proofs.Following.{join_known}
 use Rattle.ss_code_instructions.proofs.Leaves.{stay_low, stay_later}
 use Rattle.ss_code_instructions.proofs.Naming.{variable_join}
 use Rattle.ss_code_instructions.proofs.Quiet.{notice_quietly}
