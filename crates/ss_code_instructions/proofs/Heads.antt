@@ -12,26 +12,21 @@ use Rattle.ss_code_instructions.specs.Machine.{Code}
 use Rattle.ss_code_instructions.specs.Translation.{Site, height, place, forget, forget_to, owner_cell, owner_kept, walk_loop, number_loop, in_loop, turns_code, range_code, owner_code, start_code, begin_code, for_code}
 use Rattle.ss_code_instructions.proofs.Steps.{HasAt, has_back, Reaches, at, arrive}
 use Rattle.ss_code_instructions.proofs.Parts.{Within, Lands, same, done}
+use Rattle.ss_code_instructions.proofs.Forgetting.{two_more, three_more}
 use Rattle.ss_code_instructions.proofs.Looping.{leads, past_loop}
 use Rattle.ss_code_instructions.proofs.Ranging.{each_run, numbers_run}
 use Rattle.ss_code_instructions.proofs.Walking.{members_run}
 
 -- ## How the code of a FOR ends: with one instruction, which forgets what the FOR keeps
 
-three_less : (h : ℕ) → suc (suc (suc h)) - h ≡ 3
-three_less h = omega arith
-
-two_less : (h : ℕ) → suc (suc h) - h ≡ 2
-two_less h = omega arith
-
 one_forget : (t u : Site) (k : ℕ) → height u - height t ≡ suc k → length (forget_to t u) ≡ 1
 one_forget t u k e = ap (λ j. length (forget u j)) e
 
 pub forgets_one : (t : Site) (head : Head) → length (forget_to t (in_loop t head)) ≡ 1
-forgets_one t (Numbers x a b c) = one_forget t (in_loop t (Numbers x a b c)) 2 (three_less (height t))
-forgets_one t (Each x class) = one_forget t (in_loop t (Each x class)) 2 (three_less (height t))
-forgets_one t (Members x set TheSystem start reverse) = one_forget t (in_loop t (Members x set TheSystem start reverse)) 1 (two_less (height t))
-forgets_one t (Members x set (Entity e) start reverse) = one_forget t (in_loop t (Members x set (Entity e) start reverse)) 2 (three_less (height t))
+forgets_one t (Numbers x a b c) = one_forget t (in_loop t (Numbers x a b c)) 2 (three_more (height t))
+forgets_one t (Each x class) = one_forget t (in_loop t (Each x class)) 2 (three_more (height t))
+forgets_one t (Members x set TheSystem start reverse) = one_forget t (in_loop t (Members x set TheSystem start reverse)) 1 (two_more (height t))
+forgets_one t (Members x set (Entity e) start reverse) = one_forget t (in_loop t (Members x set (Entity e) start reverse)) 2 (three_more (height t))
 
 record Closing (t : Site) (head : Head) (turn : List Placed) : Type 0 where
   pub front : List Placed

@@ -26,7 +26,7 @@ use Rattle.ss_code_instructions.proofs.Steps.{HasAt, has_front, has_back, Comes,
 use Rattle.ss_code_instructions.proofs.Parts.{Within, within_on, at_the_height, Lands, same, done, put_on, seq_look, alike, look_lands}
 use Rattle.ss_code_instructions.proofs.Parts.{above as above_cells}
 use Rattle.ss_code_instructions.proofs.Expressions.{value_runs}
-use Rattle.ss_code_instructions.proofs.Forgetting.{forget_run}
+use Rattle.ss_code_instructions.proofs.Forgetting.{three_more, forget_run}
 use Rattle.ss_code_instructions.proofs.Members.{top_cell}
 use Rattle.ss_code_instructions.proofs.Taking.{visit_run}
 use Rattle.ss_code_instructions.proofs.Looping.{leads, past_loop, leap}
@@ -50,9 +50,6 @@ item_cell h step limit item cells e =
     ap (λ (b : Bool). if b then Some (Whole step) else cell_at h (Whole limit ∷ Whole item ∷ cells)) (ne_eqb (suc (suc (length cells))) h p)
     ∙ ap (λ (b : Bool). if b then Some (Whole limit) else cell_at h (Whole item ∷ cells)) (ne_eqb (suc (length cells)) h q)
     ∙ top_cell h (Whole item) cells e
-
-three_more : (k : ℕ) → suc (suc (suc k)) - k ≡ 3
-three_more k = omega arith
 
 module _ (limit step : ℤ) where
   no_more : (k : ℕ) (item : ℤ) → int_le item limit ≡ false → items_from k limit step item ≡ []

@@ -30,7 +30,7 @@ use Rattle.ss_code_instructions.proofs.Parts.{Within, within_on, Leads, onwards,
 use Rattle.ss_code_instructions.proofs.Operands.{join_look}
 use Rattle.ss_code_instructions.proofs.Expressions.{value_runs}
 use Rattle.ss_code_instructions.proofs.Attributes.{err_first}
-use Rattle.ss_code_instructions.proofs.Forgetting.{forget_run}
+use Rattle.ss_code_instructions.proofs.Forgetting.{two_more, three_more, forget_run}
 use Rattle.ss_code_instructions.proofs.Members.{top_cell}
 use Rattle.ss_code_instructions.proofs.Joining.{Joined, joined_joins}
 use Rattle.ss_code_instructions.proofs.Looping.{leads, past_loop}
@@ -234,12 +234,6 @@ record Owned (t : Site) (o : SetOwner) (y : Option Value) (own cells : List Valu
   pub low : length (own ++ cells) ≡ height (owner_cell t o)
   pub reads : (s : Store) (go : Option Value → List Value → Moved) → with_bearer (owner_kept t o) s (own ++ cells) go ≡ go y (own ++ cells)
   pub count : height (walk_loop t o) - height t ≡ suc (suc (length own))
-
-two_more : (k : ℕ) → suc (suc k) - k ≡ 2
-two_more k = omega arith
-
-three_more : (k : ℕ) → suc (suc (suc k)) - k ≡ 3
-three_more k = omega arith
 
 system_owned : (t : Site) (cells : List Value) → length cells ≡ height t → Owned t TheSystem None [] cells
 system_owned t cells high = record { low = high; reads = λ s go. refl; count = two_more (height t) }
