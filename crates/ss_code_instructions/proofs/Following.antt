@@ -1,5 +1,5 @@
 -- What follows a part, with what is known of the part's value; and worlds that are later.
-use Rattle.std.proofs.Common.{◌≡◌, ℕ, suc, ◌+◌, List, ◌++◌, length, Option, Some, None, refl, ◌∙◌, subst, arith, length-append}
+use Rattle.std.proofs.Common.{◌≡◌, ℕ, suc, ◌+◌, List, ◌++◌, length, Option, Some, None, refl, subst, arith, length-append}
 use Rattle.ss_base.specs.declared.value.Value.{Value}
 use Rattle.ss_meaning.specs.Store.{Store}
 use Rattle.ss_meaning.specs.Parts.{World, Outcome, WentOn, Left, Part, outcome_then, needed}

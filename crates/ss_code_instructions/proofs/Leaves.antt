@@ -1,12 +1,8 @@
 -- Operands that stay: they lie above nothing, and are read later on.
-use Rattle.std.proofs.Common.{◌≡◌, false, List, ◌∷◌, ◌++◌, length, Option, Some, None, Ok, refl, sym, ap, ◌∙◌, subst, ◌⊎◌, inl, inr}
-use Rattle.std.specs.Prelude.{slice_get}
+use Rattle.std.proofs.Common.{◌≡◌, false, List, ◌∷◌, ◌++◌, length, Option, Some, None, Ok, refl, ap, ◌∙◌}
 use Rattle.ss_base.specs.declared.value.Value.{Value}
-use Rattle.ss_program.specs.declared.expression.Variable.{Variable}
-use Rattle.ss_program.specs.declared.expression.Variable.TheVariants.{Global, Local}
-use Rattle.ss_program.specs.Program.{Expression, Constant, Fetch, Attribute, OfSystemSet, OfSet, OfMember, Clock, TimeOf, Figure, FigureOf, Signed, Absolute, Calculate}
-use Rattle.ss_meaning.specs.Values.{sure}
-use Rattle.ss_meaning.specs.Store.{Store, fetched}
+use Rattle.ss_program.specs.Program.{Expression}
+use Rattle.ss_meaning.specs.Store.{Store}
 use Rattle.ss_meaning.specs.Expressions.{value}
 use Rattle.ss_code_instructions.specs.Instructions.{Operand, Held, Taken, Stays}
 use Rattle.ss_code_instructions.specs.Instructions as i

@@ -1,14 +1,14 @@
 -- Loops: the instruction at their head takes a tick, and their end jumps back to it.
-use Rattle.std.proofs.Common.{◌≡◌, ℕ, zero, suc, ◌+◌, ◌≤◌, true, List, [], ◌++◌, Some, refl, ◌∙◌, sym, subst, arith}
+use Rattle.std.proofs.Common.{◌≡◌, ℕ, zero, suc, ◌≤◌, true, List, Some, arith}
 use Rattle.std.specs.Prelude.{slice_get}
 use Rattle.ss_base.specs.declared.value.Value.{Value}
 use Rattle.ss_meaning.specs.Parts.{World, Outcome, WentOn, Left, Part, outcome_then, Next, Again, Over, go_on, loop}
 use Rattle.ss_code_instructions.specs.Instructions.{Placed}
-use Rattle.ss_code_instructions.specs.States.{Frame, MachineState, Moved, To, Sends, core_at}
+use Rattle.ss_code_instructions.specs.States.{Frame, MachineState, Moved, core_at}
 use Rattle.ss_code_instructions.specs.Machine.{Code, act, is_due}
 use Rattle.ss_code_instructions.proofs.Staying.{Lasts, Endures, act_lasts, lasts_then, Suits, suits_on}
-use Rattle.ss_code_instructions.proofs.Steps.{Goal, Comes, Reaches, here, reaches_on, Kept, kept, at, arrive}
-use Rattle.ss_code_instructions.proofs.Parts.{Within, Leads, onwards, writes, with_core, ticked, tick_run, out_run}
+use Rattle.ss_code_instructions.proofs.Steps.{Goal, Comes, Reaches, here, reaches_on, kept, at, arrive}
+use Rattle.ss_code_instructions.proofs.Parts.{Within, Leads, onwards, writes, ticked, tick_run, out_run}
 
 -- what an instruction leads to, and then where the machine goes from there
 leads_on : {code : Code} (w : World) (m : Moved) (x : MachineState) (r : Goal) → Endures w.store m → Leads code w m (Comes x) → (x.ticks ≤ w.ticks → Lasts w.store x.core.store → Reaches code x r) → Leads code w m r

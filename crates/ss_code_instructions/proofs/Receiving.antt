@@ -10,17 +10,17 @@ use Rattle.ss_meaning.specs.Words.{value_given}
 use Rattle.ss_program.specs.declared.expression.Variable.{Variable}
 use Rattle.ss_program.specs.declared.statement.CountedClass.{CountedClass}
 use Rattle.ss_program.specs.declared.expression.Variable.TheVariants.{Global, Local}
-use Rattle.ss_program.specs.Program.{Expression, Constant, Fetch, Attribute, OfSystemSet, OfSet, OfMember, Clock, TimeOf, Figure, FigureOf, Signed, Absolute, Calculate, Place, ToVariable, ToAttribute, ToCount, Target}
+use Rattle.ss_program.specs.Program.{Expression, Constant, Fetch, Clock, Place, ToVariable, ToAttribute, ToCount, Target}
 use Rattle.ss_meaning.specs.Values.{Trouble, Fails, Misfit, if_ok, turned, due, sure}
 use Rattle.ss_meaning.specs.Store.{Store, fetched}
 use Rattle.ss_meaning.specs.Entities.{class_at, entity, is_single, with_new, made_one}
 use Rattle.ss_meaning.specs.Places.{InAttribute, InCount, assigned_attribute}
 use Rattle.ss_meaning.specs.Expressions.{value, looked_at}
-use Rattle.ss_meaning.specs.Parts.{World, WentOn, Left, Outcome, Part, outcome_then, looked, settle_with, get, write}
+use Rattle.ss_meaning.specs.Parts.{World, WentOn, Part, outcome_then, looked, settle_with, get, write}
 use Rattle.ss_meaning.specs.Statements.{give_to, with_input, read_value, read_each}
-use Rattle.ss_code_instructions.specs.Instructions.{Operand, Held, Taken, Instruction, Placed, Target as To}
+use Rattle.ss_code_instructions.specs.Instructions.{Operand, Taken, Instruction, Placed, Target as To}
 use Rattle.ss_code_instructions.specs.Instructions as i
-use Rattle.ss_code_instructions.specs.States.{Frame, MachineState, Moved, did, or_zero, core_at, with_value, with_values, deliver_with, onward}
+use Rattle.ss_code_instructions.specs.States.{Frame, MachineState, Moved, did, core_at, with_value, with_values, deliver_with, onward}
 use Rattle.ss_code_instructions.specs.Machine.{Code, act, is_due}
 use Rattle.ss_code_instructions.specs.Translation.{Site, height, above, place, leaf, or_cell, operand, after, operand_code, next, stay, count_code, to_place_code, reads_code}
 use Rattle.ss_code_instructions.proofs.Keeping.{Only, Same, made, fitting}

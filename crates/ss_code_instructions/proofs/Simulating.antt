@@ -1,10 +1,10 @@
 -- The code of START SIMULATION, of RETURN and of STOP.
-use Rattle.std.proofs.Common.{◌≡◌, ℕ, zero, suc, ◌+◌, ◌-◌, ◌≤◌, Bool, true, false, List, [], ◌∷◌, ◌++◌, length, Option, Some, None, refl, sym, ap, ◌∙◌, subst, arith}
+use Rattle.std.proofs.Common.{◌≡◌, ℕ, zero, suc, ◌+◌, ◌-◌, Bool, true, false, List, [], ◌∷◌, ◌++◌, length, Option, Some, None, refl, sym, ap, subst, arith}
 use Rattle.std.specs.Prelude.{slice_get}
 use Rattle.ss_base.specs.declared.value.Value.{Value}
 use Rattle.ss_meaning.specs.Store.{yielded}
 use Rattle.ss_meaning.specs.Events.{is_awaited}
-use Rattle.ss_meaning.specs.Parts.{World, Returned, Stopped, WentOn, Left, Part, outcome_then, choose, Next, Again, Over, go_on, loop}
+use Rattle.ss_meaning.specs.Parts.{World, Returned, Stopped, WentOn, Left, choose, Again, Over, loop}
 use Rattle.ss_meaning.specs.Statements.{Calls, next_due, event_turn, simulate}
 use Rattle.ss_code_instructions.specs.Instructions.{Placed}
 use Rattle.ss_code_instructions.specs.Instructions as i
@@ -13,7 +13,7 @@ use Rattle.ss_code_instructions.specs.Machine.{Code, act}
 use Rattle.ss_code_instructions.specs.Translation.{Site, height, place}
 use Rattle.ss_code_instructions.proofs.Staying.{act_lasts}
 use Rattle.ss_code_instructions.proofs.Steps.{HasAt, Reaches, here, at, left_to, landed, arrive}
-use Rattle.ss_code_instructions.proofs.Parts.{Within, Leads, onwards, ends, whatever, step_leads, tick_run, out_run, ticked, Runs, same, done}
+use Rattle.ss_code_instructions.proofs.Parts.{Within, Leads, onwards, ends, whatever, step_leads, out_run, Runs, same, done}
 use Rattle.ss_code_instructions.proofs.Loops.{leads_join, turned, Turns, loop_run}
 use Rattle.ss_code_instructions.proofs.Looping.{leap}
 use Rattle.ss_code_instructions.proofs.Assuming.{CallsRun}

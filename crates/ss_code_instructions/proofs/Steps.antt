@@ -9,7 +9,7 @@ use Rattle.ss_meaning.specs.Meaning.{with_locals, Ending, Ended, Fault, Paused, 
 use Rattle.ss_meaning.specs.Store.{Store, yielded}
 use Rattle.ss_code_instructions.specs.Instructions.{Placed}
 use Rattle.ss_code_instructions.specs.States.{Frame, MachineState, Done, Breaks, Moved, To, Sends, Rest, Stuck, core_at}
-use Rattle.ss_code_instructions.specs.Machine.{Code, act, is_due, Goes, Over, NoStep, with_rest, when_due, step_at, step}
+use Rattle.ss_code_instructions.specs.Machine.{Code, act, is_due, Goes, Over, with_rest, when_due, step_at, step}
 use Rattle.ss_code_instructions.specs.Running.{Result, Underway, Ends, IsStuck, ended_at, after_one_step, steps}
 use Rattle.ss_code_instructions.proofs.Staying.{Lasts, Endures, act_lasts, lasts_then}
 
