@@ -1,5 +1,5 @@
 -- Loops: the instruction at their head takes a tick, and their end jumps back to it.
-use Rattle.std.proofs.Common.{◌≡◌, ℕ, zero, suc, ◌≤◌, true, List, Some, arith}
+use Rattle.std.proofs.Common.{◌≡◌, ℕ, zero, suc, ◌≤◌, true, List, ◌++◌, Some, arith}
 use Rattle.std.specs.Prelude.{slice_get}
 use Rattle.ss_base.specs.declared.value.Value.{Value}
 use Rattle.ss_meaning.specs.Parts.{World, Outcome, WentOn, Left, Part, outcome_then, Next, Again, Over, go_on, loop}
@@ -7,13 +7,19 @@ use Rattle.ss_code_instructions.specs.Instructions.{Placed}
 use Rattle.ss_code_instructions.specs.States.{Frame, MachineState, Moved, core_at}
 use Rattle.ss_code_instructions.specs.Machine.{Code, act, is_due}
 use Rattle.ss_code_instructions.proofs.Staying.{Lasts, Endures, act_lasts, lasts_then, Suits, suits_on}
-use Rattle.ss_code_instructions.proofs.Steps.{Goal, Comes, Reaches, here, reaches_on, kept, at, arrive}
-use Rattle.ss_code_instructions.proofs.Parts.{Within, Leads, onwards, writes, ticked, tick_run, out_run}
+use Rattle.ss_code_instructions.proofs.Steps.{Goal, Comes, Reaches, here, reaches_on, Kept, kept, at, arrive}
+use Rattle.ss_code_instructions.proofs.Parts.{Within, Leads, onwards, writes, with_core, ticked, tick_run, out_run}
 
 -- what an instruction leads to, and then where the machine goes from there
 leads_on : {code : Code} (w : World) (m : Moved) (x : MachineState) (r : Goal) → Endures w.store m → Leads code w m (Comes x) → (x.ticks ≤ w.ticks → Lasts w.store x.core.store → Reaches code x r) → Leads code w m r
-leads_on w m x r q (onwards {c = c} f) h = let t = kept f in onwards (reaches_on f (h t.fewer (lasts_then w.store c.store x.core.store q t.same)))
-leads_on w m x r q (writes {c = c} f) h = let t = kept f in writes (reaches_on f (h t.fewer (lasts_then w.store c.store x.core.store q t.same)))
+leads_on w m x r q (onwards {c = c} f) h =
+    let t : Kept (with_core c w) x = kept f in
+    let lasts : Lasts w.store x.core.store = lasts_then w.store c.store x.core.store q t.same in
+    onwards (reaches_on f (h t.fewer lasts))
+leads_on w m x r q (writes {bytes = bytes} {c = c} f) h =
+    let t : Kept (with_core c (record w { report = w.report ++ bytes })) x = kept f in
+    let lasts : Lasts w.store x.core.store = lasts_then w.store c.store x.core.store q t.same in
+    writes (reaches_on f (h t.fewer lasts))
 
 -- the same of a part, and then another one
 pub leads_join : {A B : Type 0} {code : Code} (w : World) (m : Moved) (k : A → World → MachineState) (k' : B → World → MachineState) (frames : List Frame) (o : Outcome A) (f : A → Part B) → Endures w.store m → Leads code w m (arrive k frames o) → ((a : A) (w' : World) → (k a w').ticks ≤ w.ticks → Lasts w.store (k a w').core.store → Reaches code (k a w') (arrive k' frames (f a w'))) → Leads code w m (arrive k' frames (outcome_then o f))
@@ -56,4 +62,9 @@ module _ (code : Code) where
         leads_join (ticked j w) (act code t.head.line t.head.instruction (core_at p (hold c cells) frames w.store)) (turned hold p to cells frames) (λ a w'. at (to a) cells frames w') frames (turn c (ticked j w)) (go_on (loop k turn))
         (act_lasts code t.head.line t.head.instruction (core_at p (hold c cells) frames w.store))
         (t.each c (ticked j w) (record { ticks = (let few : j ≤ n = omega (arith, e, le, lek) in few); says = says }))
-        (λ o w' fewer same. again_run (loop k turn) w' (λ d. loop_run k (omega (arith, lek)) d w' (omega (arith, fewer_at o w' j fewer, e, le)) (suits_on code w.store w'.store (same_at o w w' same) says)) o))
+        (λ o w' fewer same.
+        let below : k ≤ suc n = omega (arith, lek) in
+        let left : w'.ticks ≤ j = fewer_at o w' j fewer in
+        let few : w'.ticks ≤ k = omega (arith, left, e, le) in
+        let lasts : Lasts w.store w'.store = same_at o w w' same in
+        again_run (loop k turn) w' (λ d. loop_run k below d w' few (suits_on code w.store w'.store lasts says)) o))

@@ -1,5 +1,5 @@
 -- The code of START SIMULATION, of RETURN and of STOP.
-use Rattle.std.proofs.Common.{◌≡◌, ℕ, zero, suc, ◌+◌, ◌-◌, Bool, true, false, List, [], ◌∷◌, ◌++◌, length, Option, Some, None, refl, sym, ap, subst, arith}
+use Rattle.std.proofs.Common.{◌≡◌, ℕ, zero, suc, ◌+◌, ◌-◌, ◌≤◌, Bool, true, false, List, [], ◌∷◌, ◌++◌, length, Option, Some, None, refl, sym, ap, subst, arith}
 use Rattle.std.specs.Prelude.{slice_get}
 use Rattle.ss_base.specs.declared.value.Value.{Value}
 use Rattle.ss_meaning.specs.Store.{yielded}
@@ -55,7 +55,9 @@ module _ (code : Code) (n : ℕ) (t : Site) where
     events_run zero e p cells frames w high has in_ =
         out_run code {A = Unit {0}} take_place (core_at p cells frames w.store) frames w (λ (o : Unit {0}) w'. at (p + 2) cells frames w') has.0 refl (omega (arith, e, in_.ticks))
     events_run (suc m) e p cells frames w high has in_ =
-        loop_run code (event_turns m e p cells frames high has) (suc m) (omega arith) tt w (omega (arith, e, in_.ticks)) in_.says
+        let all : suc m ≤ suc m = omega arith in
+        let few : w.ticks ≤ suc m = omega (arith, e, in_.ticks) in
+        loop_run code (event_turns m e p cells frames high has) (suc m) all tt w few in_.says
 
     pub simulate_runs : Runs code n (height t) same simulate_code done (simulate n h.event)
     simulate_runs = record { by = λ p cells frames w high has in_. sides p cells frames w high has in_ (is_awaited w.store) refl }

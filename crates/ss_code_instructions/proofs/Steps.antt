@@ -100,8 +100,8 @@ at_kept (Some i) code s x e =
 pub kept : {code : Code} {s t : MachineState} → Reaches code s (Comes t) → Kept s t
 kept here = record { fewer = omega arith; same = (refl, λ j. j) }
 kept {code} {s} {t} (more {t = x} e f) =
-    let p = at_kept (slice_get code.places s.core.place) code s x e in
-    let q = kept f in
+    let p : Kept s x = at_kept (slice_get code.places s.core.place) code s x e in
+    let q : Kept x t = kept f in
     record { fewer = omega (arith, p.fewer, q.fewer); same = lasts_then s.core.store x.core.store t.core.store p.same q.same }
 
 -- ## Where the machine goes after a part of a program

@@ -412,6 +412,7 @@ module _ (code : Code) (n : ℕ) (t : Site) (x : Variable) (turn : List Placed) 
     -- from the first or the last member
     ends_run : (p end : ℕ) (cells : List Value) (frames : List Frame) (w : World) → length cells ≡ height t → HasAt code.places p (for_code t (Members x set o AtEnd reverse) turn) → p + length (for_code t (Members x set o AtEnd reverse) turn) ≡ end + 2 → HasAt code.places (end + found) (forget_to t (walk_loop t o)) → Within code n w → Reaches code (at p cells frames w) (arrive (λ b w'. at (past_loop found b end) cells frames w') frames (over n t.line (Members x set o AtEnd reverse) m w))
     ends_run p end cells frames w high has len found_has in_ =
+        let lives : Joined w.store.scene.heap = in_.says.1 in
         let co : List Placed = owner_code t o in
         let last : List Placed = forget_to t (walk_loop t o) in
         let begin : Placed = place (owner_cell t o) (i.BeginSet reverse set (owner_kept t o) h (length turns)) in
@@ -423,7 +424,7 @@ module _ (code : Code) (n : ℕ) (t : Site) (x : Variable) (turn : List Placed) 
         step_leads code begin (core_at q (own ++ cells) frames w.store) w _ _ has'.0 refl
         (owned.reads w.store (λ o below. at_height h below (begin_walk t.line (length turns) (if_ok (begun reverse set o w.store) (λ j. walk_at reverse set j w.store)) below (core_at q (own ++ cells) frames w.store)))
         ∙ at_the_height h (own ++ cells) (begin_walk t.line (length turns) (if_ok (begun reverse set y w.store) (λ j. walk_at reverse set j w.store)) (own ++ cells) (core_at q (own ++ cells) frames w.store)) owned.low)
-        (begins_at y own cells owned q end (own ++ cells) frames w (begun reverse set y w.store) has'.1 size found_has in_ (λ j e some. begun_follows reverse set y j w.store in_.says.1 e some))))
+        (begins_at y own cells owned q end (own ++ cells) frames w (begun reverse set y w.store) has'.1 size found_has in_ (λ j e some. begun_follows reverse set y j w.store lives e some))))
 
     -- from a member, or after one
     abbrev look_place : Placed
@@ -437,6 +438,7 @@ module _ (code : Code) (n : ℕ) (t : Site) (x : Variable) (turn : List Placed) 
 
     from_run : (after : Bool) (e : Expression) (p end : ℕ) (cells : List Value) (frames : List Frame) (w : World) → length cells ≡ height t → HasAt code.places p (owner_code t o ++ (look_place ∷ (member_part e ++ (begin_place after ∷ (turns ++ forget_to t (walk_loop t o)))))) → p + length (owner_code t o ++ (look_place ∷ (member_part e ++ (begin_place after ∷ (turns ++ forget_to t (walk_loop t o)))))) ≡ end + 2 → HasAt code.places (end + found) (forget_to t (walk_loop t o)) → Within code n w → Reaches code (at p cells frames w) (arrive (λ b w'. at (past_loop found b end) cells frames w') frames (outcome_then (looked t.line (if_ok (if_ok (owner_value o w.store) (λ y. turned (λ n. y) (known_owner set y w.store))) (λ y. if_ok (member_value set e w.store) (λ v. turned (outset_of y) (begun_at reverse after set v y w.store)))) w) after_walk))
     from_run after e p end cells frames w high has len found_has in_ =
+        let lives : Joined w.store.scene.heap = in_.says.1 in
         let co : List Placed = owner_code t o in
         let ce : List Placed = member_part e in
         let last : List Placed = forget_to t (walk_loop t o) in
@@ -460,7 +462,7 @@ module _ (code : Code) (n : ℕ) (t : Site) (x : Variable) (turn : List Placed) 
         step_leads code (begin_place after) (core_at b (v ∷ (own ++ cells)) frames w.store) w _ _ has''.0 refl
         (at_the_height h (own ++ cells) (with_bearer (owner_kept t o) w.store (own ++ cells) (λ o below. begin_walk t.line (length turns) (if_ok (begun_at reverse after set v o w.store) (λ j. walk_at reverse set j w.store)) below (core_at b (v ∷ (own ++ cells)) frames w.store))) owned.low
         ∙ owned.reads w.store (λ o below. begin_walk t.line (length turns) (if_ok (begun_at reverse after set v o w.store) (λ j. walk_at reverse set j w.store)) below (core_at b (v ∷ (own ++ cells)) frames w.store)))
-        (begins_at y own cells owned b end (v ∷ (own ++ cells)) frames w (begun_at reverse after set v y w.store) has''.1 size found_has in_ (λ j e some. begun_at_follows reverse after set v y j w.store in_.says.1 e some))))))))
+        (begins_at y own cells owned b end (v ∷ (own ++ cells)) frames w (begun_at reverse after set v y w.store) has''.1 size found_has in_ (λ j e some. begun_at_follows reverse after set v y j w.store lives e some))))))))
 
     pub members_run : (start : Start) (p end : ℕ) (cells : List Value) (frames : List Frame) (w : World) → length cells ≡ height t → HasAt code.places p (for_code t (Members x set o start reverse) turn) → p + length (for_code t (Members x set o start reverse) turn) ≡ end + 2 → HasAt code.places (end + found) (forget_to t (walk_loop t o)) → Within code n w → Reaches code (at p cells frames w) (arrive (λ b w'. at (past_loop found b end) cells frames w') frames (over n t.line (Members x set o start reverse) m w))
     members_run AtEnd p end cells frames w high has len found_has in_ = ends_run p end cells frames w high has len found_has in_

@@ -12,7 +12,7 @@ use Rattle.ss_code_instructions.specs.Machine.{Code}
 use Rattle.ss_code_instructions.specs.Running.{start, GoesRight, Behaves}
 use Rattle.ss_code_instructions.specs.Laws.{CodeBehaves}
 use Rattle.ss_code_instructions.specs.Translation.{Site, place, block_code, block_prints, main_scope, first_site, routine_code, event_code, routines_code, events_code, routines_prints, events_prints, routine_entries, event_entries, main_prints, prints_before_events, main_code, all_routines, all_events, code_of}
-use Rattle.ss_code_instructions.proofs.Joining.{first_joined}
+use Rattle.ss_code_instructions.proofs.Joining.{Joined, first_joined}
 use Rattle.ss_code_instructions.proofs.Steps.{HasAt, has_front, has_back, has_all, Finishes, Reaches, reaches_on, in_steps, Agrees, agrees, at, arrive}
 use Rattle.ss_code_instructions.proofs.Parts.{Within, ends, step_leads}
 use Rattle.ss_code_instructions.proofs.Blocks.{block_runs}
@@ -96,7 +96,10 @@ module _ (p : Program) where
 
   -- as a run begins the program says what its code says, and no set has a member
   first_within : (input : List ℕ) (n : ℕ) → Within code n (first_world p input n)
-  first_within input n = record { ticks = (let all : n ≤ n = omega arith in all); says = (refl, first_joined p.layout) }
+  first_within input n =
+      let all : n ≤ n = omega arith in
+      let lives : Joined (first_world p input n).store.scene.heap = first_joined p.layout in
+      record { ticks = all; says = (refl, lives) }
 
   main_end : (u : Site) (q : ℕ) (s : MachineState) (o : Outcome (Unit {0})) → slice_get code.places q ≡ Some (place u i.Leave) → (run_of o).ending ≢ WentWrong → Reaches code s (arrive (λ (a : Unit {0}) w'. at q [] [] w') [] o) → Reaches code s (Finishes (run_of o))
   main_end u q s (WentOn a w) has right g =
