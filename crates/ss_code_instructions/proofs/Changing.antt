@@ -1,5 +1,5 @@
 -- The code of ADD and SUBTRACT where an attribute is changed: the value lies below the reference.
-use Rattle.std.proofs.Common.{◌≡◌, ℕ, zero, suc, ◌+◌, Bool, true, false, List, [], ◌∷◌, ◌++◌, length, Option, Some, None, Ok, Err, ℤ, refl, sym, ap, ◌∙◌, subst, arith, length-append}
+use Rattle.std.proofs.Common.{◌≡◌, ℕ, suc, ◌+◌, Bool, true, false, List, [], ◌∷◌, ◌++◌, length, Option, Some, None, Ok, Err, ℤ, refl, sym, ap, ◌∙◌, subst, arith, length-append}
 use Rattle.std.proofs.lemmas.Bool.{lt-ltb}
 use Rattle.std.specs.Prelude.{nat_lt, Result as OkOr, if◌then◌else◌}
 use Rattle.ss_base.specs.declared.line.Line.{Line}
@@ -20,29 +20,15 @@ use Rattle.ss_code_instructions.specs.Machine.{Code, changed_attribute}
 use Rattle.ss_code_instructions.specs.Translation.{Site, height, leaf, or_cell, or_in_cell, expression_mode, operand, after, operand_code, place, change_code}
 use Rattle.ss_code_instructions.proofs.Steps.{Reaches, at, arrive}
 use Rattle.ss_code_instructions.proofs.Parts.{Runs, same, done}
-use Rattle.ss_code_instructions.proofs.Operands.{held, held_height, leaf_reads, reads, one_join}
+use Rattle.ss_code_instructions.proofs.Operands.{held, held_height, leaf_reads, leaf_low, reads, one_join}
 use Rattle.ss_code_instructions.proofs.Expressions.{evaluates}
 use Rattle.ss_code_instructions.proofs.Attributes.{low_constant, low_held, err_first, two_change}
 
-less_so : (n : ℕ) → nat_lt n (suc n) ≡ true
-less_so n = lt-ltb n (suc n) (omega arith)
+-- a cell lies above the one before it
+pub next_above : (n : ℕ) → nat_lt n (suc n) ≡ true
+next_above n = lt-ltb n (suc n) (omega arith)
 
--- a constant or a variable lies above nothing, and below no cell
-leaf_low : (e : Expression) (x y : Operand) → leaf e ≡ Some x → lies_above x y ≡ false
-leaf_low (Constant u) x y q = let e : i.Constant u ≡ x = cc in subst (λ x. lies_above x y ≡ false) e refl
-leaf_low (Fetch z) x y q = let e : Held z ≡ x = cc in subst (λ x. lies_above x y ≡ false) e refl
-leaf_low (Attribute class field e) x y q = absurd cc
-leaf_low (OfSystemSet query set) x y q = absurd cc
-leaf_low (OfSet query set e) x y q = absurd cc
-leaf_low (OfMember query set e) x y q = absurd cc
-leaf_low Clock x y q = absurd cc
-leaf_low (TimeOf e) x y q = absurd cc
-leaf_low (Figure fold j) x y q = absurd cc
-leaf_low (FigureOf fold j e) x y q = absurd cc
-leaf_low (Signed sign e) x y q = absurd cc
-leaf_low (Absolute e) x y q = absurd cc
-leaf_low (Calculate op a b) x y q = absurd cc
-
+-- a constant or a variable lies below no cell
 under_none : (e : Expression) (x y : Operand) → leaf e ≡ Some y → lies_above x y ≡ false
 under_none (Constant u) x y q = let e : i.Constant u ≡ y = cc in subst (λ y. lies_above x y ≡ false) e (low_constant x u)
 under_none (Fetch z) x y q = let e : Held z ≡ y = cc in subst (λ y. lies_above x y ≡ false) e (low_held x z)
@@ -93,7 +79,7 @@ takes_over t e r z v s cells go h q p = by (leaf r) refl (leaf e) refl
         let higher : height (after t e) ≡ suc (height t) = ap (λ o. length (or_in_cell o (expression_mode t.scope e) t.cells)) g in
         let x_is : operand (after t e) r ≡ Taken (suc (height t)) = ap (or_cell (height (after t e))) f ∙ ap Taken higher in
         let y_is : operand t e ≡ Taken (height t) = ap (or_cell (height t)) g in
-        let high : lies_above (operand (after t e) r) (operand t e) ≡ true = ap (λ k. lies_above k (operand t e)) x_is ∙ ap (lies_above (Taken (suc (height t)))) y_is ∙ less_so (height t) in
+        let high : lies_above (operand (after t e) r) (operand t e) ≡ true = ap (λ k. lies_above k (operand t e)) x_is ∙ ap (lies_above (Taken (suc (height t)))) y_is ∙ next_above (height t) in
         by_order true (operand (after t e) r) (operand t e) s (held (leaf r) v (held (leaf e) z cells)) go high
         ∙ reads (after t e) r v s (held (leaf e) z cells) (λ v above. with_value (operand t e) s above (λ w below. go v w below)) (held_height t e z cells h) p
         ∙ reads t e z s cells (λ w below. go v w below) h q

@@ -1,5 +1,5 @@
 -- The code of conditions.
-use Rattle.std.proofs.Common.{◌≡◌, ℕ, ◌+◌, Bool, true, false, not, List, [], ◌∷◌, ◌++◌, length, Option, Some, None, Ok, Err, refl, sym, ap, ◌∙◌, subst, arith, length-append}
+use Rattle.std.proofs.Common.{◌≡◌, ℕ, ◌+◌, Bool, true, false, not, List, [], ◌∷◌, ◌++◌, length, Option, Ok, Err, refl, ap, subst, arith}
 use Rattle.std.specs.Prelude.{Result as OkOr}
 use Rattle.ss_base.specs.declared.fault.FaultKind.{FaultKind}
 use Rattle.ss_base.specs.declared.line.Line.{Line}
@@ -9,18 +9,16 @@ use Rattle.ss_program.specs.declared.head.GuardKind.{GuardKind}
 use Rattle.ss_program.specs.declared.head.GuardKind.TheVariants as guards
 use Rattle.ss_program.specs.Program.{Expression, SetOwner, Test, Compare, DataEnded, Empty, Member, Condition, Guard}
 use Rattle.ss_meaning.specs.Values.{Trouble, Fails, Misfit, if_ok, turned, due, sure, related}
-use Rattle.ss_meaning.specs.Store.{Store}
 use Rattle.ss_meaning.specs.Sets.{member, is_empty, is_in}
-use Rattle.ss_meaning.specs.Expressions.{value, member_value, owner_value, unless, passed, both, either, all_hold, holds, passes, all_pass}
-use Rattle.ss_meaning.specs.Parts.{World, WentOn, Part, outcome_then, looked, look}
-use Rattle.ss_code_instructions.specs.Instructions.{Placed}
+use Rattle.ss_meaning.specs.Expressions.{member_value, owner_value, unless, passed, both, either, all_hold, holds, passes, all_pass}
+use Rattle.ss_meaning.specs.Parts.{World, WentOn, outcome_then, looked, look}
 use Rattle.ss_code_instructions.specs.Instructions as i
-use Rattle.ss_code_instructions.specs.States.{Frame, Moved, To, did, fit, core_at, past, onward_if}
+use Rattle.ss_code_instructions.specs.States.{Moved, did, fit, core_at, past, onward_if}
 use Rattle.ss_code_instructions.specs.Machine.{Code}
 use Rattle.ss_code_instructions.specs.Facts.{expression_of, may_fault}
 use Rattle.ss_code_instructions.specs.Translation.{Site, height, place, operand, after, with_owner, looked_code, test_code, tests_code, alternatives_code, condition_code, negated_code, guard_code, guards_code}
 use Rattle.ss_code_instructions.proofs.Steps.{Comes, Reaches, here, at, arrive}
-use Rattle.ss_code_instructions.proofs.Parts.{Leads, onwards, Lands, same, done, alike, look_lands}
+use Rattle.ss_code_instructions.proofs.Parts.{onwards, Lands, same, done, alike, look_lands}
 use Rattle.ss_code_instructions.proofs.Looking.{fit_did, two_lands, owner_lands}
 use Rattle.ss_code_instructions.proofs.Members.{member_owner_run}
 use Rattle.ss_code_instructions.proofs.Branching.{both_lands, either_lands, not_lands}

@@ -1,28 +1,27 @@
 -- The code of expressions.
-use Rattle.std.proofs.Common.{◌≡◌, ℕ, zero, suc, ◌+◌, Bool, true, false, List, [], ◌∷◌, ◌++◌, length, Option, Some, None, Ok, Err, refl, sym, ap, ◌∙◌, subst, arith, length-append}
-use Rattle.std.specs.Prelude.{slice_get, Result as OkOr}
+use Rattle.std.proofs.Common.{◌≡◌, ℕ, ◌+◌, false, List, [], ◌∷◌, ◌++◌, length, Some, None, Ok, Err, refl, sym, ap, ◌∙◌, subst, arith, length-append}
+use Rattle.std.specs.Prelude.{Result as OkOr}
 use Rattle.ss_base.specs.declared.line.Line.{Line}
 use Rattle.ss_base.specs.declared.value.Value.{Value}
 use Rattle.ss_base.specs.declared.value.Value.TheVariants.{Whole}
 use Rattle.std.specs.Prelude.{pos}
 use Rattle.ss_program.specs.Program.{Expression, Constant, Fetch, Attribute, OfSystemSet, OfSet, OfMember, Clock, TimeOf, Figure, FigureOf, Signed, Absolute, Calculate}
-use Rattle.ss_meaning.specs.Values.{Trouble, Fails, Misfit, if_ok, turned, calculated, operator_of, signed, absolute}
+use Rattle.ss_meaning.specs.Values.{Trouble, Fails, Misfit, if_ok, calculated, operator_of, signed, absolute}
 use Rattle.ss_meaning.specs.Store.{Store}
 use Rattle.ss_meaning.specs.Entities.{attribute, time_of}
 use Rattle.ss_meaning.specs.Sets.{of_set, of_member}
 use Rattle.ss_meaning.specs.Events.{clock}
 use Rattle.ss_meaning.specs.Statistics.{figure}
-use Rattle.ss_meaning.specs.Expressions.{value, values}
-use Rattle.ss_meaning.specs.Parts.{World, WentOn, Part, outcome_then, looked, look}
-use Rattle.ss_code_instructions.specs.Instructions.{Operand, Target, Into, Onto, Instruction, Placed}
+use Rattle.ss_meaning.specs.Expressions.{value}
+use Rattle.ss_meaning.specs.Parts.{World, Part, outcome_then, looked, look}
+use Rattle.ss_code_instructions.specs.Instructions.{Operand, Target, Instruction, Placed}
 use Rattle.ss_code_instructions.specs.Instructions as i
-use Rattle.ss_code_instructions.specs.States.{Frame, Moved, core_at, with_value, with_values, deliver}
+use Rattle.ss_code_instructions.specs.States.{Frame, core_at, with_value, with_values, deliver}
 use Rattle.ss_code_instructions.specs.Machine.{Code, act, is_due}
-use Rattle.ss_code_instructions.specs.Translation.{Site, height, place, leaf, operand, after, operand_code, one, expression_code, expression_mode, values_code, above, next}
-use Rattle.ss_code_instructions.proofs.Steps.{HasAt, has_front, has_back, Reaches, here, at, arrive, join}
-use Rattle.ss_code_instructions.proofs.Parts.{Within, within_on, Leads, step_leads, did_leads, Lands, Runs, at_end, same, put_on, onto, went, look_then, looks_then, turned_then, alike, seq, seq_look, none}
-use Rattle.ss_code_instructions.proofs.Parts.{above as above_cells}
-use Rattle.ss_code_instructions.proofs.Operands.{on, Tops, put_then, computes, held, held_height, reads, reads_both, join_look, Evaluates, leaf_runs, operand_runs, one_join, two_join}
+use Rattle.ss_code_instructions.specs.Translation.{Site, height, place, leaf, operand, after, operand_code, one, expression_code, next}
+use Rattle.ss_code_instructions.proofs.Steps.{Reaches, at, arrive}
+use Rattle.ss_code_instructions.proofs.Parts.{Leads, step_leads, Runs, same, put_on, went, look_then, alike}
+use Rattle.ss_code_instructions.proofs.Operands.{on, Tops, put_then, computes, held, reads, reads_both, Evaluates, leaf_runs, operand_runs, one_join, two_join}
 
 if_ok_ok : {A : Type 0} (r : OkOr A Trouble) → if_ok r Ok ≡ r
 if_ok_ok (Ok a) = refl

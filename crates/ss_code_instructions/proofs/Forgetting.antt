@@ -1,5 +1,5 @@
 -- Cells that are forgotten.
-use Rattle.std.proofs.Common.{◌≡◌, ℕ, zero, suc, ◌+◌, List, [], ◌∷◌, ◌++◌, length, Some, refl, ap, ◌∙◌, subst, arith}
+use Rattle.std.proofs.Common.{◌≡◌, ℕ, zero, suc, ◌+◌, ◌-◌, List, [], ◌∷◌, ◌++◌, length, Some, refl, ap, ◌∙◌, subst, arith}
 use Rattle.ss_base.specs.declared.value.Value.{Value}
 use Rattle.ss_meaning.specs.Parts.{World}
 use Rattle.ss_code_instructions.specs.Instructions as i
@@ -8,6 +8,13 @@ use Rattle.ss_code_instructions.specs.Machine.{Code}
 use Rattle.ss_code_instructions.specs.Translation.{Site, place, forget}
 use Rattle.ss_code_instructions.proofs.Steps.{HasAt, Comes, Reaches, here, at}
 use Rattle.ss_code_instructions.proofs.Parts.{onwards, step_leads}
+
+-- how many lie above a height
+pub two_more : (h : ℕ) → suc (suc h) - h ≡ 2
+two_more h = omega arith
+
+pub three_more : (h : ℕ) → suc (suc (suc h)) - h ≡ 3
+three_more h = omega arith
 
 taken_off : (more cells vs : List Value) → (us : List Value) × (take_off (length more) (more ++ cells) vs ≡ Some (record { values = us; below = cells }))
 taken_off [] cells vs = (vs, refl)

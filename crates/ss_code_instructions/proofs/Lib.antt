@@ -1,6 +1,8 @@
 mod Keeping
 mod Moving
 mod Acting
+pub mod Joining
+pub mod Staying
 pub mod Calling
 pub mod Steps
 pub mod Parts
@@ -22,10 +24,27 @@ pub mod Placing
 pub mod Letting
 pub mod Plain
 pub mod Giving
+pub mod Stacked
+pub mod Following
+pub mod Leaves
 pub mod Loops
 pub mod Looping
 pub mod Ranging
 pub mod Walking
+pub mod Heads
+pub mod Finding
+pub mod Printing
+pub mod Assuming
+pub mod Results
+pub mod Simulating
+pub mod Naming
+pub mod Quiet
+pub mod Timing
+pub mod Scheduling
+pub mod Blocks
+pub mod Yielding
+pub mod Entering
+pub mod Whole
 pub mod Pieces
 pub mod Holding
 pub mod Sizes

@@ -1,28 +1,22 @@
 -- Instructions that look at operands, and go on or jump.
-use Rattle.std.proofs.Common.{◌≡◌, ℕ, ◌+◌, Bool, true, false, not, List, [], ◌∷◌, ◌++◌, length, Option, Some, None, Ok, Err, refl, sym, ap, ◌∙◌, subst, arith, length-append}
-use Rattle.std.specs.Prelude.{slice_get, Result as OkOr}
+use Rattle.std.proofs.Common.{◌≡◌, ℕ, ◌+◌, false, List, [], ◌∷◌, ◌++◌, length, Option, Some, None, Ok, Err, refl, sym, ap, ◌∙◌, subst, arith, length-append}
+use Rattle.std.specs.Prelude.{Result as OkOr}
 use Rattle.ss_base.specs.declared.line.Line.{Line}
 use Rattle.ss_base.specs.declared.value.Value.{Value}
-use Rattle.ss_meaning.specs.Words.{is_ended}
-use Rattle.ss_program.specs.declared.head.GuardKind.{GuardKind}
-use Rattle.ss_program.specs.declared.head.GuardKind.TheVariants as guards
-use Rattle.ss_program.specs.Program.{Expression, SetOwner, TheSystem, Entity, Test, Compare, DataEnded, Empty, Member, Condition, Guard}
-use Rattle.ss_meaning.specs.Values.{Trouble, Fails, Misfit, if_ok, turned, due, sure, related}
+use Rattle.ss_program.specs.Program.{Expression, SetOwner, TheSystem, Entity}
+use Rattle.ss_meaning.specs.Values.{Trouble, Fails, Misfit, if_ok, turned, sure}
 use Rattle.ss_meaning.specs.Store.{Store}
-use Rattle.ss_meaning.specs.Sets.{member, is_empty, is_in, owner_number}
-use Rattle.ss_meaning.specs.Expressions.{value, value_if_any, looked_at, member_value, owner_value, unless, passed, both, either, all_hold, holds, passes, all_pass}
+use Rattle.ss_meaning.specs.Expressions.{value, value_if_any, owner_value}
 use Rattle.ss_meaning.specs.Parts.{World, WentOn, Part, outcome_then, looked, look}
 use Rattle.ss_code_instructions.specs.Instructions.{Operand, Bearer, Instruction, Placed}
-use Rattle.ss_code_instructions.specs.Instructions as i
-use Rattle.ss_code_instructions.specs.States.{Frame, MachineState, Moved, To, did, fit, core_at, with_value, with_values, with_bearer, past, onward_if}
+use Rattle.ss_code_instructions.specs.States.{Frame, MachineState, Moved, To, did, fit, core_at, with_value, with_values, with_bearer}
 use Rattle.ss_code_instructions.specs.Machine.{Code, act, is_due}
-use Rattle.ss_code_instructions.specs.Facts.{expression_of, may_fault, is_leaf}
-use Rattle.ss_code_instructions.specs.Translation.{Site, height, place, leaf, operand, after, operand_code, one, with_operand, expression_code, next, bearer, bearer_code, bearer_cells, after_bearer, with_owner, looked_code, member_code, test_code, tests_code, alternatives_code, condition_code, negated_code, guard_code, guards_code}
-use Rattle.ss_code_instructions.proofs.Steps.{HasAt, has_front, has_back, Comes, Reaches, here, free, at, arrive, join}
-use Rattle.ss_code_instructions.proofs.Parts.{Within, within_on, Leads, onwards, whatever, step_leads, did_leads, Lands, same, done, alike, went, looks_then, look_then, looked_then, turned_then, look_lands}
-use Rattle.ss_code_instructions.proofs.Operands.{held, held_height, reads, reads_both, join_look, Evaluates, one_join, two_join}
+use Rattle.ss_code_instructions.specs.Facts.{expression_of}
+use Rattle.ss_code_instructions.specs.Translation.{Site, height, place, leaf, operand, after, operand_code, with_operand, bearer, bearer_code, after_bearer, with_owner}
+use Rattle.ss_code_instructions.proofs.Steps.{HasAt, Comes, Reaches, here, at, arrive}
+use Rattle.ss_code_instructions.proofs.Parts.{Within, Leads, onwards, step_leads, did_leads, Lands, same, done, went, looks_then, turned_then}
+use Rattle.ss_code_instructions.proofs.Operands.{held, held_height, reads, reads_both, one_join, two_join}
 use Rattle.ss_code_instructions.proofs.Expressions.{evaluates}
-use Rattle.ss_code_instructions.proofs.Branching.{both_lands, either_lands, not_lands}
 
 pub fit_did : {A : Type 0} (l : Line) (o : Option A) (go : A → Moved) → fit o go ≡ did l (sure o) go
 fit_did l None go = refl

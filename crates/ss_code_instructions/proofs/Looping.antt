@@ -1,7 +1,6 @@
 -- The code of loops led by WHILE or UNTIL, and of the phrases of a FOR.
-use Rattle.std.proofs.Common.{◌≡◌, ℕ, zero, suc, ◌+◌, ◌-◌, ◌≤◌, Bool, true, false, not, List, [], ◌∷◌, ◌++◌, length, Option, Some, None, Ok, Err, refl, sym, ap, ◌∙◌, subst, arith, length-append}
+use Rattle.std.proofs.Common.{◌≡◌, ℕ, suc, ◌+◌, ◌-◌, ◌≤◌, Bool, true, false, not, List, [], ◌∷◌, ◌++◌, length, Some, Ok, Err, refl, sym, ap, ◌∙◌, subst, arith, length-append}
 use Rattle.std.specs.Prelude.{slice_get, Result as OkOr}
-use Rattle.ss_base.specs.declared.line.Line.{Line}
 use Rattle.ss_base.specs.declared.value.Value.{Value}
 use Rattle.ss_program.specs.declared.head.PhraseKind.{PhraseKind}
 use Rattle.ss_program.specs.declared.head.PhraseKind.TheVariants as kinds
@@ -16,7 +15,7 @@ use Rattle.ss_code_instructions.specs.States.{Frame, To, core_at, past}
 use Rattle.ss_code_instructions.specs.Machine.{Code, act, is_due}
 use Rattle.ss_code_instructions.specs.Translation.{Site, height, place as here_is, guards_code, loop_code, phrase_code, phrases_code}
 use Rattle.ss_code_instructions.proofs.Steps.{HasAt, has_front, has_back, Goal, Comes, Reaches, here, at, arrive, join}
-use Rattle.ss_code_instructions.proofs.Parts.{Within, within_on, Leads, onwards, step_leads, Lands, Runs, same, done, alike}
+use Rattle.ss_code_instructions.proofs.Parts.{Within, within_on, onwards, step_leads, Lands, Runs, same, done, alike}
 use Rattle.ss_code_instructions.proofs.Loops.{turned, Turns, loop_run}
 use Rattle.ss_code_instructions.proofs.Conditions.{condition_lands, negated_lands, guards_land}
 
@@ -89,7 +88,9 @@ module _ (code : Code) (n : ℕ) (t : Site) where
     }
       where
         sides : (p end : ℕ) (cells : List Value) (frames : List Frame) (w : World) → length cells ≡ height t → HasAt code.places p turn_code → p + 1 + length cb + length again_code + 1 ≡ end → Within code n w → (b : Bool) → Reaches code (at (past (length cb + length again_code + 2) b p) cells frames w) (arrive (λ u w'. at end cells frames w') frames (choose b (loop n (guarded_turn t.line gs mb) tt) (WentOn tt) w))
-        sides p end cells frames w high h len in_ true = loop_run code (guarded_turns p end cells frames high h len) n (omega arith) tt w in_.ticks in_.says
+        sides p end cells frames w high h len in_ true =
+            let below : n ≤ suc n = omega arith in
+            loop_run code (guarded_turns p end cells frames high h len) n below tt w in_.ticks in_.says
         sides p end cells frames w high h len in_ false =
             let e : end ≡ p + (length cb + length again_code + 2) = omega (arith, len) in
             subst (λ j. Reaches code (at j cells frames w) (Comes (at end cells frames w))) e here

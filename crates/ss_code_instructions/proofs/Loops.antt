@@ -1,23 +1,28 @@
 -- Loops: the instruction at their head takes a tick, and their end jumps back to it.
-use Rattle.std.proofs.Common.{◌≡◌, ℕ, zero, suc, ◌+◌, ◌≤◌, true, List, [], ◌++◌, Some, refl, ◌∙◌, sym, subst, arith}
+use Rattle.std.proofs.Common.{◌≡◌, ℕ, zero, suc, ◌≤◌, true, List, ◌++◌, Some, arith}
 use Rattle.std.specs.Prelude.{slice_get}
 use Rattle.ss_base.specs.declared.value.Value.{Value}
 use Rattle.ss_meaning.specs.Parts.{World, Outcome, WentOn, Left, Part, outcome_then, Next, Again, Over, go_on, loop}
 use Rattle.ss_code_instructions.specs.Instructions.{Placed}
-use Rattle.ss_code_instructions.specs.States.{Frame, MachineState, Moved, To, Sends, core_at}
+use Rattle.ss_code_instructions.specs.States.{Frame, MachineState, Moved, core_at}
 use Rattle.ss_code_instructions.specs.Machine.{Code, act, is_due}
-use Rattle.ss_code_instructions.proofs.Keeping.{Same}
-use Rattle.ss_code_instructions.proofs.Acting.{Keeps, act_keeps}
+use Rattle.ss_code_instructions.proofs.Staying.{Lasts, Endures, act_lasts, lasts_then, Suits, suits_on}
 use Rattle.ss_code_instructions.proofs.Steps.{Goal, Comes, Reaches, here, reaches_on, Kept, kept, at, arrive}
 use Rattle.ss_code_instructions.proofs.Parts.{Within, Leads, onwards, writes, with_core, ticked, tick_run, out_run}
 
 -- what an instruction leads to, and then where the machine goes from there
-leads_on : {code : Code} (w : World) (m : Moved) (x : MachineState) (r : Goal) → Keeps w.store m → Leads code w m (Comes x) → (x.ticks ≤ w.ticks → Same w.store x.core.store → Reaches code x r) → Leads code w m r
-leads_on w m x r q (onwards f) h = let t = kept f in onwards (reaches_on f (h t.fewer (t.same ∙ q)))
-leads_on w m x r q (writes f) h = let t = kept f in writes (reaches_on f (h t.fewer (t.same ∙ q)))
+leads_on : {code : Code} (w : World) (m : Moved) (x : MachineState) (r : Goal) → Endures w.store m → Leads code w m (Comes x) → (x.ticks ≤ w.ticks → Lasts w.store x.core.store → Reaches code x r) → Leads code w m r
+leads_on w m x r q (onwards {c = c} f) h =
+    let t : Kept (with_core c w) x = kept f in
+    let lasts : Lasts w.store x.core.store = lasts_then w.store c.store x.core.store q t.same in
+    onwards (reaches_on f (h t.fewer lasts))
+leads_on w m x r q (writes {bytes = bytes} {c = c} f) h =
+    let t : Kept (with_core c (record w { report = w.report ++ bytes })) x = kept f in
+    let lasts : Lasts w.store x.core.store = lasts_then w.store c.store x.core.store q t.same in
+    writes (reaches_on f (h t.fewer lasts))
 
 -- the same of a part, and then another one
-pub leads_join : {A B : Type 0} {code : Code} (w : World) (m : Moved) (k : A → World → MachineState) (k' : B → World → MachineState) (frames : List Frame) (o : Outcome A) (f : A → Part B) → Keeps w.store m → Leads code w m (arrive k frames o) → ((a : A) (w' : World) → (k a w').ticks ≤ w.ticks → Same w.store (k a w').core.store → Reaches code (k a w') (arrive k' frames (f a w'))) → Leads code w m (arrive k' frames (outcome_then o f))
+pub leads_join : {A B : Type 0} {code : Code} (w : World) (m : Moved) (k : A → World → MachineState) (k' : B → World → MachineState) (frames : List Frame) (o : Outcome A) (f : A → Part B) → Endures w.store m → Leads code w m (arrive k frames o) → ((a : A) (w' : World) → (k a w').ticks ≤ w.ticks → Lasts w.store (k a w').core.store → Reaches code (k a w') (arrive k' frames (f a w'))) → Leads code w m (arrive k' frames (outcome_then o f))
 leads_join w m k k' frames (Left e w') f q g h = g
 leads_join w m k k' frames (WentOn a w') f q g h = leads_on w m (k a w') (arrive k' frames (f a w')) q g (h a w')
 
@@ -44,16 +49,22 @@ module _ (code : Code) where
     fewer_at (Again c) w j h = h
     fewer_at (Over a) w j h = h
 
-    same_at : (o : Next C A) (w w' : World) → Same w.store (turned hold p to cells frames o w').core.store → Same w.store w'.store
+    same_at : (o : Next C A) (w w' : World) → Lasts w.store (turned hold p to cells frames o w').core.store → Lasts w.store w'.store
     same_at (Again c) w w' h = h
     same_at (Over a) w w' h = h
 
-    pub loop_run : (k : ℕ) → k ≤ n → (c : C) (w : World) → w.ticks ≤ k → w.store.scene.setting ≡ code.setting → Reaches code (at p (hold c cells) frames w) (arrive (λ a w'. at (to a) cells frames w') frames (loop k turn c w))
+    -- The turns. Each has a tick less than there was before it, since its first instruction takes one.
+    pub loop_run : (k : ℕ) → k ≤ suc n → (c : C) (w : World) → w.ticks ≤ k → Suits code w.store → Reaches code (at p (hold c cells) frames w) (arrive (λ a w'. at (to a) cells frames w') frames (loop k turn c w))
     loop_run zero lek c w le says =
         out_run code {A = A} t.head (core_at p (hold c cells) frames w.store) frames w (λ a w'. at (to a) cells frames w') t.has t.due le
     loop_run (suc k) lek c w le says =
         tick_run code {A = A} t.head (core_at p (hold c cells) frames w.store) frames w (λ a w'. at (to a) cells frames w') (λ w. outcome_then (turn c w) (go_on (loop k turn))) t.has t.due (λ j e.
         leads_join (ticked j w) (act code t.head.line t.head.instruction (core_at p (hold c cells) frames w.store)) (turned hold p to cells frames) (λ a w'. at (to a) cells frames w') frames (turn c (ticked j w)) (go_on (loop k turn))
-        (act_keeps code t.head.line t.head.instruction (core_at p (hold c cells) frames w.store))
-        (t.each c (ticked j w) (record { ticks = omega (arith, e, le, lek); says = says }))
-        (λ o w' fewer same. again_run (loop k turn) w' (λ d. loop_run k (omega (arith, lek)) d w' (omega (arith, fewer_at o w' j fewer, e, le)) (same_at o w w' same ∙ says)) o))
+        (act_lasts code t.head.line t.head.instruction (core_at p (hold c cells) frames w.store))
+        (t.each c (ticked j w) (record { ticks = (let few : j ≤ n = omega (arith, e, le, lek) in few); says = says }))
+        (λ o w' fewer same.
+        let below : k ≤ suc n = omega (arith, lek) in
+        let left : w'.ticks ≤ j = fewer_at o w' j fewer in
+        let few : w'.ticks ≤ k = omega (arith, left, e, le) in
+        let lasts : Lasts w.store w'.store = same_at o w w' same in
+        again_run (loop k turn) w' (λ d. loop_run k below d w' few (suits_on code w.store w'.store lasts says)) o))

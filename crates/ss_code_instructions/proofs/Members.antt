@@ -1,23 +1,22 @@
 -- A member, then an owner, then an instruction that works on both: the member is looked at before where the owner's evaluation may fault.
-use Rattle.std.proofs.Common.{◌≡◌, ℕ, ◌+◌, Bool, true, false, not, List, [], ◌∷◌, ◌++◌, length, Option, Some, None, Ok, Err, ℤ, refl, sym, ap, ◌∙◌, subst, arith, length-append}
+use Rattle.std.proofs.Common.{◌≡◌, ℕ, ◌+◌, Bool, true, false, List, [], ◌∷◌, ◌++◌, length, Option, Some, None, Ok, Err, ℤ, refl, sym, ap, ◌∙◌, subst, arith, length-append}
 use Rattle.std.proofs.lemmas.Bool.{eq-eqb}
-use Rattle.std.specs.Prelude.{slice_get, ◌==◌, Result as OkOr, if◌then◌else◌}
+use Rattle.std.specs.Prelude.{slice_get, Result as OkOr, if◌then◌else◌}
 use Rattle.ss_base.specs.declared.fault.FaultKind.{FaultKind}
-use Rattle.ss_base.specs.declared.line.Line.{Line}
 use Rattle.ss_base.specs.declared.value.Value.{Value}
 use Rattle.ss_program.specs.Program.{Expression, Constant, Fetch, Attribute, OfSystemSet, OfSet, OfMember, Clock, TimeOf, Figure, FigureOf, Signed, Absolute, Calculate, SetOwner}
 use Rattle.ss_meaning.specs.Values.{Trouble, Fails, Misfit, if_ok, turned}
 use Rattle.ss_meaning.specs.Store.{Store, fetched}
 use Rattle.ss_meaning.specs.Sets.{member}
-use Rattle.ss_meaning.specs.Expressions.{value, value_if_any, looked_at, member_value, owner_value}
-use Rattle.ss_meaning.specs.Parts.{World, WentOn, Part, outcome_then, looked, look}
-use Rattle.ss_code_instructions.specs.Instructions.{Operand, Bearer, Instruction, Placed, Constant as AConstant, Held, Taken, Stays, LookMember}
+use Rattle.ss_meaning.specs.Expressions.{value, looked_at, member_value, owner_value}
+use Rattle.ss_meaning.specs.Parts.{World, Part, outcome_then, looked, look}
+use Rattle.ss_code_instructions.specs.Instructions.{Operand, Bearer, Instruction, Placed, Constant as AConstant, Held, LookMember}
 use Rattle.ss_code_instructions.specs.States.{Frame, MachineState, Moved, did, fit, core_at, onward, cell_at, or_zero, with_value, with_bearer}
 use Rattle.ss_code_instructions.specs.Machine.{Code, act, is_due}
 use Rattle.ss_code_instructions.specs.Facts.{expression_of, may_fault}
 use Rattle.ss_code_instructions.specs.Translation.{Site, height, place, leaf, or_cell, operand, after, operand_code, stay, bearer, bearer_code, after_bearer, with_owner, looked_code}
 use Rattle.ss_code_instructions.proofs.Steps.{HasAt, has_front, has_back, Reaches, free, at, arrive}
-use Rattle.ss_code_instructions.proofs.Parts.{Within, Leads, onwards, breaks, whatever, step_leads, did_leads, turned_then}
+use Rattle.ss_code_instructions.proofs.Parts.{Within, Leads, onwards, breaks, step_leads, did_leads, turned_then}
 use Rattle.ss_code_instructions.proofs.Operands.{held, held_height, reads, one_join}
 use Rattle.ss_code_instructions.proofs.Expressions.{evaluates}
 use Rattle.ss_code_instructions.proofs.Looking.{owner_is, Found, bearer_join}

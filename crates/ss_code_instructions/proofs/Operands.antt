@@ -1,11 +1,12 @@
 -- What an instruction finds in its operands, and what it leaves at its target.
-use Rattle.std.proofs.Common.{◌≡◌, ℕ, zero, suc, ◌+◌, Bool, false, List, [], ◌∷◌, ◌++◌, length, Option, Some, None, Ok, Err, refl, sym, ap, ◌∙◌, subst, arith, if◌then◌else◌}
+use Rattle.std.proofs.Common.{◌≡◌, ℕ, suc, ◌+◌, Bool, false, List, [], ◌∷◌, ◌++◌, length, Option, Some, None, Ok, Err, refl, sym, ap, ◌∙◌, subst, arith, ◌⊎◌, inl, inr, if◌then◌else◌}
 use Rattle.std.proofs.lemmas.Bool.{eq-eqb, le-ltb}
 use Rattle.std.specs.Prelude.{nat_lt, Result as OkOr}
 use Rattle.ss_base.specs.declared.fault.FaultKind.{FaultKind}
 use Rattle.ss_base.specs.declared.line.Line.{Line}
 use Rattle.ss_base.specs.declared.layout.Mode.{Mode}
 use Rattle.ss_base.specs.declared.value.Value.{Value}
+use Rattle.ss_program.specs.declared.expression.Variable.{Variable}
 use Rattle.ss_program.specs.Program.{Expression, Constant, Fetch, Attribute, OfSystemSet, OfSet, OfMember, Clock, TimeOf, Figure, FigureOf, Signed, Absolute, Calculate}
 use Rattle.ss_meaning.specs.Values.{Trouble, Fails, Misfit, turned, sure, where_fit}
 use Rattle.ss_meaning.specs.Store.{Store, fetched}
@@ -18,7 +19,7 @@ use Rattle.ss_code_instructions.specs.States.{Frame, MachineState, Moved, did, c
 use Rattle.ss_code_instructions.specs.Machine.{Code}
 use Rattle.ss_code_instructions.specs.Translation.{Site, height, place, leaf, or_cell, or_in_cell, expression_mode, operand, after, unless_leaf, operand_code, expression_code, next}
 use Rattle.ss_code_instructions.proofs.Steps.{HasAt, has_front, has_back, Comes, Reaches, here, free, reaches_on, at, arrive}
-use Rattle.ss_code_instructions.proofs.Parts.{Within, Leads, onwards, breaks, whatever, at_the_height, Runs, same, put_on, went}
+use Rattle.ss_code_instructions.proofs.Parts.{Within, Leads, onwards, breaks, whatever, at_the_height, Runs, same, put_on}
 
 -- ## Targets
 
@@ -82,6 +83,22 @@ pub sure_is : {A : Type 0} (o : Option A) (a : A) → sure o ≡ Ok a → o ≡ 
 sure_is None a e = absurd cc
 sure_is (Some b) a e = let q : b ≡ a = cc in ap Some q
 
+-- an operand as it is comes of a constant or a variable
+pub leaf_is : (e : Expression) (x : Operand) → leaf e ≡ Some x → ((v : Value) × (e ≡ Constant v)) ⊎ ((y : Variable) × (e ≡ Fetch y))
+leaf_is (Constant u) x q = inl (u, refl)
+leaf_is (Fetch y) x q = inr (y, refl)
+leaf_is (Attribute class field e) x q = absurd cc
+leaf_is (OfSystemSet query set) x q = absurd cc
+leaf_is (OfSet query set e) x q = absurd cc
+leaf_is (OfMember query set e) x q = absurd cc
+leaf_is Clock x q = absurd cc
+leaf_is (TimeOf e) x q = absurd cc
+leaf_is (Figure fold j) x q = absurd cc
+leaf_is (FigureOf fold j e) x q = absurd cc
+leaf_is (Signed sign e) x q = absurd cc
+leaf_is (Absolute e) x q = absurd cc
+leaf_is (Calculate op a b) x q = absurd cc
+
 -- a constant and a variable are read as they are
 pub leaf_reads : (e : Expression) (x : Operand) (v : Value) (s : Store) → leaf e ≡ Some x → value e s ≡ Ok v → (cells : List Value) (go : Value → List Value → Moved) → with_value x s cells go ≡ go v cells
 leaf_reads (Constant u) x v s q r cells go =
@@ -116,20 +133,20 @@ less_not : (n : ℕ) → nat_lt (suc n) n ≡ false
 less_not n = le-ltb (suc n) n (omega arith)
 
 -- a constant and a variable lie above nothing
-leaf_below : (e : Expression) (x y : Operand) → leaf e ≡ Some x → lies_above x y ≡ false
-leaf_below (Constant u) x y q = let e : i.Constant u ≡ x = cc in subst (λ x. lies_above x y ≡ false) e refl
-leaf_below (Fetch z) x y q = let e : Held z ≡ x = cc in subst (λ x. lies_above x y ≡ false) e refl
-leaf_below (Attribute class field e) x y q = absurd cc
-leaf_below (OfSystemSet query set) x y q = absurd cc
-leaf_below (OfSet query set e) x y q = absurd cc
-leaf_below (OfMember query set e) x y q = absurd cc
-leaf_below Clock x y q = absurd cc
-leaf_below (TimeOf e) x y q = absurd cc
-leaf_below (Figure fold j) x y q = absurd cc
-leaf_below (FigureOf fold j e) x y q = absurd cc
-leaf_below (Signed sign e) x y q = absurd cc
-leaf_below (Absolute e) x y q = absurd cc
-leaf_below (Calculate op c d) x y q = absurd cc
+pub leaf_low : (e : Expression) (x y : Operand) → leaf e ≡ Some x → lies_above x y ≡ false
+leaf_low (Constant u) x y q = let e : i.Constant u ≡ x = cc in subst (λ x. lies_above x y ≡ false) e refl
+leaf_low (Fetch z) x y q = let e : Held z ≡ x = cc in subst (λ x. lies_above x y ≡ false) e refl
+leaf_low (Attribute class field e) x y q = absurd cc
+leaf_low (OfSystemSet query set) x y q = absurd cc
+leaf_low (OfSet query set e) x y q = absurd cc
+leaf_low (OfMember query set e) x y q = absurd cc
+leaf_low Clock x y q = absurd cc
+leaf_low (TimeOf e) x y q = absurd cc
+leaf_low (Figure fold j) x y q = absurd cc
+leaf_low (FigureOf fold j e) x y q = absurd cc
+leaf_low (Signed sign e) x y q = absurd cc
+leaf_low (Absolute e) x y q = absurd cc
+leaf_low (Calculate op c d) x y q = absurd cc
 
 -- and takes no cell
 never_taken : (e : Expression) (k : ℕ) → leaf e ≡ Some (Taken k) → ⊥
@@ -158,7 +175,7 @@ pub not_above : (t : Site) (a b : Expression) → lies_above (operand t a) (oper
 not_above t a b = by (leaf a) refl
   where
     by : (o : Option Operand) → leaf a ≡ o → lies_above (or_cell (height t) o) (or_cell (length (or_in_cell o (expression_mode t.scope a) t.cells)) (leaf b)) ≡ false
-    by (Some x) q = leaf_below a x (or_cell (height t) (leaf b)) q
+    by (Some x) q = leaf_low a x (or_cell (height t) (leaf b)) q
     by None q = second_above (height t) b (leaf b) refl
 
 pub reads_both : (t : Site) (a b : Expression) (x y : Value) (s : Store) (cells : List Value) (go : Value → Value → List Value → Moved) → length cells ≡ height t → value a s ≡ Ok x → value b s ≡ Ok y → with_values (operand t a) (operand (after t a) b) s (held (leaf b) y (held (leaf a) x cells)) go ≡ go x y cells

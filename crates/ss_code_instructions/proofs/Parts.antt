@@ -1,5 +1,5 @@
 -- Code that does what a part of a program does: how such code is put together.
-use Rattle.std.proofs.Common.{◌≡◌, ℕ, zero, suc, ◌+◌, ◌<◌, ◌≤◌, ◌==◌, Bool, true, false, List, [], ◌∷◌, ◌++◌, length, Option, Some, None, Ok, Err, refl, sym, ap, ◌∙◌, subst, arith, length-append, append-nil, if◌then◌else◌}
+use Rattle.std.proofs.Common.{◌≡◌, ℕ, zero, suc, ◌+◌, ◌≤◌, true, false, List, [], ◌∷◌, ◌++◌, length, Option, Some, None, Ok, Err, refl, sym, ap, ◌∙◌, subst, arith, length-append, if◌then◌else◌}
 use Rattle.std.proofs.lemmas.Bool.{eq-eqb}
 use Rattle.std.specs.Prelude.{slice_get, Result as OkOr}
 use Rattle.ss_base.specs.declared.fault.FaultKind.{FaultKind}
@@ -7,21 +7,21 @@ use Rattle.ss_base.specs.declared.line.Line.{Line}
 use Rattle.ss_base.specs.declared.value.Value.{Value}
 use Rattle.ss_meaning.specs.Values.{Trouble, Fails, Misfit, if_ok, turned, sure}
 use Rattle.ss_meaning.specs.Store.{Store}
-use Rattle.ss_meaning.specs.Parts.{World, OutOfTicks, Outcome, WentOn, Left, Part, outcome_then, looked, look, settle, change, settle_with, get, send, tick_from, take_tick}
-use Rattle.ss_meaning.specs.Meaning.{Ending, Ended, Fault, Paused, run_at}
+use Rattle.ss_meaning.specs.Parts.{World, OutOfTicks, Outcome, WentOn, Left, Part, outcome_then, looked, look, settle, change, tick_from, take_tick}
+use Rattle.ss_meaning.specs.Meaning.{Ended, Fault, Paused, run_at}
 use Rattle.ss_code_instructions.specs.Instructions.{Placed}
-use Rattle.ss_code_instructions.specs.States.{Frame, Core, MachineState, Done, Breaks, Moved, To, Sends, Rest, Stuck, did, fit, at_height, core_at, onward}
-use Rattle.ss_code_instructions.specs.Machine.{Code, act, is_due, Goes, Over, NoStep, with_rest, when_due, step_at}
-use Rattle.ss_code_instructions.proofs.Keeping.{Same}
-use Rattle.ss_code_instructions.proofs.Steps.{HasAt, has_front, has_back, Goal, Comes, Finishes, Free, Reaches, here, over, free, more, reaches_on, Kept, at, arrive, join}
+use Rattle.ss_code_instructions.specs.States.{Frame, Core, MachineState, Done, Breaks, Moved, To, Sends, Rest, Stuck, did, fit, at_height, core_at}
+use Rattle.ss_code_instructions.specs.Machine.{Code, act, is_due, with_rest, when_due, step_at}
+use Rattle.ss_code_instructions.proofs.Staying.{Suits, suits_on}
+use Rattle.ss_code_instructions.proofs.Steps.{HasAt, has_front, has_back, Goal, Comes, Finishes, Free, Reaches, here, over, free, more, Kept, at, arrive, join}
 
--- a world with at most n ticks, in which the program says what its code says
+-- a world with at most n ticks, in which the program says what its code says, and each member of a set lives
 pub record Within (code : Code) (n : ℕ) (w : World) : Type 0 where
   pub ticks : w.ticks ≤ n
-  pub says : w.store.scene.setting ≡ code.setting
+  pub says : Suits code w.store
 
 pub within_on : {code : Code} {n p q : ℕ} {cells cells' : List Value} {frames frames' : List Frame} {w w' : World} → Within code n w → Kept (at p cells frames w) (at q cells' frames' w') → Within code n w'
-within_on i k = record { ticks = omega (arith, i.ticks, k.fewer); says = k.same ∙ i.says }
+within_on {code} {w} {w'} i k = record { ticks = omega (arith, i.ticks, k.fewer); says = suits_on code w.store w'.store k.same i.says }
 
 abbrev pub with_core : Core → World → MachineState
 with_core c w = record { core = c; report = w.report; ticks = w.ticks }

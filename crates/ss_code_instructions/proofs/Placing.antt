@@ -149,7 +149,7 @@ module _ (code : Code) (n : ℕ) where
   pub file_runs : (t : Site) (set : ℕ) (e : Expression) (position : Position) (o : SetOwner) → Sited code t → Runs code n (height t) same (file_code t set e position o) done (file t.line set e position o)
   file_runs t set e ByDiscipline o fits = record {
     by = λ p cells frames w high has in_.
-        ruled_runs t set e o (slice_get t.scope.program.disciplines set) p cells frames w (ap (λ (s : Setting). slice_get s.disciplines set) (in_.says ∙ fits)) high has in_;
+        ruled_runs t set e o (slice_get t.scope.program.disciplines set) p cells frames w (ap (λ (s : Setting). slice_get s.disciplines set) (in_.says.0 ∙ fits)) high has in_;
   }
   file_runs t set e AsFirst o fits = record { by = λ p cells frames w high has in_. alone_runs t set e o i.First Foremost (λ x y p cells frames s. refl) p cells frames w high has in_ }
   file_runs t set e AsLast o fits = record { by = λ p cells frames w high has in_. alone_runs t set e o i.Last Hindmost (λ x y p cells frames s. refl) p cells frames w high has in_ }

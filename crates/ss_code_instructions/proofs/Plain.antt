@@ -1,7 +1,6 @@
 -- Statements of one operand and one instruction: DESTROY, CANCEL, SKIP; and CREATE EVERY and RESET.
-use Rattle.std.proofs.Common.{◌≡◌, ℕ, ◌+◌, Bool, true, false, List, [], ◌∷◌, ◌++◌, length, Option, Some, None, Ok, Err, refl, sym, ap, ◌∙◌, subst, arith, length-append}
-use Rattle.std.specs.Prelude.{slice_get, Result as OkOr}
-use Rattle.ss_base.specs.declared.line.Line.{Line}
+use Rattle.std.proofs.Common.{◌≡◌, ℕ, ◌+◌, false, List, [], ◌∷◌, ◌++◌, length, Option, Ok, Err, refl, ◌∙◌, subst, arith, length-append}
+use Rattle.std.specs.Prelude.{Result as OkOr}
 use Rattle.ss_base.specs.declared.value.Value.{Value}
 use Rattle.ss_program.specs.declared.statement.CountedClass.{CountedClass}
 use Rattle.ss_program.specs.Program.{Expression, Restart}
@@ -11,15 +10,15 @@ use Rattle.ss_meaning.specs.Entities.{made_all, without}
 use Rattle.ss_meaning.specs.Events.{unscheduled}
 use Rattle.ss_meaning.specs.Statistics.{reset}
 use Rattle.ss_meaning.specs.Expressions.{value, value_if_any}
-use Rattle.ss_meaning.specs.Parts.{World, Part, outcome_then, looked, look, settle, change, send}
+use Rattle.ss_meaning.specs.Parts.{World, outcome_then, looked, look, settle, change, send}
 use Rattle.ss_meaning.specs.Statements.{create_every, destroy, cancel, restart_each}
 use Rattle.ss_code_instructions.specs.Instructions.{Operand, Placed, Instruction}
 use Rattle.ss_code_instructions.specs.Instructions as i
 use Rattle.ss_code_instructions.specs.States.{Frame, MachineState, Sends, did, core_at, with_value, onward}
 use Rattle.ss_code_instructions.specs.Machine.{Code, act, is_due}
 use Rattle.ss_code_instructions.specs.Translation.{Site, height, place, leaf, operand, after, operand_code, with_operand, bearer, bearer_code, after_bearer, creates_code, restarts_code}
-use Rattle.ss_code_instructions.proofs.Steps.{HasAt, Comes, Reaches, here, at, arrive}
-use Rattle.ss_code_instructions.proofs.Parts.{Leads, onwards, writes, step_leads, did_leads, Runs, same, done, none, seq, alike, change_runs}
+use Rattle.ss_code_instructions.proofs.Steps.{Comes, Reaches, here, at, arrive}
+use Rattle.ss_code_instructions.proofs.Parts.{onwards, writes, step_leads, did_leads, Runs, same, done, none, seq, change_runs}
 use Rattle.ss_code_instructions.proofs.Operands.{held, reads, one_join}
 use Rattle.ss_code_instructions.proofs.Expressions.{evaluates}
 use Rattle.ss_code_instructions.proofs.Looking.{bearer_join}

@@ -26,7 +26,7 @@ use Rattle.ss_code_instructions.proofs.Steps.{HasAt, has_front, has_back, Comes,
 use Rattle.ss_code_instructions.proofs.Parts.{Within, within_on, at_the_height, Lands, same, done, put_on, seq_look, alike, look_lands}
 use Rattle.ss_code_instructions.proofs.Parts.{above as above_cells}
 use Rattle.ss_code_instructions.proofs.Expressions.{value_runs}
-use Rattle.ss_code_instructions.proofs.Forgetting.{forget_run}
+use Rattle.ss_code_instructions.proofs.Forgetting.{three_more, forget_run}
 use Rattle.ss_code_instructions.proofs.Members.{top_cell}
 use Rattle.ss_code_instructions.proofs.Taking.{visit_run}
 use Rattle.ss_code_instructions.proofs.Looping.{leads, past_loop, leap}
@@ -80,7 +80,7 @@ module _ (code : Code) (n : ℕ) (t : Site) (x : Variable) (turn : List Placed) 
     -- what the FOR keeps goes
     forget : (q to : ℕ) (item : ℤ) (w : World) → HasAt code.places q (forget_to t (number_loop t)) → q + 1 ≡ to → Reaches code (at q (hold_item step limit item cells) frames w) (Comes (at to cells frames w))
     forget q to item w h e =
-        let three : height (number_loop t) - height t ≡ 3 = omega arith in
+        let three : suc (suc (suc (height t))) - height t ≡ 3 = three_more (height t) in
         let end : q + length (forget_to t (number_loop t)) ≡ to = omega (arith, one, e) in
         subst (λ j. Reaches code (at q (hold_item step limit item cells) frames w) (Comes (at j cells frames w))) end
         (forget_run code n (number_loop t) (height (number_loop t) - height t) q (Whole step ∷ Whole limit ∷ Whole item ∷ []) cells frames w three h)
@@ -106,7 +106,7 @@ module _ (code : Code) (n : ℕ) (t : Site) (x : Variable) (turn : List Placed) 
 
     next_run : (k : ℕ) → ItemsRun k → (item : ℤ) (w : World) → suc w.ticks ≤ k → Within code n w → (b : Bool) → has_item (item +ℤ step) limit ≡ b → Reaches code (at end (hold_item step limit item cells) frames w) (arrive ends frames (later k (item +ℤ step) w))
     next_run k again item w lek in_ true q =
-        let back : end - far ≡ p = omega (arith, len) in
+        let back : end - (length take_ + length turn) ≡ p = omega (arith, len) in
         leap code next_place end (end - far) p (hold_item step limit item cells) (hold_item step limit (item +ℤ step) cells) frames w _ next_has refl (nexts item true q w) back
         (again (item +ℤ step) w q lek in_)
     next_run k again item w lek in_ false q =
@@ -140,8 +140,8 @@ module _ (code : Code) (n : ℕ) (t : Site) (x : Variable) (turn : List Placed) 
       sides : (a : Bool) → has_item b.first b.limit ≡ a → Reaches code (at (past (far + 1) a p) (hold_range b cells) frames w) (arrive (λ b w'. at (past_loop found b end) cells frames w') frames (over_items (visit t.line x m) (range_items (suc n) b) w))
       sides true q = items_run b.step b.limit up p end cells frames high has len one f1 f2 (suc n) b.first w q (let few : suc w.ticks ≤ suc n = omega (arith, in_.ticks) in few) in_
       sides false q =
-          let e : end + 1 ≡ p + (far + 1) = omega (arith, len) in
-          let last : p + (far + 1) + 1 ≡ end + 2 = omega (arith, len) in
+          let e : end + 1 ≡ p + (length take_ + length turn + 1) = omega (arith, len) in
+          let last : p + (length take_ + length turn + 1) + 1 ≡ end + 2 = omega (arith, len) in
           subst (λ is. Reaches code (at (p + (far + 1)) (hold_range b cells) frames w) (arrive (λ b w'. at (past_loop found b end) cells frames w') frames (over_items (visit t.line x m) is w))) (sym (no_more (int_min b.limit greatest) b.step (suc n) b.first q))
           (forget b.step b.limit up p end cells frames high has len one f1 f2 (p + (far + 1)) (end + 2) b.first w (subst (λ j. HasAt code.places j (forget_to t (number_loop t))) e f1) last)
 
@@ -151,7 +151,7 @@ module _ (code : Code) (n : ℕ) (t : Site) where
   begin_lands : (skip : ℕ) (a b c : Value) → Lands code n (height t) (λ s. c ∷ b ∷ a ∷ s) (place (number_loop t) (i.Begin (height t) skip) ∷ []) (λ (r : Range). past skip (has_item r.first r.limit)) hold_range (look t.line (λ s. range_of a b (Some c)))
   begin_lands skip a b c = look_lands code n (height t) (place (number_loop t) (i.Begin (height t) skip)) (λ s. c ∷ b ∷ a ∷ s) (λ (r : Range). past skip (has_item r.first r.limit)) hold_range (λ s. range_of a b (Some c)) refl (acts a b c)
     where
-      chosen : (t0 : Line) (k : Bool) (x y z : ℤ) (p : ℕ) (cells : List Value) (frames : List Frame) (s : Store) → did t0 (unless_fault k LoopStep (Ok (record { first = x; limit = y; step = z }))) (λ r. onward_if skip (has_item x y) (Whole z ∷ Whole y ∷ Whole x ∷ cells) (core_at p (Whole z ∷ Whole y ∷ Whole x ∷ cells) frames s)) ≡ did t0 (unless_fault k LoopStep (Ok (record { first = x; limit = y; step = z }))) (λ (r : Range). To (core_at (past skip (has_item r.first r.limit) (p + 1)) (hold_range r cells) frames s))
+      chosen : (t0 : Line) (k : Bool) (x y z : ℤ) (p : ℕ) (cells : List Value) (frames : List Frame) (s : Store) → did {A = Range} t0 (unless_fault k LoopStep (Ok (record { first = x; limit = y; step = z }))) (λ r. onward_if skip (has_item x y) (Whole z ∷ Whole y ∷ Whole x ∷ cells) (core_at p (Whole z ∷ Whole y ∷ Whole x ∷ cells) frames s)) ≡ did {A = Range} t0 (unless_fault k LoopStep (Ok (record { first = x; limit = y; step = z }))) (λ (r : Range). To (core_at (past skip (has_item r.first r.limit) (p + 1)) (hold_range r cells) frames s))
       chosen t0 true x y z p cells frames s = refl
       chosen t0 false x y z p cells frames s = refl
 

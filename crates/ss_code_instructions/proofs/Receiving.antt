@@ -1,5 +1,5 @@
 -- The code of a place that takes what an instruction leaves: READ and CREATE.
-use Rattle.std.proofs.Common.{◌≡◌, ℕ, ◌+◌, false, List, [], ◌∷◌, ◌++◌, length, Option, Some, None, Ok, Err, ℤ, refl, sym, ap, ◌∙◌, subst, arith, length-append}
+use Rattle.std.proofs.Common.{◌≡◌, ℕ, ◌+◌, false, List, [], ◌∷◌, ◌++◌, length, Option, Some, None, Ok, Err, ℤ, refl, sym, ap, ◌∙◌, subst, arith, length-append, ◌⊎◌, inl, inr}
 use Rattle.std.specs.Prelude.{slice_get, Result as OkOr}
 use Rattle.ss_base.specs.declared.line.Line.{Line}
 use Rattle.ss_base.specs.declared.layout.Mode.{Mode}
@@ -10,23 +10,23 @@ use Rattle.ss_meaning.specs.Words.{value_given}
 use Rattle.ss_program.specs.declared.expression.Variable.{Variable}
 use Rattle.ss_program.specs.declared.statement.CountedClass.{CountedClass}
 use Rattle.ss_program.specs.declared.expression.Variable.TheVariants.{Global, Local}
-use Rattle.ss_program.specs.Program.{Expression, Constant, Fetch, Attribute, OfSystemSet, OfSet, OfMember, Clock, TimeOf, Figure, FigureOf, Signed, Absolute, Calculate, Place, ToVariable, ToAttribute, ToCount, Target}
-use Rattle.ss_meaning.specs.Values.{Trouble, Fails, Misfit, if_ok, turned, due}
+use Rattle.ss_program.specs.Program.{Expression, Constant, Fetch, Clock, Place, ToVariable, ToAttribute, ToCount, Target}
+use Rattle.ss_meaning.specs.Values.{Trouble, Fails, Misfit, if_ok, turned, due, sure}
 use Rattle.ss_meaning.specs.Store.{Store, fetched}
 use Rattle.ss_meaning.specs.Entities.{class_at, entity, is_single, with_new, made_one}
 use Rattle.ss_meaning.specs.Places.{InAttribute, InCount, assigned_attribute}
 use Rattle.ss_meaning.specs.Expressions.{value, looked_at}
-use Rattle.ss_meaning.specs.Parts.{World, WentOn, Left, Outcome, Part, outcome_then, looked, settle_with, get, write}
+use Rattle.ss_meaning.specs.Parts.{World, WentOn, Part, outcome_then, looked, settle_with, get, write}
 use Rattle.ss_meaning.specs.Statements.{give_to, with_input, read_value, read_each}
-use Rattle.ss_code_instructions.specs.Instructions.{Operand, Held, Taken, Instruction, Placed, Target as To}
+use Rattle.ss_code_instructions.specs.Instructions.{Operand, Taken, Instruction, Placed, Target as To}
 use Rattle.ss_code_instructions.specs.Instructions as i
-use Rattle.ss_code_instructions.specs.States.{Frame, MachineState, Moved, did, or_zero, core_at, with_value, with_values, deliver_with, onward}
+use Rattle.ss_code_instructions.specs.States.{Frame, MachineState, Moved, did, core_at, with_value, with_values, deliver_with, onward}
 use Rattle.ss_code_instructions.specs.Machine.{Code, act, is_due}
 use Rattle.ss_code_instructions.specs.Translation.{Site, height, above, place, leaf, or_cell, operand, after, operand_code, next, stay, count_code, to_place_code, reads_code}
-use Rattle.ss_code_instructions.proofs.Keeping.{Only, Same, each, made, fitting}
-use Rattle.ss_code_instructions.proofs.Steps.{HasAt, has_front, has_back, Reaches, reaches_on, Kept, kept, at, arrive, join}
+use Rattle.ss_code_instructions.proofs.Keeping.{Only, Same, made, fitting}
+use Rattle.ss_code_instructions.proofs.Steps.{HasAt, has_front, has_back, Reaches, at, arrive, join, join_known}
 use Rattle.ss_code_instructions.proofs.Parts.{onwards, step_leads, did_leads, at_the_height, Runs, same, done, went, seq, none}
-use Rattle.ss_code_instructions.proofs.Operands.{on, Tops, put_then, delivers, held, held_height, sure_is, not_above, one_join}
+use Rattle.ss_code_instructions.proofs.Operands.{on, Tops, put_then, delivers, held, held_height, leaf_is, leaf_reads, not_above, one_join}
 use Rattle.ss_code_instructions.proofs.Expressions.{evaluates}
 use Rattle.ss_code_instructions.proofs.Members.{stay_reads}
 use Rattle.ss_code_instructions.proofs.Assigning.{variable_runs, count_run}
@@ -38,30 +38,17 @@ use Rattle.ss_code_instructions.proofs.Changing.{by_order}
 abbrev pub Alike : Store → Store → Type 0
 Alike s u = (u.globals ≡ s.globals) × (u.locals ≡ s.locals) × Same s u
 
-fetched_alike : (y : Variable) (s u : Store) → u.globals ≡ s.globals → u.locals ≡ s.locals → fetched y u ≡ fetched y s
-fetched_alike (Global k) s u g l = ap (λ vs. slice_get vs k) g
-fetched_alike (Local k) s u g l = ap (λ vs. slice_get vs k) l
+pub fetched_later : (y : Variable) (s u : Store) → Alike s u → fetched y u ≡ fetched y s
+fetched_later (Global k) s u a = ap (λ vs. slice_get vs k) a.0
+fetched_later (Local k) s u a = ap (λ vs. slice_get vs k) a.1
 
--- a variable holds the same later
-leaf_later : (e : Expression) (x : Operand) (v : Value) (s u : Store) → leaf e ≡ Some x → value e s ≡ Ok v → u.globals ≡ s.globals → u.locals ≡ s.locals → (cells : List Value) (go : Value → List Value → Moved) → with_value x u cells go ≡ go v cells
-leaf_later (Constant c) x v s u q r g l cells go =
-    let e : i.Constant c ≡ x = cc in
-    let p : c ≡ v = cc in
-    subst (λ x. with_value x u cells go ≡ go v cells) e (ap (λ c. go c cells) p)
-leaf_later (Fetch y) x v s u q r g l cells go =
-    let e : Held y ≡ x = cc in
-    subst (λ x. with_value x u cells go ≡ go v cells) e (ap (λ o. go (or_zero o) cells) (fetched_alike y s u g l ∙ sure_is (fetched y s) v r))
-leaf_later (Attribute class field e) x v s u q r g l cells go = absurd cc
-leaf_later (OfSystemSet query set) x v s u q r g l cells go = absurd cc
-leaf_later (OfSet query set e) x v s u q r g l cells go = absurd cc
-leaf_later (OfMember query set e) x v s u q r g l cells go = absurd cc
-leaf_later Clock x v s u q r g l cells go = absurd cc
-leaf_later (TimeOf e) x v s u q r g l cells go = absurd cc
-leaf_later (Figure fold j) x v s u q r g l cells go = absurd cc
-leaf_later (FigureOf fold j e) x v s u q r g l cells go = absurd cc
-leaf_later (Signed sign e) x v s u q r g l cells go = absurd cc
-leaf_later (Absolute e) x v s u q r g l cells go = absurd cc
-leaf_later (Calculate op a b) x v s u q r g l cells go = absurd cc
+-- a constant and a variable have the same value where variables hold the same
+pub leaf_later : (e : Expression) (x : Operand) (s u : Store) → leaf e ≡ Some x → Alike s u → value e u ≡ value e s
+leaf_later e x s u q a = by (leaf_is e x q)
+  where
+    by : ((v : Value) × (e ≡ Constant v)) ⊎ ((y : Variable) × (e ≡ Fetch y)) → value e u ≡ value e s
+    by (inl c) = ap (λ z. value z u) c.1 ∙ sym (ap (λ z. value z s) c.1)
+    by (inr f) = ap (λ z. value z u) f.1 ∙ (ap sure (fetched_later f.0 s u a) ∙ sym (ap (λ z. value z s) f.1))
 
 -- a part that leaves the variables, and what the program says
 abbrev pub Quietly : Part Value → Type 0
@@ -87,7 +74,7 @@ reads_later : (t : Site) (r : Expression) (v : Value) (s u : Store) (cells : Lis
 reads_later t r v s u cells go h q a = by (leaf r) refl
   where
     by : (p : Option Operand) → leaf r ≡ p → with_value (or_cell (height t) p) u (held p v cells) go ≡ go v cells
-    by (Some x) e = leaf_later r x v s u e q a.0 a.1 cells go
+    by (Some x) e = leaf_reads r x v u e (leaf_later r x s u e a ∙ q) cells go
     by None e = at_the_height (height t) cells (go v cells) h
 
 -- a reference, and above it the value that an instruction left
@@ -96,10 +83,6 @@ top_takes t r v z s u cells go h q a =
     by_order false (operand t r) (Taken (height (after t r))) u (z ∷ held (leaf r) v cells) go (not_above t r Clock)
     ∙ at_the_height (height (after t r)) (held (leaf r) v cells) (with_value (operand t r) u (held (leaf r) v cells) (λ v below. go v z below)) (held_height t r v cells h)
     ∙ reads_later t r v s u cells (λ v below. go v z below) h q a
-
-join_known : {A B : Type 0} {code : Code} (s : MachineState) (k : A → World → MachineState) (k' : B → World → MachineState) (frames : List Frame) (r : Outcome A) (f : A → Part B) → Reaches code s (arrive k frames r) → ((a : A) (w : World) → r ≡ WentOn a w → Kept s (k a w) → Reaches code (k a w) (arrive k' frames (f a w))) → Reaches code s (arrive k' frames (outcome_then r f))
-join_known s k k' frames (WentOn a w) f g h = reaches_on g (h a w refl (kept g))
-join_known s k k' frames (Left e w) f g h = g
 
 module _ (code : Code) (n : ℕ) where
   -- an instruction that gives a value, and may change the store
@@ -153,7 +136,7 @@ module _ (code : Code) (n : ℕ) where
         ((runs (after t r) (next (after t r)) refl refl).by (p + length c + 1) (held (leaf r) v cells) frames w (held_height t r v cells high) (has_front code.places (p + length c + 1) s last h1) in_))
         (λ z w' gave k.
         subst (λ j. Reaches code (at (p + length c + 1 + length s) (z ∷ held (leaf r) v cells) frames w') (arrive (λ o w'. at j cells frames w') frames (write t.line (InAttribute class field v) z w'))) end
-        (two_change code n set_ (operand t r) (Taken (height (after t r))) (assigned_attribute class field) v z (p + length c + 1 + length s) (z ∷ held (leaf r) v cells) cells frames w' refl refl (λ go. top_takes t r v z w.store w'.store cells go high found (quiet w w' z gave)) (has_back code.places (p + length c + 1) s last h1).0))))))));
+        (two_change code n set_ (operand t r) (Taken (height (after t r))) (assigned_attribute class field) v z (p + length c + 1 + length s) (z ∷ held (leaf r) v cells) cells frames w' refl refl (λ go. top_takes t r v z w.store w'.store cells go high found (quiet w w' z gave)) (has_back code.places (p + length c + 1) s last h1).0)))))));
   }
     where
       abbrev placed : Line → (class field : ℕ) → Part Value → Value → Part (Unit {0})

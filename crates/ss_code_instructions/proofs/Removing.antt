@@ -12,7 +12,7 @@ use Rattle.ss_program.specs.declared.statement.End.{End}
 use Rattle.ss_program.specs.Program.{Expression, SetOwner, Place}
 use Rattle.ss_meaning.specs.Values.{Trouble, Fails, Misfit, due}
 use Rattle.ss_meaning.specs.Store.{Store, with_heap, with_histories}
-use Rattle.ss_meaning.specs.Histories.{all_noting, noted}
+use Rattle.ss_meaning.specs.Histories.{all_noting}
 use Rattle.ss_meaning.specs.Sets.{member, owner_number, recounted, removed_from, end_removed, removed_at}
 use Rattle.ss_meaning.specs.Expressions.{owner_value}
 use Rattle.ss_meaning.specs.Parts.{World, WentOn, Part, outcome_then, looked, look, settle, get}

@@ -9,10 +9,9 @@ use Rattle.ss_meaning.specs.Meaning.{with_locals, Ending, Ended, Fault, Paused, 
 use Rattle.ss_meaning.specs.Store.{Store, yielded}
 use Rattle.ss_code_instructions.specs.Instructions.{Placed}
 use Rattle.ss_code_instructions.specs.States.{Frame, MachineState, Done, Breaks, Moved, To, Sends, Rest, Stuck, core_at}
-use Rattle.ss_code_instructions.specs.Machine.{Code, act, is_due, Goes, Over, NoStep, with_rest, when_due, step_at, step}
+use Rattle.ss_code_instructions.specs.Machine.{Code, act, is_due, Goes, Over, with_rest, when_due, step_at, step}
 use Rattle.ss_code_instructions.specs.Running.{Result, Underway, Ends, IsStuck, ended_at, after_one_step, steps}
-use Rattle.ss_code_instructions.proofs.Keeping.{Same}
-use Rattle.ss_code_instructions.proofs.Acting.{Keeps, act_keeps}
+use Rattle.ss_code_instructions.proofs.Staying.{Lasts, Endures, act_lasts, lasts_then}
 
 -- the items lie in the list at this place
 abbrev pub HasAt : {A : Type 0} → List A → ℕ → List A → Type 0
@@ -72,22 +71,22 @@ agrees f zero = tt
 agrees {code} {s} (over {e = e} {t = t} h) (suc m) = subst (λ x. Agrees (ended_at s e t) (after_one_step x s (steps code m))) (sym h) refl
 agrees {code} {s} {r} (more h f) (suc m) = subst (λ x. Agrees r (after_one_step x s (steps code m))) (sym h) (agrees f m)
 
--- ## What no step changes: it gives no ticks, and the program says the same
+-- ## What no step changes: it gives no ticks, the program says the same, and each member of a set goes on to live
 
 pub record Kept (s t : MachineState) : Type 0 where
   pub fewer : t.ticks ≤ s.ticks
-  pub same : Same s.core.store t.core.store
+  pub same : Lasts s.core.store t.core.store
 
-rest_kept : (s : Store) (r : List ℕ) (t : ℕ) (m : Moved) (x : MachineState) → Keeps s m → with_rest r t m ≡ Goes x → (x.ticks ≡ t) × Same s x.core.store
+rest_kept : (s : Store) (r : List ℕ) (t : ℕ) (m : Moved) (x : MachineState) → Endures s m → with_rest r t m ≡ Goes x → (x.ticks ≡ t) × Lasts s x.core.store
 rest_kept s r t (To c) x k e =
-    let q : record { core = c; report = r; ticks = t } ≡ x = cc in subst (λ (y : MachineState). (y.ticks ≡ t) × Same s y.core.store) q (refl, k)
+    let q : record { core = c; report = r; ticks = t } ≡ x = cc in subst (λ (y : MachineState). (y.ticks ≡ t) × Lasts s y.core.store) q (refl, k)
 rest_kept s r t (Sends bytes c) x k e =
-    let q : record { core = c; report = r ++ bytes; ticks = t } ≡ x = cc in subst (λ (y : MachineState). (y.ticks ≡ t) × Same s y.core.store) q (refl, k)
+    let q : record { core = c; report = r ++ bytes; ticks = t } ≡ x = cc in subst (λ (y : MachineState). (y.ticks ≡ t) × Lasts s y.core.store) q (refl, k)
 rest_kept s r t (Rest Done) x k e = absurd cc
 rest_kept s r t (Rest (Breaks kind l)) x k e = absurd cc
 rest_kept s r t Stuck x k e = absurd cc
 
-due_kept : (b : Bool) (s : Store) (r : List ℕ) (t : ℕ) (m : Moved) (x : MachineState) → Keeps s m → when_due b r t m ≡ Goes x → (x.ticks ≤ t) × Same s x.core.store
+due_kept : (b : Bool) (s : Store) (r : List ℕ) (t : ℕ) (m : Moved) (x : MachineState) → Endures s m → when_due b r t m ≡ Goes x → (x.ticks ≤ t) × Lasts s x.core.store
 due_kept false s r t m x k e = let q = rest_kept s r t m x k e in (omega (arith, q.0), q.1)
 due_kept true s r zero m x k e = absurd cc
 due_kept true s r (suc t) m x k e = let q = rest_kept s r t m x k e in (omega (arith, q.0), q.1)
@@ -95,15 +94,15 @@ due_kept true s r (suc t) m x k e = let q = rest_kept s r t m x k e in (omega (a
 at_kept : (o : Option Placed) (code : Code) (s x : MachineState) → step_at o code s ≡ Goes x → Kept s x
 at_kept None code s x e = absurd cc
 at_kept (Some i) code s x e =
-    let q = due_kept (is_due i.instruction) s.core.store s.report s.ticks (act code i.line i.instruction s.core) x (act_keeps code i.line i.instruction s.core) e in
+    let q = due_kept (is_due i.instruction) s.core.store s.report s.ticks (act code i.line i.instruction s.core) x (act_lasts code i.line i.instruction s.core) e in
     record { fewer = q.0; same = q.1 }
 
 pub kept : {code : Code} {s t : MachineState} → Reaches code s (Comes t) → Kept s t
-kept here = record { fewer = omega arith; same = refl }
-kept {code} {s} (more {t = x} e f) =
-    let p = at_kept (slice_get code.places s.core.place) code s x e in
-    let q = kept f in
-    record { fewer = omega (arith, p.fewer, q.fewer); same = q.same ∙ p.same }
+kept here = record { fewer = omega arith; same = (refl, λ j. j) }
+kept {code} {s} {t} (more {t = x} e f) =
+    let p : Kept s x = at_kept (slice_get code.places s.core.place) code s x e in
+    let q : Kept x t = kept f in
+    record { fewer = omega (arith, p.fewer, q.fewer); same = lasts_then s.core.store x.core.store t.core.store p.same q.same }
 
 -- ## Where the machine goes after a part of a program
 
@@ -133,6 +132,11 @@ arrive k frames (Left e w) = left_to e frames w
 pub join : {A B : Type 0} {code : Code} (s : MachineState) (k : A → World → MachineState) (k' : B → World → MachineState) (frames : List Frame) (r : Outcome A) (f : A → Part B) → Reaches code s (arrive k frames r) → ((a : A) (w : World) → Kept s (k a w) → Reaches code (k a w) (arrive k' frames (f a w))) → Reaches code s (arrive k' frames (outcome_then r f))
 join s k k' frames (WentOn a w) f g h = reaches_on g (h a w (kept g))
 join s k k' frames (Left e w) f g h = g
+
+-- where it is known how the part went
+pub join_known : {A B : Type 0} {code : Code} (s : MachineState) (k : A → World → MachineState) (k' : B → World → MachineState) (frames : List Frame) (r : Outcome A) (f : A → Part B) → Reaches code s (arrive k frames r) → ((a : A) (w : World) → r ≡ WentOn a w → Kept s (k a w) → Reaches code (k a w) (arrive k' frames (f a w))) → Reaches code s (arrive k' frames (outcome_then r f))
+join_known s k k' frames (WentOn a w) f g h = reaches_on g (h a w refl (kept g))
+join_known s k k' frames (Left e w) f g h = g
 
 pub follow : {A : Type 0} {code : Code} (s : MachineState) (k k' : A → World → MachineState) (frames : List Frame) (r : Outcome A) → Reaches code s (arrive k frames r) → ((a : A) (w : World) → Kept s (k a w) → Reaches code (k a w) (Comes (k' a w))) → Reaches code s (arrive k' frames r)
 follow s k k' frames (WentOn a w) g h = reaches_on g (h a w (kept g))

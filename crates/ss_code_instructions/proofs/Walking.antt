@@ -1,30 +1,46 @@
--- The turns of a FOR over the members of a set. At the head of a turn the cells hold the member, and the one that comes after it.
-use Rattle.std.proofs.Common.{◌≡◌, ℕ, zero, suc, ◌+◌, ◌-◌, ◌≤◌, Bool, true, false, List, [], ◌∷◌, ◌++◌, length, Option, Some, Ok, Err, ℤ, pos, refl, sym, ap, ◌∙◌, subst, arith}
+-- The code of a FOR over the members of a set. At the head of a turn the cells hold the member, and the one that comes after it.
+use Rattle.std.proofs.Common.{◌≡◌, ℕ, zero, suc, ◌+◌, ◌-◌, ◌<◌, ◌≤◌, Bool, true, false, not, List, [], ◌∷◌, ◌++◌, length, Option, Some, None, Ok, Err, ℤ, pos, refl, sym, ap, ◌∙◌, subst, arith, length-append, inl, inr}
 use Rattle.std.proofs.lemmas.Bool.{ne_eqb}
-use Rattle.std.specs.Prelude.{slice_get, Result as OkOr, if◌then◌else◌}
+use Rattle.std.specs.Prelude.{slice_get, is_some, cond, ◌==◌, Result as OkOr, if◌then◌else◌}
 use Rattle.ss_base.specs.declared.fault.FaultKind.{FaultKind}
+use Rattle.ss_base.specs.declared.fault.FaultKind.TheVariants.{NotFiled}
+use Rattle.ss_base.specs.declared.layout.Mode.TheVariants.{Integer}
+use Rattle.ss_base.specs.declared.layout.SetLayout.{SetLayout}
+use Rattle.ss_base.specs.declared.line.Line.{Line}
 use Rattle.ss_base.specs.declared.value.Value.{Value}
-use Rattle.ss_base.specs.declared.value.Value.TheVariants.{Whole}
-use Rattle.ss_world.specs.State.{and_then}
-use Rattle.ss_world.specs.Sets.{joiner, follower, precursor, companions}
+use Rattle.ss_base.specs.declared.value.Value.TheVariants.{Whole, Text}
+use Rattle.ss_world.specs.Lists.{head0, last_or, In}
+use Rattle.ss_world.specs.State.{State, Members as Row, and_then, members_of, owner_of}
+use Rattle.ss_world.specs.Sets.{joiner, owner as owner_there, follower, precursor, members_by, companions, next_in, previous_in}
 use Rattle.ss_program.specs.declared.expression.Variable.{Variable}
-use Rattle.ss_program.specs.Program.{SetOwner}
-use Rattle.ss_meaning.specs.Values.{Trouble, Fails, Misfit, if_ok, turned, due, is_some, where_fit}
+use Rattle.ss_program.specs.Program.{Expression, SetOwner, TheSystem, Entity, Start, AtEnd, From, After, Members}
+use Rattle.ss_meaning.specs.Values.{Trouble, Fails, Misfit, if_ok, turned, due, where_fit, unless_fault}
 use Rattle.ss_meaning.specs.Store.{Store}
-use Rattle.ss_meaning.specs.Sets.{set_at, is_in, is_none, coming, or_gone, goes_on}
-use Rattle.ss_meaning.specs.Loops.{Turn, GoesOn, EndsLoop, IsFound, visit, next_member, member_turn}
-use Rattle.ss_meaning.specs.Parts.{World, WentOn, Part, outcome_then, choose, looked, Next, Again, Over, go_on, loop}
+use Rattle.ss_meaning.specs.Sets.{set_at, member, owner_as, owner_by_layout, known_owner, is_in, is_none, outset, beside, begun, coming, from_or_after, begun_at, or_gone, goes_on}
+use Rattle.ss_meaning.specs.Expressions.{value, looked_at, member_value, owner_value}
+use Rattle.ss_meaning.specs.Loops.{Turn, GoesOn, EndsLoop, IsFound, visit, Outset, next_member, member_turn, over_members, over}
+use Rattle.ss_meaning.specs.Parts.{World, WentOn, Part, outcome_then, choose, looked, look, Next, Again, Over, go_on, loop}
 use Rattle.ss_code_instructions.specs.Instructions.{Placed}
 use Rattle.ss_code_instructions.specs.Instructions as i
-use Rattle.ss_code_instructions.specs.States.{Frame, Core, MachineState, Moved, did, cell_at, core_at, with_bearer, back_if}
-use Rattle.ss_code_instructions.specs.Machine.{Code, Walk, walk_at, walk_cells, walk_further}
-use Rattle.ss_code_instructions.specs.Translation.{Site, height, place, forget_to, owner_cell, owner_kept, walk_loop, take_code}
+use Rattle.ss_code_instructions.specs.States.{Frame, Core, MachineState, Moved, did, fit, cell_at, core_at, at_height, with_bearer, onward, onward_if, back_if}
+use Rattle.ss_code_instructions.specs.Machine.{Code, Walk, walk_at, walk_cells, begin_walk, walk_further}
+use Rattle.ss_code_instructions.specs.Translation.{Site, height, above, place, next, forget_to, expression_code, owner_code, owner_cell, owner_kept, walk_loop, take_code, turns_code, for_code}
 use Rattle.ss_code_instructions.proofs.Steps.{HasAt, has_front, has_back, Comes, Reaches, at, arrive, join}
-use Rattle.ss_code_instructions.proofs.Parts.{Within, within_on, Leads, onwards, breaks, whatever, ticked, step_leads, at_the_height, then_then, Lands, same, done}
-use Rattle.ss_code_instructions.proofs.Forgetting.{forget_run}
+use Rattle.ss_code_instructions.proofs.Parts.{Within, within_on, Leads, onwards, breaks, whatever, ticked, step_leads, did_leads, at_the_height, turned_then, then_then, look_then, Lands, same, done}
+use Rattle.ss_code_instructions.proofs.Operands.{join_look}
+use Rattle.ss_code_instructions.proofs.Expressions.{value_runs}
+use Rattle.ss_code_instructions.proofs.Attributes.{err_first}
+use Rattle.ss_code_instructions.proofs.Forgetting.{two_more, three_more, forget_run}
 use Rattle.ss_code_instructions.proofs.Members.{top_cell}
+use Rattle.ss_code_instructions.proofs.Joining.{Joined, joined_joins}
 use Rattle.ss_code_instructions.proofs.Looping.{leads, past_loop}
 use Rattle.ss_code_instructions.proofs.Taking.{visit_run, visit_out}
+
+-- ## A walk begins at a member of the set, so that one comes after it, or none
+
+-- what comes after a number is a number: that of a member, or 0
+abbrev pub Follows : (reverse : Bool) → (set : ℕ) → Store → ℤ → Type 0
+Follows reverse set s x = (z : ℤ) × (coming reverse set x s ≡ Ok z)
 
 -- a number that may be a member of a set has one that comes after it, or 0
 joined : (f : ℕ → ℤ) (x : ℤ) (b : Bool) (j : OkOr ℕ FaultKind) (go : ℤ → OkOr Bool Trouble) → if_ok (where_fit b (turned (λ _. x) (due j))) go ≡ Ok true → (z : ℤ) × (where_fit b (due (and_then j (λ k. Ok (f k)))) ≡ Ok z)
@@ -32,9 +48,217 @@ joined f x true (Ok k) go q = (f k, refl)
 joined f x true (Err kind) go q = absurd cc
 joined f x false j go q = absurd cc
 
-pub in_set_joins : (reverse : Bool) (set : ℕ) (x : ℤ) (y : Option Value) (s : Store) → is_in set (Whole x) y s ≡ Ok true → (z : ℤ) × (coming reverse set x s ≡ Ok z)
+pub in_set_joins : (reverse : Bool) (set : ℕ) (x : ℤ) (y : Option Value) (s : Store) → is_in set (Whole x) y s ≡ Ok true → Follows reverse set s x
 in_set_joins false set x y s q = joined (λ k. pos (follower k (companions s.scene.heap.lists set k))) x (is_some (set_at set s)) (joiner s.scene.heap set x) _ q
 in_set_joins true set x y s q = joined (λ k. pos (precursor 0 k (companions s.scene.heap.lists set k))) x (is_some (set_at set s)) (joiner s.scene.heap set x) _ q
+
+-- a number in a list that is not 0
+some_number : (n : ℕ) → is_none (pos n) ≡ false → n ≡ 0 → ⊥
+some_number zero q e = absurd cc
+some_number (suc n) q e = omega (arith, e)
+
+head_in : (xs : List ℕ) → (head0 xs ≡ 0 → ⊥) → In (head0 xs) xs
+head_in [] h = absurd (h refl)
+head_in (x ∷ xs) h = inl refl
+
+last_among : (x : ℕ) (xs : List ℕ) → In (last_or x xs) (x ∷ xs)
+last_among x [] = inl refl
+last_among x (y ∷ ys) = inr (last_among y ys)
+
+last_in_list : (xs : List ℕ) → (last_or 0 xs ≡ 0 → ⊥) → In (last_or 0 xs) xs
+last_in_list [] h = absurd (h refl)
+last_in_list (x ∷ xs) h = last_among x xs
+
+follower_in : (y : ℕ) (xs : List ℕ) → (follower y xs ≡ 0 → ⊥) → In (follower y xs) xs
+follower_in y [] h = absurd (h refl)
+follower_in y (x ∷ xs) h = by (x == y) (λ g. follower_in y xs g) h
+  where
+    by : (b : Bool) → ((follower y xs ≡ 0 → ⊥) → In (follower y xs) xs) → (cond b (head0 xs) (follower y xs) ≡ 0 → ⊥) → In (cond b (head0 xs) (follower y xs)) (x ∷ xs)
+    by true later h = inr (head_in xs h)
+    by false later h = inr (later h)
+
+precursor_among : (p y : ℕ) (xs : List ℕ) → (precursor p y xs ≡ 0 → ⊥) → In (precursor p y xs) (p ∷ xs)
+precursor_among p y [] h = absurd (h refl)
+precursor_among p y (x ∷ xs) h = by (x == y) (λ g. precursor_among x y xs g) h
+  where
+    by : (b : Bool) → ((precursor x y xs ≡ 0 → ⊥) → In (precursor x y xs) (x ∷ xs)) → (cond b p (precursor x y xs) ≡ 0 → ⊥) → In (cond b p (precursor x y xs)) (p ∷ (x ∷ xs))
+    by true later h = inl refl
+    by false later h = inr (later h)
+
+precursor_in : (y : ℕ) (xs : List ℕ) → (precursor 0 y xs ≡ 0 → ⊥) → In (precursor 0 y xs) xs
+precursor_in y xs h = by (precursor_among 0 y xs h)
+  where
+    by : In (precursor 0 y xs) (0 ∷ xs) → In (precursor 0 y xs) xs
+    by (inl e) = absurd (h (sym e))
+    by (inr m) = m
+
+-- a number is that of a member of a set of this name
+abbrev IsMember : State → ℕ → ℤ → Type 0
+IsMember h set x = (o : ℕ) × (k : ℕ) × (pos k ≡ x) × In k (members_of h.lists set o)
+
+due_is : {A : Type 0} (r : OkOr A FaultKind) (a : A) → due r ≡ Ok a → r ≡ Ok a
+due_is (Ok b) a e = let p : b ≡ a = cc in ap Ok p
+due_is (Err kind) a e = absurd cc
+
+-- the first and the last
+outset_member : (reverse : Bool) (h : State) (set : ℕ) (m x : ℤ) → outset reverse h set m ≡ Ok x → is_none x ≡ false → IsMember h set x
+outset_member false h set m x e some = by (owner_there h set m) e
+  where
+    by : (r : OkOr ℕ FaultKind) → and_then r (λ n. Ok (pos (head0 (members_of h.lists set n)))) ≡ Ok x → IsMember h set x
+    by (Ok n) e =
+        let p : pos (head0 (members_of h.lists set n)) ≡ x = cc in
+        (n, head0 (members_of h.lists set n), p, head_in (members_of h.lists set n) (some_number (head0 (members_of h.lists set n)) (ap is_none p ∙ some)))
+    by (Err kind) e = absurd cc
+outset_member true h set m x e some = by (owner_there h set m) e
+  where
+    by : (r : OkOr ℕ FaultKind) → and_then r (λ n. Ok (pos (last_or 0 (members_of h.lists set n)))) ≡ Ok x → IsMember h set x
+    by (Ok n) e =
+        let p : pos (last_or 0 (members_of h.lists set n)) ≡ x = cc in
+        (n, last_or 0 (members_of h.lists set n), p, last_in_list (members_of h.lists set n) (some_number (last_or 0 (members_of h.lists set n)) (ap is_none p ∙ some)))
+    by (Err kind) e = absurd cc
+
+-- what follows a member, and what precedes one
+follower_member : (ms : List Row) (set n : ℕ) (o : Option ℕ) → (follower n (members_by ms set o) ≡ 0 → ⊥) → (p : ℕ) × In (follower n (members_by ms set o)) (members_of ms set p)
+follower_member ms set n None h = absurd (h refl)
+follower_member ms set n (Some p) h = (p, follower_in n (members_of ms set p) h)
+
+precursor_member : (ms : List Row) (set n : ℕ) (o : Option ℕ) → (precursor 0 n (members_by ms set o) ≡ 0 → ⊥) → (p : ℕ) × In (precursor 0 n (members_by ms set o)) (members_of ms set p)
+precursor_member ms set n None h = absurd (h refl)
+precursor_member ms set n (Some p) h = (p, precursor_in n (members_of ms set p) h)
+
+beside_member : (reverse : Bool) (h : State) (set : ℕ) (y x : ℤ) → beside reverse h set y ≡ Ok x → is_none x ≡ false → IsMember h set x
+beside_member false h set y x e some = by (joiner h set y) e
+  where
+    by : (r : OkOr ℕ FaultKind) → and_then r (λ n. Ok (pos (follower n (companions h.lists set n)))) ≡ Ok x → IsMember h set x
+    by (Ok n) e =
+        let p : pos (follower n (companions h.lists set n)) ≡ x = cc in
+        let m = follower_member h.lists set n (owner_of h.lists set n) (some_number (follower n (companions h.lists set n)) (ap is_none p ∙ some)) in
+        (m.0, follower n (companions h.lists set n), p, m.1)
+    by (Err kind) e = absurd cc
+beside_member true h set y x e some = by (joiner h set y) e
+  where
+    by : (r : OkOr ℕ FaultKind) → and_then r (λ n. Ok (pos (precursor 0 n (companions h.lists set n)))) ≡ Ok x → IsMember h set x
+    by (Ok n) e =
+        let p : pos (precursor 0 n (companions h.lists set n)) ≡ x = cc in
+        let m = precursor_member h.lists set n (owner_of h.lists set n) (some_number (precursor 0 n (companions h.lists set n)) (ap is_none p ∙ some)) in
+        (m.0, precursor 0 n (companions h.lists set n), p, m.1)
+    by (Err kind) e = absurd cc
+
+before_end : {A : Type 0} (xs : List A) (k : ℕ) (a : A) → slice_get xs k ≡ Some a → k < length xs
+before_end [] k a q = absurd cc
+before_end (x ∷ xs) zero a q = omega arith
+before_end (x ∷ xs) (suc k) a q = let h : k < length xs = before_end xs k a q in omega (arith, h)
+
+-- what may be a member has one that comes after it, or 0
+known_follows : (reverse : Bool) (set n : ℕ) (t : SetLayout) (x : ℤ) (s : Store) → set_at set s ≡ Some t → joiner s.scene.heap set x ≡ Ok n → Follows reverse set s x
+known_follows false set n t x s q j =
+    (pos (follower n (companions s.scene.heap.lists set n)),
+    ap (λ (o : Option SetLayout). where_fit (is_some o) (due (next_in s.scene.heap set x))) q
+    ∙ ap (λ (r : OkOr ℕ FaultKind). due (and_then r (λ k. Ok (pos (follower k (companions s.scene.heap.lists set k)))))) j)
+known_follows true set n t x s q j =
+    (pos (precursor 0 n (companions s.scene.heap.lists set n)),
+    ap (λ (o : Option SetLayout). where_fit (is_some o) (due (previous_in s.scene.heap set x))) q
+    ∙ ap (λ (r : OkOr ℕ FaultKind). due (and_then r (λ k. Ok (pos (precursor 0 k (companions s.scene.heap.lists set k)))))) j)
+
+member_follows : (reverse : Bool) (set : ℕ) (t : SetLayout) (x : ℤ) (s : Store) → Joined s.scene.heap → set_at set s ≡ Some t → IsMember s.scene.heap set x → Follows reverse set s x
+member_follows reverse set t x s joined q m =
+    subst (Follows reverse set s) m.2
+    (known_follows reverse set m.1 t (pos m.1) s q (joined_joins s.scene.heap joined set m.0 m.1 (before_end s.scene.heap.layout.sets set t q) m.3))
+
+-- a walk begins at an end of a set
+pub begun_follows : (reverse : Bool) (set : ℕ) (y : Option Value) (x : ℤ) (s : Store) → Joined s.scene.heap → begun reverse set y s ≡ Ok x → is_none x ≡ false → Follows reverse set s x
+begun_follows reverse set y x s joined e some = by (set_at set s) refl e
+  where
+    of_owner : (t : SetLayout) → set_at set s ≡ Some t → (r : OkOr ℤ Trouble) → if_ok r (λ m. due (outset reverse s.scene.heap set m)) ≡ Ok x → Follows reverse set s x
+    of_owner t q (Ok m) e = member_follows reverse set t x s joined q (outset_member reverse s.scene.heap set m x (due_is (outset reverse s.scene.heap set m) x e) some)
+    of_owner t q (Err k) e = absurd cc
+
+    by : (o : Option SetLayout) → set_at set s ≡ o → if_ok (owner_by_layout o y) (λ m. due (outset reverse s.scene.heap set m)) ≡ Ok x → Follows reverse set s x
+    by None q e = absurd cc
+    by (Some t) q e = of_owner t q (owner_as t.owner y) e
+
+-- or at a member, or after one
+pub begun_at_follows : (reverse after : Bool) (set : ℕ) (v : Value) (y : Option Value) (x : ℤ) (s : Store) → Joined s.scene.heap → begun_at reverse after set v y s ≡ Ok x → is_none x ≡ false → Follows reverse set s x
+begun_at_follows reverse after set (Text t) y x s joined e some = absurd cc
+begun_at_follows reverse after set (Whole n) y x s joined e some = by (is_in set (Whole n) y s) refl e
+  where
+    later : (o : Option SetLayout) → set_at set s ≡ o → where_fit (is_some o) (due (beside reverse s.scene.heap set n)) ≡ Ok x → Follows reverse set s x
+    later None q e = absurd cc
+    later (Some t) q e = member_follows reverse set t x s joined q (beside_member reverse s.scene.heap set n x (due_is (beside reverse s.scene.heap set n) x e) some)
+
+    begins : (after : Bool) → from_or_after reverse after set n s ≡ Ok x → Follows reverse set s n → Follows reverse set s x
+    begins false e f = let p : n ≡ x = cc in subst (Follows reverse set s) p f
+    begins true e f = later (set_at set s) refl e
+
+    by : (b : OkOr Bool Trouble) → is_in set (Whole n) y s ≡ b → if_ok b (λ b. unless_fault (not b) NotFiled (from_or_after reverse after set n s)) ≡ Ok x → Follows reverse set s x
+    by (Ok true) q e = begins after e (in_set_joins reverse set n y s q)
+    by (Ok false) q e = absurd cc
+    by (Err k) q e = absurd cc
+
+-- ## The member with which a walk begins, as the meaning looks for it
+
+abbrev outset_of : Option Value → ℤ → Outset
+outset_of y j = record { first = j; owner = y }
+
+module _ {D : Type 0} (l : Line) (reverse after : Bool) (set : ℕ) (e : Expression) (go : Outset → Part D) (w : World) where
+  abbrev started_at : Option Value → Value → OkOr Outset Trouble
+  started_at y v = turned (outset_of y) (begun_at reverse after set v y w.store)
+
+  -- what begins at a member looks at it
+  member_first : (y : Option Value) (v : Value) (m : OkOr ℤ Trouble) → member set v w.store ≡ m → started_at y v ≡ if_ok (turned (λ n. v) m) (started_at y)
+  member_first y v (Ok n) q = refl
+  member_first y v (Err k) q =
+      let first : is_in set v y w.store ≡ Err k = err_first (member set v w.store) _ k q in
+      let begins : begun_at reverse after set v y w.store ≡ Err k = err_first (is_in set v y w.store) _ k first in
+      ap (turned (outset_of y)) begins
+
+  reference_then : (y : Option Value) (r : OkOr Value Trouble) → outcome_then (looked l r w) (λ v w'. outcome_then (looked l (started_at y v) w') go) ≡ outcome_then (looked l (if_ok (if_ok r (looked_at (λ x. member set x w.store))) (started_at y)) w) go
+  reference_then y (Ok v) = ap (λ z. outcome_then (looked l z w) go) (member_first y v (member set v w.store) refl)
+  reference_then y (Err (Fails kind)) = refl
+  reference_then y (Err Misfit) = refl
+
+  owner_then : (y : Option Value) (r : OkOr ℤ Trouble) → outcome_then (looked l r w) (λ n w'. outcome_then (look l (value e) w') (λ v w'. outcome_then (looked l (started_at y v) w') go)) ≡ outcome_then (looked l (if_ok (turned (λ n. y) r) (λ y. if_ok (member_value set e w.store) (started_at y))) w) go
+  owner_then y (Ok n) = reference_then y (value e w.store)
+  owner_then y (Err (Fails kind)) = refl
+  owner_then y (Err Misfit) = refl
+
+  from_then : (r : OkOr (Option Value) Trouble) → outcome_then (looked l r w) (λ y w'. outcome_then (looked l (known_owner set y w'.store) w') (λ n w'. outcome_then (look l (value e) w') (λ v w'. outcome_then (looked l (started_at y v) w') go))) ≡ outcome_then (looked l (if_ok (if_ok r (λ y. turned (λ n. y) (known_owner set y w.store))) (λ y. if_ok (member_value set e w.store) (started_at y))) w) go
+  from_then (Ok y) = owner_then y (known_owner set y w.store)
+  from_then (Err (Fails kind)) = refl
+  from_then (Err Misfit) = refl
+
+-- ## The owner
+
+-- what lies in cells once the owner was evaluated, and how it is read
+record Owned (t : Site) (o : SetOwner) (y : Option Value) (own cells : List Value) : Type 0 where
+  pub low : length (own ++ cells) ≡ height (owner_cell t o)
+  pub reads : (s : Store) (go : Option Value → List Value → Moved) → with_bearer (owner_kept t o) s (own ++ cells) go ≡ go y (own ++ cells)
+  pub count : height (walk_loop t o) - height t ≡ suc (suc (length own))
+
+system_owned : (t : Site) (cells : List Value) → length cells ≡ height t → Owned t TheSystem None [] cells
+system_owned t cells high = record { low = high; reads = λ s go. refl; count = two_more (height t) }
+
+entity_owned : (t : Site) (e : Expression) (v : Value) (cells : List Value) → length cells ≡ height t → Owned t (Entity e) (Some v) (v ∷ []) cells
+entity_owned t e v cells high = record {
+  low = ap suc high;
+  reads = λ s go. ap (λ c. fit c (λ u. go (Some u) (v ∷ cells))) (top_cell (height t) v cells high);
+  count = three_more (height t);
+}
+
+module _ (code : Code) (n : ℕ) (t : Site) where
+  owner_join : {B : Type 0} (o : SetOwner) (rest : List Placed) (k : B → World → MachineState) (go : Option Value → Part B) (p : ℕ) (cells : List Value) (frames : List Frame) (w : World) → length cells ≡ height t → HasAt code.places p (owner_code t o ++ rest) → Within code n w → ((y : Option Value) (own : List Value) → Owned t o y own cells → HasAt code.places (p + length (owner_code t o)) rest → Reaches code (at (p + length (owner_code t o)) (own ++ cells) frames w) (arrive k frames (go y w))) → Reaches code (at p cells frames w) (arrive k frames (outcome_then (look t.line (owner_value o) w) go))
+  owner_join TheSystem rest k go p cells frames w high has in_ f =
+      let e : p ≡ p + 0 = omega arith in
+      subst (λ q. Reaches code (at q cells frames w) (arrive k frames (go None w))) (sym e)
+      (f None [] (system_owned t cells high) (subst (λ q. HasAt code.places q rest) e has))
+  owner_join (Entity e) rest k go p cells frames w high has in_ f =
+      let c : List Placed = expression_code t (next t) e in
+      subst (λ z. Reaches code (at p cells frames w) (arrive k frames z)) (turned_then t.line (value e w.store) Some go w)
+      (join_look (at p cells frames w) (λ v w'. at (p + length c) (v ∷ cells) frames w') k frames t.line (value e w.store) w (λ v. go (Some v))
+      ((value_runs code n t e).by p cells frames w high (has_front code.places p c rest has) in_)
+      (λ v q. f (Some v) (v ∷ []) (entity_owned t e v cells high) (has_back code.places p c rest has)))
+
+-- ## The turns
 
 abbrev pub walk : (member next : ℤ) → Walk
 walk j z = record { member = j; next = z }
@@ -102,7 +326,7 @@ module _ (code : Code) (n : ℕ) (t : Site) (x : Variable) (turn : List Placed) 
         -- another turn
         further : (a : ℤ) → coming reverse set z w.store ≡ Ok a → is_none z ≡ false → Leads code w (walk_further far (walk j z) (walk z a) (own ++ cells) c) (arrive ends frames (loop k turn_of z w))
         further a known some =
-            let back : end - far ≡ p = omega (arith, len) in
+            let back : end - (length take_ + length turn) ≡ p = omega (arith, len) in
             subst (λ v. Leads code w v (arrive ends frames (loop k turn_of z w))) (sym (ap (λ (b : Bool). if b then back_if far false (hold j z) c else back_if far true (hold z a) c) some))
             (onwards (subst (λ q. Reaches code (at q (hold z a) frames w) (arrive ends frames (loop k turn_of z w))) (sym back) (again z a w lek known in_)))
 
@@ -139,3 +363,108 @@ module _ (code : Code) (n : ℕ) (t : Site) (x : Variable) (turn : List Placed) 
         known_turn a =
             ap (λ v. outcome_then (outcome_then (looked t.line v (ticked a w)) (λ z w. outcome_then (visit t.line x m j w) (next_member t.line set y z))) (go_on (loop k turn_of))) known
             ∙ then_then (visit t.line x m j (ticked a w)) (next_member t.line set y z) (go_on (loop k turn_of))
+
+    -- the walk begins, or there is no member
+    begin_leads : (q skip : ℕ) (cells0 : List Value) (w : World) (r : OkOr ℤ Trouble) → q + 1 ≡ p → p + skip ≡ end + 1 → Within code n w → ((j : ℤ) → r ≡ Ok j → is_none j ≡ false → Follows reverse set w.store j) → Leads code w (begin_walk t.line skip (if_ok r (λ j. walk_at reverse set j w.store)) (own ++ cells) (core_at q cells0 frames w.store)) (arrive ends frames (outcome_then (looked t.line (turned (outset_of y) r) w) (over_members n t.line set reverse (visit t.line x m))))
+    begin_leads q skip cells0 w (Err (Fails kind)) to len_ in_ follows = breaks
+    begin_leads q skip cells0 w (Err Misfit) to len_ in_ follows = whatever
+    begin_leads q skip cells0 w (Ok j) to len_ in_ follows = sides (is_none j) refl
+      where
+        abbrev c : Core
+        c = core_at q cells0 frames w.store
+
+        -- there is a member
+        begins : (a : ℤ) → coming reverse set j w.store ≡ Ok a → is_none j ≡ false → Leads code w (onward_if skip (not (is_none j)) (hold j a) c) (arrive ends frames (loop n turn_of j w))
+        begins a known some =
+            subst (λ (b : Bool). Leads code w (onward_if skip (not b) (hold j a) c) (arrive ends frames (loop n turn_of j w))) (sym some)
+            (onwards (subst (λ k. Reaches code (at k (hold j a) frames w) (arrive ends frames (loop n turn_of j w))) (sym to) (walk_run n j a w in_.ticks known in_)))
+
+        sides : (b : Bool) → is_none j ≡ b → Leads code w (did t.line (if b then Ok (walk (pos 0) (pos 0)) else turned (walk j) (coming reverse set j w.store)) (λ k. onward_if skip (not (is_none k.member)) (walk_cells k (own ++ cells)) c)) (arrive ends frames (choose b (WentOn false) (loop n turn_of j) w))
+        sides true q' =
+            let e : end + 1 ≡ q + 1 + skip = omega (arith, to, len_) in
+            let last : end + 1 + 1 ≡ end + 2 = omega arith in
+            onwards (subst (λ k. Reaches code (at k (hold (pos 0) (pos 0)) frames w) (Comes (at (end + 2) cells frames w))) e (forget (end + 1) (end + 2) (pos 0) (pos 0) w over_has last))
+        sides false q' =
+            let a = follows j refl q' in
+            subst (λ v. Leads code w (did t.line (turned (walk j) v) (λ k. onward_if skip (not (is_none k.member)) (walk_cells k (own ++ cells)) c)) (arrive ends frames (loop n turn_of j w))) (sym a.1)
+            (begins a.0 a.1 q')
+
+  -- ## The whole FOR
+
+  module _ (one : length (forget_to t (walk_loop t o)) ≡ 1) where
+    abbrev turns : List Placed
+    turns = turns_code (walk_loop t o) h x turn (i.NextMember reverse set (owner_kept t o) h)
+
+    turns_long : length turns ≡ length take_ + length turn + 1
+    turns_long = omega (arith, length-append take_ (turn ++ (next_place ∷ [])), length-append turn (next_place ∷ []))
+
+    abbrev after_walk : Outset → Part Bool
+    after_walk = over_members n t.line set reverse (visit t.line x m)
+
+    -- from the instruction with which the walk begins, at q
+    begins_at : (y : Option Value) (own cells : List Value) → Owned t o y own cells → (q end : ℕ) (cells0 : List Value) (frames : List Frame) (w : World) (r : OkOr ℤ Trouble) → HasAt code.places (q + 1) (turns ++ forget_to t (walk_loop t o)) → q + 1 + length turns ≡ end + 1 → HasAt code.places (end + found) (forget_to t (walk_loop t o)) → Within code n w → ((j : ℤ) → r ≡ Ok j → is_none j ≡ false → Follows reverse set w.store j) → Leads code w (begin_walk t.line (length turns) (if_ok r (λ j. walk_at reverse set j w.store)) (own ++ cells) (core_at q cells0 frames w.store)) (arrive (λ b w'. at (past_loop found b end) cells frames w') frames (outcome_then (looked t.line (turned (outset_of y) r) w) after_walk))
+    begins_at y own cells owned q end cells0 frames w r has size found_has in_ follows =
+        let h0 = has_front code.places (q + 1) turns (forget_to t (walk_loop t o)) has in
+        let h2 = subst (λ k. HasAt code.places k (forget_to t (walk_loop t o))) size (has_back code.places (q + 1) turns (forget_to t (walk_loop t o)) has) in
+        let len : q + 1 + length take_ + length turn ≡ end = omega (arith, size, turns_long) in
+        begin_leads y (q + 1) end own cells frames owned.low owned.reads owned.count h0 len one h2 found_has q (length turns) cells0 w r refl size in_ follows
+
+    -- from the first or the last member
+    ends_run : (p end : ℕ) (cells : List Value) (frames : List Frame) (w : World) → length cells ≡ height t → HasAt code.places p (for_code t (Members x set o AtEnd reverse) turn) → p + length (for_code t (Members x set o AtEnd reverse) turn) ≡ end + 2 → HasAt code.places (end + found) (forget_to t (walk_loop t o)) → Within code n w → Reaches code (at p cells frames w) (arrive (λ b w'. at (past_loop found b end) cells frames w') frames (over n t.line (Members x set o AtEnd reverse) m w))
+    ends_run p end cells frames w high has len found_has in_ =
+        let lives : Joined w.store.scene.heap = in_.says.1 in
+        let co : List Placed = owner_code t o in
+        let last : List Placed = forget_to t (walk_loop t o) in
+        let begin : Placed = place (owner_cell t o) (i.BeginSet reverse set (owner_kept t o) h (length turns)) in
+        let q : ℕ = p + length co in
+        let size : p + length co + 1 + length turns ≡ end + 1 = omega (arith, len, length-append co (begin ∷ (turns ++ last)), length-append turns last, one) in
+        let ends : Bool → World → MachineState = λ b w'. at (past_loop found b end) cells frames w' in
+        subst (λ z. Reaches code (at p cells frames w) (arrive ends frames z)) (look_then t.line (owner_value o w.store) (λ y s. turned (outset_of y) (begun reverse set y s)) after_walk w)
+        (owner_join code n t o (begin ∷ (turns ++ last)) ends (λ y w'. outcome_then (look t.line (λ s. turned (outset_of y) (begun reverse set y s)) w') after_walk) p cells frames w high has in_ (λ y own owned has'.
+        step_leads code begin (core_at q (own ++ cells) frames w.store) w _ _ has'.0 refl
+        (owned.reads w.store (λ o below. at_height h below (begin_walk t.line (length turns) (if_ok (begun reverse set o w.store) (λ j. walk_at reverse set j w.store)) below (core_at q (own ++ cells) frames w.store)))
+        ∙ at_the_height h (own ++ cells) (begin_walk t.line (length turns) (if_ok (begun reverse set y w.store) (λ j. walk_at reverse set j w.store)) (own ++ cells) (core_at q (own ++ cells) frames w.store)) owned.low)
+        (begins_at y own cells owned q end (own ++ cells) frames w (begun reverse set y w.store) has'.1 size found_has in_ (λ j e some. begun_follows reverse set y j w.store lives e some))))
+
+    -- from a member, or after one
+    abbrev look_place : Placed
+    look_place = place (owner_cell t o) (i.LookOwner set (owner_kept t o))
+
+    abbrev begin_place : Bool → Placed
+    begin_place after = place (above (owner_cell t o) Integer) (i.BeginAt reverse after set (owner_kept t o) h (length turns))
+
+    abbrev member_part : Expression → List Placed
+    member_part e = expression_code (owner_cell t o) (next (owner_cell t o)) e
+
+    from_run : (after : Bool) (e : Expression) (p end : ℕ) (cells : List Value) (frames : List Frame) (w : World) → length cells ≡ height t → HasAt code.places p (owner_code t o ++ (look_place ∷ (member_part e ++ (begin_place after ∷ (turns ++ forget_to t (walk_loop t o)))))) → p + length (owner_code t o ++ (look_place ∷ (member_part e ++ (begin_place after ∷ (turns ++ forget_to t (walk_loop t o)))))) ≡ end + 2 → HasAt code.places (end + found) (forget_to t (walk_loop t o)) → Within code n w → Reaches code (at p cells frames w) (arrive (λ b w'. at (past_loop found b end) cells frames w') frames (outcome_then (looked t.line (if_ok (if_ok (owner_value o w.store) (λ y. turned (λ n. y) (known_owner set y w.store))) (λ y. if_ok (member_value set e w.store) (λ v. turned (outset_of y) (begun_at reverse after set v y w.store)))) w) after_walk))
+    from_run after e p end cells frames w high has len found_has in_ =
+        let lives : Joined w.store.scene.heap = in_.says.1 in
+        let co : List Placed = owner_code t o in
+        let ce : List Placed = member_part e in
+        let last : List Placed = forget_to t (walk_loop t o) in
+        let rest : List Placed = begin_place after ∷ (turns ++ last) in
+        let q : ℕ = p + length co in
+        let b : ℕ = q + 1 + length ce in
+        let size : p + length co + 1 + length ce + 1 + length turns ≡ end + 1 = omega (arith, len, length-append co (look_place ∷ (ce ++ rest)), length-append ce rest, length-append turns last, one) in
+        let ends : Bool → World → MachineState = λ b w'. at (past_loop found b end) cells frames w' in
+        let at_member : Option Value → Value → Part Bool = λ y v w'. outcome_then (looked t.line (turned (outset_of y) (begun_at reverse after set v y w.store)) w') after_walk in
+        let from_owner : Option Value → ℤ → Part Bool = λ y k w'. outcome_then (look t.line (value e) w') (at_member y) in
+        subst (λ z. Reaches code (at p cells frames w) (arrive ends frames z)) (from_then t.line reverse after set e after_walk w (owner_value o w.store))
+        (owner_join code n t o (look_place ∷ (ce ++ rest)) ends (λ y w'. outcome_then (looked t.line (known_owner set y w'.store) w') (from_owner y)) p cells frames w high has in_ (λ y own owned has'.
+        step_leads code look_place (core_at q (own ++ cells) frames w.store) w _ _ has'.0 refl
+        (owned.reads w.store (λ o below. did t.line (known_owner set o w.store) (λ _. onward below (core_at q (own ++ cells) frames w.store) w.store)))
+        (did_leads code t.line (known_owner set y w.store) (λ _. onward (own ++ cells) (core_at q (own ++ cells) frames w.store) w.store) w ends frames (from_owner y) (λ k there.
+        onwards
+        (join_look (at (q + 1) (own ++ cells) frames w) (λ v w'. at b (v ∷ (own ++ cells)) frames w') ends frames t.line (value e w.store) w (at_member y)
+        ((value_runs code n (owner_cell t o) e).by (q + 1) (own ++ cells) frames w owned.low (has_front code.places (q + 1) ce rest has'.1) in_)
+        (λ v found_v.
+        let has'' : HasAt code.places b rest = has_back code.places (q + 1) ce rest has'.1 in
+        step_leads code (begin_place after) (core_at b (v ∷ (own ++ cells)) frames w.store) w _ _ has''.0 refl
+        (at_the_height h (own ++ cells) (with_bearer (owner_kept t o) w.store (own ++ cells) (λ o below. begin_walk t.line (length turns) (if_ok (begun_at reverse after set v o w.store) (λ j. walk_at reverse set j w.store)) below (core_at b (v ∷ (own ++ cells)) frames w.store))) owned.low
+        ∙ owned.reads w.store (λ o below. begin_walk t.line (length turns) (if_ok (begun_at reverse after set v o w.store) (λ j. walk_at reverse set j w.store)) below (core_at b (v ∷ (own ++ cells)) frames w.store)))
+        (begins_at y own cells owned b end (v ∷ (own ++ cells)) frames w (begun_at reverse after set v y w.store) has''.1 size found_has in_ (λ j e some. begun_at_follows reverse after set v y j w.store lives e some))))))))
+
+    pub members_run : (start : Start) (p end : ℕ) (cells : List Value) (frames : List Frame) (w : World) → length cells ≡ height t → HasAt code.places p (for_code t (Members x set o start reverse) turn) → p + length (for_code t (Members x set o start reverse) turn) ≡ end + 2 → HasAt code.places (end + found) (forget_to t (walk_loop t o)) → Within code n w → Reaches code (at p cells frames w) (arrive (λ b w'. at (past_loop found b end) cells frames w') frames (over n t.line (Members x set o start reverse) m w))
+    members_run AtEnd p end cells frames w high has len found_has in_ = ends_run p end cells frames w high has len found_has in_
+    members_run (From e) p end cells frames w high has len found_has in_ = from_run false e p end cells frames w high has len found_has in_
+    members_run (After e) p end cells frames w high has len found_has in_ = from_run true e p end cells frames w high has len found_has in_

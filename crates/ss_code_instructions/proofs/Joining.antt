@@ -1,0 +1,479 @@
+-- Each member of a set of a heap lives, as an entity of the class of the set's members. So it may be one of the set. That is so at first, and no
+-- operation changes it.
+use Rattle.std.proofs.Common.{◌≡◌, ℕ, zero, suc, ◌+◌, ◌-◌, ◌<◌, Bool, true, false, List, [], ◌∷◌, ◌++◌, length, Option, Some, None, Ok, Err, ℤ, pos, negsuc, refl, sym, ap, ◌∙◌, subst, arith, ◌⊎◌, inl, inr, true≢false}
+use Rattle.std.proofs.lemmas.Bool.{eqb-true, eqb-false, eq-eqb, and_parts, and_from}
+use Rattle.std.specs.Prelude.{slice_get, slice_set, replicate, is_some, cond, nat_lt, nat_le, ◌==◌, ◌&&◌, ◌||◌, Result, if◌then◌else◌}
+use Rattle.ss_base.specs.declared.fault.FaultKind.{FaultKind}
+use Rattle.ss_base.specs.declared.fault.FaultKind.TheVariants as faults
+use Rattle.ss_base.specs.declared.layout.ClassKind.{ClassKind}
+use Rattle.ss_base.specs.declared.layout.ClassKind.TheVariants.{Permanent, Temporary, Notice}
+use Rattle.ss_base.specs.declared.layout.Discipline.{Discipline}
+use Rattle.ss_base.specs.declared.layout.Discipline.TheVariants.{Fifo, Lifo, Ranked}
+use Rattle.ss_base.specs.declared.layout.Layout.{Layout}
+use Rattle.ss_base.specs.declared.layout.RankKey.{RankKey}
+use Rattle.ss_base.specs.declared.layout.SetLayout.{SetLayout}
+use Rattle.ss_base.specs.declared.value.Value.{Value}
+use Rattle.ss_world.specs.Lists.{In}
+use Rattle.ss_world.specs.State.{Record, Members, State, and_then, kind_of, issued_record, numbered, indexed_record, records_in, of_class, entity_of_kind, entity_in, notice, number_in, first_record, with_value, with_time, with_indexed, with_entity_of_kind, assigned, timed, with_created, created, LAST_NUMBER, MOST_ENTITIES, is_made_in, is_made, with_made, made_many, created_all, members_of, contains, owner_among, is_filed, with_members, in_a_set, owns_members, let_go, destroyed, first_state}
+use Rattle.ss_world.specs.Sets.{member_in, member_class, joiner, owner, first_in, last_in, put_before, put_after, less, with_list_of, put_in, put_beside, taken_out, filed_first, filed_last, filed_before, filed_after, removed, Apart}
+use Rattle.ss_world.specs.Disciplines.{ranks_after, put_ranked, filed, take, first_removed, last_removed}
+use Rattle.ss_meaning.specs.Fitting.{class_of_record, living, made, IsIndex, LivesAs, Lives}
+use Rattle.ss_meaning.proofs.Fine.{Sane, sane_then}
+use Rattle.ss_meaning.proofs.Heaps.{HasRecord, IsEntityAs, entity_known, entity_lives, notice_known, set_length}
+
+abbrev pub Joined : State → Type 0
+Joined h = (s o x : ℕ) → s < length h.layout.sets → In x (members_of h.lists s o) → Lives h (member_class h.layout s) (pos x)
+
+-- whatever the first of two operations gives
+each_then : {A B : Type 0} (Q : B → Type 0) (r : Result A FaultKind) (f : A → Result B FaultKind) → ((a : A) → Sane Q (f a)) → Sane Q (and_then r f)
+each_then Q (Ok a) f h = h a
+each_then Q (Err k) f h = tt
+
+-- ## What lives may be a member, and what may be one lives
+
+there : {A : Type 0} (xs : List A) (k : ℕ) → k < length xs → (a : A) × (slice_get xs k ≡ Some a)
+there [] k q = absurd (omega (arith, q))
+there (x ∷ xs) zero q = (x, refl)
+there (x ∷ xs) (suc k) q = let h : k < length xs = omega (arith, q) in there xs k h
+
+single_known : (h : State) (c x : ℕ) → living h (pos x) ≡ Some c → (r : Record) × (and_then (numbered h (pos x)) (of_class c) ≡ Ok r)
+single_known h c zero q = absurd cc
+single_known h c (suc i) q = by (slice_get h.records i) q
+  where
+    by : (o : Option (Option Record)) → class_of_record o ≡ Some c → (r : Record) × (and_then (issued_record o) (of_class c) ≡ Ok r)
+    by None q = absurd cc
+    by (Some None) q = absurd cc
+    by (Some (Some r)) q =
+        let same : r.class ≡ c = cc in
+        (r, ap (λ (b : Bool). if b then Ok r else Err faults.WrongClass) (eq-eqb r.class c same))
+
+kind_known : (k : ClassKind) (h : State) (c x : ℕ) → LivesAs k h c (pos x) → (r : Record) × (entity_of_kind h k c (pos x) ≡ Ok r)
+kind_known Permanent h c zero q = absurd q
+kind_known Permanent h c (suc i) q = let r = there (records_in (slice_get h.permanents c)) i q in (r.0, ap indexed_record r.1)
+kind_known Temporary h c x q = single_known h c x q
+kind_known Notice h c x q = single_known h c x q
+
+lives_joins : (h : State) (s x : ℕ) → Lives h (member_class h.layout s) (pos x) → joiner h s (pos x) ≡ Ok x
+lives_joins h s x q =
+    let e = kind_known (kind_of h.layout (member_class h.layout s)) h (member_class h.layout s) x q in
+    ap (λ (r : Result Record FaultKind). and_then r (λ _. Ok x)) e.1
+
+-- each member may be one
+pub joined_joins : (h : State) → Joined h → (s o x : ℕ) → s < length h.layout.sets → In x (members_of h.lists s o) → joiner h s (pos x) ≡ Ok x
+joined_joins h j s o x i m = lives_joins h s x (j s o x i m)
+
+no_negative : (k : ClassKind) (h : State) (c n : ℕ) (r : Record) → IsEntityAs k h c (negsuc n) r → ⊥
+no_negative Permanent h c n r q = q
+no_negative Temporary h c n r q = q.0
+no_negative Notice h c n r q = q.0
+
+joiner_lives : (h : State) (s : ℕ) (x : ℤ) → Sane (λ n. Lives h (member_class h.layout s) (pos n)) (joiner h s x)
+joiner_lives h s (pos n) =
+    sane_then (λ n. Lives h (member_class h.layout s) (pos n)) (entity_in h (member_class h.layout s) (pos n)) (λ r. Ok n) (entity_known h (member_class h.layout s) (pos n)) (λ r q.
+    entity_lives h (member_class h.layout s) (pos n) r q)
+joiner_lives h s (negsuc n) =
+    sane_then (λ n. Lives h (member_class h.layout s) (pos n)) (entity_in h (member_class h.layout s) (negsuc n)) (λ r. Ok 0) (entity_known h (member_class h.layout s) (negsuc n)) (λ r q.
+    absurd (no_negative (kind_of h.layout (member_class h.layout s)) h (member_class h.layout s) n r q))
+
+-- so it is where sets are apart
+pub apart_joined : (h : State) → Apart h → Joined h
+apart_joined h a s o x i m = subst (Sane (λ n. Lives h (member_class h.layout s) (pos n))) (a.members s o x i m).1 (joiner_lives h s (pos x))
+
+-- and where there is no entity
+pub first_joined : (l : Layout) → Joined (first_state l)
+first_joined l s o x i m = absurd m
+
+-- ## Other entities
+
+-- another record of the same class in place of one
+class_stays : (rs : List (Option Record)) (i : ℕ) (r q : Record) → slice_get rs i ≡ Some (Some r) → q.class ≡ r.class → (k : ℕ) → class_of_record (slice_get (slice_set rs i (Some q)) k) ≡ class_of_record (slice_get rs k)
+class_stays [] i r q g c k = absurd cc
+class_stays (o ∷ rs) zero r q g c zero = let here : o ≡ Some r = cc in ap Some c ∙ sym (ap (λ y. class_of_record (Some y)) here)
+class_stays (o ∷ rs) zero r q g c (suc k) = refl
+class_stays (o ∷ rs) (suc i) r q g c zero = refl
+class_stays (o ∷ rs) (suc i) r q g c (suc k) = class_stays rs i r q g c k
+
+number_is : (h : State) (x : ℤ) (r : Record) → HasRecord h x r → slice_get h.records (number_in x - 1) ≡ Some (Some r)
+number_is h (pos zero) r q = absurd q
+number_is h (pos (suc i)) r q = let one : suc i - 1 ≡ i = omega arith in subst (λ k. slice_get h.records k ≡ Some (Some r)) (sym one) q
+number_is h (negsuc k) r q = absurd q
+
+-- other records, in which what lived goes on to live
+lives_by_records : (k : ClassKind) (h : State) (rs : List (Option Record)) (c x : ℕ) → ((i : ℕ) → x ≡ suc i → class_of_record (slice_get h.records i) ≡ Some c → class_of_record (slice_get rs i) ≡ Some c) → LivesAs k h c (pos x) → LivesAs k (record h { records = rs }) c (pos x)
+lives_by_records Permanent h rs c x f q = q
+lives_by_records Temporary h rs c zero f q = absurd cc
+lives_by_records Temporary h rs c (suc i) f q = f i refl q
+lives_by_records Notice h rs c zero f q = absurd cc
+lives_by_records Notice h rs c (suc i) f q = f i refl q
+
+recorded : (h : State) (i : ℕ) (r q : Record) → slice_get h.records i ≡ Some (Some r) → q.class ≡ r.class → Joined h → Joined (record h { records = slice_set h.records i (Some q) })
+recorded h i r q g c j s o x k m =
+    lives_by_records (kind_of h.layout (member_class h.layout s)) h (slice_set h.records i (Some q)) (member_class h.layout s) x (λ y e p. class_stays h.records i r q g c y ∙ p) (j s o x k m)
+
+-- other records of permanent entities, as many of each class
+row_set : (o : Option (Option (List Record))) (i : ℕ) (r : Record) → length (records_in (Some (with_indexed o i r))) ≡ length (records_in o)
+row_set None i r = refl
+row_set (Some None) i r = refl
+row_set (Some (Some rs)) i r = set_length rs (i - 1) r
+
+rows_set : (ps : List (Option (List Record))) (c i : ℕ) (r : Record) (k : ℕ) → length (records_in (slice_get (slice_set ps c (with_indexed (slice_get ps c) i r)) k)) ≡ length (records_in (slice_get ps k))
+rows_set [] c i r k = refl
+rows_set (o ∷ ps) zero i r zero = row_set (Some o) i r
+rows_set (o ∷ ps) zero i r (suc k) = refl
+rows_set (o ∷ ps) (suc c) i r zero = refl
+rows_set (o ∷ ps) (suc c) i r (suc k) = rows_set ps c i r k
+
+lives_by_rows : (k : ClassKind) (h : State) (ps : List (Option (List Record))) (c x : ℕ) → (k ≡ Permanent → IsIndex (made h c) (pos x) → IsIndex (length (records_in (slice_get ps c))) (pos x)) → LivesAs k h c (pos x) → LivesAs k (record h { permanents = ps }) c (pos x)
+lives_by_rows Permanent h ps c x f q = f refl q
+lives_by_rows Temporary h ps c zero f q = absurd cc
+lives_by_rows Temporary h ps c (suc i) f q = q
+lives_by_rows Notice h ps c zero f q = absurd cc
+lives_by_rows Notice h ps c (suc i) f q = q
+
+indexed_set : (h : State) (c n : ℕ) (r : Record) → Joined h → Joined (with_entity_of_kind h Permanent c n r)
+indexed_set h c n r j s o x k m =
+    lives_by_rows (kind_of h.layout (member_class h.layout s)) h (slice_set h.permanents c (with_indexed (slice_get h.permanents c) n r)) (member_class h.layout s) x
+    (λ _ p. subst (λ y. IsIndex y (pos x)) (sym (rows_set h.permanents c n r (member_class h.layout s))) p) (j s o x k m)
+
+-- ## Assigning
+
+entity_set : (k : ClassKind) (h : State) (c : ℕ) (x : ℤ) (r q : Record) → IsEntityAs k h c x r → q.class ≡ r.class → Joined h → Joined (with_entity_of_kind h k c (number_in x) q)
+entity_set Permanent h c x r q e g j = indexed_set h c (number_in x) q j
+entity_set Temporary h c x r q e g j = recorded h (number_in x - 1) r q (number_is h x r e.0) g j
+entity_set Notice h c x r q e g j = recorded h (number_in x - 1) r q (number_is h x r e.0) g j
+
+pub assigned_joined : (h : State) (c f : ℕ) (x : ℤ) (v : Value) → Joined h → Sane Joined (assigned h c f x v)
+assigned_joined h c f x v j =
+    sane_then Joined (entity_in h c x) (λ r. Ok (with_entity_of_kind h (kind_of h.layout c) c (number_in x) (with_value r f v))) (entity_known h c x) (λ r e.
+    entity_set (kind_of h.layout c) h c x r (with_value r f v) e refl j)
+
+pub timed_joined : (h : State) (x t : ℤ) → Joined h → Sane Joined (timed h x t)
+timed_joined h x t j =
+    sane_then Joined (notice h x) (λ r. Ok (record h { records = slice_set h.records (number_in x - 1) (Some (with_time r t)) })) (notice_known h x) (λ r e.
+    recorded h (number_in x - 1) r (with_time r t) (number_is h x r e.0) refl j)
+
+-- ## Creating
+
+class_before : (xs : List (Option Record)) (y : Option Record) (i c : ℕ) → class_of_record (slice_get xs i) ≡ Some c → class_of_record (slice_get (xs ++ y ∷ []) i) ≡ Some c
+class_before [] y i c q = absurd cc
+class_before (x ∷ xs) y zero c q = q
+class_before (x ∷ xs) y (suc i) c q = class_before xs y i c q
+
+with_created_joined : (h : State) (c : ℕ) → Joined h → Joined (with_created h c)
+with_created_joined h c j s o x k m =
+    lives_by_records (kind_of h.layout (member_class h.layout s)) h (h.records ++ Some (first_record h.layout c) ∷ []) (member_class h.layout s) x
+    (λ i e p. class_before h.records (Some (first_record h.layout c)) i (member_class h.layout s) p) (j s o x k m)
+
+pub created_joined : (h : State) (c : ℕ) → Joined h → Sane (λ (b : ℤ × State). Joined b.1) (created h c)
+created_joined h c j = by (nat_lt (length h.records) LAST_NUMBER)
+  where
+    by : (b : Bool) → Sane (λ (b : ℤ × State). Joined b.1) (if b then Ok (pos (length h.records + 1), with_created h c) else Err faults.Overflow)
+    by true = with_created_joined h c j
+    by false = tt
+
+get_other : {A : Type 0} (xs : List A) (c : ℕ) (a : A) (k : ℕ) → (c ≡ k → ⊥) → slice_get (slice_set xs c a) k ≡ slice_get xs k
+get_other [] c a k h = refl
+get_other (x ∷ xs) zero a zero h = absurd (h refl)
+get_other (x ∷ xs) zero a (suc k) h = refl
+get_other (x ∷ xs) (suc c) a zero h = refl
+get_other (x ∷ xs) (suc c) a (suc k) h = get_other xs c a k (λ q. h (ap suc q))
+
+-- a class whose entities are not made has none
+none_made : (o : Option (Option (List Record))) (x : ℕ) → is_made_in o ≡ false → IsIndex (length (records_in o)) (pos x) → ⊥
+none_made o zero q p = p
+none_made None (suc i) q p = omega (arith, p)
+none_made (Some None) (suc i) q p = omega (arith, p)
+none_made (Some (Some rs)) (suc i) q p = absurd (true≢false q)
+
+with_made_joined : (h : State) (c n : ℕ) → is_made h c ≡ false → Joined h → Joined (with_made h c n)
+with_made_joined h c n q j s o x k m =
+    lives_by_rows (kind_of h.layout (member_class h.layout s)) h (slice_set h.permanents c (Some (replicate n (first_record h.layout c)))) (member_class h.layout s) x (λ _ p. rows (member_class h.layout s) (c == member_class h.layout s) refl p) (j s o x k m)
+  where
+    rows : (d : ℕ) (b : Bool) → (c == d) ≡ b → IsIndex (made h d) (pos x) → IsIndex (length (records_in (slice_get (slice_set h.permanents c (Some (replicate n (first_record h.layout c)))) d))) (pos x)
+    rows d true e p = absurd (none_made (slice_get h.permanents c) x q (subst (λ d. IsIndex (made h d) (pos x)) (sym (eqb-true c d e)) p))
+    rows d false e p = subst (λ o. IsIndex (length (records_in o)) (pos x)) (sym (get_other h.permanents c (Some (replicate n (first_record h.layout c))) d (eqb-false c d e))) p
+
+pub created_all_joined : (h : State) (c : ℕ) (z : ℤ) → Joined h → Sane Joined (created_all h c z)
+created_all_joined h c z j = by (is_made h c) refl
+  where
+    in_range : is_made h c ≡ false → (n : ℕ) (b : Bool) → Sane Joined (if b then Ok (with_made h c n) else Err faults.BadCount)
+    in_range q n true = with_made_joined h c n q j
+    in_range q n false = tt
+
+    many : is_made h c ≡ false → (z : ℤ) → Sane Joined (made_many h c z)
+    many q (pos n) = in_range q n (nat_le n MOST_ENTITIES)
+    many q (negsuc k) = tt
+
+    by : (b : Bool) → is_made h c ≡ b → Sane Joined (if b then Err faults.CreatedTwice else made_many h c z)
+    by true q = tt
+    by false q = many q z
+
+-- ## Other members
+
+lives_by_lists : (k : ClassKind) (h : State) (ms : List Members) (c x : ℕ) → LivesAs k h c (pos x) → LivesAs k (record h { lists = ms }) c (pos x)
+lives_by_lists Permanent h ms c x q = q
+lives_by_lists Temporary h ms c zero q = absurd cc
+lives_by_lists Temporary h ms c (suc i) q = q
+lives_by_lists Notice h ms c zero q = absurd cc
+lives_by_lists Notice h ms c (suc i) q = q
+
+-- the members of a set once one of the lists is another
+members_with : (ms : List Members) (s o : ℕ) (l : List ℕ) (s' o' x : ℕ) → In x (members_of (with_members ms s o l) s' o') → ((s ≡ s') × In x l) ⊎ In x (members_of ms s' o')
+members_with [] s o l s' o' x m = by ((s == s') && (o == o')) refl m
+  where
+    by : (b : Bool) → ((s == s') && (o == o')) ≡ b → In x (cond b l []) → ((s ≡ s') × In x l) ⊎ In x []
+    by true q m = inl (eqb-true s s' (and_parts (s == s') (o == o') q).0, m)
+    by false q m = absurd m
+members_with (y ∷ ms) s o l s' o' x m = by ((y.set == s) && (y.owner == o)) refl m (λ g. members_with ms s o l s' o' x g)
+  where
+    -- in the place of this list
+    here : ((y.set == s) && (y.owner == o)) ≡ true → (b : Bool) → ((s == s') && (o == o')) ≡ b → In x (cond b l (members_of ms s' o')) → ((s ≡ s') × In x l) ⊎ In x (members_of (y ∷ ms) s' o')
+    here p true q m = inl (eqb-true s s' (and_parts (s == s') (o == o') q).0, m)
+    here p false q m =
+        let a = and_parts (y.set == s) (y.owner == o) p in
+        let same : ((y.set == s') && (y.owner == o')) ≡ ((s == s') && (o == o')) = ap (λ k. (k == s') && (y.owner == o')) (eqb-true y.set s a.0) ∙ ap (λ k. (s == s') && (k == o')) (eqb-true y.owner o a.1) in
+        inr (subst (λ (b : Bool). In x (cond b y.list (members_of ms s' o'))) (sym (same ∙ q)) m)
+
+    -- after it
+    later : (b : Bool) → (In x (members_of (with_members ms s o l) s' o') → ((s ≡ s') × In x l) ⊎ In x (members_of ms s' o')) → In x (cond b y.list (members_of (with_members ms s o l) s' o')) → ((s ≡ s') × In x l) ⊎ In x (cond b y.list (members_of ms s' o'))
+    later true f m = inr m
+    later false f m = f m
+
+    by : (b : Bool) → ((y.set == s) && (y.owner == o)) ≡ b → In x (members_of (cond b (record { set = s; owner = o; list = l } ∷ ms) (y ∷ with_members ms s o l)) s' o') → (In x (members_of (with_members ms s o l) s' o') → ((s ≡ s') × In x l) ⊎ In x (members_of ms s' o')) → ((s ≡ s') × In x l) ⊎ In x (members_of (y ∷ ms) s' o')
+    by true p m f = here p ((s == s') && (o == o')) refl m
+    by false p m f = later ((y.set == s') && (y.owner == o')) f m
+
+-- another list, whose members live
+listed : (h : State) (s o : ℕ) (l : List ℕ) → ((x : ℕ) → s < length h.layout.sets → In x l → Lives h (member_class h.layout s) (pos x)) → Joined h → Joined (with_list_of h s o l)
+listed h s o l f j s' o' x k m =
+    lives_by_lists (kind_of h.layout (member_class h.layout s')) h (with_members h.lists s o l) (member_class h.layout s') x (by (members_with h.lists s o l s' o' x m))
+  where
+    by : ((s ≡ s') × In x l) ⊎ In x (members_of h.lists s' o') → Lives h (member_class h.layout s') (pos x)
+    by (inl g) = subst (λ d. Lives h (member_class h.layout d) (pos x)) g.0 (f x (subst (λ d. d < length h.layout.sets) (sym g.0) k) g.1)
+    by (inr g) = j s' o' x k g
+
+-- ## Filing
+
+abbrev Puts : (ℕ → List ℕ → List ℕ) → Type 0
+Puts put = (x : ℕ) (l : List ℕ) (y : ℕ) → In y (put x l) → (x ≡ y) ⊎ In y l
+
+put_lives : (put : ℕ → List ℕ → List ℕ) → Puts put → (h : State) (s o x : ℕ) → Lives h (member_class h.layout s) (pos x) → Joined h → Joined (with_list_of h s o (put x (members_of h.lists s o)))
+put_lives put p h s o x lives j = listed h s o (put x (members_of h.lists s o)) (λ y k m. by y k (p x (members_of h.lists s o) y m)) j
+  where
+    by : (y : ℕ) → s < length h.layout.sets → (x ≡ y) ⊎ In y (members_of h.lists s o) → Lives h (member_class h.layout s) (pos y)
+    by y k (inl e) = subst (λ z. Lives h (member_class h.layout s) (pos z)) e lives
+    by y k (inr m) = j s o y k m
+
+put_joined : (put : ℕ → List ℕ → List ℕ) → Puts put → (h : State) (s o x : ℕ) → Lives h (member_class h.layout s) (pos x) → Joined h → Sane Joined (put_in put h s o x)
+put_joined put p h s o x lives j = by (is_filed h.lists s x)
+  where
+    by : (b : Bool) → Sane Joined (if b then Err faults.FiledTwice else Ok (with_list_of h s o (put x (members_of h.lists s o))))
+    by true = tt
+    by false = put_lives put p h s o x lives j
+
+beside_joined : (put : ℕ → ℕ → List ℕ → List ℕ) → ((k : ℕ) → Puts (put k)) → (h : State) (s o x k : ℕ) → Lives h (member_class h.layout s) (pos x) → Joined h → Sane Joined (put_beside put h s o x k)
+beside_joined put p h s o x k lives j = by (is_filed h.lists s x) (contains (members_of h.lists s o) k)
+  where
+    by : (b c : Bool) → Sane Joined (if b then Err faults.FiledTwice else (if c then Ok (with_list_of h s o (put k x (members_of h.lists s o))) else Err faults.NotFiled))
+    by true c = tt
+    by false true = put_lives (put k) (p k) h s o x lives j
+    by false false = tt
+
+puts_first : Puts (λ y l. y ∷ l)
+puts_first x l y m = m
+
+puts_last : Puts (λ y l. l ++ y ∷ [])
+puts_last x [] y m = m
+puts_last x (z ∷ zs) y (inl e) = inr (inl e)
+puts_last x (z ∷ zs) y (inr m) = by (puts_last x zs y m)
+  where
+    by : (x ≡ y) ⊎ In y zs → (x ≡ y) ⊎ In y (z ∷ zs)
+    by (inl e) = inl e
+    by (inr m) = inr (inr m)
+
+-- after an item that stays
+passed : (x z y : ℕ) (zs : List ℕ) (l : List ℕ) → (In y l → (x ≡ y) ⊎ In y zs) → In y (z ∷ l) → (x ≡ y) ⊎ In y (z ∷ zs)
+passed x z y zs l f (inl e) = inr (inl e)
+passed x z y zs l f (inr m) = by (f m)
+  where
+    by : (x ≡ y) ⊎ In y zs → (x ≡ y) ⊎ In y (z ∷ zs)
+    by (inl e) = inl e
+    by (inr m) = inr (inr m)
+
+puts_before : (k : ℕ) → Puts (put_before k)
+puts_before k x [] y m = m
+puts_before k x (z ∷ zs) y m = by (z == k) (λ g. puts_before k x zs y g) m
+  where
+    by : (b : Bool) → (In y (put_before k x zs) → (x ≡ y) ⊎ In y zs) → In y (cond b (x ∷ (z ∷ zs)) (z ∷ put_before k x zs)) → (x ≡ y) ⊎ In y (z ∷ zs)
+    by true f m = m
+    by false f m = passed x z y zs (put_before k x zs) f m
+
+puts_after : (k : ℕ) → Puts (put_after k)
+puts_after k x [] y m = m
+puts_after k x (z ∷ zs) y m = by (z == k) (λ g. puts_after k x zs y g) m
+  where
+    by : (b : Bool) → (In y (put_after k x zs) → (x ≡ y) ⊎ In y zs) → In y (cond b (z ∷ (x ∷ zs)) (z ∷ put_after k x zs)) → (x ≡ y) ⊎ In y (z ∷ zs)
+    by true f m = passed x z y zs (x ∷ zs) (λ g. g) m
+    by false f m = passed x z y zs (put_after k x zs) f m
+
+puts_ranked : (h : State) (c : ℕ) (ks : List RankKey) → Puts (put_ranked h c ks)
+puts_ranked h c ks x [] y m = m
+puts_ranked h c ks x (z ∷ zs) y m = by (ranks_after h c ks (pos z) (pos x)) (λ g. puts_ranked h c ks x zs y g) m
+  where
+    by : (b : Bool) → (In y (put_ranked h c ks x zs) → (x ≡ y) ⊎ In y zs) → In y (cond b (x ∷ (z ∷ zs)) (z ∷ put_ranked h c ks x zs)) → (x ≡ y) ⊎ In y (z ∷ zs)
+    by true f m = m
+    by false f m = passed x z y zs (put_ranked h c ks x zs) f m
+
+-- a member that is looked at, and an owner
+with_member : {B : Type 0} (Q : B → Type 0) (h : State) (s : ℕ) (o x : ℤ) (go : ℕ → ℕ → Result B FaultKind) → ((n m : ℕ) → Lives h (member_class h.layout s) (pos n) → Sane Q (go n m)) → Sane Q (and_then (joiner h s x) (λ n. and_then (owner h s o) (λ m. go n m)))
+with_member Q h s o x go f =
+    sane_then Q (joiner h s x) (λ n. and_then (owner h s o) (λ m. go n m)) (joiner_lives h s x) (λ n g. each_then Q (owner h s o) (λ m. go n m) (λ m. f n m g))
+
+pub first_filed : (h : State) (s : ℕ) (o x : ℤ) → Joined h → Sane Joined (filed_first h s o x)
+first_filed h s o x j = with_member Joined h s o x (λ n m. put_in (λ y l. y ∷ l) h s m n) (λ n m g. put_joined (λ y l. y ∷ l) puts_first h s m n g j)
+
+pub last_filed : (h : State) (s : ℕ) (o x : ℤ) → Joined h → Sane Joined (filed_last h s o x)
+last_filed h s o x j = with_member Joined h s o x (λ n m. put_in (λ y l. l ++ y ∷ []) h s m n) (λ n m g. put_joined (λ y l. l ++ y ∷ []) puts_last h s m n g j)
+
+pub before_filed : (h : State) (s : ℕ) (o x y : ℤ) → Joined h → Sane Joined (filed_before h s o x y)
+before_filed h s o x y j =
+    sane_then Joined (joiner h s x) (λ n. and_then (joiner h s y) (λ k. and_then (owner h s o) (λ m. put_beside put_before h s m n k))) (joiner_lives h s x) (λ n g.
+    with_member Joined h s o y (λ k m. put_beside put_before h s m n k) (λ k m u. beside_joined put_before puts_before h s m n k g j))
+
+pub after_filed : (h : State) (s : ℕ) (o x y : ℤ) → Joined h → Sane Joined (filed_after h s o x y)
+after_filed h s o x y j =
+    sane_then Joined (joiner h s x) (λ n. and_then (joiner h s y) (λ k. and_then (owner h s o) (λ m. put_beside put_after h s m n k))) (joiner_lives h s x) (λ n g.
+    with_member Joined h s o y (λ k m. put_beside put_after h s m n k) (λ k m u. beside_joined put_after puts_after h s m n k g j))
+
+pub filed_joined : (h : State) (d : Discipline) (s : ℕ) (o x : ℤ) → Joined h → Sane Joined (filed h d s o x)
+filed_joined h Fifo s o x j = last_filed h s o x j
+filed_joined h Lifo s o x j = first_filed h s o x j
+filed_joined h (Ranked ks) s o x j =
+    with_member Joined h s o x (λ n m. put_in (put_ranked h (member_class h.layout s) ks) h s m n) (λ n m g. put_joined (put_ranked h (member_class h.layout s) ks) (puts_ranked h (member_class h.layout s) ks) h s m n g j)
+
+-- ## Removing
+
+less_in : (x : ℕ) (l : List ℕ) (y : ℕ) → In y (less x l) → In y l
+less_in x [] y m = m
+less_in x (z ∷ zs) y m = by (z == x) (λ g. less_in x zs y g) m
+  where
+    by : (b : Bool) → (In y (less x zs) → In y zs) → In y (cond b zs (z ∷ less x zs)) → In y (z ∷ zs)
+    by true f m = inr m
+    by false f (inl e) = inl e
+    by false f (inr m) = inr (f m)
+
+out_joined : (h : State) (s o x : ℕ) → Joined h → Sane Joined (taken_out h s o x)
+out_joined h s o x j = by (contains (members_of h.lists s o) x)
+  where
+    by : (b : Bool) → Sane Joined (if b then Ok (with_list_of h s o (less x (members_of h.lists s o))) else Err faults.NotFiled)
+    by true = listed h s o (less x (members_of h.lists s o)) (λ y k m. j s o y k (less_in x (members_of h.lists s o) y m)) j
+    by false = tt
+
+pub removed_joined : (h : State) (s : ℕ) (o x : ℤ) → Joined h → Sane Joined (removed h s o x)
+removed_joined h s o x j = with_member Joined h s o x (λ n m. taken_out h s m n) (λ n m g. out_joined h s m n j)
+
+take_joined : (h : State) (s : ℕ) (o z : ℤ) → Joined h → Sane (λ (r : ℤ × State). Joined r.1) (take h s o z)
+take_joined h s o (pos zero) j = tt
+take_joined h s o (pos (suc n)) j = sane_then (λ (r : ℤ × State). Joined r.1) (removed h s o (pos (suc n))) (λ t. Ok (pos (suc n), t)) (removed_joined h s o (pos (suc n)) j) (λ t g. g)
+take_joined h s o (negsuc k) j = sane_then (λ (r : ℤ × State). Joined r.1) (removed h s o (negsuc k)) (λ t. Ok (negsuc k, t)) (removed_joined h s o (negsuc k) j) (λ t g. g)
+
+pub first_removed_joined : (h : State) (s : ℕ) (o : ℤ) → Joined h → Sane (λ (r : ℤ × State). Joined r.1) (first_removed h s o)
+first_removed_joined h s o j = each_then (λ (r : ℤ × State). Joined r.1) (first_in h s o) (take h s o) (λ z. take_joined h s o z j)
+
+pub last_removed_joined : (h : State) (s : ℕ) (o : ℤ) → Joined h → Sane (λ (r : ℤ × State). Joined r.1) (last_removed h s o)
+last_removed_joined h s o j = each_then (λ (r : ℤ × State). Joined r.1) (last_in h s o) (take h s o) (λ z. take_joined h s o z j)
+
+-- ## Destroying: what is in a set stays
+
+or_first : (a b : Bool) → a ≡ true → (a || b) ≡ true
+or_first true b q = refl
+or_first false b q = absurd (true≢false (sym q))
+
+or_second : (a b : Bool) → b ≡ true → (a || b) ≡ true
+or_second true b q = refl
+or_second false b q = q
+
+contains_so : (xs : List ℕ) (x : ℕ) → In x xs → contains xs x ≡ true
+contains_so [] x m = absurd m
+contains_so (y ∷ ys) x (inl e) = or_first (y == x) (contains ys x) (eq-eqb y x e)
+contains_so (y ∷ ys) x (inr m) = or_second (y == x) (contains ys x) (contains_so ys x m)
+
+-- some list that is not empty has an owner
+among_so : (some all : List Members) (s o x : ℕ) → contains (members_of all s o) x ≡ true → (members_of some s o ≡ [] → ⊥) → is_some (owner_among some all s x) ≡ true
+among_so [] all s o x c f = absurd (f refl)
+among_so (y ∷ ms) all s o x c f = by ((y.set == s) && contains (members_of all s y.owner) x) refl (λ g. among_so ms all s o x c g)
+  where
+    -- the list is not this one
+    not_here : ((y.set == s) && contains (members_of all s y.owner) x) ≡ false → (b : Bool) → ((y.set == s) && (y.owner == o)) ≡ b → (cond b y.list (members_of ms s o) ≡ [] → ⊥) → members_of ms s o ≡ [] → ⊥
+    not_here q true p f e =
+        let a = and_parts (y.set == s) (y.owner == o) p in
+        let has : contains (members_of all s y.owner) x ≡ true = ap (λ k. contains (members_of all s k) x) (eqb-true y.owner o a.1) ∙ c in
+        true≢false (sym (and_from (y.set == s) (contains (members_of all s y.owner) x) a.0 has) ∙ q)
+    not_here q false p f e = f e
+
+    by : (b : Bool) → ((y.set == s) && contains (members_of all s y.owner) x) ≡ b → ((members_of ms s o ≡ [] → ⊥) → is_some (owner_among ms all s x) ≡ true) → is_some (if b then Some y.owner else owner_among ms all s x) ≡ true
+    by true q later = refl
+    by false q later = later (not_here q ((y.set == s) && (y.owner == o)) refl f)
+
+filed_so : (ms : List Members) (s o x : ℕ) → In x (members_of ms s o) → is_filed ms s x ≡ true
+filed_so ms s o x m = among_so ms ms s o x (contains_so (members_of ms s o) x m) (λ e. subst (In x) e m)
+
+in_set_so : (ts : List SetLayout) (b k d : ℕ) (ms : List Members) (c x : ℕ) (t : SetLayout) → slice_get ts k ≡ Some t → d ≡ b + k → t.member ≡ c → is_filed ms d x ≡ true → in_a_set ts b ms c x ≡ true
+in_set_so [] b k d ms c x t q e g f = absurd cc
+in_set_so (u ∷ ts) b zero d ms c x t q e g f =
+    let same : u ≡ t = cc in
+    let at : d ≡ b = omega (arith, e) in
+    let class : u.member ≡ c = ap (λ (y : SetLayout). y.member) same ∙ g in
+    let filed_ : is_filed ms b x ≡ true = subst (λ y. is_filed ms y x ≡ true) at f in
+    or_first ((u.member == c) && is_filed ms b x) (in_a_set ts (b + 1) ms c x) (and_from (u.member == c) (is_filed ms b x) (eq-eqb u.member c class) filed_)
+in_set_so (u ∷ ts) b (suc k) d ms c x t q e g f =
+    let at : d ≡ b + 1 + k = omega (arith, e) in
+    or_second ((u.member == c) && is_filed ms b x) (in_a_set ts (b + 1) ms c x) (in_set_so ts (b + 1) k d ms c x t q at g f)
+
+-- what is in no set goes
+cut_joined : (h : State) (c i : ℕ) (r : Record) → slice_get h.records i ≡ Some (Some r) → r.class ≡ c → in_a_set h.layout.sets 0 h.lists c (suc i) ≡ false → Joined h → Joined (record h { records = slice_set h.records i None })
+cut_joined h c i r g own apart j s o x k m =
+    lives_by_records (kind_of h.layout (member_class h.layout s)) h (slice_set h.records i None) (member_class h.layout s) x (λ n e p. by n e p (i == n) refl) (j s o x k m)
+  where
+    -- it is no member of this set
+    never : (n : ℕ) → x ≡ suc n → i ≡ n → class_of_record (slice_get h.records n) ≡ Some (member_class h.layout s) → ⊥
+    never n e same p =
+        let t = there h.layout.sets s k in
+        let here : class_of_record (slice_get h.records n) ≡ Some r.class = ap (λ y. class_of_record (slice_get h.records y)) (sym same) ∙ ap class_of_record g in
+        let class : Some r.class ≡ Some (member_class h.layout s) = sym here ∙ p in
+        let kind : r.class ≡ member_class h.layout s = cc in
+        let its : t.0.member ≡ c = sym (ap member_in t.1) ∙ sym kind ∙ own in
+        let number : x ≡ suc i = e ∙ ap suc (sym same) in
+        let filed_ : is_filed h.lists s (suc i) ≡ true = subst (λ y. is_filed h.lists s y ≡ true) number (filed_so h.lists s o x m) in
+        let zero_on : s ≡ 0 + s = omega arith in
+        true≢false (sym (in_set_so h.layout.sets 0 s s h.lists c (suc i) t.0 t.1 zero_on its filed_) ∙ apart)
+
+    by : (n : ℕ) → x ≡ suc n → class_of_record (slice_get h.records n) ≡ Some (member_class h.layout s) → (b : Bool) → (i == n) ≡ b → class_of_record (slice_get (slice_set h.records i None) n) ≡ Some (member_class h.layout s)
+    by n e p true q = absurd (never n e (eqb-true i n q) p)
+    by n e p false q = ap class_of_record (get_other h.records i None n (eqb-false i n q)) ∙ p
+
+single_is : (k : ClassKind) (h : State) (c : ℕ) (x : ℤ) (r : Record) → (k ≡ Permanent → ⊥) → IsEntityAs k h c x r → HasRecord h x r × (r.class ≡ c)
+single_is Permanent h c x r other q = absurd (other refl)
+single_is Temporary h c x r other q = q
+single_is Notice h c x r other q = q
+
+let_go_joined : (h : State) (c : ℕ) (x : ℤ) (r : Record) → HasRecord h x r → r.class ≡ c → Joined h → Sane Joined (let_go h c (number_in x))
+let_go_joined h c (pos zero) r q own j = absurd q
+let_go_joined h c (negsuc k) r q own j = absurd q
+let_go_joined h c (pos (suc i)) r q own j = first (in_a_set h.layout.sets 0 h.lists c (suc i)) refl
+  where
+    one : suc i - 1 ≡ i
+    one = omega arith
+
+    second : in_a_set h.layout.sets 0 h.lists c (suc i) ≡ false → (b : Bool) → Sane Joined (if b then Err faults.OwnsMembers else Ok (record h { records = slice_set h.records (suc i - 1) None }))
+    second apart true = tt
+    second apart false = subst (λ k. Joined (record h { records = slice_set h.records k None })) (sym one) (cut_joined h c i r q own apart j)
+
+    first : (b : Bool) → in_a_set h.layout.sets 0 h.lists c (suc i) ≡ b → Sane Joined (if b then Err faults.InASet else (if owns_members h.layout.sets 0 h.lists c (suc i) then Err faults.OwnsMembers else Ok (record h { records = slice_set h.records (suc i - 1) None })))
+    first true apart = tt
+    first false apart = second apart (owns_members h.layout.sets 0 h.lists c (suc i))
+
+pub destroyed_joined : (h : State) (c : ℕ) (x : ℤ) → (kind_of h.layout c ≡ Permanent → ⊥) → Joined h → Sane Joined (destroyed h c x)
+destroyed_joined h c x other j =
+    sane_then Joined (entity_in h c x) (λ r. let_go h c (number_in x)) (entity_known h c x) (λ r q.
+    let e = single_is (kind_of h.layout c) h c x r other q in let_go_joined h c x r e.0 e.1 j)

@@ -1,0 +1,131 @@
+-- A whole program and its code.
+use Rattle.std.proofs.Common.{◌≡◌, ℕ, zero, suc, ◌+◌, ◌≤◌, List, [], ◌∷◌, ◌++◌, length, Some, refl, subst, arith}
+use Rattle.std.specs.Prelude.{◌≢◌, slice_get}
+use Rattle.ss_program.specs.Program.{Routine, Event, Program}
+use Rattle.ss_meaning.specs.Parts.{Returned, Stopped, Faulted, OutOfTicks, Wrong, Outcome, WentOn, Left}
+use Rattle.ss_meaning.specs.Statements.{effects}
+use Rattle.ss_meaning.specs.Meaning.{WentWrong, run_of, calls, first_world, meaning}
+use Rattle.ss_code_instructions.specs.Instructions.{Placed, Lines}
+use Rattle.ss_code_instructions.specs.Instructions as i
+use Rattle.ss_code_instructions.specs.States.{MachineState, core_at}
+use Rattle.ss_code_instructions.specs.Machine.{Code}
+use Rattle.ss_code_instructions.specs.Running.{start, GoesRight, Behaves}
+use Rattle.ss_code_instructions.specs.Laws.{CodeBehaves}
+use Rattle.ss_code_instructions.specs.Translation.{Site, place, block_code, block_prints, main_scope, first_site, routine_code, event_code, routines_code, events_code, routines_prints, events_prints, routine_entries, event_entries, main_prints, prints_before_events, main_code, all_routines, all_events, code_of}
+use Rattle.ss_code_instructions.proofs.Joining.{Joined, first_joined}
+use Rattle.ss_code_instructions.proofs.Steps.{HasAt, has_front, has_back, has_all, Finishes, Reaches, reaches_on, in_steps, Agrees, agrees, at, arrive}
+use Rattle.ss_code_instructions.proofs.Parts.{Within, ends, step_leads}
+use Rattle.ss_code_instructions.proofs.Blocks.{block_runs}
+use Rattle.ss_code_instructions.proofs.Entering.{RoutineAt, EventAt, Linked, calls_run}
+
+-- ## Where the sections of a program are
+
+module _ (code : Code) (p : Program) where
+  linked_routines : (rs : List Routine) (q first : ℕ) → HasAt code.places q (routines_code p first rs) → HasAt code.prints first (routines_prints rs) → (r : ℕ) → RoutineAt code p (slice_get rs r) (slice_get (routine_entries p q first rs) r)
+  linked_routines [] q first has prints r = tt
+  linked_routines (x ∷ rs) q first has prints zero = record {
+    begins = q;
+    first = first;
+    is = refl;
+    lies = has_front code.places q (routine_code p first x) (routines_code p (first + length (block_prints x.body)) rs) has;
+    prints = has_front code.prints first (block_prints x.body) (routines_prints rs) prints;
+  }
+  linked_routines (x ∷ rs) q first has prints (suc r) =
+      linked_routines rs (q + length (routine_code p first x)) (first + length (block_prints x.body))
+      (has_back code.places q (routine_code p first x) (routines_code p (first + length (block_prints x.body)) rs) has)
+      (has_back code.prints first (block_prints x.body) (routines_prints rs) prints) r
+
+  linked_events : (es : List Event) (q first : ℕ) → HasAt code.places q (events_code p first es) → HasAt code.prints first (events_prints es) → (r : ℕ) → EventAt code p (slice_get es r) (slice_get (event_entries p q first es) r)
+  linked_events [] q first has prints r = tt
+  linked_events (x ∷ es) q first has prints zero = record {
+    begins = q;
+    first = first;
+    is = refl;
+    lies = has_front code.places q (event_code p first x) (events_code p (first + length (block_prints x.body)) es) has;
+    prints = has_front code.prints first (block_prints x.body) (events_prints es) prints;
+  }
+  linked_events (x ∷ es) q first has prints (suc r) =
+      linked_events es (q + length (event_code p first x)) (first + length (block_prints x.body))
+      (has_back code.places q (event_code p first x) (events_code p (first + length (block_prints x.body)) es) has)
+      (has_back code.prints first (block_prints x.body) (events_prints es) prints) r
+
+module _ (p : Program) where
+  abbrev code : Code
+  code = code_of p
+
+  -- ## Its places, and its PRINTs
+
+  abbrev sections : List Placed
+  sections = all_routines p ++ all_events p
+
+  abbrev later_prints : List Lines
+  later_prints = routines_prints p.routines ++ events_prints p.events
+
+  from_zero : (n : ℕ) → 0 + n ≡ n
+  from_zero n = omega arith
+
+  all_here : HasAt code.places 0 (main_code p ++ sections)
+  all_here = has_all (main_code p ++ sections) []
+
+  main_here : HasAt code.places 0 (main_code p)
+  main_here = has_front code.places 0 (main_code p) sections all_here
+
+  after_main : HasAt code.places (length (main_code p)) sections
+  after_main =
+      subst (λ j. HasAt code.places j sections) (from_zero (length (main_code p))) (has_back code.places 0 (main_code p) sections all_here)
+
+  all_prints : HasAt code.prints 0 (block_prints p.main ++ later_prints)
+  all_prints = has_all (block_prints p.main ++ later_prints) []
+
+  prints_after : HasAt code.prints (main_prints p) later_prints
+  prints_after =
+      subst (λ j. HasAt code.prints j later_prints) (from_zero (main_prints p)) (has_back code.prints 0 (block_prints p.main) later_prints all_prints)
+
+  pub program_linked : Linked code p
+  program_linked = record {
+    setting = refl;
+    routines = linked_routines code p p.routines (length (main_code p)) (main_prints p)
+        (has_front code.places (length (main_code p)) (all_routines p) (all_events p) after_main)
+        (has_front code.prints (main_prints p) (routines_prints p.routines) (events_prints p.events) prints_after);
+    events = linked_events code p p.events (length (main_code p) + length (all_routines p)) (prints_before_events p)
+        (has_back code.places (length (main_code p)) (all_routines p) (all_events p) after_main)
+        (has_back code.prints (main_prints p) (routines_prints p.routines) (events_prints p.events) prints_after);
+  }
+
+  -- ## MAIN, and the end of a run
+
+  -- as a run begins the program says what its code says, and no set has a member
+  first_within : (input : List ℕ) (n : ℕ) → Within code n (first_world p input n)
+  first_within input n =
+      let all : n ≤ n = omega arith in
+      let lives : Joined (first_world p input n).store.scene.heap = first_joined p.layout in
+      record { ticks = all; says = (refl, lives) }
+
+  main_end : (u : Site) (q : ℕ) (s : MachineState) (o : Outcome (Unit {0})) → slice_get code.places q ≡ Some (place u i.Leave) → (run_of o).ending ≢ WentWrong → Reaches code s (arrive (λ (a : Unit {0}) w'. at q [] [] w') [] o) → Reaches code s (Finishes (run_of o))
+  main_end u q s (WentOn a w) has right g =
+      reaches_on g (step_leads code (place u i.Leave) (core_at q [] [] w.store) w _ _ has refl refl ends)
+  main_end u q s (Left Returned w) has right g = g
+  main_end u q s (Left Stopped w) has right g = g
+  main_end u q s (Left (Faulted kind line) w) has right g = g
+  main_end u q s (Left OutOfTicks w) has right g = g
+  main_end u q s (Left Wrong w) has right g = absurd (right refl)
+
+  -- the simulation, for each program that does not go wrong, well typed or not
+  pub program_runs : (input : List ℕ) (n : ℕ) → GoesRight p input n → Reaches code (start code input n) (Finishes (meaning p input n))
+  program_runs input n right =
+      let t : Site = first_site (main_scope p) in
+      let b : List Placed = block_code t 0 p.main in
+      let last : List Placed = place t i.Leave ∷ [] in
+      main_end t (0 + length b) (start code input n) (effects (calls p n) n p.main (first_world p input n)) (has_back code.places 0 b last main_here).0 right
+      ((block_runs code n (calls p n) (calls_run code p program_linked n) t refl 0 p.main (has_front code.prints 0 (block_prints p.main) later_prints all_prints)).by 0 [] [] (first_world p input n) refl (has_front code.places 0 b last main_here) (first_within input n))
+
+  pub behaves : Behaves p code
+  behaves = record {
+    ends = λ input n right. in_steps (program_runs input n right);
+    only = λ input n m r right e. subst (Agrees (meaning p input n)) e (agrees (program_runs input n right) m);
+    never_stuck = λ input n m right e. subst (Agrees (meaning p input n)) e (agrees (program_runs input n right) m);
+  }
+
+-- the code of each program does what the program means
+pub code_behaves : CodeBehaves
+code_behaves p = behaves p
