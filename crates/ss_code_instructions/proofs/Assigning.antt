@@ -68,7 +68,7 @@ module _ (code : Code) where
       (subst (λ j. Reaches code (at (q + 1) cells0 frames w) (arrive (λ o w'. at j cells frames w') frames (write u.line (InVariable (Global c.variable)) v w))) two
       (assigns u (Global c.variable) from v (q + 1) cells0 cells frames w reads has.1.0)))))
     where
-      abbrev ends : Unit {0} → World → MachineState
+      ends : Unit {0} → World → MachineState
       ends o w' = at (q + 2) cells frames w'
 
       two : q + 1 + 1 ≡ q + 2

@@ -29,7 +29,7 @@ pub next_above : (n : ℕ) → nat_lt n (suc n) ≡ true
 next_above n = lt-ltb n (suc n) (omega arith)
 
 -- a constant or a variable lies below no cell
-under_none : (e : Expression) (x y : Operand) → leaf e ≡ Some y → lies_above x y ≡ false
+pub under_none : (e : Expression) (x y : Operand) → leaf e ≡ Some y → lies_above x y ≡ false
 under_none (Constant u) x y q = let e : i.Constant u ≡ y = cc in subst (λ y. lies_above x y ≡ false) e (low_constant x u)
 under_none (Fetch z) x y q = let e : Held z ≡ y = cc in subst (λ y. lies_above x y ≡ false) e (low_held x z)
 under_none (Attribute class field e) x y q = absurd cc

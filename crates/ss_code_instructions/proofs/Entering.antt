@@ -100,13 +100,13 @@ module _ (code : Code) where
     routine_leads n ok l routine cell count vs (Some r) None known link q cells frames w high in_ = absurd link
     routine_leads n ok l routine cell count vs (Some r) (Some e) known link q cells frames w high in_ = sides (count == length r.yielding) refl
       where
-        abbrev core : Core
+        core : Core
         core = core_at q (onto vs cells) frames w.store
 
-        abbrev entry : EntryPoint
+        entry : EntryPoint
         entry = routine_entry link.begins r
 
-        abbrev k : List Value → World → MachineState
+        k : List Value → World → MachineState
         k us w' = at (q + 1) (us ++ cells) frames w'
 
         -- the instruction finds the section, and as many values as it takes

@@ -50,3 +50,13 @@ pub mod Holding
 pub mod Sizes
 pub mod Landing
 pub mod Bounding
+pub mod Suiting
+pub mod Shaping
+pub mod ShapingPlaces
+pub mod ShapingLoops
+pub mod ShapingSets
+pub mod ShapingStatements
+pub mod ShapingPrograms
+pub mod Valued
+pub mod ShapeKept
+pub mod Unstuck

@@ -23,7 +23,7 @@ use Rattle.ss_code_instructions.proofs.Looking.{owner_is, Found, bearer_join}
 
 -- ## Operands that stay
 
-pub top_cell : (h : ℕ) (v : Value) (cells : List Value) → length cells ≡ h → cell_at h (v ∷ cells) ≡ Some v
+pub top_cell : {A : Type 0} (h : ℕ) (v : A) (cells : List A) → length cells ≡ h → cell_at h (v ∷ cells) ≡ Some v
 top_cell h v cells e = ap (λ (b : Bool). if b then Some v else cell_at h cells) (eq-eqb (length cells) h e)
 
 pub leaf_stays : (e : Expression) (x : Operand) → leaf e ≡ Some x → stay x ≡ x
@@ -81,13 +81,13 @@ module _ (code : Code) (n : ℕ) where
   pub member_owner_run : {A B : Type 0} (t : Site) (set : ℕ) (e : Expression) (o : SetOwner) (make : Operand → Bearer → Instruction) (op : Value → Option Value → Store → OkOr A Trouble) (next : ℕ → List Value → List Frame → Store → List Value → A → Moved) (k : B → World → MachineState) (go : A → Part B) → LooksFirst set op → ((x : Operand) (y : Bearer) → is_due (make x y) ≡ false) → ((x : Operand) (y : Bearer) (p : ℕ) (cells : List Value) (frames : List Frame) (s : Store) → act code t.line (make x y) (core_at p cells frames s) ≡ with_bearer y s cells (λ u above. with_value x s above (λ v below. did t.line (op v u s) (next p cells frames s below)))) → (p : ℕ) (cells : List Value) (frames : List Frame) (w : World) → length cells ≡ height t → HasAt code.places p (looked_code t (may_fault (expression_of o)) e (LookMember set) ++ with_owner (after t e) o (make (operand t e))) → Within code n w → ((q : ℕ) (cells0 : List Value) (a : A) → q + 1 ≡ p + length (looked_code t (may_fault (expression_of o)) e (LookMember set) ++ with_owner (after t e) o (make (operand t e))) → Leads code w (next q cells0 frames w.store cells a) (arrive k frames (go a w))) → Reaches code (at p cells frames w) (arrive k frames (outcome_then (look t.line (member_value set e) w) (λ v w. outcome_then (look t.line (owner_value o) w) (λ u w. outcome_then (look t.line (op v u) w) go))))
   member_owner_run {A} {B} t set e o make op next k go first calm acts p cells frames w high has in_ f = by (may_fault y) refl has f
     where
-      abbrev y : Option Expression
+      y : Option Expression
       y = expression_of o
 
-      abbrev c : List Placed
+      c : List Placed
       c = operand_code t e
 
-      abbrev last : Placed
+      last : Placed
       last = place (after_bearer (after t e) y) (make (operand t e) (bearer (after t e) y))
 
       -- the instruction itself

@@ -69,7 +69,7 @@ module _ (code : Code) (u : Site) (x : Variable) where
   pub variable_join : {B : Type 0} (source : Target → List Placed) (rest : List Placed) (m : World → Outcome Value) (k : B → World → MachineState) (go : Value → Part B) (p : ℕ) (cells0 cells : List Value) (frames : List Frame) (w : World) → length cells ≡ height u → HasAt code.places p (variable_code u x source ++ rest) → ((to : Target) → Tops to (height u) → HasAt code.places p (source to) → Reaches code (at p cells0 frames w) (arrive (λ v w'. at (p + length (source to)) (on to v cells) frames w') frames (outcome_then (m w) (put_then u.line to)))) → ((v : Value) (w' : World) → fetched x w'.store ≡ Some v → HasAt code.places (p + length (variable_code u x source)) rest → Reaches code (at (p + length (variable_code u x source)) cells frames w') (arrive k frames (go v w'))) → Reaches code (at p cells0 frames w) (arrive k frames (outcome_then (m w) (λ v w. outcome_then (write u.line (InVariable x) v w) (λ _. go v))))
   variable_join {B} source rest m k go p cells0 cells frames w high has runs next_ = by (is_kept u x) has next_
     where
-      abbrev keep : Placed
+      keep : Placed
       keep = place (above u Integer) (i.Keep (i.Taken (height u)) x)
 
       by : (b : Bool) → HasAt code.places p ((if b then source (next u) ++ keep ∷ [] else source (Into x)) ++ rest) → ((v : Value) (w' : World) → fetched x w'.store ≡ Some v → HasAt code.places (p + length (if b then source (next u) ++ keep ∷ [] else source (Into x))) rest → Reaches code (at (p + length (if b then source (next u) ++ keep ∷ [] else source (Into x))) cells frames w') (arrive k frames (go v w'))) → Reaches code (at p cells0 frames w) (arrive k frames (outcome_then (m w) (λ v w. outcome_then (write u.line (InVariable x) v w) (λ _. go v))))

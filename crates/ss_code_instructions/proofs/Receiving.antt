@@ -139,7 +139,7 @@ module _ (code : Code) (n : ℕ) where
         (two_change code n set_ (operand t r) (Taken (height (after t r))) (assigned_attribute class field) v z (p + length c + 1 + length s) (z ∷ held (leaf r) v cells) cells frames w' refl refl (λ go. top_takes t r v z w.store w'.store cells go high found (quiet w w' z gave)) (has_back code.places (p + length c + 1) s last h1).0)))))));
   }
     where
-      abbrev placed : Line → (class field : ℕ) → Part Value → Value → Part (Unit {0})
+      placed : Line → (class field : ℕ) → Part Value → Value → Part (Unit {0})
       placed l class field m v w = outcome_then (looked l (entity class v w.store) w) (λ a w. outcome_then (m w) (write l (InAttribute class field v)))
 
       spot_first : (l : Line) (class field : ℕ) (m : Part Value) (r : OkOr Value Trouble) (w : World) → outcome_then (looked l r w) (placed l class field m) ≡ outcome_then (looked l (turned (InAttribute class field) (if_ok r (looked_at (λ x. entity class x w.store)))) w) (λ q w. outcome_then (m w) (write l q))

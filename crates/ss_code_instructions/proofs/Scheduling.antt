@@ -55,7 +55,7 @@ module _ (code : Code) (n : ℕ) where
   forget_held : (t : Site) (r : Expression) (v : Value) (q : ℕ) (cells : List Value) (frames : List Frame) (w : World) → HasAt code.places q (forget_to t (after t r)) → Reaches code (at q (held (leaf r) v cells) frames w) (Comes (at (q + length (forget_to t (after t r))) cells frames w))
   forget_held t r v q cells frames w has = by (leaf r) has
     where
-      abbrev site : Option Operand → Site
+      site : Option Operand → Site
       site o = with_cells t (or_in_cell o (expression_mode t.scope r) t.cells)
 
       none_more : (h : ℕ) → h - h ≡ 0

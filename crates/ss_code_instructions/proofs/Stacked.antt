@@ -58,7 +58,7 @@ block_takes vs cells m h go e high =
     ∙ at_the_height h cells (go vs cells) high
 
 -- a cell that lies under others
-pub under_cell : (more : List Value) (h : ℕ) (v : Value) (cells : List Value) → length cells ≡ h → cell_at h (more ++ (v ∷ cells)) ≡ Some v
+pub under_cell : {A : Type 0} (more : List A) (h : ℕ) (v : A) (cells : List A) → length cells ≡ h → cell_at h (more ++ (v ∷ cells)) ≡ Some v
 under_cell [] h v cells e = top_cell h v cells e
 under_cell (u ∷ more) h v cells e =
     let q : length (more ++ (v ∷ cells)) ≡ h → ⊥ = λ f. omega (arith, e, f, length-append more (v ∷ cells)) in

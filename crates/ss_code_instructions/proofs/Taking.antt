@@ -25,7 +25,7 @@ module _ (code : Code) (n : ℕ) where
   visit_run {B} u h x item m g f p cells frames w k is lies has in_ next = by (is_kept u x) has next
     where
       -- the world after the tick and the assignment
-      abbrev after : ℕ → Store → World
+      after : ℕ → Store → World
       after t s = record (ticked t w) { store = s }
 
       within : (t : ℕ) (s : Store) → w.ticks ≡ suc t → assigned_variable x (Whole item) w.store ≡ Ok s → Within code n (after t s)

@@ -317,10 +317,10 @@ module _ (code : Code) (n : ℕ) (t : Site) (x : Variable) (turn : List Placed) 
         ∙ reads w.store (λ o below. does o below))
         (sides (is_none z) refl)
       where
-        abbrev c : Core
+        c : Core
         c = core_at end (hold j z) frames w.store
 
-        abbrev does : Option Value → List Value → Moved
+        does : Option Value → List Value → Moved
         does o below = did t.line (if_ok (goes_on set z o w.store) (λ _. walk_at reverse set z w.store)) (λ k'. walk_further far (walk j z) k' below c)
 
         -- another turn
@@ -370,7 +370,7 @@ module _ (code : Code) (n : ℕ) (t : Site) (x : Variable) (turn : List Placed) 
     begin_leads q skip cells0 w (Err Misfit) to len_ in_ follows = whatever
     begin_leads q skip cells0 w (Ok j) to len_ in_ follows = sides (is_none j) refl
       where
-        abbrev c : Core
+        c : Core
         c = core_at q cells0 frames w.store
 
         -- there is a member

@@ -50,15 +50,15 @@ module _ (code : Code) (p : Program) where
       (has_back code.prints first (block_prints x.body) (events_prints es) prints) r
 
 module _ (p : Program) where
-  abbrev code : Code
+  abbrev pub code : Code
   code = code_of p
 
   -- ## Its places, and its PRINTs
 
-  abbrev sections : List Placed
+  abbrev pub sections : List Placed
   sections = all_routines p ++ all_events p
 
-  abbrev later_prints : List Lines
+  abbrev pub later_prints : List Lines
   later_prints = routines_prints p.routines ++ events_prints p.events
 
   from_zero : (n : ℕ) → 0 + n ≡ n
@@ -67,17 +67,17 @@ module _ (p : Program) where
   all_here : HasAt code.places 0 (main_code p ++ sections)
   all_here = has_all (main_code p ++ sections) []
 
-  main_here : HasAt code.places 0 (main_code p)
+  pub main_here : HasAt code.places 0 (main_code p)
   main_here = has_front code.places 0 (main_code p) sections all_here
 
-  after_main : HasAt code.places (length (main_code p)) sections
+  pub after_main : HasAt code.places (length (main_code p)) sections
   after_main =
       subst (λ j. HasAt code.places j sections) (from_zero (length (main_code p))) (has_back code.places 0 (main_code p) sections all_here)
 
-  all_prints : HasAt code.prints 0 (block_prints p.main ++ later_prints)
+  pub all_prints : HasAt code.prints 0 (block_prints p.main ++ later_prints)
   all_prints = has_all (block_prints p.main ++ later_prints) []
 
-  prints_after : HasAt code.prints (main_prints p) later_prints
+  pub prints_after : HasAt code.prints (main_prints p) later_prints
   prints_after =
       subst (λ j. HasAt code.prints j later_prints) (from_zero (main_prints p)) (has_back code.prints 0 (block_prints p.main) later_prints all_prints)
 

@@ -44,7 +44,7 @@ calculated_fine op (Text s) y p q = absurd cc
 signed_fine : (sign : Sign) (x : Value) → mode_of x ≡ Integer → Fine (HasMode_is Integer) (signed sign x)
 signed_fine sign x p = calculated_fine (operator_of sign) (Whole (pos 0)) x refl p
 
-absolute_fine : (x : Value) → mode_of x ≡ Integer → Fine (HasMode_is Integer) (absolute x)
+pub absolute_fine : (x : Value) → mode_of x ≡ Integer → Fine (HasMode_is Integer) (absolute x)
 absolute_fine (Whole z) p = fine_turned (HasMode_is Integer) Whole (due (distance z)) (any_due (distance z)) (λ y u. refl)
 absolute_fine (Text t) p = absurd cc
 

@@ -70,7 +70,7 @@ empty_fine (Whole (Rattle.std.specs.Prelude.negsuc n)) q = tt
 empty_fine (Text t) q = absurd cc
 
 -- the next word is a value of the mode
-word_fine : (mode : Mode) (s : Store) → Fine (λ (g : Given Value). mode_of g.value ≡ mode) (due (value_given mode s.scene.input))
+pub word_fine : (mode : Mode) (s : Store) → Fine (λ (g : Given Value). mode_of g.value ≡ mode) (due (value_given mode s.scene.input))
 word_fine mode s = by (next_word s.scene.input)
   where
     whole_read : (o : Option ℤ) (rest : List ℕ) → Fine (λ (g : Given Value). mode_of g.value ≡ Integer) (due (if_read (as_whole o) rest))
@@ -207,7 +207,7 @@ module _ (p : Program) (typed : WellTyped p) (ms : List Mode) (b : Bool) where
       fine_then (HasMode_is Integer) (held x s) (λ v. calculated (operator_of sign) v y) (held_fine p typed ms b x Integer s q f) (λ v r. calculated_fine (operator_of sign) v y r k))) (λ v r.
       safe_write typed b l x Integer v q r)))
 
-  input_fits : (s : Store) (rest : List ℕ) → Fits p ms s → Fits p ms (record s { scene = record s.scene { input = rest } })
+  pub input_fits : (s : Store) (rest : List ℕ) → Fits p ms s → Fits p ms (record s { scene = record s.scene { input = rest } })
   input_fits s rest f = record {
     sound = record {
       globals = f.sound.globals;

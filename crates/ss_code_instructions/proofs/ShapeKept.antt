@@ -1,0 +1,427 @@
+-- A step of code that has shape leads from a state that suits its place to another one.
+use Rattle.std.proofs.Common.{◌≡◌, ℕ, zero, suc, ◌+◌, ◌-◌, Bool, true, false, List, [], ◌∷◌, ◌++◌, length, Option, Some, None, Ok, ℤ, refl, sym, ap, ◌∙◌, subst, arith}
+use Rattle.std.specs.Prelude.{slice_get, take, map, not, is_some, pos, int_lt, ◌+ℤ◌, Result as OkOr, if◌then◌else◌}
+use Rattle.ss_base.specs.declared.line.Line.{Line}
+use Rattle.ss_base.specs.declared.layout.Mode.{Mode}
+use Rattle.ss_base.specs.declared.layout.Mode.TheVariants.{Integer, Alpha}
+use Rattle.ss_base.specs.declared.value.Value.{Value}
+use Rattle.ss_base.specs.declared.value.Value.TheVariants.{Whole}
+use Rattle.ss_base.specs.Layout.{mode_of, first_value}
+use Rattle.ss_program.specs.declared.expression.Sign.{Sign}
+use Rattle.ss_program.specs.Program.{Program}
+use Rattle.ss_program.specs.WellTyped.{WellTyped, field_mode}
+use Rattle.ss_meaning.specs.PendingList.{next}
+use Rattle.ss_meaning.specs.Words.{is_ended, value_given}
+use Rattle.ss_meaning.specs.Values.{Trouble, if_ok, turned, due, same_mode, number_of, calculated, operator_of, absolute, related, empty_lines, printed}
+use Rattle.ss_meaning.specs.Store.{Store, first_values, prepended, taken_by_modes, appended, opened, front, yielded}
+use Rattle.ss_meaning.specs.Entities.{entity, attribute, time_of, made_one, made_all, without}
+use Rattle.ss_meaning.specs.Places.{assigned_variable, assigned_attribute}
+use Rattle.ss_meaning.specs.Sets.{is_none, filed_in, removed_from, removed_at, of_set, of_member, is_empty, is_in, begun, begun_at, goes_on, member, known_owner}
+use Rattle.ss_meaning.specs.Events.{clock, time_at, AtTime, Later, made_notice, filed_notice, rescheduled, unscheduled, is_awaited, Coming, coming_with, next_event, event_begun}
+use Rattle.ss_meaning.specs.Statistics.{figure, mean, reset}
+use Rattle.ss_meaning.specs.Expressions.{unless}
+use Rattle.ss_meaning.specs.Loops.{range_of, indices}
+use Rattle.ss_meaning.specs.Statements.{with_input, read_value}
+use Rattle.ss_meaning.specs.Fitting.{Hold, Fits}
+use Rattle.ss_meaning.proofs.Fine.{Fine, There, fine_then, fine_turned}
+use Rattle.ss_meaning.proofs.Kept.{number_fine}
+use Rattle.ss_meaning.proofs.Entities.{attribute_fine, time_of_fine, made_one_fine, made_all_fine, without_fine, variable_fine, attribute_assigned_fine}
+use Rattle.ss_meaning.proofs.Sets.{of_set_fine, of_member_fine, filed_in_fine, removed_from_fine, removed_at_fine, figure_fine, reset_fine}
+use Rattle.ss_meaning.proofs.Events.{FieldsAre, fields_are, time_at_fine, made_notice_fine, filed_notice_fine, rescheduled_fine, unscheduled_fine, ComingAs, next_event_there, BegunAs, begun_fine}
+use Rattle.ss_meaning.proofs.Expressions.{calculated_fine, absolute_fine}
+use Rattle.ss_meaning.proofs.Statements.{word_fine, input_fits}
+use Rattle.ss_meaning.proofs.Whole.{first_fits}
+use Rattle.ss_code_instructions.specs.Instructions.{Target, Instruction, Placed, EntryPoint, ItemKind, ShowsValue, ShowsMean, ShowsMeanOf}
+use Rattle.ss_code_instructions.specs.Instructions as i
+use Rattle.ss_code_instructions.specs.States.{Called, ARoutine, AnEvent, Frame, Core, MachineState, Done, Breaks, Moved, To, Sends, Rest, Stuck, TakenOff, did, fit, core_at, onward, take_off, with_block, cell_at, deliver, deliver_with}
+use Rattle.ss_code_instructions.specs.Machine.{Code, changed_attribute, assignable_count, has_item, Walk, walk_at, walk_cells, begin_walk, walk_further, next_item, cells_of_kinds, values_shown, print_lines, enter, leave, take_event, act, is_due, Stepped, Goes, Over, NoStep, with_rest, when_due, step_at, step}
+use Rattle.ss_code_instructions.specs.Running.{Underway, after_one_step, start, steps}
+use Rattle.ss_code_instructions.specs.Shape.{GivenFit, ItemsFit, At, Delivers, Suits, Begins, Shaped, FramesFit, FitsCode}
+use Rattle.ss_code_instructions.specs.Translation.{code_of}
+use Rattle.ss_code_instructions.specs.Laws.{ShapeStays, StatesSuit}
+use Rattle.ss_code_instructions.proofs.ShapingPrograms.{has_shape}
+use Rattle.ss_code_instructions.proofs.Valued.{cell_mode, owner_ok, asked, GoesWell, fit_well, did_well, looked_well, height_well, number_well, block_well, loop_well, walk_well, value_well, both_well, bearer_well, position_well, goes_to, ways_well, back_well, delivered_well, deliver_well}
+
+-- ## Lists of values
+
+both_modes : (us vs : List Value) → map mode_of (us ++ vs) ≡ map mode_of us ++ map mode_of vs
+both_modes [] vs = refl
+both_modes (u ∷ us) vs = ap (λ ms. mode_of u ∷ ms) (both_modes us vs)
+
+pub both_hold : (us vs : List Value) (ms ns : List Mode) → Hold us ms → Hold vs ns → Hold (us ++ vs) (ms ++ ns)
+both_hold us vs ms ns h g = both_modes us vs ∙ ap (λ l. l ++ map mode_of vs) h ∙ ap (λ l. ms ++ l) g
+
+first_hold : (modes : List Mode) → Hold (first_values modes) modes
+first_hold [] = refl
+first_hold (m ∷ ms) = let here : mode_of (first_value m) ≡ m = first_mode m in let rest : Hold (first_values ms) ms = first_hold ms in cc
+  where
+    first_mode : (m : Mode) → mode_of (first_value m) ≡ m
+    first_mode Integer = refl
+    first_mode Alpha = refl
+
+same_so : (m n : Mode) → same_mode m n ≡ true → m ≡ n
+same_so Integer Integer e = refl
+same_so Integer Alpha e = absurd cc
+same_so Alpha Integer e = absurd cc
+same_so Alpha Alpha e = refl
+
+-- a value before others, where they are there
+prepended_hold : (v : Value) (m : Mode) (ms : List Mode) (o : Option (List Value)) (us : List Value) → mode_of v ≡ m → ((ws : List Value) → o ≡ Some ws → Hold ws ms) → prepended v o ≡ Some us → Hold us (m ∷ ms)
+prepended_hold v m ms None us h f e = absurd cc
+prepended_hold v m ms (Some ws) us h f e =
+    let rest : Hold ws ms = f ws refl in
+    let all : Hold (v ∷ ws) (m ∷ ms) = cc in
+    let same : v ∷ ws ≡ us = cc in
+    subst (λ l. Hold l (m ∷ ms)) same all
+
+taken_hold : (ms : List Mode) (vs us : List Value) → taken_by_modes ms vs ≡ Some us → Hold us ms
+taken_hold [] [] us e = let same : [] ≡ us = cc in subst (λ l. Hold l []) same refl
+taken_hold [] (v ∷ vs) us e = absurd cc
+taken_hold (m ∷ ms) [] us e = absurd cc
+taken_hold (m ∷ ms) (v ∷ vs) us e = by (same_mode (mode_of v) m) refl e (λ ws f. taken_hold ms vs ws f)
+  where
+    by : (b : Bool) → same_mode (mode_of v) m ≡ b → (if b then prepended v (taken_by_modes ms vs) else None) ≡ Some us → ((ws : List Value) → taken_by_modes ms vs ≡ Some ws → Hold ws ms) → Hold us (m ∷ ms)
+    by true q e f = prepended_hold v m ms (taken_by_modes ms vs) us (same_so (mode_of v) m q) f e
+    by false q e f = absurd cc
+
+-- the variables of a section that is entered
+opened_hold : (given others : List Mode) (vs us : List Value) → opened given others vs ≡ Some us → Hold us (given ++ others)
+opened_hold given others vs us e = by (taken_by_modes given vs) refl e
+  where
+    by : (o : Option (List Value)) → taken_by_modes given vs ≡ o → appended o (first_values others) ≡ Some us → Hold us (given ++ others)
+    by None q e = absurd cc
+    by (Some ws) q e =
+        let same : ws ++ first_values others ≡ us = cc in
+        subst (λ l. Hold l (given ++ others)) same (both_hold ws (first_values others) given others (taken_hold given vs ws q) (first_hold others))
+
+-- what a section yields
+front_hold : (count : ℕ) (ls : List Value) (ms : List Mode) (us : List Value) → Hold ls ms → front count ls ≡ Some us → Hold us (take count ms)
+front_hold zero ls ms us h e = let same : [] ≡ us = cc in subst (λ l. Hold l []) same refl
+front_hold (suc k) [] ms us h e = absurd cc
+front_hold (suc k) (v ∷ ls) [] us h e = absurd cc
+front_hold (suc k) (v ∷ ls) (m ∷ ms) us h e =
+    let here : mode_of v ≡ m = cc in
+    let rest : Hold ls ms = cc in
+    prepended_hold v m (take k ms) (front k ls) us here (λ ws f. front_hold k ls ms ws rest f) e
+
+yielded_hold : (given others : List Mode) (first count : ℕ) (ls us : List Value) → Hold ls (given ++ others) → first ≡ length given → yielded first count ls ≡ Some us → Hold us (take count others)
+yielded_hold [] others zero count ls us h q e = front_hold count ls others us h e
+yielded_hold [] others (suc k) count ls us h q e = absurd cc
+yielded_hold (g ∷ given) others zero count ls us h q e = absurd cc
+yielded_hold (g ∷ given) others (suc k) count [] us h q e = absurd cc
+yielded_hold (g ∷ given) others (suc k) count (l ∷ ls) us h q e =
+    let rest : Hold ls (given ++ others) = cc in
+    let fewer : k ≡ length given = omega (arith, q) in
+    yielded_hold given others k count ls us rest fewer e
+
+-- what lies below cells that are taken off
+off_hold : (gone rest : List Mode) (count : ℕ) (cells vs : List Value) (b : TakenOff) → Hold cells (gone ++ rest) → length gone ≡ count → take_off count cells vs ≡ Some b → Hold b.below rest
+off_hold [] rest zero cells vs b h q e = let same : record { values = vs; below = cells } ≡ b = cc in subst (λ (b : TakenOff). Hold b.below rest) same h
+off_hold [] rest (suc k) cells vs b h q e = absurd cc
+off_hold (m ∷ gone) rest zero cells vs b h q e = absurd cc
+off_hold (m ∷ gone) rest (suc k) [] vs b h q e = absurd cc
+off_hold (m ∷ gone) rest (suc k) (v ∷ cells) vs b h q e =
+    let under : Hold cells (gone ++ rest) = cc in
+    let fewer : length gone ≡ k = omega (arith, q) in
+    off_hold gone rest k cells (v ∷ vs) b under fewer e
+
+-- items take as many cells as they have modes
+kinds_many : (p : Program) (ks : List ItemKind) (modes : List Mode) → ItemsFit p ks modes → cells_of_kinds ks ≡ length modes
+kinds_many p [] [] h = refl
+kinds_many p [] (m ∷ ms) h = absurd h
+kinds_many p (ShowsValue ∷ ks) [] h = absurd h
+kinds_many p (ShowsValue ∷ ks) (m ∷ ms) h = let e : 1 + cells_of_kinds ks ≡ suc (length ms) = omega (arith, kinds_many p ks ms h) in e
+kinds_many p (ShowsMean j ∷ ks) ms h = let e : 0 + cells_of_kinds ks ≡ length ms = omega (arith, kinds_many p ks ms h.1) in e
+kinds_many p (ShowsMeanOf j ∷ ks) [] h = absurd h
+kinds_many p (ShowsMeanOf j ∷ ks) (m ∷ ms) h = let e : 1 + cells_of_kinds ks ≡ suc (length ms) = omega (arith, kinds_many p ks ms h.2) in e
+
+module _ (p : Program) (typed : WellTyped p) (code : Code) where
+  -- as Valued says it
+  abbrev Well : Moved → Type 0
+  Well m = GoesWell p typed code m
+
+  choose_well : (b : Bool) (x y : Moved) → Well x → Well y → Well (if b then x else y)
+  choose_well true x y f g = f
+  choose_well false x y f g = g
+
+  -- ## Out of a section
+
+  leave_well : (ls : List Mode) (frames : List Frame) (c : Core) → Fits p ls c.store → FramesFit p code ls frames → Well (leave frames c)
+  leave_well ls [] c fits k = tt
+  leave_well ls (f ∷ fs) c fits k =
+      fit_well p typed code (yielded f.first f.count c.store.locals) (λ vs. To (core_at f.back (vs ++ f.cells) fs (record c.store { locals = f.locals }))) (λ vs e.
+      goes_to p typed code k.2 f.back (take f.count k.1 ++ k.3) (vs ++ f.cells) fs (record c.store { locals = f.locals }) k.9
+      (record { sound = record { globals = fits.sound.globals; scene = fits.sound.scene }; locals = k.7 })
+      (both_hold vs f.cells (take f.count k.1) k.3 (yielded_hold k.0 k.1 f.first f.count c.store.locals vs (fits.locals ∙ k.4) k.5 e) k.8) k.10)
+
+  module _ (ls : List Mode) where
+    -- ## Into a section
+
+    enter_well : (e : EntryPoint) (called : Called) (vs below : List Value) (rest : List Mode) (c : Core) (s : Store) → Begins p code e → Fits p ls s → At p code (c.place + 1) ls (take e.yielding e.others ++ rest) → Hold below rest → FramesFit p code ls c.frames → Well (enter e called vs below c s)
+    enter_well e called vs below rest c s begins fits at h k =
+        fit_well p typed code (opened e.given e.others vs) _ (λ variables q.
+        let f : Frame = record { back = c.place + 1; cells = below; locals = s.locals; first = length e.given; count = e.yielding; called = called } in
+        goes_to p typed code (e.given ++ e.others) e.place [] [] (f ∷ c.frames) (record s { locals = variables }) begins.0
+        (record { sound = record { globals = fits.sound.globals; scene = fits.sound.scene }; locals = opened_hold e.given e.others vs variables q }) refl
+        (e.given, e.others, ls, rest, refl, refl, begins.1, fits.locals, h, at, k))
+
+    -- ## What several instructions do
+
+    -- a look, after which the store is the same
+    look_on : {A : Type 0} (l : Line) (r : OkOr A Trouble) (rest : List Mode) (cells : List Value) (c : Core) → At p code (c.place + 1) ls rest → Fits p ls c.store → Hold cells rest → FramesFit p code ls c.frames → Well (did l r (λ u. onward cells c c.store))
+    look_on l r rest cells c at fits h k = looked_well p typed code l r (λ u. onward cells c c.store) (λ u. goes_to p typed code ls (c.place + 1) rest cells c.frames c.store at fits h k)
+
+    -- another store
+    change_on : (l : Line) (r : OkOr Store Trouble) (rest : List Mode) (cells : List Value) (c : Core) → Fine (Fits p ls) r → At p code (c.place + 1) ls rest → Hold cells rest → FramesFit p code ls c.frames → Well (did l r (λ s. onward cells c s))
+    change_on l r rest cells c fine at h k =
+        did_well p typed code (Fits p ls) l r (λ s. onward cells c s) fine (λ s fits. goes_to p typed code ls (c.place + 1) rest cells c.frames s at fits h k)
+
+    -- a value for a target
+    give_on : (l : Line) (to : Target) (m : Mode) (ms rest : List Mode) (r : OkOr Value Trouble) (cells : List Value) (c : Core) → Delivers p code c.place ls ms to m rest → Fine (λ v. mode_of v ≡ m) r → Fits p ls c.store → Hold cells rest → FramesFit p code ls c.frames → Well (deliver l to r cells c)
+    give_on l to m ms rest r cells c d fine fits h k = deliver_well p typed code ls l to m rest d.0 r cells c fine d.1 d.2 fits h k
+
+    give_with : (l : Line) (to : Target) (m : Mode) (ms rest : List Mode) (r : OkOr (Value × Store) Trouble) (cells : List Value) (c : Core) → Delivers p code c.place ls ms to m rest → Fine (λ (b : Value × Store). (mode_of b.0 ≡ m) × Fits p ls b.1) r → Hold cells rest → FramesFit p code ls c.frames → Well (deliver_with l to r cells c)
+    give_with l to m ms rest r cells c d fine h k = delivered_well p typed code ls l to m rest d.0 r cells c fine d.1 d.2 h k
+
+    -- a time to schedule for
+    time_well : (l : Line) (to : Target) (ms rest : List Mode) (r : OkOr ℤ Trouble) (cells : List Value) (c : Core) → Delivers p code c.place ls ms to Integer rest → Fine (λ z. Unit {0}) r → Fits p ls c.store → Hold cells rest → FramesFit p code ls c.frames → Well (deliver l to (turned Whole r) cells c)
+    time_well l to ms rest r cells c d fine fits h k = give_on l to Integer ms rest (turned Whole r) cells c d (fine_turned (λ v. mode_of v ≡ Integer) Whole r fine (λ z u. refl)) fits h k
+
+    -- a walk begins
+    begin_well : (l : Line) (skip : ℕ) (r : OkOr Walk Trouble) (rest : List Mode) (cells : List Value) (c : Core) → At p code (c.place + 1) ls (Integer ∷ Integer ∷ rest) × At p code (c.place + 1 + skip) ls (Integer ∷ Integer ∷ rest) → Fits p ls c.store → Hold cells rest → FramesFit p code ls c.frames → Well (begin_walk l skip r cells c)
+    begin_well l skip r rest cells c at fits h k =
+        looked_well p typed code l r _ (λ w. ways_well p typed code ls skip (not (is_none w.member)) (Integer ∷ Integer ∷ rest) (walk_cells w cells) c at fits (ap (λ l. Integer ∷ Integer ∷ l) h) k)
+
+    -- a walk goes on, or stays where it is
+    further_well : (back : ℕ) (old new : Walk) (rest : List Mode) (cells : List Value) (c : Core) → At p code (c.place + 1) ls (Integer ∷ Integer ∷ rest) → At p code (c.place - back) ls (Integer ∷ Integer ∷ rest) → Fits p ls c.store → Hold cells rest → FramesFit p code ls c.frames → Well (walk_further back old new cells c)
+    further_well back old new rest cells c on at fits h k =
+        choose_well (is_none new.member) _ _
+        (back_well p typed code ls back false (Integer ∷ Integer ∷ rest) (walk_cells old cells) c on at fits (ap (λ l. Integer ∷ Integer ∷ l) h) k)
+        (back_well p typed code ls back true (Integer ∷ Integer ∷ rest) (walk_cells new cells) c on at fits (ap (λ l. Integer ∷ Integer ∷ l) h) k)
+
+    -- the next item of a loop, or none
+    next_well : (back : ℕ) (item limit step : ℤ) (ms rest : List Mode) (cells : List Value) (c : Core) → ms ≡ Integer ∷ Integer ∷ Integer ∷ rest → At p code (c.place + 1) ls ms → At p code (c.place - back) ls ms → Fits p ls c.store → Hold cells rest → FramesFit p code ls c.frames → Well (next_item back item limit step cells c)
+    next_well back item limit step ms rest cells c e on at fits h k =
+        choose_well (int_lt step (pos 1)) Stuck _ tt
+        (choose_well (has_item (item +ℤ step) limit) _ _
+        (back_well p typed code ls back true ms (Whole step ∷ Whole limit ∷ Whole (item +ℤ step) ∷ cells) c on at fits (ap (λ l. Integer ∷ Integer ∷ Integer ∷ l) h ∙ sym e) k)
+        (back_well p typed code ls back false ms (Whole step ∷ Whole limit ∷ Whole item ∷ cells) c on at fits (ap (λ l. Integer ∷ Integer ∷ Integer ∷ l) h ∙ sym e) k))
+
+    -- an attribute that is increased or reduced
+    changed_fine : (sign : Sign) (class field : ℕ) (x y : Value) (s : Store) → field_mode p class field ≡ Some Integer → mode_of x ≡ Integer → mode_of y ≡ Integer → Fits p ls s → Fine (Fits p ls) (changed_attribute sign class field x y s)
+    changed_fine sign class field x y s g hx hy fits =
+        fine_then (Fits p ls) (attribute class field x s) (λ v. if_ok (calculated (operator_of sign) v y) (λ w. assigned_attribute class field x w s)) (attribute_fine p typed ls class field Integer x s g hx fits) (λ v hv.
+        fine_then (Fits p ls) (calculated (operator_of sign) v y) (λ w. assigned_attribute class field x w s) (calculated_fine (operator_of sign) v y hv hy) (λ w hw.
+        attribute_assigned_fine p typed ls class field Integer x w s g hx hw fits))
+
+    -- the modes of what is given to a notice are those of its first attributes
+    fields_given : (class : ℕ) (modes : List Mode) → GivenFit p class modes → FieldsAre p typed ls class 0 modes
+    fields_given class modes g = subst (FieldsAre p typed ls class 0) (sym g.1.2) (fields_are p typed ls class (length modes) g.1.0 g.1.1)
+
+    -- the event that comes next
+    coming : (s : Store) (n : Coming) → next_event s ≡ Some n → Fits p ls s → ComingAs p typed ls n
+    coming s n e fits = by (next s.scene.pending) refl e
+      where
+        by : (o : Option (ℤ × ℤ)) → next s.scene.pending ≡ o → coming_with o s ≡ Some n → ComingAs p typed ls n
+        by None q f = absurd cc
+        by (Some k) q f = subst (There (ComingAs p typed ls)) e (next_event_there p typed ls s (ap is_some q) fits)
+
+    module _ (shaped : Shaped p code) where
+      event_well : (h : ℕ) (n : Coming) (ms : List Mode) (c : Core) → ComingAs p typed ls n → At p code (c.place + 1) ls ms → Hold c.cells ms → FramesFit p code ls c.frames → Well (take_event code h n c)
+      event_well h n ms c comes at q k =
+          did_well p typed code (BegunAs p typed ls) n.ranked.said.line (event_begun n) _ (begun_fine p typed ls n comes) (λ b begun.
+          fit_well p typed code (slice_get code.events b.rank) _ (λ e there.
+          let begins = shaped.events b.rank e there in
+          height_well p typed code h c.cells (enter e (AnEvent b.rank) b.given c.cells c b.store)
+          (enter_well e (AnEvent b.rank) b.given c.cells ms c b.store begins.0 begun.fits (subst (λ n. At p code (c.place + 1) ls (take n e.others ++ ms)) (sym begins.1) at) q k)))
+
+      -- ## Instructions
+
+      act_well : (l : Line) (x : Instruction) (c : Core) (ms : List Mode) → Suits p code c.place ls ms x → Fits p ls c.store → Hold c.cells ms → FramesFit p code ls c.frames → Well (act code l x c)
+      act_well l (i.Move from to) c ms g fits q k =
+          value_well p typed code ls from g.0 ms g.1.0 c.store c.cells _ g.1.1 fits q (λ v below e h. give_on l to g.0 ms g.1.0 (Ok v) below c g.1.2 e fits h k)
+      act_well l (i.Keep from x) c ms g fits q k =
+          value_well p typed code ls from Integer ms g.1.0 c.store c.cells _ g.1.1 fits q (λ v below e h.
+          change_on l (assigned_variable x v c.store) g.1.0 below c (variable_fine p typed ls true x Integer v c.store g.0 e fits) g.1.2 h k)
+      act_well l (i.Calculate op left right to) c ms g fits q k =
+          both_well p typed code ls left right Integer Integer ms g.0 c.store c.cells _ g.1 fits q (λ v w below hv hw h. give_on l to Integer ms g.0 (calculated op v w) below c g.2 (calculated_fine op v w hv hw) fits h k)
+      act_well l (i.Absolute of to) c ms g fits q k =
+          value_well p typed code ls of Integer ms g.0 c.store c.cells _ g.1 fits q (λ v below e h. give_on l to Integer ms g.0 (absolute v) below c g.2 (absolute_fine v e) fits h k)
+      act_well l (i.Clock to) c ms g fits q k = give_on l to Integer ms ms (Ok (clock c.store)) c.cells c g refl fits q k
+      act_well l (i.TimeOf notice to) c ms g fits q k =
+          value_well p typed code ls notice Integer ms g.0 c.store c.cells _ g.1 fits q (λ v below e h. give_on l to Integer ms g.0 (time_of v c.store) below c g.2 (time_of_fine p typed ls v c.store e) fits h k)
+      act_well l (i.Attribute class field x to) c ms g fits q k =
+          value_well p typed code ls x Integer ms g.2.0 c.store c.cells _ g.2.1 fits q (λ v below e h.
+          give_on l to g.0 ms g.2.0 (attribute class field v c.store) below c g.2.2 (attribute_fine p typed ls class field g.0 v c.store g.1 e fits) fits h k)
+      act_well l (i.OfSet query set owner to) c ms g fits q k =
+          bearer_well p typed code ls owner ms g.1.0 c.store c.cells _ g.1.1 fits q (λ o below e h.
+          give_on l to Integer ms g.1.0 (of_set query set o c.store) below c g.1.2 (of_set_fine p typed ls query set o c.store (owner_ok p typed ls set owner o g.0 e) fits) fits h k)
+      act_well l (i.OfMember query set x to) c ms g fits q k =
+          value_well p typed code ls x Integer ms g.1.0 c.store c.cells _ g.1.1 fits q (λ v below e h.
+          give_on l to Integer ms g.1.0 (of_member query set v c.store) below c g.1.2 (of_member_fine p typed ls query set v c.store g.0 e fits) fits h k)
+      act_well l (i.Figure fold j of to) c ms g fits q k =
+          bearer_well p typed code ls of ms g.1.0 c.store c.cells _ g.1.1 fits q (λ o below e h.
+          give_on l to Integer ms g.1.0 (figure fold j o c.store) below c g.1.2 (figure_fine p typed ls fold j o c.store (asked p typed ls j of o g.0 e) fits) fits h k)
+      act_well l (i.LookEntity class x) c ms g fits q k =
+          value_well p typed code ls x Integer ms g.1.0 c.store c.cells _ g.1.1 fits q (λ v below e h. look_on l (entity class v c.store) g.1.0 below c g.1.2 fits h k)
+      act_well l (i.LookMember set x) c ms g fits q k =
+          value_well p typed code ls x Integer ms g.1.0 c.store c.cells _ g.1.1 fits q (λ v below e h. look_on l (member set v c.store) g.1.0 below c g.1.2 fits h k)
+      act_well l (i.LookOwner set owner) c ms g fits q k =
+          bearer_well p typed code ls owner ms g.1.0 c.store c.cells _ g.1.1 fits q (λ o below e h. look_on l (known_owner set o c.store) g.1.0 below c g.1.2 fits h k)
+      act_well l (i.LookMean j of) c ms g fits q k =
+          bearer_well p typed code ls of ms g.1.0 c.store c.cells _ g.1.1 fits q (λ o below e h. look_on l (mean j o c.store) g.1.0 below c g.1.2 fits h k)
+      act_well l (i.LookCount class) c ms g fits q k = look_on l (assignable_count class c.store) ms c.cells c g.1 fits q k
+      act_well l (i.SetAttribute class field x from) c ms g fits q k =
+          both_well p typed code ls x from Integer g.0 ms g.2.0 c.store c.cells _ g.2.1 fits q (λ v w below hv hw h.
+          change_on l (assigned_attribute class field v w c.store) g.2.0 below c (attribute_assigned_fine p typed ls class field g.0 v w c.store g.1 hv hw fits) g.2.2 h k)
+      act_well l (i.ChangeAttribute sign class field x by) c ms g fits q k =
+          both_well p typed code ls x by Integer Integer ms g.1.0 c.store c.cells _ g.1.1 fits q (λ v w below hv hw h.
+          change_on l (changed_attribute sign class field v w c.store) g.1.0 below c (changed_fine sign class field v w c.store g.0 hv hw fits) g.1.2 h k)
+      act_well l (i.Reset j of) c ms g fits q k =
+          bearer_well p typed code ls of ms g.1.0 c.store c.cells _ g.1.1 fits q (λ o below e h.
+          change_on l (reset j o c.store) g.1.0 below c (reset_fine p typed ls j o c.store (asked p typed ls j of o g.0 e) fits) g.1.2 h k)
+      act_well l (i.Jump skip) c ms g fits q k = goes_to p typed code ls (c.place + 1 + skip) ms c.cells c.frames c.store g fits q k
+      act_well l (i.Unless relation left right skip) c ms g fits q k =
+          both_well p typed code ls left right g.0 g.0 ms g.1.0 c.store c.cells _ g.1.1 fits q (λ v w below hv hw h.
+          fit_well p typed code (related relation v w) _ (λ b e. ways_well p typed code ls skip b g.1.0 below c g.1.2 fits h k))
+      act_well l (i.UnlessEnded negated skip) c ms g fits q k =
+          looked_well p typed code l (due (is_ended c.store.scene.input)) _ (λ b. ways_well p typed code ls skip (unless negated b) ms c.cells c g fits q k)
+      act_well l (i.UnlessEmpty negated set owner skip) c ms g fits q k =
+          bearer_well p typed code ls owner ms g.1.0 c.store c.cells _ g.1.1 fits q (λ o below e h.
+          looked_well p typed code l (is_empty set o c.store) _ (λ b. ways_well p typed code ls skip (unless negated b) g.1.0 below c g.1.2 fits h k))
+      act_well l (i.UnlessMember negated set x owner skip) c ms g fits q k =
+          bearer_well p typed code ls owner ms g.1.0 c.store c.cells _ g.1.1 fits q (λ o above e a.
+          value_well p typed code ls x Integer g.1.0 g.1.2.0 c.store above _ g.1.2.1 fits a (λ v below f h.
+          looked_well p typed code l (is_in set v o c.store) _ (λ b. ways_well p typed code ls skip (unless negated b) g.1.2.0 below c g.1.2.2 fits h k)))
+      act_well l i.Turn c ms g fits q k = goes_to p typed code ls (c.place + 1) ms c.cells c.frames c.store g fits q k
+      act_well l (i.Repeat back) c ms g fits q k = goes_to p typed code ls (c.place - back) ms c.cells c.frames c.store g.at fits q k
+      act_well l (i.Begin h skip) c ms g fits q k =
+          loop_well p typed code h ms g.0 c.cells _ g.1 q (λ item limit step below a.
+          looked_well p typed code l (range_of (Whole item) (Whole limit) (Some (Whole step))) _ (λ r. ways_well p typed code ls skip (has_item item limit) ms c.cells c g.2 fits q k))
+      act_well l (i.BeginClass class h skip) c ms g fits q k =
+          height_well p typed code h c.cells _
+          (looked_well p typed code l (indices class c.store) _ (λ r.
+          ways_well p typed code ls skip (has_item r.first r.limit) (Integer ∷ Integer ∷ Integer ∷ ms) (Whole r.step ∷ Whole r.limit ∷ Whole r.first ∷ c.cells) c g.2 fits (ap (λ l. Integer ∷ Integer ∷ Integer ∷ l) q) k))
+      act_well l (i.Take h x) c ms g fits q k =
+          fit_well p typed code (cell_at h c.cells) _ (λ v e.
+          change_on l (assigned_variable x v c.store) ms c.cells c (variable_fine p typed ls true x Integer v c.store g.0.0 (cell_mode h c.cells ms Integer v q g.1 e) fits) g.2 q k)
+      act_well l (i.Next h back) c ms g fits q k =
+          loop_well p typed code h ms g.0 c.cells _ g.1 q (λ item limit step below a. next_well back item limit step ms g.0 below c g.1.is g.2.0 g.2.1.at fits a k)
+      act_well l (i.BeginSet reverse set owner h skip) c ms g fits q k =
+          bearer_well p typed code ls owner ms g.1.0 c.store c.cells _ g.1.1 fits q (λ o below e a.
+          height_well p typed code h below _ (begin_well l skip (if_ok (begun reverse set o c.store) (λ x. walk_at reverse set x c.store)) g.1.0 below c g.1.2.1 fits a k))
+      act_well l (i.BeginAt reverse after set owner h skip) c ms g fits q k =
+          value_well p typed code ls (i.Taken h) Integer ms g.1.0 c.store c.cells _ g.1.1 fits q (λ y above e a.
+          bearer_well p typed code ls owner g.1.0 g.1.2.0 c.store above _ g.1.2.1 fits a (λ o below f b.
+          begin_well l skip (if_ok (begun_at reverse after set y o c.store) (λ x. walk_at reverse set x c.store)) g.1.2.0 below c g.1.2.2 fits b k))
+      act_well l (i.NextMember reverse set owner h back) c ms g fits q k =
+          walk_well p typed code h ms g.1.0 c.cells _ g.1.1 q (λ w above a.
+          bearer_well p typed code ls owner g.1.0 g.1.2.0 c.store above _ g.1.2.1 fits a (λ o below e b.
+          looked_well p typed code l (if_ok (goes_on set w.next o c.store) (λ u. walk_at reverse set w.next c.store)) _ (λ n. further_well back w n g.1.2.0 below c g.1.2.2.0 g.1.2.2.1.at fits b k)))
+      act_well l (i.Forget count) c ms g fits q k =
+          fit_well p typed code (take_off count c.cells []) _ (λ b e.
+          goes_to p typed code ls (c.place + 1) g.1 b.below c.frames c.store g.4 fits (off_hold g.0 g.1 count c.cells [] b (q ∙ g.2) g.3 e) k)
+      act_well l (i.Call routine h) c ms g fits q k =
+          subst (λ o. Well (fit o (λ (e : EntryPoint). with_block (length e.given) h c.cells (λ vs below. enter e (ARoutine routine) vs below c c.store)))) (sym g.1)
+          (block_well p typed code (length g.0.given) h g.0.given ms g.2.0 c.cells _ g.2.1 refl q (λ vs below a b.
+          enter_well g.0 (ARoutine routine) vs below g.2.0 c c.store (shaped.routines routine g.0 g.1) fits g.2.2 b k))
+      act_well l i.Leave c ms g fits q k = leave_well ls c.frames c fits k
+      act_well l i.Halt c ms g fits q k = tt
+      act_well l (i.Create class to) c ms g fits q k = give_with l to Integer ms ms (made_one class c.store) c.cells c g.1 (made_one_fine p typed ls class c.store g.0 fits) q k
+      act_well l (i.CreateAll counted) c ms g fits q k = change_on l (made_all counted c.store) ms c.cells c (made_all_fine p typed ls counted c.store g.0 fits) g.1 q k
+      act_well l (i.Destroy class x) c ms g fits q k =
+          value_well p typed code ls x Integer ms g.1.0 c.store c.cells _ g.1.1 fits q (λ v below e h.
+          change_on l (without class v c.store) g.1.0 below c (without_fine p typed ls class v c.store g.0 e fits) g.1.2 h k)
+      act_well l (i.File filing set x owner) c ms g fits q k =
+          bearer_well p typed code ls owner ms g.1.0 c.store c.cells _ g.1.1 fits q (λ o over e a.
+          position_well p typed code ls filing g.1.0 g.1.2.0 c.store over _ g.1.2.1 fits a (λ f above ok b.
+          value_well p typed code ls x Integer g.1.2.0 g.1.2.2.0 c.store above _ g.1.2.2.1 fits b (λ v below hv h.
+          change_on l (filed_in f set v o c.store) g.1.2.2.0 below c (filed_in_fine p typed ls f set v o c.store ok hv (owner_ok p typed ls set owner o g.0 e) fits) g.1.2.2.2 h k)))
+      act_well l (i.Remove set x owner) c ms g fits q k =
+          bearer_well p typed code ls owner ms g.1.0 c.store c.cells _ g.1.1 fits q (λ o above e a.
+          value_well p typed code ls x Integer g.1.0 g.1.2.0 c.store above _ g.1.2.1 fits a (λ v below hv h.
+          change_on l (removed_from set v o c.store) g.1.2.0 below c (removed_from_fine p typed ls set v o c.store hv (owner_ok p typed ls set owner o g.0 e) fits) g.1.2.2 h k))
+      act_well l (i.RemoveEnd which set owner to) c ms g fits q k =
+          bearer_well p typed code ls owner ms g.1.0 c.store c.cells _ g.1.1 fits q (λ o below e h.
+          give_with l to Integer ms g.1.0 (removed_at which set o c.store) below c g.1.2 (removed_at_fine p typed ls which set o c.store (owner_ok p typed ls set owner o g.0 e) fits) h k)
+      act_well l (i.At time to) c ms g fits q k =
+          value_well p typed code ls time Integer ms g.0 c.store c.cells _ g.1 fits q (λ v below e h. time_well l to ms g.0 (time_at (AtTime v) c.store) below c g.2 (time_at_fine p typed ls (AtTime v) c.store e) fits h k)
+      act_well l (i.In units to) c ms g fits q k =
+          value_well p typed code ls units Integer ms g.0 c.store c.cells _ g.1 fits q (λ v below e h. time_well l to ms g.0 (time_at (Later v) c.store) below c g.2 (time_at_fine p typed ls (Later v) c.store e) fits h k)
+      act_well l (i.MakeNotice class h given to) c ms g fits q k =
+          number_well p typed code ms g.0 c.cells _ g.2 q (λ time above a.
+          block_well p typed code given h g.1 g.0 g.5.0 above _ g.5.1 (sym g.3) a (λ vs below hv b.
+          give_with l to Integer ms (Integer ∷ g.5.0) (made_notice class vs time c.store) (Whole time ∷ below) c g.5.2 (made_notice_fine p typed ls class vs g.1 time c.store g.4.0 hv (fields_given class g.1 g.4) fits) (ap (λ l. Integer ∷ l) b) k))
+      act_well l (i.FileNotice class x time) c ms g fits q k =
+          both_well p typed code ls x time Integer Integer ms g.1.0 c.store c.cells _ g.1.1 fits q (λ v t below hv ht h.
+          change_on l (if_ok (number_of t) (λ t. filed_notice class v t c.store)) g.1.0 below c
+          (fine_then (Fits p ls) (number_of t) (λ t. filed_notice class v t c.store) (number_fine t ht) (λ z u. filed_notice_fine p typed ls class v z c.store g.0 hv fits)) g.1.2 h k)
+      act_well l (i.Reschedule class x h given) c ms g fits q k =
+          number_well p typed code ms g.0 c.cells _ g.2 q (λ time over a.
+          block_well p typed code given h g.1 g.0 g.5.0 over _ g.5.1 (sym g.3) a (λ vs above hv b.
+          value_well p typed code ls x Integer g.5.0 g.5.2.0 c.store above _ g.5.2.1 fits b (λ y below e d.
+          change_on l (rescheduled class y vs time c.store) g.5.2.0 below c (rescheduled_fine p typed ls class y vs g.1 time c.store g.4.0 hv (fields_given class g.1 g.4) e fits) g.5.2.2 d k)))
+      act_well l (i.Cancel class x) c ms g fits q k =
+          value_well p typed code ls x Integer ms g.1.0 c.store c.cells _ g.1.1 fits q (λ v below e h.
+          change_on l (unscheduled class v c.store) g.1.0 below c (unscheduled_fine p typed ls class v c.store g.0 e fits) g.1.2 h k)
+      act_well l (i.Await skip) c ms g fits q k = ways_well p typed code ls skip (is_awaited c.store) ms c.cells c g fits q k
+      act_well l (i.TakeEvent h) c ms g fits q k =
+          fit_well p typed code (next_event c.store) (λ n. take_event code h n c) (λ n e. event_well h n ms c (coming c.store n e fits) g.1 q k)
+      act_well l (i.NextEvent back) c ms g fits q k = back_well p typed code ls back (is_awaited c.store) ms c.cells c g.0 g.1.at fits q k
+      act_well l (i.Read m to) c ms g fits q k =
+          give_with l to m ms ms (read_value m c.store) c.cells c g
+          (fine_turned (λ (b : Value × Store). (mode_of b.0 ≡ m) × Fits p ls b.1) (with_input c.store) (due (value_given m c.store.scene.input)) (word_fine m c.store) (λ r e. (e, input_fits p typed ls true c.store r.rest fits))) q k
+      act_well l (i.Print lines h) c ms g fits q k =
+          subst (λ o. Well (fit o (λ x. print_lines x h c))) (sym g.1)
+          (block_well p typed code (cells_of_kinds g.0.items) h g.2.0 ms g.2.2.0 c.cells _ g.2.2.1 (kinds_many p g.0.items g.2.0 g.2.1) q (λ vs below hv b.
+          fit_well p typed code (values_shown g.0.items vs c.store) _ (λ items e.
+          fit_well p typed code (printed g.0.pictures items) _ (λ bytes f. goes_to p typed code ls (c.place + 1) g.2.2.0 below c.frames c.store g.2.2.2 fits b k))))
+      act_well l (i.Skip count) c ms g fits q k =
+          value_well p typed code ls count Integer ms g.0 c.store c.cells _ g.1 fits q (λ v below e h.
+          looked_well p typed code l (empty_lines v) _ (λ bytes. goes_to p typed code ls (c.place + 1) g.0 below c.frames c.store g.2 fits h k))
+
+  -- ## Steps
+
+  abbrev StepWell : Stepped → Type 0
+  StepWell (Goes t) = FitsCode p code t.core
+  StepWell (Over e t) = Unit {0}
+  StepWell NoStep = Unit {0}
+
+  rest_well : (r : List ℕ) (t : ℕ) (m : Moved) → Well m → StepWell (with_rest r t m)
+  rest_well r t (To c) h = h
+  rest_well r t (Sends bytes c) h = h
+  rest_well r t (Rest Done) h = tt
+  rest_well r t (Rest (Breaks kind line)) h = tt
+  rest_well r t Stuck h = tt
+
+  due_well : (b : Bool) (r : List ℕ) (t : ℕ) (m : Moved) → Well m → StepWell (when_due b r t m)
+  due_well false r t m h = rest_well r t m h
+  due_well true r zero m h = tt
+  due_well true r (suc t) m h = rest_well r t m h
+
+  step_well : Shaped p code → (s : MachineState) → FitsCode p code s.core → StepWell (step code s)
+  step_well shaped s d =
+      let x : Placed = d.placed in
+      subst (λ o. StepWell (step_at o code s)) (sym d.fits.there)
+      (due_well (is_due x.instruction) s.report s.ticks (act code x.line x.instruction s.core)
+      (act_well x.locals shaped x.line x.instruction s.core x.cells (shaped.each s.core.place x d.fits.there) d.fits.store d.fits.cells d.fits.frames))
+
+  -- and so does each state that is reached from one that suits its place
+  steps_well : Shaped p code → (m : ℕ) (s x : MachineState) → FitsCode p code s.core → steps code m s ≡ Underway x → FitsCode p code x.core
+  steps_well shaped zero s x d e = let same : s ≡ x = cc in subst (λ (t : MachineState). FitsCode p code t.core) same d
+  steps_well shaped (suc m) s x d e = by (step code s) (step_well shaped s d) (λ t h f. steps_well shaped m t x h f) e
+    where
+      by : (r : Stepped) → StepWell r → ((t : MachineState) → FitsCode p code t.core → steps code m t ≡ Underway x → FitsCode p code x.core) → after_one_step r s (steps code m) ≡ Underway x → FitsCode p code x.core
+      by (Goes t) h again f = again t h f
+      by (Over j t) h again f = absurd cc
+      by NoStep h again f = absurd cc
+
+pub shape_stays : ShapeStays
+shape_stays p typed s t d e = subst (StepWell p typed (code_of p)) e (step_well p typed (code_of p) (has_shape p typed) s d)
+
+pub states_suit : StatesSuit
+states_suit p typed input n m x e =
+    let code : Code = code_of p in
+    let shaped : Shaped p code = has_shape p typed in
+    let first : FitsCode p code (start code input n).core = goes_to p typed code p.locals 0 [] [] [] (start code input n).core.store shaped.first (first_fits p input) refl tt in
+    steps_well p typed code shaped m (start code input n) x first e

@@ -1,0 +1,97 @@
+-- Pieces of code that suit their places, one after another.
+use Rattle.std.proofs.Common.{◌≡◌, ℕ, zero, suc, ◌+◌, ◌-◌, true, List, [], ◌∷◌, ◌++◌, length, Some, refl, subst, arith, length-append}
+use Rattle.std.specs.Prelude.{slice_get}
+use Rattle.ss_base.specs.declared.layout.Mode.{Mode}
+use Rattle.ss_program.specs.Program.{Program}
+use Rattle.ss_code_instructions.specs.Instructions.{Placed}
+use Rattle.ss_code_instructions.specs.Machine.{Code, is_due}
+use Rattle.ss_code_instructions.specs.Shape.{At, DueAt, Suits}
+use Rattle.ss_code_instructions.proofs.Steps.{HasAt, has_front, has_back}
+
+module _ (p : Program) (code : Code) where
+  -- ## Instructions that suit their places
+
+  -- each instruction of a piece that begins here suits its place
+  abbrev pub AllSuit : ℕ → List Placed → Type 0
+  AllSuit q [] = Unit {0}
+  AllSuit q (x ∷ c) = Suits p code q x.locals x.cells x.instruction × AllSuit (q + 1) c
+
+  pub all_both : (q : ℕ) (c d : List Placed) → AllSuit q c → AllSuit (q + length c) d → AllSuit q (c ++ d)
+  all_both q [] d h k = let e : q + 0 ≡ q = omega arith in subst (λ j. AllSuit j d) e k
+  all_both q (x ∷ c) d h k =
+      let e : q + length (x ∷ c) ≡ q + 1 + length c = omega arith in
+      (h.0, all_both (q + 1) c d h.1 (subst (λ j. AllSuit j d) e k))
+
+  pub all_at : (q : ℕ) (c : List Placed) → AllSuit q c → (k : ℕ) (x : Placed) → slice_get c k ≡ Some x → Suits p code (q + k) x.locals x.cells x.instruction
+  all_at q [] h k x e = absurd cc
+  all_at q (y ∷ c) h zero x e =
+      let same : y ≡ x = cc in
+      let j : q ≡ q + 0 = omega arith in
+      subst (λ (z : Placed). Suits p code (q + 0) z.locals z.cells z.instruction) same (subst (λ j. Suits p code j y.locals y.cells y.instruction) j h.0)
+  all_at q (y ∷ c) h (suc k) x e =
+      let j : q + 1 + k ≡ q + suc k = omega arith in
+      subst (λ j. Suits p code j x.locals x.cells x.instruction) j (all_at (q + 1) c h.1 k x e)
+
+  -- what an instruction finds is found at its place
+  pub own : {q : ℕ} {x : Placed} → slice_get code.places q ≡ Some x → At p code q x.locals x.cells
+  own {x = x} e = record { placed = x; there = e; locals = refl; cells = refl }
+
+  pub moved : {q r : ℕ} {ls ms : List Mode} → q ≡ r → At p code q ls ms → At p code r ls ms
+  moved {ls = ls} {ms = ms} e a = subst (λ j. At p code j ls ms) e a
+
+  -- ## Pieces
+
+  -- wherever a piece lies: if this is so after it, then each of its instructions suits its place, and that is so where it begins
+  pub record Shapes (before : ℕ → Type 0) (c : List Placed) (after : ℕ → Type 0) : Type 0 where
+    pub by : (q : ℕ) → HasAt code.places q c → after (q + length c) → AllSuit q c × before q
+
+  -- no instruction
+  pub none : (after : ℕ → Type 0) → Shapes after [] after
+  none after = record { by = λ q has end. let e : q + 0 ≡ q = omega arith in (tt, subst after e end) }
+
+  -- one instruction
+  pub one : (after : ℕ → Type 0) (x : Placed) → ((q : ℕ) → after (q + 1) → Suits p code q x.locals x.cells x.instruction) → Shapes (λ q. At p code q x.locals x.cells) (x ∷ []) after
+  one after x suits = record { by = λ q has end. ((suits q end, tt), own has.0) }
+
+  -- an instruction before a piece
+  pub put_before : (start after : ℕ → Type 0) (x : Placed) (c : List Placed) → ((q : ℕ) → start (q + 1) → after (q + 1 + length c) → Suits p code q x.locals x.cells x.instruction) → Shapes start c after → Shapes (λ q. At p code q x.locals x.cells × start (q + 1)) (x ∷ c) after
+  put_before start after x c suits r = record {
+    by = λ q has end.
+        let len : q + length (x ∷ c) ≡ q + 1 + length c = omega arith in
+        let end' = subst after len end in
+        let b = r.by (q + 1) has.1 end' in
+        ((suits q b.1 end', b.0), (own has.0, b.1));
+  }
+
+  -- what else is so where a piece begins
+  pub lead : (before before' after : ℕ → Type 0) (c : List Placed) → ((q : ℕ) → before q → after (q + length c) → before' q) → Shapes before c after → Shapes before' c after
+  lead before before' after c f r = record { by = λ q has end. let b = r.by q has end in (b.0, f q b.1 end) }
+
+  -- what else is so after it
+  pub ending : (before after after' : ℕ → Type 0) (c : List Placed) → ((q : ℕ) → after' q → after q) → Shapes before c after → Shapes before c after'
+  ending before after after' c f r = record { by = λ q has end. r.by q has (f (q + length c) end) }
+
+  -- what is so after a piece, and is not needed for it, can be said where it begins
+  pub keep : (before after more : ℕ → Type 0) (c : List Placed) → Shapes before c after → Shapes (λ q. before q × more (q + length c)) c (λ q. after q × more q)
+  keep before after more c r = record { by = λ q has end. let b = r.by q has end.0 in (b.0, (b.1, end.1)) }
+
+  -- an instruction that takes a tick, before a piece that jumps back to it
+  pub looped : (start after : ℕ → Type 0) (x : Placed) (c : List Placed) (k : ℕ) → k ≡ length c → is_due x.instruction ≡ true → ((q : ℕ) → start (q + 1) → Suits p code q x.locals x.cells x.instruction) → Shapes start c (λ q. after q × DueAt p code (q - (k + 1)) x.locals x.cells) → Shapes (λ q. At p code q x.locals x.cells) (x ∷ c) after
+  looped start after x c k long ticks suits r = record {
+    by = λ q has end.
+        let len : q + length (x ∷ c) ≡ q + 1 + length c = omega arith in
+        let back : q ≡ (q + 1 + length c) - (k + 1) = omega (arith, long) in
+        let due : DueAt p code q x.locals x.cells = record { at = record { placed = x; there = has.0; locals = refl; cells = refl }; due = ticks } in
+        let b = r.by (q + 1) has.1 (subst after len end, subst (λ j. DueAt p code j x.locals x.cells) back due) in
+        ((suits q b.1, b.0), own has.0);
+  }
+
+-- one piece after another
+pub seq : {p : Program} {code : Code} {before mid after : ℕ → Type 0} {c d : List Placed} → Shapes p code before c mid → Shapes p code mid d after → Shapes p code before (c ++ d) after
+seq {p = p} {code = code} {after = after} {c = c} {d = d} r t = record {
+  by = λ q has end.
+      let len : q + length (c ++ d) ≡ q + length c + length d = omega (arith, length-append c d) in
+      let b = t.by (q + length c) (has_back code.places q c d has) (subst after len end) in
+      let a = r.by q (has_front code.places q c d has) b.1 in
+      (all_both p code q c d a.0 b.0, a.1);
+}
