@@ -28,7 +28,7 @@ impl Model for NoticeClass {
 }
 
 impl NoticeClass {
-    /// A class of notices of which this is said.
+    /// A class of notices with these properties.
     pub fn new(
         class: usize,
         ties: RankKeys,
@@ -87,7 +87,7 @@ impl NoticeClass {
         self.saved
     }
 
-    /// The same, in memory of its own.
+    /// A copy of this class, in memory of its own.
     ///
     /// # Errors
     /// `AllocError` where memory was refused.
