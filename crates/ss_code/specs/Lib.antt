@@ -1,0 +1,9 @@
+pub mod Limits
+pub mod Facts
+pub mod Forms
+pub mod Lined
+pub mod Leaves
+pub mod Emitted
+pub mod Calculations
+pub mod Spots
+pub mod Running
