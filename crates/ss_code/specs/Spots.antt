@@ -9,16 +9,19 @@ use Rattle.ss_program.specs.declared.statement.CountedClass.{CountedClass}
 use Rattle.ss_program.specs.Program.{Expression, Place, ToVariable, ToAttribute, ToCount}
 use Rattle.ss_program.specs.WellTyped.{Scope, HasMode, TakesMode, mode_at, field_mode}
 use Rattle.ss_code_instructions.specs.Facts.{watch}
+use Rattle.ss_code_instructions.specs.declared.address.Address.{Address}
 use Rattle.ss_code_instructions.specs.Instructions.{Operand, Taken, Target, Into, Placed}
 use Rattle.ss_code_instructions.specs.Instructions as i
-use Rattle.ss_code_instructions.specs.Carried.{VariableAt}
-use Rattle.ss_code_instructions.specs.Translation.{Site, height, above, place, next, operand, operand_code, is_kept, or_integer, assignment, count_code, after_place}
-use Rattle.ss_code.specs.declared.expressions.Operand.{Operand as Read}
+use Rattle.ss_code_instructions.specs.Carried.{VariableAt, mode_here}
+use Rattle.ss_code_instructions.specs.Translation.{Site, height, above, place, next, operand, operand_code, is_kept, or_integer, assignment, count_code, code_of}
 use Rattle.ss_code.specs.declared.targets.VariableSpot.{VariableSpot}
 use Rattle.ss_code.specs.declared.targets.AttributeSpot.{AttributeSpot}
 use Rattle.ss_code.specs.declared.targets.Spot.{Spot}
 use Rattle.ss_code.specs.declared.targets.Spot.TheVariants as spots
-use Rattle.ss_code.specs.Emitted.{Final, IsRead}
+use Rattle.ss_code.specs.declared.generator.Generator.{Generator}
+use Rattle.ss_code.specs.declared.generator.Site.{Site as Here}
+use Rattle.ss_code.specs.Lined.{Lined}
+use Rattle.ss_code.specs.Emitted.{Final, Makes, NoMore, AtOperand, AtTarget, IsRead}
 
 -- ## Spots
 
@@ -86,3 +89,53 @@ landed_code t u (ToCount c) m = count_code (above u m) c (Taken (height u))
 
 abbrev pub GoodPlace : Place → Scope → Type 0
 GoodPlace p s = (m : Mode) × TakesMode s p m
+
+-- ## The contracts of what assigns
+
+-- a place, where it was resolved, and the operand that it takes; the operand has this mode where it is read
+pub record Given : Type 0 where
+  pub resolved : Site
+  pub place : Place
+  pub from : Operand
+  pub mode : Mode
+
+-- a variable alone, as a place
+abbrev pub IsPlaceOf : Site → Place → VariableSpot → Type 0
+IsPlaceOf t (ToVariable x) s = IsVariable t x s
+IsPlaceOf t (ToAttribute class field r) s = ⊥
+IsPlaceOf t (ToCount c) s = IsVariable t (Global c.variable) s
+
+abbrev pub FitsGiven : (IsIt : Final → Site → Place → Type 0) → Address → Final → Site → Given → Type 0
+FitsGiven IsIt from f u g =
+    IsIt f g.resolved g.place × (g.resolved.scope ≡ u.scope) × AtOperand f u g.from from × TakesMode u.scope g.place g.mode
+    × (mode_here (code_of f.program) f.constants (place u i.Leave) g.from ≡ Some g.mode)
+
+-- an operand goes to what is assigned
+abbrev pub Gives : Generator → (before after : Lined) → Here → Address → (IsIt : Final → Site → Place → Type 0) → Type 0
+Gives g before after here from IsIt = Makes g g before after here (FitsGiven IsIt from) (λ u x. assigned_code x.resolved u x.place x.from) NoMore
+
+-- a value that lies where it comes at first goes to what is assigned; here are the cells below it
+pub record Taking : Type 0 where
+  pub resolved : Site
+  pub place : Place
+  pub mode : Mode
+
+abbrev pub FitsTaking : (IsIt : Final → Site → Place → Type 0) → Address → Final → Site → Taking → Type 0
+FitsTaking IsIt from f u g =
+    IsIt f g.resolved g.place × (g.resolved.scope ≡ u.scope) × AtTarget f u (landing u g.place) from × TakesMode u.scope g.place g.mode
+
+abbrev pub Takes : Generator → (before after : Lined) → Here → Address → (IsIt : Final → Site → Place → Type 0) → Type 0
+Takes g before after here from IsIt = Makes g g before after here (FitsTaking IsIt from) (λ u x. landed_code x.resolved u x.place x.mode) NoMore
+
+-- a variable that ADD or SUBTRACT changes, and the place that it is
+pub record Changed : Type 0 where
+  pub place : Place
+  pub variable : Variable
+
+abbrev pub variable_of : Place → Option Variable
+variable_of (ToVariable x) = Some x
+variable_of (ToAttribute class field r) = None
+variable_of (ToCount c) = Some (Global c.variable)
+
+abbrev pub IsHeldBy : Changed → Type 0
+IsHeldBy c = variable_of c.place ≡ Some c.variable
