@@ -5,5 +5,8 @@ pub mod Lined
 pub mod Leaves
 pub mod Emitted
 pub mod Calculations
+pub mod Notices
+pub mod Items
 pub mod Spots
 pub mod Running
+pub mod Printed

@@ -1,5 +1,5 @@
 -- What is assigned, as the generator holds it.
-use Rattle.std.specs.Prelude.{◌≡◌, ℕ, Bool, true, false, List, [], ◌∷◌, Option, Some, None, if◌then◌else◌}
+use Rattle.std.specs.Prelude.{◌≡◌, ◌<◌, ℕ, Bool, true, false, List, [], ◌∷◌, Option, Some, None, if◌then◌else◌}
 use Rattle.ss_base.specs.declared.layout.Mode.{Mode}
 use Rattle.ss_base.specs.declared.layout.Mode.TheVariants.{Integer}
 use Rattle.ss_program.specs.declared.expression.Variable.{Variable}
@@ -7,10 +7,10 @@ use Rattle.ss_program.specs.declared.expression.Variable.TheVariants.{Global}
 use Rattle.ss_program.specs.declared.sections.Subject.TheVariants.{OfAttribute}
 use Rattle.ss_program.specs.declared.statement.CountedClass.{CountedClass}
 use Rattle.ss_program.specs.Program.{Expression, Place, ToVariable, ToAttribute, ToCount}
-use Rattle.ss_program.specs.WellTyped.{Scope, HasMode, TakesMode, mode_at, field_mode}
+use Rattle.ss_program.specs.WellTyped.{Scope, TakesMode, mode_at, field_mode}
 use Rattle.ss_code_instructions.specs.Facts.{watch}
 use Rattle.ss_code_instructions.specs.declared.address.Address.{Address}
-use Rattle.ss_code_instructions.specs.Instructions.{Operand, Taken, Target, Into, Placed}
+use Rattle.ss_code_instructions.specs.Instructions.{Operand, Taken, Target, Into, Onto, Placed}
 use Rattle.ss_code_instructions.specs.Instructions as i
 use Rattle.ss_code_instructions.specs.Carried.{VariableAt, mode_here}
 use Rattle.ss_code_instructions.specs.Translation.{Site, height, above, place, next, operand, operand_code, is_kept, or_integer, assignment, count_code, code_of}
@@ -103,11 +103,22 @@ pub record Given : Type 0 where
 abbrev pub IsPlaceOf : Site → Place → VariableSpot → Type 0
 IsPlaceOf t (ToVariable x) s = IsVariable t x s
 IsPlaceOf t (ToAttribute class field r) s = ⊥
-IsPlaceOf t (ToCount c) s = IsVariable t (Global c.variable) s
+IsPlaceOf t (ToCount c) s = ⊥
+
+-- what a place holds has this mode
+abbrev pub HoldsMode : Scope → Place → Mode → Type 0
+HoldsMode s (ToVariable x) m = mode_at s x ≡ Some m
+HoldsMode s (ToAttribute class field r) m = field_mode s.program class field ≡ Some m
+HoldsMode s (ToCount c) m = mode_at s (Global c.variable) ≡ Some m
+
+-- the frame has room for a target
+abbrev pub HasRoom : Final → Target → Type 0
+HasRoom f (Into x) = Unit {0}
+HasRoom f (Onto h) = h < f.depth
 
 abbrev pub FitsGiven : (IsIt : Final → Site → Place → Type 0) → Address → Final → Site → Given → Type 0
 FitsGiven IsIt from f u g =
-    IsIt f g.resolved g.place × (g.resolved.scope ≡ u.scope) × AtOperand f u g.from from × TakesMode u.scope g.place g.mode
+    IsIt f g.resolved g.place × (g.resolved.scope ≡ u.scope) × AtOperand f u g.from from × HoldsMode u.scope g.place g.mode
     × (mode_here (code_of f.program) f.constants (place u i.Leave) g.from ≡ Some g.mode)
 
 -- an operand goes to what is assigned
@@ -122,7 +133,8 @@ pub record Taking : Type 0 where
 
 abbrev pub FitsTaking : (IsIt : Final → Site → Place → Type 0) → Address → Final → Site → Taking → Type 0
 FitsTaking IsIt from f u g =
-    IsIt f g.resolved g.place × (g.resolved.scope ≡ u.scope) × AtTarget f u (landing u g.place) from × TakesMode u.scope g.place g.mode
+    IsIt f g.resolved g.place × (g.resolved.scope ≡ u.scope) × AtTarget f u (landing u g.place) from × HasRoom f (landing u g.place)
+    × HoldsMode u.scope g.place g.mode
 
 abbrev pub Takes : Generator → (before after : Lined) → Here → Address → (IsIt : Final → Site → Place → Type 0) → Type 0
 Takes g before after here from IsIt = Makes g g before after here (FitsTaking IsIt from) (λ u x. landed_code x.resolved u x.place x.mode) NoMore

@@ -1,6 +1,6 @@
 //! The code that assigns.
 
-ghost use Rattle.std.specs.Prelude.{◌≡◌, ◌≤◌, ◌∷◌, [], map, IfOk, OnOk};
+ghost use Rattle.std.specs.Prelude.{◌≡◌, ◌∷◌, [], map, IfOk, OnOk};
 ghost use Rattle.std.specs.List.{AllByRecursion as Every};
 ghost use Rattle.ss_base.specs.declared.layout.Mode.TheVariants.{Integer};
 ghost use Rattle.ss_program.specs.Program.{Let, Change, Place as Plain, ToVariable, ToAttribute, ToCount};
@@ -13,7 +13,7 @@ ghost use Rattle.ss_code_instructions.specs.Translation.{Site as At, operand_cod
 ghost use Rattle.ss_code.specs.Forms.{calculating, storing, reading};
 ghost use Rattle.ss_code.specs.declared.generator.Site.{Site as Here};
 ghost use Rattle.ss_code.specs.Emitted.{Final, Around, Grows, Stands, AtTarget, Makes, NoMore, Emits, IsNumber};
-ghost use Rattle.ss_code.specs.Spots.{IsWatched, IsVariable, IsAttribute, IsSpot, IsPlaceOf, spot_cells, spot_code, landing as lands_at, GoodPlace, Gives, Takes, Changed, IsHeldBy};
+ghost use Rattle.ss_code.specs.Spots.{HasRoom, IsWatched, IsVariable, IsAttribute, IsSpot, IsPlaceOf, spot_cells, spot_code, landing as lands_at, GoodPlace, Gives, Takes, Changed, IsHeldBy};
 
 use crate::error::CodeError;
 use crate::expressions::move_of;
@@ -209,10 +209,8 @@ impl Generator<'_> {
     /// Where the value that a place will be assigned lies at first: in the variable itself, unless it is watched, or in the next cell.
     pub(crate) fn landing(&mut self, site: Site, spot: Spot) -> Result<Address, CodeError>
         ensures grows { OnOk result (Grows self.old self.new) }
-        ensures at { IfOk result (λ to. (f : Final) (t u : At) (p : Plain) → Around f self.new → Stands f self.new site u → t.scope ≡ u.scope → IsSpot f t p spot → AtTarget f u (lands_at u p) to) }
-        ensures room { OnOk result (site.height ≤ self.new.deepest) }
+        ensures at { IfOk result (λ to. (f : Final) (t u : At) (p : Plain) → Around f self.new → Stands f self.new site u → t.scope ≡ u.scope → IsSpot f t p spot → AtTarget f u (lands_at u p) to × HasRoom f (lands_at u p)) }
     {
-        self.reach(site.height);
         match spot {
             Spot::Variable(variable) => match variable.watched {
                 None => Ok(variable.address),
@@ -278,7 +276,7 @@ impl Generator<'_> {
         if let Spot::Variable(VariableSpot { watched: None, .. }) = spot {
             return Ok(());
         }
-        self.assign(code, site, spot, from)
+        self.assign(code, site.above(1), spot, from)
     }
 
     /// So many cells that stayed are forgotten.
@@ -400,7 +398,7 @@ impl Generator<'_> {
         let by = self.operand(code, site, value)?.address;
         let to = self.landing(site, spot)?;
         code.put(site.line, change_of(sign, variable.address, by, to))?;
-        self.take(code, site.above(1), spot, to)
+        self.take(code, site, spot, to)
     }
 
     // ADD and SUBTRACT, to an attribute.
