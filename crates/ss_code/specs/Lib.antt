@@ -8,5 +8,6 @@ pub mod Calculations
 pub mod Notices
 pub mod Items
 pub mod Spots
+pub mod Looped
 pub mod Running
 pub mod Printed

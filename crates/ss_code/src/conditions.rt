@@ -170,8 +170,8 @@ impl Generator<'_> {
         Ok(rest.into_piece())
     }
 
-    // A jump.
-    fn jump(&self, site: Site, skip: u32) -> Result<Piece, CodeError>
+    /// A jump.
+    pub(crate) fn jump(&self, site: Site, skip: u32) -> Result<Piece, CodeError>
         ensures { IfOk result (λ code. Emits self.now self.now nothing code site (λ s. Unit {0}) (λ t. place t (Jump skip) ∷ [])) }
     {
         let mut code = Piece::new(self.alloc);
