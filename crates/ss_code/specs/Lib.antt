@@ -11,3 +11,4 @@ pub mod Spots
 pub mod Looped
 pub mod Running
 pub mod Printed
+pub mod Sections

@@ -2,7 +2,7 @@
 use Rattle.std.specs.Prelude.{◌≡◌, ℕ, List, [], ◌∷◌, ◌++◌, length, map}
 use Rattle.std.specs.List.{AllByRecursion as Every}
 use Rattle.ss_base.specs.declared.line.Line.{Line}
-use Rattle.ss_program.specs.Program.{Item, Statement, Block}
+use Rattle.ss_program.specs.Program.{Item, Statement, Let, Change, Call, Return, Stop, Read, Simulate, If, Loop, For, Find, Create, CreateEvery, Destroy, File, RemoveEnd, Remove, ScheduleNew, Schedule, Cancel, Reset, Print as APrint, Skip, Block}
 use Rattle.ss_program.specs.WellTyped.{Scope, Good, GoodBlock}
 use Rattle.ss_code_instructions.specs.Instructions.{Lines, Print, Placed}
 use Rattle.ss_code_instructions.specs.Carried.{RunningLines}
@@ -13,6 +13,32 @@ use Rattle.ss_code.specs.Lined.{Lined, nothing}
 use Rattle.ss_code.specs.Emitted.{EmitsPrinting}
 use Rattle.ss_code.specs.Items.{GoodItem}
 use Rattle.ss_code.specs.Running.{Prints}
+
+-- the line of a statement; one that never faults has none
+abbrev pub line_or_none : Statement → Line
+line_or_none (Let l x e) = l
+line_or_none (Change l sign x e) = l
+line_or_none (Call l routine given yielding) = l
+line_or_none Return = no_line
+line_or_none Stop = no_line
+line_or_none (Read l targets) = l
+line_or_none Simulate = no_line
+line_or_none (If l c a b) = l
+line_or_none (Loop l gs a) = l
+line_or_none (For l head ps a) = l
+line_or_none (Find l head ps a b) = l
+line_or_none (Create l class x) = l
+line_or_none (CreateEvery l classes) = l
+line_or_none (Destroy l class e) = l
+line_or_none (File l set e position o) = l
+line_or_none (RemoveEnd l end set x o) = l
+line_or_none (Remove l set e o) = l
+line_or_none (ScheduleNew l class x given when) = l
+line_or_none (Schedule l class e given when) = l
+line_or_none (Cancel l class e) = l
+line_or_none (Reset l restarts) = l
+line_or_none (APrint l items pictures) = l
+line_or_none (Skip l e) = l
 
 -- where statements begin: they have lines of their own
 abbrev pub statement_site : (height : ℕ) → Here

@@ -12,7 +12,6 @@ ghost use Rattle.ss_code.specs.Lined.{nothing};
 ghost use Rattle.ss_code.specs.Emitted.{Emits, EmitsAround};
 
 use crate::backward::Backward;
-use crate::error::CodeError;
 use crate::facts::expression_mode;
 use crate::generator::{Generator, Site};
 use crate::leaves::owner_may_fault;
@@ -23,6 +22,7 @@ use ss_code_instructions::instruction::Instruction;
 use ss_program::condition::{Condition, Conjunction, Relation, Test};
 use ss_program::expression::{Expression, SetOwner};
 use ss_program::head::{Guard, GuardKind, Phrase, PhraseKind};
+use std::alloc::AllocError;
 
 // Two numbers are compared.
 fn unless(relation: Relation, left: Address, right: Address, skip: u32) -> Instruction
@@ -48,7 +48,7 @@ impl Generator<'_> {
         relation: Relation,
         first: &Expression,
         second: &Expression,
-    ) -> Result<(), CodeError>
+    ) -> Result<(), AllocError>
         ensures { OnOk result (Emits self.old self.new code.old code.new site (λ s. GoodTest s (Compare relation (view_expression first.now) (view_expression second.now))) (λ t. test_code t skip (Compare relation (view_expression first.now) (view_expression second.now)))) }
     {
         let mode = expression_mode(self.program, &self.locals, first);
@@ -77,7 +77,7 @@ impl Generator<'_> {
         negated: bool,
         set: usize,
         owner: &SetOwner,
-    ) -> Result<(), CodeError>
+    ) -> Result<(), AllocError>
         ensures { OnOk result (Emits self.old self.new code.old code.new site (λ s. GoodTest s (Empty negated set (view_owner owner.now))) (λ t. test_code t skip (Empty negated set (view_owner owner.now)))) }
     {
         let owner = self.owner(code, site, owner)?.address;
@@ -103,7 +103,7 @@ impl Generator<'_> {
         set: usize,
         member: &Expression,
         owner: &SetOwner,
-    ) -> Result<(), CodeError>
+    ) -> Result<(), AllocError>
         ensures { OnOk result (Emits self.old self.new code.old code.new site (λ s. GoodTest s (Member negated set (view_expression member.now) (view_owner owner.now))) (λ t. test_code t skip (Member negated set (view_expression member.now) (view_owner owner.now)))) }
     {
         let member = self.member(code, site, set, member, owner_may_fault(owner))?;
@@ -128,7 +128,7 @@ impl Generator<'_> {
         site: Site,
         skip: u32,
         test: &Test,
-    ) -> Result<(), CodeError>
+    ) -> Result<(), AllocError>
         ensures { OnOk result (Emits self.old self.new code.old code.new site (λ s. GoodTest s (view_test test.now)) (λ t. test_code t skip (view_test test.now))) }
     {
         match test {
@@ -157,7 +157,7 @@ impl Generator<'_> {
     }
 
     // Tests that all must hold, the last of them first.
-    fn tests(&mut self, site: Site, skip: u32, tests: &[Test]) -> Result<Piece, CodeError>
+    fn tests(&mut self, site: Site, skip: u32, tests: &[Test]) -> Result<Piece, AllocError>
         ensures { IfOk result (λ code. Emits self.old self.new nothing code site (λ s. Every (GoodTest s) (map view_test tests.now)) (λ t. tests_code t skip (map view_test tests.now))) }
     {
         let mut rest = Backward::new(self.alloc);
@@ -171,7 +171,7 @@ impl Generator<'_> {
     }
 
     /// A jump.
-    pub(crate) fn jump(&self, site: Site, skip: u32) -> Result<Piece, CodeError>
+    pub(crate) fn jump(&self, site: Site, skip: u32) -> Result<Piece, AllocError>
         ensures { IfOk result (λ code. Emits self.now self.now nothing code site (λ s. Unit {0}) (λ t. place t (Jump skip) ∷ [])) }
     {
         let mut code = Piece::new(self.alloc);
@@ -185,7 +185,7 @@ impl Generator<'_> {
         site: Site,
         skip: u32,
         alternatives: &[Conjunction],
-    ) -> Result<Piece, CodeError>
+    ) -> Result<Piece, AllocError>
         ensures { IfOk result (λ code. Emits self.old self.new nothing code site (λ s. GoodCondition s (map view_conjunction alternatives.now)) (λ t. condition_code t skip (map view_conjunction alternatives.now))) }
     {
         let count = alternatives.len();
@@ -209,7 +209,7 @@ impl Generator<'_> {
         site: Site,
         skip: u32,
         condition: &Condition,
-    ) -> Result<Piece, CodeError>
+    ) -> Result<Piece, AllocError>
         ensures { IfOk result (λ code. Emits self.old self.new nothing code site (λ s. GoodCondition s (view_condition condition.now)) (λ t. condition_code t skip (view_condition condition.now))) }
     {
         self.alternatives(site, skip, &condition.alternatives)
@@ -221,7 +221,7 @@ impl Generator<'_> {
         site: Site,
         skip: u32,
         condition: &Condition,
-    ) -> Result<Piece, CodeError>
+    ) -> Result<Piece, AllocError>
         ensures { IfOk result (λ code. Emits self.old self.new nothing code site (λ s. GoodCondition s (view_condition condition.now)) (λ t. negated_code t skip (view_condition condition.now))) }
     {
         let mut code = self.condition(site, 1, condition)?;
@@ -230,7 +230,7 @@ impl Generator<'_> {
     }
 
     // A guard of a loop.
-    fn guard(&mut self, site: Site, skip: u32, guard: &Guard) -> Result<Piece, CodeError>
+    fn guard(&mut self, site: Site, skip: u32, guard: &Guard) -> Result<Piece, AllocError>
         ensures { IfOk result (λ code. Emits self.old self.new nothing code site (λ s. GoodCondition s (view_condition guard.now.condition)) (λ t. guard_code t skip guard.now.kind (view_condition guard.now.condition))) }
     {
         match guard.kind {
@@ -247,7 +247,7 @@ impl Generator<'_> {
         more: u32,
         guards: &[Guard],
         behind: Piece,
-    ) -> Result<Piece, CodeError>
+    ) -> Result<Piece, AllocError>
         ensures { IfOk result (λ code. EmitsAround self.old self.new nothing code site behind (λ s. Every (λ g. GoodCondition s g.condition) (map view_guard guards.now)) (λ t b. guards_code t (length b + more) (map view_guard guards.now) ++ b)) }
     {
         let mut rest = Backward::new(self.alloc);
@@ -261,7 +261,7 @@ impl Generator<'_> {
     }
 
     // A phrase before the rest of a turn, of so many instructions.
-    fn phrase(&mut self, site: Site, rest: u32, phrase: &Phrase) -> Result<Piece, CodeError>
+    fn phrase(&mut self, site: Site, rest: u32, phrase: &Phrase) -> Result<Piece, AllocError>
         ensures { IfOk result (λ code. Emits self.old self.new nothing code site (λ s. GoodCondition s (view_condition phrase.now.condition)) (λ t. phrase_code t rest phrase.now.kind (view_condition phrase.now.condition))) }
     {
         let condition = &phrase.condition;
@@ -280,7 +280,7 @@ impl Generator<'_> {
         site: Site,
         phrases: &[Phrase],
         turn: Piece,
-    ) -> Result<Piece, CodeError>
+    ) -> Result<Piece, AllocError>
         ensures { IfOk result (λ code. EmitsAround self.old self.new nothing code site turn (λ s. Every (GoodPhrase s) (map view_phrase phrases.now)) (λ t b. phrases_code t (map view_phrase phrases.now) b)) }
     {
         let mut rest = Backward::new(self.alloc);

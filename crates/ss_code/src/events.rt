@@ -10,7 +10,6 @@ ghost use Rattle.ss_code_instructions.specs.Translation.{with_operand, values_co
 ghost use Rattle.ss_code.specs.Notices.{any_watched, simulate_code};
 ghost use Rattle.ss_code.specs.Emitted.{Emits, Typed};
 
-use crate::error::CodeError;
 use crate::facts::is_attribute_watched;
 use crate::generator::{Generator, Site};
 use crate::piece::{Piece, as_index};
@@ -18,10 +17,11 @@ use crate::targets::Spot;
 use ss_code_instructions::instruction::Instruction;
 use ss_program::expression::Expression;
 use ss_program::statement::{Place, Restart, When};
+use std::alloc::AllocError;
 
 impl Generator<'_> {
     // The time to schedule for goes into the next cell.
-    fn time(&mut self, code: &mut Piece, site: Site, when: &When) -> Result<(), CodeError>
+    fn time(&mut self, code: &mut Piece, site: Site, when: &When) -> Result<(), AllocError>
         ensures code { OnOk result (Emits self.old self.new code.old code.new site (λ s. GoodWhen s (view_when when.now)) (λ t. when_code t (view_when when.now))) }
         ensures room { OnOk result (site.height < self.new.deepest) }
     {
@@ -48,7 +48,7 @@ impl Generator<'_> {
         site: Site,
         given: &[Expression],
         when: &When,
-    ) -> Result<(), CodeError>
+    ) -> Result<(), AllocError>
         ensures code { OnOk result (Emits self.old self.new code.old code.new site (λ s. Every (λ e. Typed e s) (map view_expression given.now) × GoodWhen s (view_when when.now)) (λ t. values_code t (map view_expression given.now) ++ when_code (after_values t (map view_expression given.now)) (view_when when.now))) }
         ensures room { OnOk result (site.height + length given.now < self.new.deepest) }
     {
@@ -76,7 +76,7 @@ impl Generator<'_> {
         place: &Place,
         given: &[Expression],
         when: &When,
-    ) -> Result<(), CodeError>
+    ) -> Result<(), AllocError>
         ensures { OnOk result (Emits self.old self.new code.old code.new site (λ s. Good s (ScheduleNew site.line class (view_place place.now) (map view_expression given.now) (view_when when.now))) (λ t. schedule_new_code t class (view_place place.now) (map view_expression given.now) (view_when when.now))) }
     {
         let spot = self.looked_spot(code, site, place)?;
@@ -122,7 +122,7 @@ impl Generator<'_> {
         notice: &Expression,
         given: &[Expression],
         when: &When,
-    ) -> Result<(), CodeError>
+    ) -> Result<(), AllocError>
         ensures { OnOk result (Emits self.old self.new code.old code.new site (λ s. Good s (Schedule site.line class (view_expression notice.now) (map view_expression given.now) (view_when when.now))) (λ t. schedule_code t class (view_expression notice.now) (map view_expression given.now) (view_when when.now))) }
     {
         let notice = self.operand(code, site, notice)?;
@@ -156,7 +156,7 @@ impl Generator<'_> {
         site: Site,
         class: usize,
         notice: &Expression,
-    ) -> Result<(), CodeError>
+    ) -> Result<(), AllocError>
         ensures { OnOk result (Emits self.old self.new code.old code.new site (λ s. Good s (Cancel site.line class (view_expression notice.now))) (λ t. with_operand t (view_expression notice.now) (Cancels class))) }
     {
         let notice = self.operand(code, site, notice)?.address;
@@ -166,7 +166,7 @@ impl Generator<'_> {
     }
 
     /// START SIMULATION.
-    pub(crate) fn simulate(&self, code: &mut Piece, site: Site) -> Result<(), CodeError>
+    pub(crate) fn simulate(&self, code: &mut Piece, site: Site) -> Result<(), AllocError>
         ensures { OnOk result (Emits self.now self.now code.old code.new site (λ s. Unit {0}) (λ t. simulate_code t)) }
     {
         let cell = self.place_of(site)?;
@@ -177,7 +177,7 @@ impl Generator<'_> {
     }
 
     // A statistic starts afresh.
-    fn reset(&mut self, code: &mut Piece, site: Site, restart: &Restart) -> Result<(), CodeError>
+    fn reset(&mut self, code: &mut Piece, site: Site, restart: &Restart) -> Result<(), AllocError>
         ensures { OnOk result (Emits self.old self.new code.old code.new site (λ s. GoodRestart s restart.now.statistic (view_restart restart.now).of) (λ t. restarts_code t (view_restart restart.now ∷ []))) }
     {
         let entity = self.entity_of(code, site, &restart.of)?.address;
@@ -192,7 +192,7 @@ impl Generator<'_> {
         code: &mut Piece,
         site: Site,
         restarts: &[Restart],
-    ) -> Result<(), CodeError>
+    ) -> Result<(), AllocError>
         ensures { OnOk result (Emits self.old self.new code.old code.new site (λ s. Every (λ r. GoodRestart s r.statistic r.of) (map view_restart restarts.now)) (λ t. restarts_code t (map view_restart restarts.now))) }
     {
         for restart in restarts {

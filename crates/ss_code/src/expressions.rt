@@ -12,7 +12,6 @@ ghost use Rattle.ss_code.specs.Forms.{calculating, asking_set, asking_member, mo
 ghost use Rattle.ss_code.specs.Calculations.{folded, Operates};
 ghost use Rattle.ss_code.specs.Emitted.{Grows, Emits, EmitsTo, Typed, IsLeaf, Reads, Bears};
 
-use crate::error::CodeError;
 use crate::facts::{attribute_mode, variable_mode};
 use crate::generator::{Generator, Site};
 use crate::leaves::{Leaf, leaf_of};
@@ -23,6 +22,7 @@ use ss_code_instructions::instruction::Instruction;
 use ss_program::expression::{
     Expression, MemberQuery, Operation, Operator, SetOwner, SetQuery, Sign,
 };
+use std::alloc::AllocError;
 
 /// A value that an instruction reads: where it lies, and how many cells it takes for that.
 #[derive(Clone, Copy)]
@@ -126,7 +126,7 @@ fn signed(sign: Sign, left: Address, right: Address, to: Address) -> Instruction
 
 impl Generator<'_> {
     // The address of an expression that takes no code: a variable or a constant.
-    fn leaf(&mut self, e: &Expression) -> Result<Option<Address>, CodeError>
+    fn leaf(&mut self, e: &Expression) -> Result<Option<Address>, AllocError>
         ensures grows { OnOk result (Grows self.old self.new) }
         ensures leaf { IfOk result (λ found. IsLeaf self.new (view_expression e.now) found) }
     {
@@ -144,7 +144,7 @@ impl Generator<'_> {
         code: &mut Piece,
         site: Site,
         e: &Expression,
-    ) -> Result<Operand, CodeError>
+    ) -> Result<Operand, AllocError>
         ensures { IfOk result (λ o. Reads self.old self.new code.old code.new site (view_expression e.now) o) }
     {
         if let Some(address) = self.leaf(e)? {
@@ -164,7 +164,7 @@ impl Generator<'_> {
         site: Site,
         e: &Expression,
         to: Address,
-    ) -> Result<(), CodeError>
+    ) -> Result<(), AllocError>
         ensures { OnOk result (EmitsTo self.old self.new code.old code.new site to (Typed (view_expression e.now)) (λ t x. expression_code t x (view_expression e.now))) }
     {
         let instruction = match e {
@@ -241,7 +241,7 @@ impl Generator<'_> {
         left: Operand,
         operation: &Operation,
         to: Address,
-    ) -> Result<(), CodeError>
+    ) -> Result<(), AllocError>
         ensures { OnOk result (Operates self.old self.new code.old code.new site left to operation.now) }
     {
         let right = self.operand(code, site.above(left.cells), &operation.operand)?.address;
@@ -262,7 +262,7 @@ impl Generator<'_> {
         first: &Expression,
         further: &[Operation],
         to: Address,
-    ) -> Result<(), CodeError>
+    ) -> Result<(), AllocError>
         ensures { OnOk result (EmitsTo self.old self.new code.old code.new site to (Typed (folded (view_expression first.now) further.now)) (λ t x. expression_code t x (folded (view_expression first.now) further.now))) }
     {
         let count = further.len();
@@ -284,7 +284,7 @@ impl Generator<'_> {
         code: &mut Piece,
         site: Site,
         e: &Expression,
-    ) -> Result<(), CodeError>
+    ) -> Result<(), AllocError>
         ensures code { OnOk result (Emits self.old self.new code.old code.new site (Typed (view_expression e.now)) (λ t. expression_code t (next t) (view_expression e.now))) }
         ensures room { OnOk result (site.height < self.new.deepest) }
     {
@@ -298,7 +298,7 @@ impl Generator<'_> {
         code: &mut Piece,
         site: Site,
         values: &[Expression],
-    ) -> Result<(), CodeError>
+    ) -> Result<(), AllocError>
         ensures code { OnOk result (Emits self.old self.new code.old code.new site (λ s. Every (λ e. Typed e s) (map view_expression values.now)) (λ t. values_code t (map view_expression values.now))) }
         ensures room { OnOk result (site.height + length values.now ≤ self.new.deepest) }
     {
@@ -315,7 +315,7 @@ impl Generator<'_> {
         code: &mut Piece,
         site: Site,
         owner: &SetOwner,
-    ) -> Result<Operand, CodeError>
+    ) -> Result<Operand, AllocError>
         ensures { IfOk result (λ o. Bears self.old self.new code.old code.new site (expression_of (view_owner owner.now)) o) }
     {
         match owner {
@@ -330,7 +330,7 @@ impl Generator<'_> {
         code: &mut Piece,
         site: Site,
         e: &Option<Expression>,
-    ) -> Result<Operand, CodeError>
+    ) -> Result<Operand, AllocError>
         ensures { IfOk result (λ o. Bears self.old self.new code.old code.new site (view_option view_expression e.now) o) }
     {
         match e {
@@ -340,7 +340,7 @@ impl Generator<'_> {
     }
 
     /// The number 1 goes into the next cell.
-    pub(crate) fn push_one(&mut self, code: &mut Piece, site: Site) -> Result<(), CodeError>
+    pub(crate) fn push_one(&mut self, code: &mut Piece, site: Site) -> Result<(), AllocError>
         ensures code { OnOk result (Emits self.old self.new code.old code.new site (λ s. Unit {0}) (λ t. place t (Move (Constant (Whole (pos 1))) (next t)) ∷ [])) }
         ensures room { OnOk result (site.height < self.new.deepest) }
     {

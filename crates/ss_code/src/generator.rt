@@ -7,7 +7,6 @@ ghost use Rattle.ss_code_instructions.specs.Translation.{Site as At, height};
 ghost use Rattle.ss_code_instructions.specs.Carried.{VariableAt, InFrame};
 ghost use Rattle.ss_code.specs.Emitted.{Final, Around, Grows, Stands, AtOperand, AtTarget};
 
-use crate::error::CodeError;
 use crate::piece::as_index;
 use ss_base::{Line, Mode, Value};
 use ss_code_instructions::address::Address;
@@ -70,7 +69,7 @@ impl<'a> Generator<'a> {
     }
 
     /// The address of a variable.
-    pub(crate) fn variable(&self, variable: Variable) -> Result<Address, CodeError>
+    pub(crate) fn variable(&self, variable: Variable) -> Result<Address, AllocError>
         ensures { IfOk result (λ a. VariableAt variable a) }
     {
         match variable {
@@ -80,7 +79,7 @@ impl<'a> Generator<'a> {
     }
 
     // The address of a constant, by its number among them: they lie after the global variables.
-    fn constant_at(&self, number: usize) -> Result<Address, CodeError>
+    fn constant_at(&self, number: usize) -> Result<Address, AllocError>
         ensures { IfOk result (λ a. (a.mask ≡ 0) × (a.number ≡ length self.now.program.now.globals.items + number)) }
     {
         let globals = self.program.globals.len();
@@ -97,7 +96,7 @@ impl<'a> Generator<'a> {
     }
 
     /// The address of a constant, which is a new one.
-    pub(crate) fn constant(&mut self, value: Value) -> Result<Address, CodeError>
+    pub(crate) fn constant(&mut self, value: Value) -> Result<Address, AllocError>
         ensures grows { OnOk result (Grows self.old self.new) }
         ensures at { IfOk result (λ a. (f : Final) (t : At) → Around f self.new → AtOperand f t (Constant value) a) }
     {
@@ -107,14 +106,14 @@ impl<'a> Generator<'a> {
     }
 
     /// The address of the constant 0.
-    pub(crate) fn zero(&self) -> Result<Address, CodeError>
+    pub(crate) fn zero(&self) -> Result<Address, AllocError>
         ensures { IfOk result (λ a. (f : Final) (t : At) → Around f self.now → AtOperand f t (Constant (Whole (pos 0))) a) }
     {
         self.constant_at(ZERO)
     }
 
     /// The address of the constant 1.
-    pub(crate) fn one(&self) -> Result<Address, CodeError>
+    pub(crate) fn one(&self) -> Result<Address, AllocError>
         ensures { IfOk result (λ a. (f : Final) (t : At) → Around f self.now → AtOperand f t (Constant (Whole (pos 1))) a) }
     {
         self.constant_at(ONE)
@@ -129,7 +128,7 @@ impl<'a> Generator<'a> {
     }
 
     /// The number in the frame of the cell above so many, which the stack has or will have.
-    pub(crate) fn place_of(&self, site: Site) -> Result<u32, CodeError>
+    pub(crate) fn place_of(&self, site: Site) -> Result<u32, AllocError>
         ensures { IfOk result (λ n. n ≡ length self.now.locals.items + site.height) }
     {
         let variables = self.locals.len();
@@ -137,7 +136,7 @@ impl<'a> Generator<'a> {
     }
 
     /// The number of the next cell in the frame, which the stack will have.
-    pub(crate) fn cell_number(&mut self, site: Site) -> Result<u32, CodeError>
+    pub(crate) fn cell_number(&mut self, site: Site) -> Result<u32, AllocError>
         ensures grows { OnOk result (Grows self.old self.new) }
         ensures number { IfOk result (λ n. n ≡ length self.new.locals.items + site.height) }
         ensures room { OnOk result (site.height < self.new.deepest) }
@@ -148,7 +147,7 @@ impl<'a> Generator<'a> {
     }
 
     /// The address of the next cell.
-    pub(crate) fn cell(&mut self, site: Site) -> Result<Address, CodeError>
+    pub(crate) fn cell(&mut self, site: Site) -> Result<Address, AllocError>
         ensures grows { OnOk result (Grows self.old self.new) }
         ensures at { IfOk result (λ a. InFrame (length self.new.locals.items + site.height) a) }
         ensures room { OnOk result (site.height < self.new.deepest) }

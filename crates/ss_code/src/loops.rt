@@ -9,7 +9,6 @@ ghost use Rattle.ss_code_instructions.specs.Translation.{loop_code, range_code, 
 ghost use Rattle.ss_code.specs.Emitted.{Emits, EmitsAround, EmitsAroundBoth, IsNumber, AreNumbers};
 ghost use Rattle.ss_code.specs.Looped.{loop_width, is_after, begin_of, TakesItem, TakesItems, TakesMembers, StartsWalk, KeepsOwner};
 
-use crate::error::CodeError;
 use crate::expressions::Operand;
 use crate::generator::{Generator, Site};
 use crate::piece::{Piece, as_index};
@@ -18,6 +17,7 @@ use ss_code_instructions::address::Address;
 use ss_code_instructions::instruction::Instruction;
 use ss_program::expression::{Expression, SetOwner, Variable};
 use ss_program::head::{Guard, Head, Phrase, Start};
+use std::alloc::AllocError;
 
 /// How many cells a FOR over numbers or a class keeps: the item, the limit and the step.
 const NUMBER_CELLS: usize = 3;
@@ -120,7 +120,7 @@ impl Generator<'_> {
         site: Site,
         guards: &[Guard],
         body: Piece,
-    ) -> Result<(), CodeError>
+    ) -> Result<(), AllocError>
         ensures { OnOk result (EmitsAround self.old self.new code.old code.new site body (λ s. Every (λ g. GoodCondition s g.condition) (map view_guard guards.now)) (λ t b. loop_code t (map view_guard guards.now) b)) }
     {
         let again = self.guards(site, 1, guards, Piece::new(self.alloc))?;
@@ -141,7 +141,7 @@ impl Generator<'_> {
         site: Site,
         cell: u32,
         variable: VariableSpot,
-    ) -> Result<(), CodeError>
+    ) -> Result<(), AllocError>
         ensures { OnOk result (TakesItem self.now code.old code.new site cell variable) }
     {
         match variable.watched {
@@ -165,7 +165,7 @@ impl Generator<'_> {
         cell: u32,
         variable: VariableSpot,
         turn: Piece,
-    ) -> Result<Piece, CodeError>
+    ) -> Result<Piece, AllocError>
         ensures { IfOk result (λ code. TakesItems self.now code site cell variable turn) }
     {
         let mut code = Piece::new(self.alloc);
@@ -184,7 +184,7 @@ impl Generator<'_> {
         first: &Expression,
         limit: &Expression,
         step: &Option<Expression>,
-    ) -> Result<(), CodeError>
+    ) -> Result<(), AllocError>
         ensures code { OnOk result (Emits self.old self.new code.old code.new site (λ s. IsNumber (view_expression first.now) s × IsNumber (view_expression limit.now) s × AreNumbers (view_option view_expression step.now) s) (λ t. range_code t (view_expression first.now) (view_expression limit.now) (view_option view_expression step.now))) }
         ensures room { OnOk result (site.height + 3 ≤ self.new.deepest) }
     {
@@ -207,7 +207,7 @@ impl Generator<'_> {
         limit: &Expression,
         step: &Option<Expression>,
         turn: Piece,
-    ) -> Result<(), CodeError>
+    ) -> Result<(), AllocError>
         ensures { OnOk result (EmitsAround self.old self.new code.old code.new site turn (λ s. GoodHead s (Numbers variable (view_expression first.now) (view_expression limit.now) (view_option view_expression step.now))) (λ t b. for_code t (Numbers variable (view_expression first.now) (view_expression limit.now) (view_option view_expression step.now)) b)) }
     {
         self.range(code, site, first, limit, step)?;
@@ -229,7 +229,7 @@ impl Generator<'_> {
         variable: Variable,
         class: usize,
         turn: Piece,
-    ) -> Result<(), CodeError>
+    ) -> Result<(), AllocError>
         ensures { OnOk result (EmitsAround self.old self.new code.old code.new site turn (λ s. GoodHead s (Each variable class)) (λ t b. for_code t (Each variable class) b)) }
     {
         let above = site.above(NUMBER_CELLS);
@@ -245,7 +245,7 @@ impl Generator<'_> {
     }
 
     // The members of a walk: a turn, and on to the next one.
-    fn take_members(&self, site: Site, walk: Walk, turn: Piece) -> Result<Piece, CodeError>
+    fn take_members(&self, site: Site, walk: Walk, turn: Piece) -> Result<Piece, AllocError>
         ensures { IfOk result (λ code. TakesMembers self.now code site walk turn) }
     {
         let mut code = Piece::new(self.alloc);
@@ -273,7 +273,7 @@ impl Generator<'_> {
         code: &mut Piece,
         site: Site,
         owner: &SetOwner,
-    ) -> Result<Operand, CodeError>
+    ) -> Result<Operand, AllocError>
         ensures { IfOk result (λ o. KeepsOwner self.old self.new code.old code.new site (view_owner owner.now) o) }
     {
         match owner {
@@ -295,7 +295,7 @@ impl Generator<'_> {
         site: Site,
         walk: Walk,
         member: &Expression,
-    ) -> Result<(), CodeError>
+    ) -> Result<(), AllocError>
         ensures { OnOk result (StartsWalk self.old self.new code.old code.new site walk (From (view_expression member.now))) }
     {
         code.put(
@@ -315,7 +315,7 @@ impl Generator<'_> {
         site: Site,
         walk: Walk,
         start: &Start,
-    ) -> Result<(), CodeError>
+    ) -> Result<(), AllocError>
         ensures { OnOk result (StartsWalk self.old self.new code.old code.new site walk (view_start start.now)) }
     {
         match start {
@@ -336,7 +336,7 @@ impl Generator<'_> {
         start: &Start,
         reverse: bool,
         turn: Piece,
-    ) -> Result<(), CodeError>
+    ) -> Result<(), AllocError>
         ensures { OnOk result (EmitsAround self.old self.new code.old code.new site turn (λ s. GoodHead s (Members variable set (view_owner owner.now) (view_start start.now) reverse)) (λ t b. for_code t (Members variable set (view_owner owner.now) (view_start start.now) reverse) b)) }
     {
         let kept = self.kept_owner(code, site, owner)?;
@@ -365,7 +365,7 @@ impl Generator<'_> {
         site: Site,
         head: &Head,
         turn: Piece,
-    ) -> Result<(), CodeError>
+    ) -> Result<(), AllocError>
         ensures { OnOk result (EmitsAround self.old self.new code.old code.new site turn (λ s. GoodHead s (view_head head.now)) (λ t b. for_code t (view_head head.now) b)) }
     {
         match head {
@@ -396,7 +396,7 @@ impl Generator<'_> {
         phrases: &[Phrase],
         found: Piece,
         none: Piece,
-    ) -> Result<(), CodeError>
+    ) -> Result<(), AllocError>
         ensures { OnOk result (EmitsAroundBoth self.old self.new code.old code.new site found none (λ s. GoodHead s (view_head head.now) × Every (GoodPhrase s) (map view_phrase phrases.now)) (λ t b. find_code t (view_head head.now) (map view_phrase phrases.now) b.first b.second)) }
     {
         let cells = cells_of(head);

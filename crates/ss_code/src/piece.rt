@@ -1,9 +1,8 @@
 //! Pieces of code.
 
-ghost use Rattle.std.specs.Prelude.{◌≡◌, [], ◌∷◌, ◌++◌, ◌<◌, ◌^◌, length, reverse, Err, IfOk, OnOk};
+ghost use Rattle.std.specs.Prelude.{◌≡◌, [], ◌∷◌, ◌++◌, ◌<◌, ◌^◌, length, reverse, IfOk, OnOk};
 ghost use Rattle.ss_code.specs.Lined.{Lined, nothing};
 
-use crate::error::CodeError;
 use ss_base::Line;
 use ss_code_instructions::instruction::Instruction;
 use std::alloc::{AllocError, Global};
@@ -93,12 +92,11 @@ impl Piece {
 ///
 /// The error says that memory was refused: no machine has room for so many variables, constants or cells, and none for so many
 /// instructions.
-pub(crate) fn as_index(number: usize) -> Result<u32, CodeError>
-    ensures value { IfOk result (λ index. index ≡ number) }
-    ensures error { result ≡ Err CodeError.CodeTooLong → ⊥ }
+pub(crate) fn as_index(number: usize) -> Result<u32, AllocError>
+    ensures { IfOk result (λ index. index ≡ number) }
 {
     match u32::try_from(number) {
         Ok(index) => Ok(index),
-        Err(_) => Err(CodeError::Memory),
+        Err(_) => Err(AllocError),
     }
 }

@@ -9,7 +9,6 @@ ghost use Rattle.ss_code.specs.Items.{kind_of, item_width, GoodItem};
 ghost use Rattle.ss_code.specs.Printed.{PrintsLines};
 ghost use Rattle.ss_code.specs.Emitted.{Makes, Emits};
 
-use crate::error::CodeError;
 use crate::facts::expression_mode;
 use crate::generator::{Generator, Site};
 use crate::lines::Lines;
@@ -23,7 +22,7 @@ use std::alloc::AllocError;
 impl Generator<'_> {
     // An item: the value or reference that it takes goes into the next cell, and a mean is looked at. It answers how many cells
     // that takes.
-    fn item(&mut self, code: &mut Piece, site: Site, item: &Item) -> Result<usize, CodeError>
+    fn item(&mut self, code: &mut Piece, site: Site, item: &Item) -> Result<usize, AllocError>
         ensures code { IfOk result (λ n. Emits self.old self.new code.old code.new site (GoodItem (view_item item.now)) (λ t. item_code t (view_item item.now))) }
         ensures width { IfOk result (λ n. n ≡ item_width (view_item item.now)) }
         ensures room { IfOk result (λ n. site.height + n ≤ self.new.deepest) }
@@ -51,7 +50,7 @@ impl Generator<'_> {
     }
 
     // Items, one after the other. It answers where the code goes on.
-    fn items(&mut self, code: &mut Piece, site: Site, items: &[Item]) -> Result<(), CodeError>
+    fn items(&mut self, code: &mut Piece, site: Site, items: &[Item]) -> Result<(), AllocError>
         ensures { OnOk result (Makes self.old self.new code.old code.new site (λ f t (u : Unit {0}). Every (λ x. GoodItem x t.scope) (map view_item items.now)) (λ t u. items_code t (map view_item items.now)) (λ f t u. height (after_items t (map view_item items.now)) ≤ f.depth)) }
     {
         self.reach(site.height);
@@ -101,7 +100,7 @@ impl Generator<'_> {
         site: Site,
         items: &[Item],
         pictures: &[Vec<u8>],
-    ) -> Result<(), CodeError>
+    ) -> Result<(), AllocError>
         ensures { OnOk result (PrintsLines self.old self.new code.old code.new site prints.old.items prints.new.items (map view_item items.now) (map (λ line. line.items) pictures.now)) }
     {
         let kinds = self.item_kinds(items)?;

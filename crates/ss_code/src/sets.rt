@@ -11,7 +11,6 @@ ghost use Rattle.ss_code.specs.Facts.{filing_of};
 ghost use Rattle.ss_code.specs.Forms.{filing, removing};
 ghost use Rattle.ss_code.specs.Emitted.{Emits, IsNumber, ReadsBy};
 
-use crate::error::CodeError;
 use crate::expressions::Operand;
 use crate::facts::{Ordering, is_count_watched, ordering_of};
 use crate::generator::{Generator, Site};
@@ -21,6 +20,7 @@ use ss_code_instructions::address::Address;
 use ss_code_instructions::instruction::Instruction;
 use ss_program::expression::{Expression, SetOwner};
 use ss_program::statement::{End, Place, Position};
+use std::alloc::AllocError;
 
 // A member is filed where the discipline says.
 fn file_by(
@@ -83,7 +83,7 @@ impl Generator<'_> {
         set: usize,
         e: &Expression,
         is_looked: bool,
-    ) -> Result<Operand, CodeError>
+    ) -> Result<Operand, AllocError>
         ensures { IfOk result (λ o. ReadsBy self.old self.new code.old code.new site (IsNumber (view_expression e.now)) (view_expression e.now) o (λ t. member_code t is_looked set (view_expression e.now))) }
     {
         let member = self.operand(code, site, e)?;
@@ -108,7 +108,7 @@ impl Generator<'_> {
         member: &Expression,
         ordering: Ordering,
         owner: &SetOwner,
-    ) -> Result<(), CodeError>
+    ) -> Result<(), AllocError>
         ensures { OnOk result (Emits self.old self.new code.old code.new site (λ s. IsNumber (view_expression member.now) s × OwnerFits s set (view_owner owner.now)) (λ t. member_code t (may_fault (expression_of (view_owner owner.now))) set (view_expression member.now) ++ with_owner (after t (view_expression member.now)) (view_owner owner.now) (Files (filing_of ordering) set (operand t (view_expression member.now))))) }
     {
         let member = self.member(code, site, set, member, owner_may_fault(owner))?;
@@ -131,7 +131,7 @@ impl Generator<'_> {
         after: bool,
         beside: &Expression,
         owner: &SetOwner,
-    ) -> Result<(), CodeError>
+    ) -> Result<(), AllocError>
         ensures { OnOk result (Emits self.old self.new code.old code.new site (λ s. IsNumber (view_expression member.now) s × IsNumber (view_expression beside.now) s × OwnerFits s set (view_owner owner.now)) (λ t. file_code t set (view_expression member.now) (if after then AfterMember (view_expression beside.now) else BeforeMember (view_expression beside.now)) (view_owner owner.now))) }
     {
         let member = self.member(code, site, set, member, true)?;
@@ -161,7 +161,7 @@ impl Generator<'_> {
         member: &Expression,
         position: &Position,
         owner: &SetOwner,
-    ) -> Result<(), CodeError>
+    ) -> Result<(), AllocError>
         ensures { OnOk result (Emits self.old self.new code.old code.new site (λ s. Good s (File site.line set (view_expression member.now) (view_position position.now) (view_owner owner.now))) (λ t. file_code t set (view_expression member.now) (view_position position.now) (view_owner owner.now))) }
     {
         match position {
@@ -188,7 +188,7 @@ impl Generator<'_> {
         set: usize,
         member: &Expression,
         owner: &SetOwner,
-    ) -> Result<(), CodeError>
+    ) -> Result<(), AllocError>
         ensures { OnOk result (Emits self.old self.new code.old code.new site (λ s. Good s (Remove site.line set (view_expression member.now) (view_owner owner.now))) (λ t. remove_code t set (view_expression member.now) (view_owner owner.now))) }
     {
         let member = self.member(code, site, set, member, owner_may_fault(owner))?;
@@ -214,7 +214,7 @@ impl Generator<'_> {
         set: usize,
         place: &Place,
         owner: &SetOwner,
-    ) -> Result<(), CodeError>
+    ) -> Result<(), AllocError>
         ensures { OnOk result (Emits self.old self.new code.old code.new site (λ s. Good s (RemoveEnd site.line end set (view_place place.now) (view_owner owner.now))) (λ t. remove_end_code t end set (view_place place.now) (view_owner owner.now))) }
     {
         let spot = self.looked_spot(code, site, place)?;

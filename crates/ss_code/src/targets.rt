@@ -15,7 +15,6 @@ ghost use Rattle.ss_code.specs.declared.generator.Site.{Site as Here};
 ghost use Rattle.ss_code.specs.Emitted.{Final, Around, Grows, Stands, AtTarget, Makes, NoMore, Emits, IsNumber};
 ghost use Rattle.ss_code.specs.Spots.{HasRoom, IsWatched, IsVariable, IsAttribute, IsSpot, IsPlaceOf, spot_cells, spot_code, landing as lands_at, GoodPlace, Gives, Takes, Changed, IsHeldBy};
 
-use crate::error::CodeError;
 use crate::expressions::move_of;
 use crate::facts::{attribute_mode, is_attribute_watched, is_variable_watched, variable_mode};
 use crate::generator::{Generator, Site};
@@ -26,6 +25,7 @@ use ss_code_instructions::address::Address;
 use ss_code_instructions::instruction::Instruction;
 use ss_program::expression::{Expression, Sign, Variable};
 use ss_program::statement::{CountedClass, Place, Target};
+use std::alloc::AllocError;
 
 /// A variable that is assigned: where it lies, its mode, and its number where a statistic watches it.
 #[derive(Clone, Copy)]
@@ -112,7 +112,7 @@ fn read_of(mode: Mode, to: Address) -> Instruction
 
 impl Generator<'_> {
     // The number of a variable where a statistic watches it. None watches a local one.
-    fn watched(&self, variable: Variable) -> Result<Option<u32>, CodeError>
+    fn watched(&self, variable: Variable) -> Result<Option<u32>, AllocError>
         ensures { IfOk result (λ k. IsWatched (is_watched self.now.program.now.statistics.items variable) variable k) }
     {
         match variable {
@@ -128,7 +128,7 @@ impl Generator<'_> {
     }
 
     /// A variable as what is assigned.
-    pub(crate) fn variable_spot(&self, variable: Variable) -> Result<VariableSpot, CodeError>
+    pub(crate) fn variable_spot(&self, variable: Variable) -> Result<VariableSpot, AllocError>
         ensures { IfOk result (λ s. (f : Final) (here : Here) (t : At) → Around f self.now → Stands f self.now here t → IsVariable t variable s) }
     {
         Ok(VariableSpot {
@@ -139,7 +139,7 @@ impl Generator<'_> {
     }
 
     // N. of a class as what is assigned.
-    fn count_spot(&self, count: CountedClass) -> Result<Spot, CodeError>
+    fn count_spot(&self, count: CountedClass) -> Result<Spot, AllocError>
         ensures { IfOk result (λ s. (f : Final) (here : Here) (t : At) → Around f self.now → Stands f self.now here t → IsSpot f t (ToCount count) s) }
     {
         let variable = Variable::Global {
@@ -156,7 +156,7 @@ impl Generator<'_> {
         class: usize,
         field: usize,
         of: &Expression,
-    ) -> Result<AttributeSpot, CodeError>
+    ) -> Result<AttributeSpot, AllocError>
         ensures { IfOk result (λ s. Makes self.old self.new code.old code.new site (λ f t (u : Unit {0}). IsNumber (view_expression of.now) t.scope) (λ t u. operand_code t (view_expression of.now)) (λ f t u. IsAttribute f t class field (view_expression of.now) s)) }
     {
         let entity = self.operand(code, site, of)?;
@@ -171,7 +171,7 @@ impl Generator<'_> {
     }
 
     // A place as what is assigned: the reference to the entity of an attribute is evaluated.
-    fn spot(&mut self, code: &mut Piece, site: Site, place: &Place) -> Result<Spot, CodeError>
+    fn spot(&mut self, code: &mut Piece, site: Site, place: &Place) -> Result<Spot, AllocError>
         ensures { IfOk result (λ s. Makes self.old self.new code.old code.new site (λ f t (u : Unit {0}). GoodPlace (view_place place.now) t.scope) (λ t u. spot_code t (view_place place.now)) (λ f t u. IsSpot f t (view_place place.now) s)) }
     {
         match place {
@@ -190,7 +190,7 @@ impl Generator<'_> {
         code: &mut Piece,
         site: Site,
         place: &Place,
-    ) -> Result<Spot, CodeError>
+    ) -> Result<Spot, AllocError>
         ensures { IfOk result (λ s. Makes self.old self.new code.old code.new site (λ f t (u : Unit {0}). GoodPlace (view_place place.now) t.scope) (λ t u. place_code t (view_place place.now)) (λ f t u. IsSpot f t (view_place place.now) s)) }
     {
         let spot = self.spot(code, site, place)?;
@@ -207,7 +207,7 @@ impl Generator<'_> {
     }
 
     /// Where the value that a place will be assigned lies at first: in the variable itself, unless it is watched, or in the next cell.
-    pub(crate) fn landing(&mut self, site: Site, spot: Spot) -> Result<Address, CodeError>
+    pub(crate) fn landing(&mut self, site: Site, spot: Spot) -> Result<Address, AllocError>
         ensures grows { OnOk result (Grows self.old self.new) }
         ensures at { IfOk result (λ to. (f : Final) (t u : At) (p : Plain) → Around f self.new → Stands f self.new site u → t.scope ≡ u.scope → IsSpot f t p spot → AtTarget f u (lands_at u p) to × HasRoom f (lands_at u p)) }
     {
@@ -228,7 +228,7 @@ impl Generator<'_> {
         site: Site,
         variable: VariableSpot,
         from: Address,
-    ) -> Result<(), CodeError>
+    ) -> Result<(), AllocError>
         ensures { OnOk result (Gives self.now code.old code.new site from (λ f t p. IsPlaceOf t p variable)) }
     {
         let to = variable.address;
@@ -247,7 +247,7 @@ impl Generator<'_> {
         site: Site,
         spot: Spot,
         from: Address,
-    ) -> Result<(), CodeError>
+    ) -> Result<(), AllocError>
         ensures { OnOk result (Gives self.now code.old code.new site from (λ f t p. IsSpot f t p spot)) }
     {
         match spot {
@@ -270,7 +270,7 @@ impl Generator<'_> {
         site: Site,
         spot: Spot,
         from: Address,
-    ) -> Result<(), CodeError>
+    ) -> Result<(), AllocError>
         ensures { OnOk result (Takes self.now code.old code.new site from (λ f t p. IsSpot f t p spot)) }
     {
         if let Spot::Variable(VariableSpot { watched: None, .. }) = spot {
@@ -285,7 +285,7 @@ impl Generator<'_> {
         code: &mut Piece,
         site: Site,
         cells: usize,
-    ) -> Result<(), CodeError>
+    ) -> Result<(), AllocError>
         ensures { OnOk result (Emits self.now self.now code.old code.new site (λ s. Unit {0}) (λ u. forget u cells)) }
     {
         if cells > 0 {
@@ -301,7 +301,7 @@ impl Generator<'_> {
         code: &mut Piece,
         site: Site,
         place: &Place,
-    ) -> Result<(), CodeError>
+    ) -> Result<(), AllocError>
         ensures { OnOk result (Emits self.old self.new code.old code.new site (GoodPlace (view_place place.now)) (λ t. give_code t (view_place place.now))) }
     {
         let from = self.cell(site)?;
@@ -317,7 +317,7 @@ impl Generator<'_> {
         site: Site,
         spot: VariableSpot,
         value: &Expression,
-    ) -> Result<(), CodeError>
+    ) -> Result<(), AllocError>
         ensures { OnOk result (Makes self.old self.new code.old code.new site (λ f t x. IsVariable t x spot × Good t.scope (Let site.line (ToVariable x) (view_expression value.now))) (λ t x. let_code t (ToVariable x) (view_expression value.now)) NoMore) }
     {
         match spot.watched {
@@ -339,7 +339,7 @@ impl Generator<'_> {
         field: usize,
         of: &Expression,
         value: &Expression,
-    ) -> Result<(), CodeError>
+    ) -> Result<(), AllocError>
         ensures { OnOk result (Emits self.old self.new code.old code.new site (λ s. Good s (Let site.line (ToAttribute class field (view_expression of.now)) (view_expression value.now))) (λ t. let_code t (ToAttribute class field (view_expression of.now)) (view_expression value.now))) }
     {
         let spot = self.attribute_spot(code, site, class, field, of)?;
@@ -364,7 +364,7 @@ impl Generator<'_> {
         site: Site,
         place: &Place,
         value: &Expression,
-    ) -> Result<(), CodeError>
+    ) -> Result<(), AllocError>
         ensures { OnOk result (Emits self.old self.new code.old code.new site (λ s. Good s (Let site.line (view_place place.now) (view_expression value.now))) (λ t. let_code t (view_place place.now) (view_expression value.now))) }
     {
         match place {
@@ -392,7 +392,7 @@ impl Generator<'_> {
         spot: Spot,
         variable: VariableSpot,
         value: &Expression,
-    ) -> Result<(), CodeError>
+    ) -> Result<(), AllocError>
         ensures { OnOk result (Makes self.old self.new code.old code.new site (λ f t (c : Changed). IsSpot f t c.place spot × IsVariable t c.variable variable × IsHeldBy c × IsNumber (view_expression value.now) t.scope) (λ t c. change_code t sign c.place (view_expression value.now)) NoMore) }
     {
         let by = self.operand(code, site, value)?.address;
@@ -411,7 +411,7 @@ impl Generator<'_> {
         field: usize,
         of: &Expression,
         value: &Expression,
-    ) -> Result<(), CodeError>
+    ) -> Result<(), AllocError>
         ensures { OnOk result (Emits self.old self.new code.old code.new site (λ s. Good s (Change site.line sign (ToAttribute class field (view_expression of.now)) (view_expression value.now))) (λ t. change_code t sign (ToAttribute class field (view_expression of.now)) (view_expression value.now))) }
     {
         let by = self.operand(code, site, value)?;
@@ -438,7 +438,7 @@ impl Generator<'_> {
         sign: Sign,
         place: &Place,
         value: &Expression,
-    ) -> Result<(), CodeError>
+    ) -> Result<(), AllocError>
         ensures { OnOk result (Emits self.old self.new code.old code.new site (λ s. Good s (Change site.line sign (view_place place.now) (view_expression value.now))) (λ t. change_code t sign (view_place place.now) (view_expression value.now))) }
     {
         match place {
@@ -461,7 +461,7 @@ impl Generator<'_> {
     }
 
     // A target takes a word of input.
-    fn read(&mut self, code: &mut Piece, site: Site, target: &Target) -> Result<(), CodeError>
+    fn read(&mut self, code: &mut Piece, site: Site, target: &Target) -> Result<(), AllocError>
         ensures { OnOk result (Emits self.old self.new code.old code.new site (λ s. TakesMode s (view_place target.now.place) target.now.mode) (λ t. to_place_code t (view_place target.now.place) target.now.mode (λ u to. place u (Read target.now.mode to) ∷ []))) }
     {
         let spot = self.looked_spot(code, site, &target.place)?;
@@ -477,7 +477,7 @@ impl Generator<'_> {
         code: &mut Piece,
         site: Site,
         targets: &[Target],
-    ) -> Result<(), CodeError>
+    ) -> Result<(), AllocError>
         ensures { OnOk result (Emits self.old self.new code.old code.new site (λ s. Every (λ x. TakesMode s x.place x.mode) (map view_target targets.now)) (λ t. reads_code t (map view_target targets.now))) }
     {
         for target in targets {
@@ -493,7 +493,7 @@ impl Generator<'_> {
         site: Site,
         class: usize,
         place: &Place,
-    ) -> Result<(), CodeError>
+    ) -> Result<(), AllocError>
         ensures { OnOk result (Emits self.old self.new code.old code.new site (λ s. TakesMode s (view_place place.now) Integer) (λ t. to_place_code t (view_place place.now) Integer (λ u to. place u (Create class to) ∷ []))) }
     {
         let spot = self.looked_spot(code, site, place)?;
@@ -510,7 +510,7 @@ impl Generator<'_> {
         code: &mut Piece,
         site: Site,
         classes: &[CountedClass],
-    ) -> Result<(), CodeError>
+    ) -> Result<(), AllocError>
         ensures { OnOk result (Emits self.old self.new code.old code.new site (λ s. Unit {0}) (λ t. creates_code t classes.now)) }
     {
         for counted in classes {
