@@ -1,0 +1,9 @@
+mod Emitting
+mod Forms
+mod Modes
+mod Operands
+mod Expressions
+mod Testing
+mod Assigned
+mod Sections
+mod Whole
