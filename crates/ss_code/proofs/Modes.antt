@@ -6,7 +6,7 @@ use Rattle.std.specs.Option.{option_map, option_and_then}
 use Rattle.ss_base.specs.declared.layout.Mode.{Mode}
 use Rattle.ss_base.specs.declared.layout.Mode.TheVariants.{Integer, Alpha}
 use Rattle.ss_base.specs.declared.value.Value.{Value}
-use Rattle.ss_base.specs.Plain.{PlainClass}
+use Rattle.ss_base.specs.declared.layout.ClassLayout.{ClassLayout}
 use Rattle.ss_world.specs.State.{modes_in}
 use Rattle.ss_program.specs.declared.expression.Variable.{Variable}
 use Rattle.ss_program.specs.declared.expression.Variable.TheVariants.{Global, Local}
@@ -41,7 +41,7 @@ mode_is s (Absolute e) m h = sym h.0
 mode_is s (Calculate op a b) m h = sym h.0
 
 -- an attribute is one of the layout, as the code has it
-fields_agree : (o : Option PlainClass) (field : ℕ) (m : Mode) → option_and_then (λ (modes : List Mode). slice_get modes field) (option_map (λ (c : PlainClass). c.fields) o) ≡ Some m → slice_get (modes_in o) field ≡ Some m
+fields_agree : (o : Option ClassLayout) (field : ℕ) (m : Mode) → option_and_then (λ (modes : List Mode). slice_get modes field) (option_map (λ (c : ClassLayout). c.fields) o) ≡ Some m → slice_get (modes_in o) field ≡ Some m
 fields_agree None field m h = absurd cc
 fields_agree (Some c) field m h = h
 
