@@ -7,7 +7,7 @@ ghost use Rattle.ss_program.specs.View.{view_expression, view_owner, view_test, 
 ghost use Rattle.ss_program.specs.WellTyped.{GoodTest, GoodCondition, GoodPhrase};
 ghost use Rattle.ss_code_instructions.specs.Instructions.{Jump};
 ghost use Rattle.ss_code_instructions.specs.Translation.{place, test_code, tests_code, condition_code, negated_code, guard_code, guards_code, phrase_code, phrases_code};
-ghost use Rattle.ss_code.specs.Forms.{comparing_numbers};
+ghost use Rattle.ss_code.specs.Forms.{comparing_numbers, comparing};
 ghost use Rattle.ss_code.specs.Lined.{nothing};
 ghost use Rattle.ss_code.specs.Emitted.{Emits, EmitsAround};
 
@@ -38,6 +38,21 @@ fn unless(relation: Relation, left: Address, right: Address, skip: u32) -> Instr
     }
 }
 
+// Two values of a mode are compared.
+fn compare(mode: Mode, relation: Relation, left: Address, right: Address, skip: u32) -> Instruction
+    ensures { result ≡ comparing mode relation left right skip }
+{
+    match mode {
+        Mode::Integer => unless(relation, left, right, skip),
+        Mode::Alpha => Instruction::UnlessTexts {
+            left,
+            right,
+            skip,
+            relation,
+        },
+    }
+}
+
 impl Generator<'_> {
     // Two values are compared.
     fn comparison(
@@ -54,18 +69,10 @@ impl Generator<'_> {
         let mode = expression_mode(self.program, &self.locals, first);
         let left = self.operand(code, site, first)?;
         let right = self.operand(code, site.above(left.cells), second)?.address;
-        let left = left.address;
-        let instruction = match mode {
-            Mode::Integer => unless(relation, left, right, skip),
-            Mode::Alpha => Instruction::UnlessTexts {
-                left,
-                right,
-                skip,
-                relation,
-            },
-        };
-        code.put(site.line, instruction)?;
-        Ok(())
+        code.put(
+            site.line,
+            compare(mode, relation, left.address, right, skip),
+        )
     }
 
     // Whether a set has no member.

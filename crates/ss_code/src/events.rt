@@ -7,17 +7,29 @@ ghost use Rattle.ss_program.specs.View.{view_expression, view_place, view_when, 
 ghost use Rattle.ss_program.specs.WellTyped.{GoodWhen, GoodRestart, Good};
 ghost use Rattle.ss_code_instructions.specs.Instructions.{Cancel as Cancels};
 ghost use Rattle.ss_code_instructions.specs.Translation.{with_operand, values_code, after_values, when_code, schedule_new_code, schedule_code, restarts_code};
-ghost use Rattle.ss_code.specs.Notices.{any_watched, simulate_code};
+ghost use Rattle.ss_code.specs.Notices.{named_at, any_watched, simulate_code};
 ghost use Rattle.ss_code.specs.Emitted.{Emits, Typed};
 
 use crate::facts::is_attribute_watched;
 use crate::generator::{Generator, Site};
 use crate::piece::{Piece, as_index};
 use crate::targets::Spot;
+use ss_code_instructions::address::Address;
 use ss_code_instructions::instruction::Instruction;
 use ss_program::expression::Expression;
 use ss_program::statement::{Place, Restart, When};
 use std::alloc::AllocError;
+
+// Where a new notice lies once it is assigned: in its variable, or where it came at first.
+fn notice_at(spot: Spot, to: Address) -> Address
+    ensures { result ≡ named_at spot to }
+{
+    match spot {
+        Spot::Variable(variable) => variable.address,
+        Spot::Attribute(_) => to,
+        Spot::Count(_, _) => to,
+    }
+}
 
 impl Generator<'_> {
     // The time to schedule for goes into the next cell.
@@ -26,19 +38,17 @@ impl Generator<'_> {
         ensures room { OnOk result (site.height < self.new.deepest) }
     {
         let to = self.cell(site)?;
-        let instruction = match when {
+        match when {
             When::At { time } => {
                 let time = self.operand(code, site, time)?.address;
-                Instruction::At { time, to }
+                code.put(site.line, Instruction::At { time, to })
             }
             When::In { units } => {
                 let units = self.operand(code, site, units)?.address;
-                Instruction::In { units, to }
+                code.put(site.line, Instruction::In { units, to })
             }
-            When::Now => Instruction::Clock { to },
-        };
-        code.put(site.line, instruction)?;
-        Ok(())
+            When::Now => code.put(site.line, Instruction::Clock { to }),
+        }
     }
 
     // What a notice is given goes into the next cells, and its time above that.
@@ -97,16 +107,11 @@ impl Generator<'_> {
             },
         )?;
         self.take(code, higher, spot, to)?;
-        let notice = match spot {
-            Spot::Variable(variable) => variable.address,
-            Spot::Attribute(_) => to,
-            Spot::Count(_, _) => to,
-        };
         code.put(
             site.line,
             Instruction::FileNotice {
                 class: index,
-                notice,
+                notice: notice_at(spot, to),
                 time,
             },
         )?;

@@ -6,6 +6,7 @@ ghost use Rattle.ss_base.specs.declared.value.Value.TheVariants.{Whole};
 ghost use Rattle.ss_program.specs.View.{view_expression, view_owner, view_option};
 ghost use Rattle.ss_meaning.specs.Values.{operator_of};
 ghost use Rattle.ss_code_instructions.specs.Instructions.{Constant, Move};
+ghost use Rattle.ss_code_instructions.specs.declared.instruction.Instruction.TheVariants.{Figure as Figures};
 ghost use Rattle.ss_code_instructions.specs.Facts.{expression_of};
 ghost use Rattle.ss_code_instructions.specs.Translation.{expression_code, values_code, place, next};
 ghost use Rattle.ss_code.specs.Forms.{calculating, asking_set, asking_member, moving, fetching};
@@ -20,7 +21,7 @@ use ss_base::Mode;
 use ss_code_instructions::address::Address;
 use ss_code_instructions::instruction::Instruction;
 use ss_program::expression::{
-    Expression, MemberQuery, Operation, Operator, SetOwner, SetQuery, Sign,
+    Expression, Fold, MemberQuery, Operation, Operator, SetOwner, SetQuery, Sign,
 };
 use std::alloc::AllocError;
 
@@ -124,6 +125,18 @@ fn signed(sign: Sign, left: Address, right: Address, to: Address) -> Instruction
     }
 }
 
+// What a statistic says of an entity.
+fn figure_of(fold: Fold, statistic: u32, entity: Address, to: Address) -> Instruction
+    ensures { result ≡ Figures statistic entity to fold }
+{
+    Instruction::Figure {
+        statistic,
+        entity,
+        to,
+        fold,
+    }
+}
+
 impl Generator<'_> {
     // The address of an expression that takes no code: a variable or a constant.
     fn leaf(&mut self, e: &Expression) -> Result<Option<Address>, AllocError>
@@ -167,69 +180,64 @@ impl Generator<'_> {
     ) -> Result<(), AllocError>
         ensures { OnOk result (EmitsTo self.old self.new code.old code.new site to (Typed (view_expression e.now)) (λ t x. expression_code t x (view_expression e.now))) }
     {
-        let instruction = match e {
+        match e {
             Expression::Constant { value } => {
                 let from = self.constant(*value)?;
-                move_of(value.mode(), from, to)
+                code.put(site.line, move_of(value.mode(), from, to))
             }
             Expression::Fetch { variable } => {
                 let from = self.variable(*variable)?;
-                move_of(variable_mode(self.program, &self.locals, *variable), from, to)
+                let mode = variable_mode(self.program, &self.locals, *variable);
+                code.put(site.line, move_of(mode, from, to))
             }
             Expression::Attribute { class, field, of } => {
                 let entity = self.operand(code, site, of)?.address;
                 let mode = attribute_mode(self.program, *class, *field);
-                attribute_of(mode, as_index(*class)?, as_index(*field)?, entity, to)
+                let (class, field) = (as_index(*class)?, as_index(*field)?);
+                code.put(site.line, attribute_of(mode, class, field, entity, to))
             }
             Expression::OfSystemSet { query, set } => {
-                ask_set(*query, as_index(*set)?, self.zero()?, to)
+                let owner = self.zero()?;
+                code.put(site.line, ask_set(*query, as_index(*set)?, owner, to))
             }
             Expression::OfSet { query, set, owner } => {
                 let owner = self.operand(code, site, owner)?.address;
-                ask_set(*query, as_index(*set)?, owner, to)
+                code.put(site.line, ask_set(*query, as_index(*set)?, owner, to))
             }
             Expression::OfMember { query, set, member } => {
                 let member = self.operand(code, site, member)?.address;
-                ask_member(*query, as_index(*set)?, member, to)
+                code.put(site.line, ask_member(*query, as_index(*set)?, member, to))
             }
-            Expression::Clock => Instruction::Clock { to },
+            Expression::Clock => code.put(site.line, Instruction::Clock { to }),
             Expression::TimeOf { notice } => {
                 let notice = self.operand(code, site, notice)?.address;
-                Instruction::TimeOf { notice, to }
+                code.put(site.line, Instruction::TimeOf { notice, to })
             }
-            Expression::Figure { fold, statistic } => Instruction::Figure {
-                statistic: as_index(*statistic)?,
-                entity: self.zero()?,
-                to,
-                fold: *fold,
-            },
+            Expression::Figure { fold, statistic } => {
+                let entity = self.zero()?;
+                code.put(site.line, figure_of(*fold, as_index(*statistic)?, entity, to))
+            }
             Expression::FigureOf {
                 fold,
                 statistic,
                 entity,
             } => {
                 let entity = self.operand(code, site, entity)?.address;
-                Instruction::Figure {
-                    statistic: as_index(*statistic)?,
-                    entity,
-                    to,
-                    fold: *fold,
-                }
+                code.put(site.line, figure_of(*fold, as_index(*statistic)?, entity, to))
             }
             Expression::Signed { sign, term } => {
                 let right = self.operand(code, site, term)?.address;
-                signed(*sign, self.zero()?, right, to)
+                let left = self.zero()?;
+                code.put(site.line, signed(*sign, left, right, to))
             }
             Expression::Absolute { argument } => {
                 let of = self.operand(code, site, argument)?.address;
-                Instruction::Absolute { of, to }
+                code.put(site.line, Instruction::Absolute { of, to })
             }
             Expression::Calculate { first, further } => {
-                return self.calculation(code, site, first, further, to);
+                self.calculation(code, site, first, further, to)
             }
-        };
-        code.put(site.line, instruction)?;
-        Ok(())
+        }
     }
 
     // An operation on a number that is there. What it makes goes to a place.

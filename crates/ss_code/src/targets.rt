@@ -1,6 +1,6 @@
 //! The code that assigns.
 
-ghost use Rattle.std.specs.Prelude.{◌≡◌, ◌∷◌, [], map, IfOk, OnOk};
+ghost use Rattle.std.specs.Prelude.{◌≡◌, ◌∷◌, [], ◌++◌, if◌then◌else◌, map, IfOk, OnOk};
 ghost use Rattle.std.specs.List.{AllByRecursion as Every};
 ghost use Rattle.ss_base.specs.declared.layout.Mode.TheVariants.{Integer};
 ghost use Rattle.ss_program.specs.Program.{Let, Change, Place as Plain, ToVariable, ToAttribute, ToCount};
@@ -8,6 +8,7 @@ ghost use Rattle.ss_program.specs.View.{view_expression, view_place, view_target
 ghost use Rattle.ss_program.specs.WellTyped.{TakesMode, Good};
 ghost use Rattle.ss_meaning.specs.Values.{operator_of};
 ghost use Rattle.ss_code_instructions.specs.Instructions.{Read, Create};
+ghost use Rattle.ss_code_instructions.specs.declared.instruction.Instruction.TheVariants.{LookEntity};
 ghost use Rattle.ss_code_instructions.specs.Facts.{is_watched};
 ghost use Rattle.ss_code_instructions.specs.Translation.{Site as At, operand_code, forget, to_place_code, place, let_code, change_code, reads_code, creates_code, give_code, place_code};
 ghost use Rattle.ss_code.specs.Forms.{calculating, storing, reading};
@@ -98,6 +99,23 @@ fn set_of(spot: AttributeSpot, from: Address) -> Instruction
             from,
         },
     }
+}
+
+// The entity of an attribute is looked at, if it is to be.
+fn look_if(
+    code: &mut Piece,
+    site: Site,
+    spot: AttributeSpot,
+    is_looked: bool,
+) -> Result<(), AllocError>
+    ensures instructions { OnOk result (code.new.instructions ≡ code.old.instructions ++ (if is_looked then LookEntity spot.class spot.entity ∷ [] else [])) }
+    ensures lines { OnOk result (code.new.lines ≡ code.old.lines ++ (if is_looked then site.line ∷ [] else [])) }
+{
+    if is_looked {
+        let (class, entity) = (spot.class, spot.entity);
+        code.put(site.line, Instruction::LookEntity { class, entity })?;
+    }
+    Ok(())
 }
 
 // A word of input goes to a place.
@@ -193,17 +211,16 @@ impl Generator<'_> {
     ) -> Result<Spot, AllocError>
         ensures { IfOk result (λ s. Makes self.old self.new code.old code.new site (λ f t (u : Unit {0}). GoodPlace (view_place place.now) t.scope) (λ t u. place_code t (view_place place.now)) (λ f t u. IsSpot f t (view_place place.now) s)) }
     {
-        let spot = self.spot(code, site, place)?;
-        if let Spot::Attribute(attribute) = spot {
-            code.put(
-                site.line,
-                Instruction::LookEntity {
-                    class: attribute.class,
-                    entity: attribute.entity,
-                },
-            )?;
+        match place {
+            Place::ToVariable { variable } => Ok(Spot::Variable(self.variable_spot(*variable)?)),
+            Place::ToAttribute { class, field, of } => {
+                let spot = self.attribute_spot(code, site, *class, *field, of)?;
+                let (class, entity) = (spot.class, spot.entity);
+                code.put(site.line, Instruction::LookEntity { class, entity })?;
+                Ok(Spot::Attribute(spot))
+            }
+            Place::ToCount { count } => self.count_spot(*count),
         }
-        Ok(spot)
     }
 
     /// Where the value that a place will be assigned lies at first: in the variable itself, unless it is watched, or in the next cell.
@@ -231,13 +248,10 @@ impl Generator<'_> {
     ) -> Result<(), AllocError>
         ensures { OnOk result (Gives self.now code.old code.new site from (λ f t p. IsPlaceOf t p variable)) }
     {
-        let to = variable.address;
-        let instruction = match variable.watched {
-            Some(variable) => Instruction::Keep { from, variable },
-            None => move_of(variable.mode, from, to),
-        };
-        code.put(site.line, instruction)?;
-        Ok(())
+        match variable.watched {
+            Some(variable) => code.put(site.line, Instruction::Keep { from, variable }),
+            None => code.put(site.line, move_of(variable.mode, from, variable.address)),
+        }
     }
 
     /// A value goes to what is assigned.
@@ -252,10 +266,7 @@ impl Generator<'_> {
     {
         match spot {
             Spot::Variable(variable) => self.assign_variable(code, site, variable, from),
-            Spot::Attribute(attribute) => {
-                code.put(site.line, set_of(attribute, from))?;
-                Ok(())
-            }
+            Spot::Attribute(attribute) => code.put(site.line, set_of(attribute, from)),
             Spot::Count(class, variable) => {
                 code.put(site.line, Instruction::LookCount { class })?;
                 self.assign_variable(code, site, variable, from)
@@ -273,10 +284,14 @@ impl Generator<'_> {
     ) -> Result<(), AllocError>
         ensures { OnOk result (Takes self.now code.old code.new site from (λ f t p. IsSpot f t p spot)) }
     {
-        if let Spot::Variable(VariableSpot { watched: None, .. }) = spot {
-            return Ok(());
+        match spot {
+            Spot::Variable(variable) => match variable.watched {
+                None => Ok(()),
+                Some(_) => self.assign(code, site.above(1), spot, from),
+            },
+            Spot::Attribute(_) => self.assign(code, site.above(1), spot, from),
+            Spot::Count(_, _) => self.assign(code, site.above(1), spot, from),
         }
-        self.assign(code, site.above(1), spot, from)
     }
 
     /// So many cells that stayed are forgotten.
@@ -343,15 +358,7 @@ impl Generator<'_> {
         ensures { OnOk result (Emits self.old self.new code.old code.new site (λ s. Good s (Let site.line (ToAttribute class field (view_expression of.now)) (view_expression value.now))) (λ t. let_code t (ToAttribute class field (view_expression of.now)) (view_expression value.now))) }
     {
         let spot = self.attribute_spot(code, site, class, field, of)?;
-        if must_look(class, of, value) {
-            code.put(
-                site.line,
-                Instruction::LookEntity {
-                    class: spot.class,
-                    entity: spot.entity,
-                },
-            )?;
-        }
+        look_if(code, site, spot, must_look(class, of, value))?;
         let from = self.operand(code, site.above(spot.cells), value)?.address;
         code.put(site.line, set_of(spot, from))?;
         Ok(())
