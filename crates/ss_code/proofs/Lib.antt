@@ -4,6 +4,3 @@ mod Modes
 mod Operands
 mod Expressions
 mod Testing
-mod Assigned
-mod Sections
-mod Whole

@@ -87,15 +87,14 @@ impl Generator<'_> {
         ensures { IfOk result (λ o. ReadsBy self.old self.new code.old code.new site (IsNumber (view_expression e.now)) (view_expression e.now) o (λ t. member_code t is_looked set (view_expression e.now))) }
     {
         let member = self.operand(code, site, e)?;
-        if is_looked {
-            code.put(
-                site.line,
-                Instruction::LookMember {
-                    set: as_index(set)?,
-                    member: member.address,
-                },
-            )?;
+        if !is_looked {
+            return Ok(member);
         }
+        let (set, entity) = (as_index(set)?, member.address);
+        code.put(site.line, Instruction::LookMember {
+            set,
+            member: entity,
+        })?;
         Ok(member)
     }
 

@@ -303,11 +303,11 @@ impl Generator<'_> {
     ) -> Result<(), AllocError>
         ensures { OnOk result (Emits self.now self.now code.old code.new site (λ s. Unit {0}) (λ u. forget u cells)) }
     {
-        if cells > 0 {
-            let count = as_index(cells)?;
-            code.put(site.line, Instruction::Forget { count })?;
+        if cells == 0 {
+            return Ok(());
         }
-        Ok(())
+        let count = as_index(cells)?;
+        code.put(site.line, Instruction::Forget { count })
     }
 
     /// A value that lies in a cell goes to a place.
