@@ -4,3 +4,4 @@ mod Modes
 mod Operands
 mod Expressions
 mod Testing
+mod Whole
