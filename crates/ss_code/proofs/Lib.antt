@@ -5,3 +5,5 @@ mod Operands
 mod Expressions
 mod Testing
 mod Whole
+mod Steps
+mod Sections

@@ -144,6 +144,19 @@ module _ (p : Program) (g : Generator) (c1 c2 c3 : Lined) (p1 p2 p3 : List Runni
       (prints_then p1 p2 p3 (routines_prints p.routines) (events_prints p.events) parts.routine_prints parts.event_prints) in
       ap (map lines_of) all.1 ∙ all.2
 
+  -- where the sections begin
+  pub routines_begin : (entries : List Entry) → AllBegin 0 (routine_entries p (length c1.instructions) (length p1) p.routines) entries → AllBegin 0 (code_of p).routines entries
+  routines_begin entries h =
+      let at : length c1.instructions ≡ length (main_code p) = piece_long final c1 (main_code p) parts.main in
+      subst (λ (es : List EntryPoint). AllBegin 0 es entries) (ap (λ k. routine_entries p k (length p1) p.routines) at ∙ ap (λ k. routine_entries p (length (main_code p)) k p.routines) first_long) h
+
+  pub events_begin : (entries : List Entry) → AllBegin 0 (event_entries p (length c2.instructions) (length p2) p.events) entries → AllBegin 0 (code_of p).events entries
+  events_begin entries h =
+      let rs : Adds final c1 c2 (all_routines p) = adds_same final c1 c2 (routines_code p (length p1) p.routines) (all_routines p) (ap (λ n. routines_code p n p.routines) first_long) parts.routines in
+      let both : Adds final nothing c2 (main_code p ++ all_routines p) = adds_then final nothing c1 c2 (main_code p) (all_routines p) parts.main rs in
+      let at : length c2.instructions ≡ length (main_code p) + length (all_routines p) = piece_long final c2 (main_code p ++ all_routines p) both ∙ length-append (main_code p) (all_routines p) in
+      subst (λ (es : List EntryPoint). AllBegin 0 es entries) (ap (λ k. event_entries p k (length p2) p.events) at ∙ ap (λ k. event_entries p (length (main_code p) + length (all_routines p)) k p.events) second_long) h
+
   -- the running code is that of the program
   pub is_code : (main0 main1 : Entry) (routines0 routines1 events0 events1 : List Entry) → Lands (code_of p) → ((rest : List Value) × (g.constants.items ≡ Whole (pos 0) ∷ Whole (pos 1) ∷ rest)) → length c3.instructions ≤ 1048576 → Begins 0 (main_entry (code_of p)) main0 → Deepened g.deepest main0 main1 → AllBegin 0 (code_of p).routines routines0 → AllDeepened g.deepest routines0 routines1 → AllBegin 0 (code_of p).events events0 → AllDeepened g.deepest events0 events1 → IsCode (code_of p) (record { instructions = c3.instructions; lines = c3.lines; constants = g.constants.items; prints = p3; main = main1; routines = routines1; events = events1; depth = g.deepest })
   is_code main0 main1 routines0 routines1 events0 events1 lands fixed short m dm rs drs es des =
