@@ -7,3 +7,4 @@ mod Testing
 mod Whole
 mod Steps
 mod Sections
+mod Nodes
