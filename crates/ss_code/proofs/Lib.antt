@@ -4,6 +4,7 @@ mod Modes
 mod Operands
 mod Expressions
 mod Testing
+mod Assigned
 mod Whole
 mod Steps
 mod Sections
