@@ -9,3 +9,4 @@ mod Whole
 mod Steps
 mod Sections
 mod Nodes
+mod Watching
