@@ -1,5 +1,5 @@
 -- Pieces put together, and what is around them.
-use Rattle.std.proofs.Common.{◌≡◌, ℕ, suc, ◌+◌, ◌<◌, ◌≤◌, ◌^◌, List, [], ◌∷◌, ◌++◌, length, map, refl, sym, ap, ◌∙◌, subst, arith, append_assoc, append-nil, length-append}
+use Rattle.std.proofs.Common.{◌≡◌, ℕ, suc, ◌+◌, ◌<◌, ◌≤◌, ◌^◌, List, [], ◌∷◌, ◌++◌, length, map, refl, sym, ap, ◌∙◌, subst, arith, append_assoc, append-nil}
 use Rattle.std.proofs.lemmas.List.{map-append}
 use Rattle.ss_base.specs.declared.line.Line.{Line}
 use Rattle.ss_base.specs.declared.value.Value.{Value}
@@ -10,7 +10,7 @@ use Rattle.ss_code_instructions.specs.Translation.{Site, height}
 use Rattle.ss_code.specs.declared.generator.Generator.{Generator}
 use Rattle.ss_code.specs.declared.generator.Site.{Site as Here}
 use Rattle.ss_code.specs.Lined.{Lined, nothing}
-use Rattle.ss_code.specs.Emitted.{Final, Around, Grows, Stands, Runs, AllRun, line_of, Adds, Makes}
+use Rattle.ss_code.specs.Emitted.{Final, Around, Grows, Stands, Runs, AllRun, line_of, Adds}
 
 -- ## What is around more is around less
 

@@ -21,8 +21,8 @@ use Rattle.ss_code_instructions.specs.Machine.{Code}
 use Rattle.ss_code_instructions.specs.Carried.{Carries, From, Of, To, Is, Calculates, Moves, Compares, ReadsAttribute, SetsAttribute, Notes, Unwatched, Files}
 use Rattle.ss_code.specs.declared.facts.Ordering.{Ordering}
 use Rattle.ss_code.specs.declared.facts.Ordering.TheVariants as orderings
-use Rattle.ss_code.specs.Facts.{filing_of}
-use Rattle.ss_code.specs.Forms.{calculating, asking_set, asking_member, moving, fetching, storing, reading, comparing_numbers, comparing, filing, removing}
+use Rattle.ss_code.specs.Preamble.{filing_of}
+use Rattle.ss_code.specs.Forms.{calculating, asking_set, asking_member, moving, fetching, storing, reading, comparing, filing, removing}
 
 module _ (code : Code) (constants : List Value) (x : Placed) where
   pub calculates : (op : Operator) (left right to : Address) → Calculates code constants x op left right to → Carries code constants x (calculating op left right to)

@@ -2,7 +2,7 @@ mod Emitting
 mod Forms
 mod Modes
 mod Operands
-mod Expressions
+mod Values
 mod Testing
 mod Assigned
 mod Whole

@@ -1,26 +1,23 @@
 -- Operands, and instructions that read them.
-use Rattle.std.proofs.Common.{◌≡◌, ℕ, suc, ◌+◌, ◌<◌, ◌≤◌, ◌^◌, List, [], ◌∷◌, ◌++◌, length, Option, Some, None, refl, sym, ap, ◌∙◌, subst, arith, append_assoc, append-nil, length-append}
+use Rattle.std.proofs.Common.{◌≡◌, ℕ, suc, ◌+◌, ◌<◌, ◌^◌, List, [], ◌∷◌, ◌++◌, length, Option, Some, None, refl, sym, ap, ◌∙◌, subst, arith, append_assoc}
 use Rattle.std.specs.Prelude.{slice_get, pos}
 use Rattle.ss_base.specs.declared.layout.Mode.{Mode}
 use Rattle.ss_base.specs.declared.value.Value.{Value}
 use Rattle.ss_base.specs.declared.value.Value.TheVariants.{Whole}
 use Rattle.ss_program.specs.declared.expression.Variable.{Variable}
-use Rattle.ss_program.specs.declared.expression.Variable.TheVariants.{Global, Local}
 use Rattle.ss_program.specs.Program.{Program, Expression}
-use Rattle.ss_program.specs.View.{view_program}
-use Rattle.ss_program.specs.WellTyped.{Scope, HasMode}
+use Rattle.ss_program.specs.WellTyped.{Scope}
 use Rattle.ss_code_instructions.specs.declared.address.Address.{Address}
 use Rattle.ss_code_instructions.specs.declared.instruction.Instruction.{Instruction as Running}
-use Rattle.ss_code_instructions.specs.Instructions.{Operand, Constant, Held, Taken, Stays, Target, Into, Onto, Instruction, Placed}
-use Rattle.ss_code_instructions.specs.Instructions as i
-use Rattle.ss_code_instructions.specs.Translation.{Site, height, place, leaf, or_cell, or_in_cell, unless_leaf, expression_mode, operand, operand_cells, operand_code, after, stay, bearer, bearer_code, after_bearer, next, one, with_operand, expression_code, code_of}
-use Rattle.ss_code_instructions.specs.Carried.{VariableAt, InFrame, Carries}
+use Rattle.ss_code_instructions.specs.Instructions.{Operand, Constant, Held, Taken, Stays, Target, Into, Onto, Instruction}
+use Rattle.ss_code_instructions.specs.Translation.{Site, height, place, leaf, or_cell, or_in_cell, unless_leaf, expression_mode, operand, operand_code, after, stay, after_bearer, next, with_operand, expression_code}
+use Rattle.ss_code_instructions.specs.Carried.{VariableAt, InFrame}
 use Rattle.ss_code.specs.declared.expressions.Operand.{Operand as Read}
 use Rattle.ss_code.specs.declared.generator.Generator.{Generator}
 use Rattle.ss_code.specs.declared.generator.Site.{Site as Here}
 use Rattle.ss_code.specs.Lined.{Lined}
-use Rattle.ss_code.specs.Emitted.{Final, Around, Grows, Stands, Runs, AllRun, Adds, Makes, NoMore, Emits, EmitsTo, AtOperand, AtBearer, AtTarget, Typed, IsNumber, AreNumbers, IsLeaf, IsRead, IsBorne, Reads, ReadsBy, Bears}
-use Rattle.ss_code.proofs.Emitting.{around_old, grows_same, grows_then, stands_old, stands_new, stands_above, adds_none, adds_then, adds_one, adds_same}
+use Rattle.ss_code.specs.Emitted.{Final, Around, Grows, Stands, Runs, Emits, EmitsTo, AtOperand, AtTarget, Typed, IsLeaf, IsRead, IsBorne, Reads, ReadsBy, Bears}
+use Rattle.ss_code.proofs.Emitting.{around_old, grows_same, grows_then, stands_old, stands_above, adds_none, adds_then, adds_one, adds_same}
 
 -- ## Addresses
 

@@ -1,33 +1,25 @@
 -- What the generator emits for conditions.
-use Rattle.std.proofs.Common.{◌≡◌, ℕ, suc, ◌+◌, ◌<◌, ◌≤◌, ◌^◌, Bool, true, false, List, [], ◌∷◌, ◌++◌, length, map, Option, Some, None, refl, sym, ap, ◌∙◌, subst, arith, append_assoc, append-nil, length-append}
-use Rattle.std.specs.List.{AllByRecursion as Every}
+use Rattle.std.proofs.Common.{◌≡◌, ℕ, ◌+◌, ◌<◌, ◌^◌, Bool, List, [], ◌∷◌, ◌++◌, length, Option, Some, None, refl, sym, ap, ◌∙◌, arith, append_assoc, length-append}
 use Rattle.ss_base.specs.declared.layout.Mode.{Mode}
-use Rattle.ss_base.specs.declared.layout.Mode.TheVariants.{Integer}
-use Rattle.ss_base.specs.declared.line.Line.{Line}
 use Rattle.ss_program.specs.declared.condition.Relation.{Relation}
-use Rattle.ss_program.specs.Program.{Program, Expression, SetOwner, TheSystem, Entity, Test, Compare, DataEnded, Empty, Member, Condition, Guard, Phrase}
-use Rattle.ss_program.specs.declared.head.GuardKind.{GuardKind}
-use Rattle.ss_program.specs.declared.head.GuardKind.TheVariants as guards
-use Rattle.ss_program.specs.declared.head.PhraseKind.{PhraseKind}
-use Rattle.ss_program.specs.declared.head.PhraseKind.TheVariants as kinds
-use Rattle.ss_program.specs.WellTyped.{Scope, HasMode, OwnerFits, GoodTest, GoodCondition}
+use Rattle.ss_program.specs.Program.{Expression, SetOwner, TheSystem, Entity, Test, Compare, DataEnded, Empty, Member, Guard}
+use Rattle.ss_program.specs.WellTyped.{Scope, HasMode, OwnerFits, GoodTest}
 use Rattle.ss_code_instructions.specs.declared.address.Address.{Address}
-use Rattle.ss_code_instructions.specs.declared.instruction.Instruction.{Instruction as Running}
 use Rattle.ss_code_instructions.specs.declared.instruction.Instruction.TheVariants as r
-use Rattle.ss_code_instructions.specs.Instructions.{Operand, Bearer, Instruction, Placed}
+use Rattle.ss_code_instructions.specs.Instructions.{Bearer, Instruction, Placed}
 use Rattle.ss_code_instructions.specs.Instructions as i
 use Rattle.ss_code_instructions.specs.Facts.{expression_of, may_fault}
-use Rattle.ss_code_instructions.specs.Translation.{Site, height, place, operand, operand_code, after, bearer, bearer_code, after_bearer, with_operand, with_owner, member_code, test_code, tests_code, alternatives_code, condition_code, negated_code, guard_code, guards_code, phrase_code, phrases_code, code_of}
+use Rattle.ss_code_instructions.specs.Translation.{Site, height, place, operand, operand_code, after, bearer, bearer_code, after_bearer, member_code, test_code, tests_code, condition_code, guard_code, guards_code, code_of}
 use Rattle.ss_code.specs.declared.expressions.Operand.{Operand as Read}
 use Rattle.ss_code.specs.declared.generator.Generator.{Generator}
 use Rattle.ss_code.specs.declared.generator.Site.{Site as Here}
 use Rattle.ss_code.specs.Lined.{Lined, nothing}
 use Rattle.ss_code.specs.Forms.{comparing}
-use Rattle.ss_code.specs.Emitted.{Final, Around, Grows, Stands, Shown, Runs, Adds, Makes, NoMore, Emits, EmitsAround, AtOperand, AtBearer, Typed, IsNumber, AreNumbers, IsRead, IsBorne, Reads, ReadsBy, Bears}
+use Rattle.ss_code.specs.Emitted.{Final, Around, Stands, Emits, EmitsAround, AtBearer, Typed, IsNumber, AreNumbers, Reads, ReadsBy, Bears}
 use Rattle.ss_code.proofs.Emitting.{around_old, grows_same, grows_then, stands_old, adds_none, adds_then, adds_one, adds_apart, adds_same, piece_long}
 use Rattle.ss_code.proofs.Forms as forms
-use Rattle.ss_code.proofs.Modes.{mode_is, operand_mode, mode_after}
-use Rattle.ss_code.proofs.Operands.{read_stands, borne_stands, operand_at}
+use Rattle.ss_code.proofs.Modes.{operand_mode, mode_after}
+use Rattle.ss_code.proofs.Operands.{read_stands, operand_at}
 
 -- the owner of a set is a number
 pub owner_number : (s : Scope) (set : ℕ) (o : SetOwner) → OwnerFits s set o → AreNumbers (expression_of o) s

@@ -1,9 +1,9 @@
 -- What the items of a PRINT are, with their modes.
-use Rattle.std.specs.Prelude.{ℕ, ◌+◌, List, [], ◌∷◌}
+use Rattle.std.specs.Prelude.{ℕ}
 use Rattle.ss_base.specs.declared.layout.Mode.{Mode}
 use Rattle.ss_base.specs.declared.layout.Mode.TheVariants.{Integer, Alpha}
 use Rattle.ss_program.specs.Program.{Item, AValue, AMean, AMeanOf}
-use Rattle.ss_program.specs.WellTyped.{Scope, HasMode}
+use Rattle.ss_program.specs.WellTyped.{Scope}
 use Rattle.ss_code_instructions.specs.declared.item.ItemKind.{ItemKind}
 use Rattle.ss_code_instructions.specs.declared.item.ItemKind.TheVariants as shows
 use Rattle.ss_code_instructions.specs.Translation.{expression_mode}

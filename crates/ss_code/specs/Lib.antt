@@ -1,8 +1,8 @@
 pub mod Limits
-pub mod Facts
+pub mod Preamble
 pub mod Forms
 pub mod Lined
-pub mod Leaves
+pub mod Plain
 pub mod Emitted
 pub mod Calculations
 pub mod Notices

@@ -1,9 +1,8 @@
 -- What is emitted for loops.
-use Rattle.std.specs.Prelude.{◌≡◌, ◌<◌, ◌≤◌, ◌+◌, ℕ, Bool, true, false, List, [], ◌∷◌, ◌++◌, length, Option, Some, None}
+use Rattle.std.specs.Prelude.{◌≡◌, ◌≤◌, ◌+◌, ℕ, Bool, true, false, List, Option, Some, None}
 use Rattle.ss_program.specs.declared.expression.Variable.{Variable}
 use Rattle.ss_program.specs.Program.{SetOwner, TheSystem, Entity, Head, Numbers, Each, Members, Start, AtEnd, From, After}
-use Rattle.ss_program.specs.WellTyped.{Scope, GoodStart}
-use Rattle.ss_code_instructions.specs.declared.address.Address.{Address}
+use Rattle.ss_program.specs.WellTyped.{GoodStart}
 use Rattle.ss_code_instructions.specs.declared.instruction.Instruction.{Instruction as Running}
 use Rattle.ss_code_instructions.specs.declared.instruction.Instruction.TheVariants.{BeginSet, BeginAt}
 use Rattle.ss_code_instructions.specs.Instructions.{Bearer, Next, NextMember, Placed}

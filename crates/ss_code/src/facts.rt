@@ -6,7 +6,7 @@ ghost use Rattle.ss_program.specs.View.{view_expression, view_program};
 ghost use Rattle.ss_program.specs.WellTyped.{field_mode};
 ghost use Rattle.ss_code_instructions.specs.Facts.{watch};
 ghost use Rattle.ss_code_instructions.specs.Translation.{or_integer, expression_mode as mode_of_expression, filing_by};
-ghost use Rattle.ss_code.specs.Facts.{mode_in, scope_of, filing_of};
+ghost use Rattle.ss_code.specs.Preamble.{mode_in, scope_of, filing_of};
 
 use ss_base::{Discipline, Mode};
 use ss_program::expression::{Expression, Variable};

@@ -2,10 +2,10 @@
 
 ghost use Rattle.std.specs.Prelude.{◌≡◌, ◌+◌, ◌<◌, ◌≤◌, ◌^◌, [], ◌∷◌, ◌++◌, length, pos, IfOk, OnOk};
 ghost use Rattle.ss_base.specs.declared.value.Value.TheVariants.{Whole};
-ghost use Rattle.ss_code_instructions.specs.Instructions.{Constant, Onto};
-ghost use Rattle.ss_code_instructions.specs.Translation.{Site as At, height};
+ghost use Rattle.ss_code_instructions.specs.Instructions.{Constant};
+ghost use Rattle.ss_code_instructions.specs.Translation.{Site as At};
 ghost use Rattle.ss_code_instructions.specs.Carried.{VariableAt, InFrame};
-ghost use Rattle.ss_code.specs.Emitted.{Final, Around, Grows, Stands, AtOperand, AtTarget};
+ghost use Rattle.ss_code.specs.Emitted.{Final, Around, Grows, AtOperand};
 
 use crate::piece::as_index;
 use ss_base::{Line, Mode, Value};

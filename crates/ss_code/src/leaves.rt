@@ -1,10 +1,10 @@
 //! Expressions that take no code, and looks that need none.
 
-ghost use Rattle.std.specs.Prelude.{◌≡◌, not};
+ghost use Rattle.std.specs.Prelude.{◌≡◌};
 ghost use Rattle.ss_program.specs.View.{view_expression, view_owner};
 ghost use Rattle.ss_code_instructions.specs.Facts.{is_leaf, is_constant as is_number, is_fetch_of as fetches, looks_first, must_look as has_to_look, may_fault as can_fault, expression_of};
 ghost use Rattle.ss_code_instructions.specs.Translation.{leaf};
-ghost use Rattle.ss_code.specs.Leaves.{operand_if_any};
+ghost use Rattle.ss_code.specs.Plain.{operand_if_any};
 
 use ss_base::Value;
 use ss_program::expression::{Expression, SetOwner, Variable};

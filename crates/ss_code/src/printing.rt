@@ -1,10 +1,10 @@
 //! The code of PRINT.
 
-ghost use Rattle.std.specs.Prelude.{◌≡◌, ◌+◌, ◌≤◌, [], ◌∷◌, ◌++◌, map, IfOk, OnOk};
+ghost use Rattle.std.specs.Prelude.{◌≡◌, ◌+◌, ◌≤◌, map, IfOk, OnOk};
 ghost use Rattle.std.specs.List.{AllByRecursion as Every};
 ghost use Rattle.ss_program.specs.View.{view_item};
-ghost use Rattle.ss_code_instructions.specs.Translation.{item_code, items_code, items_cells, after_items, height};
-ghost use Rattle.ss_code.specs.Facts.{scope_of};
+ghost use Rattle.ss_code_instructions.specs.Translation.{item_code, items_code, after_items, height};
+ghost use Rattle.ss_code.specs.Preamble.{scope_of};
 ghost use Rattle.ss_code.specs.Items.{kind_of, item_width, GoodItem};
 ghost use Rattle.ss_code.specs.Printed.{PrintsLines};
 ghost use Rattle.ss_code.specs.Emitted.{Makes, Emits};

@@ -4,10 +4,10 @@ ghost use Rattle.std.specs.Prelude.{◌≡◌, ◌++◌, if◌then◌else◌, If
 ghost use Rattle.ss_program.specs.Program.{BeforeMember, AfterMember, File, RemoveEnd, Remove};
 ghost use Rattle.ss_program.specs.View.{view_expression, view_owner, view_place, view_position};
 ghost use Rattle.ss_program.specs.WellTyped.{OwnerFits, Good};
-ghost use Rattle.ss_code_instructions.specs.Translation.{with_owner, after, operand, member_code, file_code, remove_code, remove_end_code};
+ghost use Rattle.ss_code_instructions.specs.Translation.{with_owner, after as beyond, operand, member_code, file_code, remove_code, remove_end_code};
 ghost use Rattle.ss_code_instructions.specs.Facts.{may_fault, expression_of};
 ghost use Rattle.ss_code_instructions.specs.Instructions.{File as Files};
-ghost use Rattle.ss_code.specs.Facts.{filing_of};
+ghost use Rattle.ss_code.specs.Preamble.{filing_of};
 ghost use Rattle.ss_code.specs.Forms.{filing, removing};
 ghost use Rattle.ss_code.specs.Emitted.{Emits, IsNumber, ReadsBy};
 
@@ -108,7 +108,7 @@ impl Generator<'_> {
         ordering: Ordering,
         owner: &SetOwner,
     ) -> Result<(), AllocError>
-        ensures { OnOk result (Emits self.old self.new code.old code.new site (λ s. IsNumber (view_expression member.now) s × OwnerFits s set (view_owner owner.now)) (λ t. member_code t (may_fault (expression_of (view_owner owner.now))) set (view_expression member.now) ++ with_owner (after t (view_expression member.now)) (view_owner owner.now) (Files (filing_of ordering) set (operand t (view_expression member.now))))) }
+        ensures { OnOk result (Emits self.old self.new code.old code.new site (λ s. IsNumber (view_expression member.now) s × OwnerFits s set (view_owner owner.now)) (λ t. member_code t (may_fault (expression_of (view_owner owner.now))) set (view_expression member.now) ++ with_owner (beyond t (view_expression member.now)) (view_owner owner.now) (Files (filing_of ordering) set (operand t (view_expression member.now))))) }
     {
         let member = self.member(code, site, set, member, owner_may_fault(owner))?;
         let owner = self.owner(code, site.above(member.cells), owner)?.address;

@@ -1,12 +1,12 @@
 //! The code of statements.
 
-ghost use Rattle.std.specs.Prelude.{◌≡◌, ◌+◌, ◌++◌, ◌∷◌, [], length, map, IfOk, OnOk};
+ghost use Rattle.std.specs.Prelude.{◌≡◌, ◌++◌, ◌∷◌, [], map, IfOk, OnOk};
 ghost use Rattle.std.specs.List.{AllByRecursion as Every};
 ghost use Rattle.ss_program.specs.Program.{Call, Destroy, Skip};
 ghost use Rattle.ss_program.specs.View.{view_expression, view_condition, view_place, view_statement, view_body};
 ghost use Rattle.ss_program.specs.WellTyped.{GoodCondition, Good, GoodBlock};
 ghost use Rattle.ss_code_instructions.specs.Instructions.{Call as Calls, Destroy as Destroys, Skip as Skips, Leave};
-ghost use Rattle.ss_code_instructions.specs.Translation.{with_operand, values_code, after_values, place, height, if_code, gives_code, block_code, block_prints};
+ghost use Rattle.ss_code_instructions.specs.Translation.{with_operand, values_code, after_values, place, height as high_of, if_code, gives_code, block_code, block_prints};
 ghost use Rattle.ss_code.specs.Lined.{nothing};
 ghost use Rattle.ss_code.specs.Emitted.{Emits, EmitsAroundBoth};
 ghost use Rattle.ss_code.specs.Spots.{GoodPlace};
@@ -93,7 +93,7 @@ impl Generator<'_> {
         given: &[Expression],
         yielding: &[Place],
     ) -> Result<(), AllocError>
-        ensures { OnOk result (Emits self.old self.new code.old code.new site (λ s. Good s (Call site.line routine (map view_expression given.now) (map view_place yielding.now))) (λ t. values_code t (map view_expression given.now) ++ place (after_values t (map view_expression given.now)) (Calls routine (height t)) ∷ gives_code t (map view_place yielding.now))) }
+        ensures { OnOk result (Emits self.old self.new code.old code.new site (λ s. Good s (Call site.line routine (map view_expression given.now) (map view_place yielding.now))) (λ t. values_code t (map view_expression given.now) ++ place (after_values t (map view_expression given.now)) (Calls routine (high_of t)) ∷ gives_code t (map view_place yielding.now))) }
     {
         self.values(code, site, given)?;
         let routine = as_index(routine)?;

@@ -10,7 +10,7 @@ ghost use Rattle.ss_meaning.specs.Values.{operator_of};
 ghost use Rattle.ss_code_instructions.specs.Instructions.{Read, Create};
 ghost use Rattle.ss_code_instructions.specs.declared.instruction.Instruction.TheVariants.{LookEntity};
 ghost use Rattle.ss_code_instructions.specs.Facts.{is_watched};
-ghost use Rattle.ss_code_instructions.specs.Translation.{Site as At, operand_code, forget, to_place_code, place, let_code, change_code, reads_code, creates_code, give_code, place_code};
+ghost use Rattle.ss_code_instructions.specs.Translation.{Site as At, operand_code, forget, to_place_code, place as placed, let_code, change_code, reads_code, creates_code, give_code, place_code};
 ghost use Rattle.ss_code.specs.Forms.{calculating, storing, reading};
 ghost use Rattle.ss_code.specs.declared.generator.Site.{Site as Here};
 ghost use Rattle.ss_code.specs.Emitted.{Final, Around, Grows, Stands, AtTarget, Makes, NoMore, Emits, IsNumber};
@@ -469,7 +469,7 @@ impl Generator<'_> {
 
     // A target takes a word of input.
     fn read(&mut self, code: &mut Piece, site: Site, target: &Target) -> Result<(), AllocError>
-        ensures { OnOk result (Emits self.old self.new code.old code.new site (λ s. TakesMode s (view_place target.now.place) target.now.mode) (λ t. to_place_code t (view_place target.now.place) target.now.mode (λ u to. place u (Read target.now.mode to) ∷ []))) }
+        ensures { OnOk result (Emits self.old self.new code.old code.new site (λ s. TakesMode s (view_place target.now.place) target.now.mode) (λ t. to_place_code t (view_place target.now.place) target.now.mode (λ u to. placed u (Read target.now.mode to) ∷ []))) }
     {
         let spot = self.looked_spot(code, site, &target.place)?;
         let above = site.above(spot.cells());
@@ -501,7 +501,7 @@ impl Generator<'_> {
         class: usize,
         place: &Place,
     ) -> Result<(), AllocError>
-        ensures { OnOk result (Emits self.old self.new code.old code.new site (λ s. TakesMode s (view_place place.now) Integer) (λ t. to_place_code t (view_place place.now) Integer (λ u to. place u (Create class to) ∷ []))) }
+        ensures { OnOk result (Emits self.old self.new code.old code.new site (λ s. TakesMode s (view_place place.now) Integer) (λ t. to_place_code t (view_place place.now) Integer (λ u to. placed u (Create class to) ∷ []))) }
     {
         let spot = self.looked_spot(code, site, place)?;
         let above = site.above(spot.cells());

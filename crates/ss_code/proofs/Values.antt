@@ -1,42 +1,40 @@
 -- What the generator emits for each form of an expression.
-use Rattle.std.proofs.Common.{◌≡◌, ℕ, suc, ◌+◌, ◌<◌, ◌≤◌, ◌^◌, List, [], ◌∷◌, ◌++◌, length, Option, Some, None, refl, sym, ap, ◌∙◌, subst, arith, append_assoc}
+use Rattle.std.proofs.Common.{◌≡◌, ℕ, ◌+◌, ◌<◌, ◌≤◌, ◌^◌, [], ◌∷◌, ◌++◌, Some, None, refl, sym, ap, ◌∙◌}
 use Rattle.std.specs.Prelude.{pos}
-use Rattle.std.specs.List.{fold}
 use Rattle.ss_base.specs.declared.layout.Mode.{Mode}
 use Rattle.ss_base.specs.declared.layout.Mode.TheVariants.{Integer}
 use Rattle.ss_base.specs.declared.value.Value.{Value}
 use Rattle.ss_base.specs.declared.value.Value.TheVariants.{Whole}
 use Rattle.ss_base.specs.Layout.{mode_of}
 use Rattle.ss_program.specs.declared.expression.Variable.{Variable}
-use Rattle.ss_program.specs.declared.expression.Operator.{Operator}
 use Rattle.ss_program.specs.declared.expression.Operation.{Operation}
 use Rattle.ss_program.specs.declared.expression.SetQuery.{SetQuery}
 use Rattle.ss_program.specs.declared.expression.MemberQuery.{MemberQuery}
 use Rattle.ss_program.specs.declared.expression.Fold.{Fold}
 use Rattle.ss_program.specs.declared.expression.Sign.{Sign}
 use Rattle.ss_program.specs.Program.{Program, Expression, Constant as AConstant, Fetch, Attribute, OfSystemSet, OfSet, OfMember, Clock, TimeOf, Figure, FigureOf, Signed, Absolute, Calculate}
-use Rattle.ss_program.specs.View.{view_expression, view_program}
+use Rattle.ss_program.specs.View.{view_expression}
 use Rattle.ss_program.specs.Views.{with_operation}
 use Rattle.ss_program.specs.WellTyped.{Scope, HasMode, mode_at, field_mode}
 use Rattle.ss_meaning.specs.Values.{operator_of}
 use Rattle.ss_code_instructions.specs.declared.address.Address.{Address}
 use Rattle.ss_code_instructions.specs.declared.instruction.Instruction.{Instruction as Running}
 use Rattle.ss_code_instructions.specs.declared.instruction.Instruction.TheVariants as r
-use Rattle.ss_code_instructions.specs.Instructions.{Operand, Constant, Held, Taken, Target, Onto, Instruction, Placed}
+use Rattle.ss_code_instructions.specs.Instructions.{Operand, Constant, Held, Target, Instruction, Placed}
 use Rattle.ss_code_instructions.specs.Instructions as i
-use Rattle.ss_code_instructions.specs.Translation.{Site, height, place, leaf, operand, operand_code, after, next, with_operand, expression_code, expression_mode, or_integer, code_of}
+use Rattle.ss_code_instructions.specs.Translation.{Site, height, place, operand, operand_code, after, with_operand, expression_code, or_integer, code_of}
 use Rattle.ss_code_instructions.specs.Carried.{VariableAt, Carries}
 use Rattle.ss_code.specs.declared.expressions.Operand.{Operand as Read}
 use Rattle.ss_code.specs.declared.generator.Generator.{Generator}
 use Rattle.ss_code.specs.declared.generator.Site.{Site as Here}
 use Rattle.ss_code.specs.Lined.{Lined}
 use Rattle.ss_code.specs.Forms.{calculating, asking_set, asking_member, moving, fetching}
-use Rattle.ss_code.specs.Calculations.{folded, operation_code, Left, Operates}
-use Rattle.ss_code.specs.Emitted.{Final, Around, Grows, Stands, Shown, Runs, Adds, Makes, NoMore, Emits, EmitsTo, AtOperand, AtTarget, Typed, IsNumber, IsRead, Reads}
-use Rattle.ss_code.proofs.Emitting.{around_old, grows_same, grows_then, stands_old, stands_new, adds_none, adds_then, adds_one, adds_same}
+use Rattle.ss_code.specs.Calculations.{operation_code, Left, Operates}
+use Rattle.ss_code.specs.Emitted.{Final, Around, Grows, Stands, Shown, Runs, EmitsTo, AtOperand, AtTarget, Typed, IsNumber, Reads}
+use Rattle.ss_code.proofs.Emitting.{around_old, grows_then, stands_old, adds_then, adds_one, adds_same}
 use Rattle.ss_code.proofs.Forms as forms
-use Rattle.ss_code.proofs.Modes.{held_mode, operand_mode, mode_after, has_field}
-use Rattle.ss_code.proofs.Operands.{leaf_high, read_stands, held_at, operand_at, target_at}
+use Rattle.ss_code.proofs.Modes.{held_mode, has_field}
+use Rattle.ss_code.proofs.Operands.{read_stands}
 
 -- ## Forms without an operand
 

@@ -1,5 +1,5 @@
 -- What the preamble says, as the generator asks it.
-use Rattle.std.specs.Prelude.{ℕ, false, List, Option, slice_get}
+use Rattle.std.specs.Prelude.{false, List, Option, slice_get}
 use Rattle.ss_base.specs.declared.layout.Mode.{Mode}
 use Rattle.ss_program.specs.declared.expression.Variable.{Variable}
 use Rattle.ss_program.specs.declared.expression.Variable.TheVariants.{Global, Local}
