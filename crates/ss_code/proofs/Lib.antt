@@ -10,3 +10,4 @@ mod Steps
 mod Sections
 mod Nodes
 mod Watching
+mod Pushing
