@@ -11,3 +11,4 @@ mod Sections
 mod Nodes
 mod Watching
 mod Pushing
+mod Listed

@@ -4,6 +4,7 @@ ghost use Rattle.std.specs.Prelude.{◌≡◌, slice_get};
 ghost use Rattle.ss_program.specs.declared.sections.Subject.TheVariants.{OfVariable, OfAttribute, OfCount};
 ghost use Rattle.ss_program.specs.View.{view_expression, view_program};
 ghost use Rattle.ss_program.specs.WellTyped.{field_mode};
+ghost use Rattle.ss_meaning.specs.Histories.{same_subject};
 ghost use Rattle.ss_code_instructions.specs.Facts.{watch};
 ghost use Rattle.ss_code_instructions.specs.Translation.{or_integer, expression_mode as mode_of_expression, filing_by};
 ghost use Rattle.ss_code.specs.Preamble.{mode_in, scope_of, filing_of};
@@ -12,16 +13,41 @@ use ss_base::{Discipline, Mode};
 use ss_program::expression::{Expression, Variable};
 use ss_program::sections::{Program, Statistic, Subject};
 
+// Whether two subjects are one.
+fn is_same(first: Subject, second: Subject) -> bool
+    ensures { result ≡ same_subject first second }
+{
+    match first {
+        Subject::OfVariable { number } => match second {
+            Subject::OfVariable { number: other } => number == other,
+            Subject::OfAttribute { .. } => false,
+            Subject::OfCount { .. } => false,
+        },
+        Subject::OfAttribute { class, field } => match second {
+            Subject::OfVariable { .. } => false,
+            Subject::OfAttribute {
+                class: other_class,
+                field: other_field,
+            } => class == other_class && field == other_field,
+            Subject::OfCount { .. } => false,
+        },
+        Subject::OfCount { set } => match second {
+            Subject::OfVariable { .. } => false,
+            Subject::OfAttribute { .. } => false,
+            Subject::OfCount { set: other } => set == other,
+        },
+    }
+}
+
 // Whether one of these statistics is kept of a subject.
 fn is_watched(statistics: &[Statistic], subject: Subject) -> bool
     ensures { result ≡ watch statistics.now subject }
 {
+    let mut watched = false;
     for statistic in statistics {
-        if statistic.subject == subject {
-            return true;
-        }
+        watched = watched || is_same(statistic.subject, subject);
     }
-    false
+    watched
 }
 
 /// Whether a statistic is kept of a global variable.
