@@ -41,5 +41,7 @@ reads_more t xs x = rows_more (λ (x : Target). to_place_code t x.place x.mode (
 pub creates_more : (t : Site) (xs : List CountedClass) (x : CountedClass) → creates_code t (xs ++ x ∷ []) ≡ creates_code t xs ++ place t (CreateAll x) ∷ []
 creates_more t xs x = rows_more (λ (x : CountedClass). place t (CreateAll x) ∷ []) (creates_code t) refl (λ x xs. refl) xs x
 
-pub restarts_more : (t : Site) (xs : List Restart) (x : Restart) → restarts_code t (xs ++ x ∷ []) ≡ restarts_code t xs ++ (bearer_code t x.of ++ place (after_bearer t x.of) (Reset x.statistic (bearer t x.of)) ∷ [])
-restarts_more t xs x = rows_more (λ (x : Restart). bearer_code t x.of ++ place (after_bearer t x.of) (Reset x.statistic (bearer t x.of)) ∷ []) (restarts_code t) refl (λ x xs. refl) xs x
+pub restarts_more : (t : Site) (xs : List Restart) (x : Restart) → restarts_code t (xs ++ x ∷ []) ≡ restarts_code t xs ++ restarts_code t (x ∷ [])
+restarts_more t xs x =
+    rows_more (λ (x : Restart). restarts_code t (x ∷ [])) (restarts_code t) refl (λ x xs.
+    ap (λ (c : List Placed). c ++ restarts_code t xs) (sym (append-nil (bearer_code t x.of ++ place (after_bearer t x.of) (Reset x.statistic (bearer t x.of)) ∷ [])))) xs x
