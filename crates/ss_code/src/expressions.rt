@@ -1,15 +1,29 @@
 //! The code of expressions.
 
-use crate::error::CodeError;
-use crate::facts::{attribute_mode, expression_mode};
+ghost use Rattle.std.specs.Prelude.{◌≡◌, ◌+◌, ◌<◌, ◌≤◌, ◌∷◌, [], length, map, pos, IfOk, OnOk};
+ghost use Rattle.std.specs.List.{AllByRecursion as Every};
+ghost use Rattle.ss_base.specs.declared.value.Value.TheVariants.{Whole};
+ghost use Rattle.ss_program.specs.View.{view_expression, view_owner, view_option};
+ghost use Rattle.ss_meaning.specs.Values.{operator_of};
+ghost use Rattle.ss_code_instructions.specs.Instructions.{Constant, Move};
+ghost use Rattle.ss_code_instructions.specs.declared.instruction.Instruction.TheVariants.{Figure as Figures};
+ghost use Rattle.ss_code_instructions.specs.Facts.{expression_of};
+ghost use Rattle.ss_code_instructions.specs.Translation.{expression_code, values_code, place, next};
+ghost use Rattle.ss_code.specs.Forms.{calculating, asking_set, asking_member, moving, fetching};
+ghost use Rattle.ss_code.specs.Calculations.{folded, Operates};
+ghost use Rattle.ss_code.specs.Emitted.{Grows, Emits, EmitsTo, Typed, IsLeaf, Reads, Bears};
+
+use crate::facts::{attribute_mode, variable_mode};
 use crate::generator::{Generator, Site};
+use crate::leaves::{Leaf, leaf_of};
 use crate::piece::{Piece, as_index};
 use ss_base::Mode;
 use ss_code_instructions::address::Address;
 use ss_code_instructions::instruction::Instruction;
 use ss_program::expression::{
-    Expression, MemberQuery, Operation, Operator, SetOwner, SetQuery, Sign, Variable,
+    Expression, Fold, MemberQuery, Operation, Operator, SetOwner, SetQuery, Sign,
 };
+use std::alloc::AllocError;
 
 /// A value that an instruction reads: where it lies, and how many cells it takes for that.
 #[derive(Clone, Copy)]
@@ -20,18 +34,24 @@ pub(crate) struct Operand {
 
 impl Operand {
     // A variable or a constant.
-    fn leaf(address: Address) -> Operand {
+    fn leaf(address: Address) -> Operand
+        ensures { result ≡ record { address = address; cells = 0 } }
+    {
         Operand { address, cells: 0 }
     }
 
     // The next cell.
-    fn cell(address: Address) -> Operand {
+    fn cell(address: Address) -> Operand
+        ensures { result ≡ record { address = address; cells = 1 } }
+    {
         Operand { address, cells: 1 }
     }
 }
 
 // What an operator makes of two numbers.
-fn calculate(operator: Operator, left: Address, right: Address, to: Address) -> Instruction {
+fn calculate(operator: Operator, left: Address, right: Address, to: Address) -> Instruction
+    ensures { result ≡ calculating operator left right to }
+{
     match operator {
         Operator::Add => Instruction::Add { left, right, to },
         Operator::Subtract => Instruction::Subtract { left, right, to },
@@ -44,7 +64,9 @@ fn calculate(operator: Operator, left: Address, right: Address, to: Address) -> 
 }
 
 // What is asked of the set of an owner.
-fn ask_set(query: SetQuery, set: u32, owner: Address, to: Address) -> Instruction {
+fn ask_set(query: SetQuery, set: u32, owner: Address, to: Address) -> Instruction
+    ensures { result ≡ asking_set query set owner to }
+{
     match query {
         SetQuery::FirstMember => Instruction::FirstMember { set, owner, to },
         SetQuery::LastMember => Instruction::LastMember { set, owner, to },
@@ -53,7 +75,9 @@ fn ask_set(query: SetQuery, set: u32, owner: Address, to: Address) -> Instructio
 }
 
 // What is asked of a member.
-fn ask_member(query: MemberQuery, set: u32, member: Address, to: Address) -> Instruction {
+fn ask_member(query: MemberQuery, set: u32, member: Address, to: Address) -> Instruction
+    ensures { result ≡ asking_member query set member to }
+{
     match query {
         MemberQuery::Predecessor => Instruction::Predecessor { set, member, to },
         MemberQuery::Successor => Instruction::Successor { set, member, to },
@@ -61,8 +85,10 @@ fn ask_member(query: MemberQuery, set: u32, member: Address, to: Address) -> Ins
     }
 }
 
-// A value of a mode goes from one place to another.
-pub(crate) fn move_of(mode: Mode, from: Address, to: Address) -> Instruction {
+/// A value of a mode goes from one place to another.
+pub(crate) fn move_of(mode: Mode, from: Address, to: Address) -> Instruction
+    ensures { result ≡ moving mode from to }
+{
     match mode {
         Mode::Integer => Instruction::Move { from, to },
         Mode::Alpha => Instruction::MoveText { from, to },
@@ -70,7 +96,9 @@ pub(crate) fn move_of(mode: Mode, from: Address, to: Address) -> Instruction {
 }
 
 // An attribute of an entity goes to a place.
-fn attribute_of(mode: Mode, class: u32, field: u32, entity: Address, to: Address) -> Instruction {
+fn attribute_of(mode: Mode, class: u32, field: u32, entity: Address, to: Address) -> Instruction
+    ensures { result ≡ fetching mode class field entity to }
+{
     match mode {
         Mode::Integer => Instruction::Attribute {
             class,
@@ -87,13 +115,38 @@ fn attribute_of(mode: Mode, class: u32, field: u32, entity: Address, to: Address
     }
 }
 
+// A number with a sign before it.
+fn signed(sign: Sign, left: Address, right: Address, to: Address) -> Instruction
+    ensures { result ≡ calculating (operator_of sign) left right to }
+{
+    match sign {
+        Sign::Plus => Instruction::Add { left, right, to },
+        Sign::Minus => Instruction::Subtract { left, right, to },
+    }
+}
+
+// What a statistic says of an entity.
+fn figure_of(fold: Fold, statistic: u32, entity: Address, to: Address) -> Instruction
+    ensures { result ≡ Figures statistic entity to fold }
+{
+    Instruction::Figure {
+        statistic,
+        entity,
+        to,
+        fold,
+    }
+}
+
 impl Generator<'_> {
     // The address of an expression that takes no code: a variable or a constant.
-    fn leaf(&mut self, e: &Expression) -> Result<Option<Address>, CodeError> {
-        match e {
-            Expression::Constant { value } => Ok(Some(self.constant(*value)?)),
-            Expression::Fetch { variable } => Ok(Some(self.variable(*variable)?)),
-            _ => Ok(None),
+    fn leaf(&mut self, e: &Expression) -> Result<Option<Address>, AllocError>
+        ensures grows { OnOk result (Grows self.old self.new) }
+        ensures leaf { IfOk result (λ found. IsLeaf self.new (view_expression e.now) found) }
+    {
+        match leaf_of(e) {
+            Some(Leaf::Constant { value }) => Ok(Some(self.constant(value)?)),
+            Some(Leaf::Held { variable }) => Ok(Some(self.variable(variable)?)),
+            None => Ok(None),
         }
     }
 
@@ -104,16 +157,19 @@ impl Generator<'_> {
         code: &mut Piece,
         site: Site,
         e: &Expression,
-    ) -> Result<Operand, CodeError> {
+    ) -> Result<Operand, AllocError>
+        ensures { IfOk result (λ o. Reads self.old self.new code.old code.new site (view_expression e.now) o) }
+    {
         if let Some(address) = self.leaf(e)? {
             return Ok(Operand::leaf(address));
         }
         let to = self.cell(site)?;
-        self.compute(code, site, e, to)?;
+        self.expression(code, site, e, to)?;
         Ok(Operand::cell(to))
     }
 
     /// An expression goes to a place, which its last instruction writes.
+    #[tactic(auto, unfolding(ss_program::specs::View::view_expression))]
     #[cycle(expressions)]
     pub(crate) fn expression(
         &mut self,
@@ -121,94 +177,86 @@ impl Generator<'_> {
         site: Site,
         e: &Expression,
         to: Address,
-    ) -> Result<(), CodeError> {
-        if let Some(from) = self.leaf(e)? {
-            let mode = expression_mode(self.program, &self.locals, e);
-            code.put(site.line, move_of(mode, from, to))?;
-            return Ok(());
-        }
-        self.compute(code, site, e, to)
-    }
-
-    /// An expression goes into the next cell.
-    pub(crate) fn push(
-        &mut self,
-        code: &mut Piece,
-        site: Site,
-        e: &Expression,
-    ) -> Result<(), CodeError> {
-        let to = self.cell(site)?;
-        self.expression(code, site, e, to)
-    }
-
-    // An expression that takes code goes to a place.
-    #[cycle(expressions)]
-    fn compute(
-        &mut self,
-        code: &mut Piece,
-        site: Site,
-        e: &Expression,
-        to: Address,
-    ) -> Result<(), CodeError> {
-        let instruction = match e {
-            Expression::Constant { .. } | Expression::Fetch { .. } => return Ok(()),
+    ) -> Result<(), AllocError>
+        ensures { OnOk result (EmitsTo self.old self.new code.old code.new site to (Typed (view_expression e.now)) (λ t x. expression_code t x (view_expression e.now))) }
+    {
+        match e {
+            Expression::Constant { value } => {
+                let from = self.constant(*value)?;
+                code.put(site.line, move_of(value.mode(), from, to))
+            }
+            Expression::Fetch { variable } => {
+                let from = self.variable(*variable)?;
+                let mode = variable_mode(self.program, &self.locals, *variable);
+                code.put(site.line, move_of(mode, from, to))
+            }
             Expression::Attribute { class, field, of } => {
                 let entity = self.operand(code, site, of)?.address;
                 let mode = attribute_mode(self.program, *class, *field);
-                attribute_of(mode, as_index(*class)?, as_index(*field)?, entity, to)
+                let (class, field) = (as_index(*class)?, as_index(*field)?);
+                code.put(site.line, attribute_of(mode, class, field, entity, to))
             }
             Expression::OfSystemSet { query, set } => {
-                ask_set(*query, as_index(*set)?, self.zero()?, to)
+                let owner = self.zero()?;
+                code.put(site.line, ask_set(*query, as_index(*set)?, owner, to))
             }
             Expression::OfSet { query, set, owner } => {
                 let owner = self.operand(code, site, owner)?.address;
-                ask_set(*query, as_index(*set)?, owner, to)
+                code.put(site.line, ask_set(*query, as_index(*set)?, owner, to))
             }
             Expression::OfMember { query, set, member } => {
                 let member = self.operand(code, site, member)?.address;
-                ask_member(*query, as_index(*set)?, member, to)
+                code.put(site.line, ask_member(*query, as_index(*set)?, member, to))
             }
-            Expression::Clock => Instruction::Clock { to },
+            Expression::Clock => code.put(site.line, Instruction::Clock { to }),
             Expression::TimeOf { notice } => {
                 let notice = self.operand(code, site, notice)?.address;
-                Instruction::TimeOf { notice, to }
+                code.put(site.line, Instruction::TimeOf { notice, to })
             }
-            Expression::Figure { fold, statistic } => Instruction::Figure {
-                statistic: as_index(*statistic)?,
-                entity: self.zero()?,
-                to,
-                fold: *fold,
-            },
+            Expression::Figure { fold, statistic } => {
+                let entity = self.zero()?;
+                code.put(site.line, figure_of(*fold, as_index(*statistic)?, entity, to))
+            }
             Expression::FigureOf {
                 fold,
                 statistic,
                 entity,
             } => {
                 let entity = self.operand(code, site, entity)?.address;
-                Instruction::Figure {
-                    statistic: as_index(*statistic)?,
-                    entity,
-                    to,
-                    fold: *fold,
-                }
+                code.put(site.line, figure_of(*fold, as_index(*statistic)?, entity, to))
             }
             Expression::Signed { sign, term } => {
                 let right = self.operand(code, site, term)?.address;
                 let left = self.zero()?;
-                match sign {
-                    Sign::Plus => Instruction::Add { left, right, to },
-                    Sign::Minus => Instruction::Subtract { left, right, to },
-                }
+                code.put(site.line, signed(*sign, left, right, to))
             }
             Expression::Absolute { argument } => {
                 let of = self.operand(code, site, argument)?.address;
-                Instruction::Absolute { of, to }
+                code.put(site.line, Instruction::Absolute { of, to })
             }
             Expression::Calculate { first, further } => {
-                return self.calculation(code, site, first, further, to);
+                self.calculation(code, site, first, further, to)
             }
-        };
-        code.put(site.line, instruction)?;
+        }
+    }
+
+    // An operation on a number that is there. What it makes goes to a place.
+    #[cycle(expressions)]
+    fn operation(
+        &mut self,
+        code: &mut Piece,
+        site: Site,
+        left: Operand,
+        operation: &Operation,
+        to: Address,
+    ) -> Result<(), AllocError>
+        ensures { OnOk result (Operates self.old self.new code.old code.new site left to operation.now) }
+    {
+        let right = self.operand(code, site.above(left.cells), &operation.operand)?.address;
+        code.put(
+            site.line,
+            calculate(operation.operator, left.address, right, to),
+        )?;
         Ok(())
     }
 
@@ -222,18 +270,49 @@ impl Generator<'_> {
         first: &Expression,
         further: &[Operation],
         to: Address,
-    ) -> Result<(), CodeError> {
-        if further.is_empty() {
+    ) -> Result<(), AllocError>
+        ensures { OnOk result (EmitsTo self.old self.new code.old code.new site to (Typed (folded (view_expression first.now) further.now)) (λ t x. expression_code t x (folded (view_expression first.now) further.now))) }
+    {
+        let count = further.len();
+        if count == 0 {
             return self.expression(code, site, first, to);
         }
         let mut left = self.operand(code, site, first)?;
-        for (i, operation) in further.iter().enumerate() {
-            let right = self.operand(code, site.above(left.cells), &operation.operand)?;
-            let is_last = i + 1 == further.len();
-            let result = if is_last { to } else { self.cell(site)? };
-            let made = calculate(operation.operator, left.address, right.address, result);
-            code.put(site.line, made)?;
-            left = Operand::cell(result);
+        for i in 0..count - 1 {
+            let next = self.cell(site)?;
+            self.operation(code, site, left, &further[i], next)?;
+            left = Operand::cell(next);
+        }
+        self.operation(code, site, left, &further[count - 1], to)
+    }
+
+    /// An expression goes into the next cell.
+    pub(crate) fn push(
+        &mut self,
+        code: &mut Piece,
+        site: Site,
+        e: &Expression,
+    ) -> Result<(), AllocError>
+        ensures code { OnOk result (Emits self.old self.new code.old code.new site (Typed (view_expression e.now)) (λ t. expression_code t (next t) (view_expression e.now))) }
+        ensures room { OnOk result (site.height < self.new.deepest) }
+    {
+        let to = self.cell(site)?;
+        self.expression(code, site, e, to)
+    }
+
+    /// Values go into the next cells, one above the other.
+    pub(crate) fn values(
+        &mut self,
+        code: &mut Piece,
+        site: Site,
+        values: &[Expression],
+    ) -> Result<(), AllocError>
+        ensures code { OnOk result (Emits self.old self.new code.old code.new site (λ s. Every (λ e. Typed e s) (map view_expression values.now)) (λ t. values_code t (map view_expression values.now))) }
+        ensures room { OnOk result (site.height + length values.now ≤ self.new.deepest) }
+    {
+        self.reach(site.height);
+        for (i, value) in values.iter().enumerate() {
+            self.push(code, site.above(i), value)?;
         }
         Ok(())
     }
@@ -244,7 +323,9 @@ impl Generator<'_> {
         code: &mut Piece,
         site: Site,
         owner: &SetOwner,
-    ) -> Result<Operand, CodeError> {
+    ) -> Result<Operand, AllocError>
+        ensures { IfOk result (λ o. Bears self.old self.new code.old code.new site (expression_of (view_owner owner.now)) o) }
+    {
         match owner {
             SetOwner::TheSystem => Ok(Operand::leaf(self.zero()?)),
             SetOwner::Entity { entity } => self.operand(code, site, entity),
@@ -257,55 +338,23 @@ impl Generator<'_> {
         code: &mut Piece,
         site: Site,
         e: &Option<Expression>,
-    ) -> Result<Operand, CodeError> {
+    ) -> Result<Operand, AllocError>
+        ensures { IfOk result (λ o. Bears self.old self.new code.old code.new site (view_option view_expression e.now) o) }
+    {
         match e {
             None => Ok(Operand::leaf(self.zero()?)),
             Some(entity) => self.operand(code, site, entity),
         }
     }
 
-    /// A number goes into the next cell.
-    pub(crate) fn push_one(&mut self, code: &mut Piece, site: Site) -> Result<(), CodeError> {
+    /// The number 1 goes into the next cell.
+    pub(crate) fn push_one(&mut self, code: &mut Piece, site: Site) -> Result<(), AllocError>
+        ensures code { OnOk result (Emits self.old self.new code.old code.new site (λ s. Unit {0}) (λ t. place t (Move (Constant (Whole (pos 1))) (next t)) ∷ [])) }
+        ensures room { OnOk result (site.height < self.new.deepest) }
+    {
         let to = self.cell(site)?;
         let from = self.one()?;
         code.put(site.line, Instruction::Move { from, to })?;
         Ok(())
-    }
-}
-
-/// Whether an owner is known to be one before it is asked: it takes no code.
-pub(crate) fn is_plain_owner(owner: &SetOwner) -> bool {
-    match owner {
-        SetOwner::TheSystem => true,
-        SetOwner::Entity { entity } => is_plain(entity),
-    }
-}
-
-/// Whether an expression takes no code: a variable or a constant.
-pub(crate) fn is_plain(e: &Expression) -> bool {
-    matches!(e, Expression::Constant { .. } | Expression::Fetch { .. })
-}
-
-/// Whether the evaluation of an expression begins with an attribute of the entity in a variable, as one of this class: so it begins with
-/// the look at it. Nothing but constants may come before.
-pub(crate) fn begins_with_look(class: usize, variable: Variable, e: &Expression) -> bool {
-    match e {
-        Expression::Attribute { class: k, of, .. } => match &**of {
-            Expression::Fetch { variable: held } => *k == class && *held == variable,
-            inner => begins_with_look(class, variable, inner),
-        },
-        Expression::OfSet { owner: inner, .. }
-        | Expression::OfMember { member: inner, .. }
-        | Expression::TimeOf { notice: inner }
-        | Expression::FigureOf { entity: inner, .. }
-        | Expression::Signed { term: inner, .. }
-        | Expression::Absolute { argument: inner } => begins_with_look(class, variable, inner),
-        Expression::Calculate { first, further } => match (&**first, further.first()) {
-            (Expression::Constant { .. }, Some(second)) => {
-                begins_with_look(class, variable, &second.operand)
-            }
-            (first, _) => begins_with_look(class, variable, first),
-        },
-        _ => false,
     }
 }

@@ -1,12 +1,25 @@
 //! From a resolved program to its code.
 
+ghost use Rattle.std.specs.Prelude.{◌≡◌, ◌+◌, ◌<◌, ◌≤◌, ◌^◌, ◌++◌, ◌∷◌, [], length, map, Err, IfOk, OnOk};
+ghost use Rattle.ss_program.specs.Checking.{program_in};
+ghost use Rattle.ss_program.specs.Nodes.{nodes};
+ghost use Rattle.ss_program.specs.View.{view_routine, view_event, view_program, view_body};
+ghost use Rattle.ss_program.specs.WellTyped.{WellTyped};
+ghost use Rattle.ss_code_instructions.specs.Running.{Behaves, Lands};
+ghost use Rattle.ss_code_instructions.specs.Translation.{code_of, routine_entry, event_entry};
+ghost use Rattle.ss_code.specs.Limits.{instruction_limit as most_instructions, small_program};
+ghost use Rattle.ss_code.specs.Running.{IsFor};
+ghost use Rattle.ss_code.specs.Sections.{Deepened, AllDeepened, PutsSection, PutsRoutines, PutsEvents};
+
 use crate::code::{Code, Sections, Text};
 use crate::error::CodeError;
 use crate::generator::Generator;
-use crate::piece::Piece;
+use crate::lines::Lines;
+use crate::piece::{Piece, as_index};
 use crate::sayings::sayings;
 use ss_base::Mode;
 use ss_code_instructions::entry::Entry;
+use ss_code_instructions::laws::laws;
 use ss_code_instructions::limit::instruction_limit;
 use ss_program::checked::Checked;
 use ss_program::sections::{Event, Program, Routine};
@@ -14,27 +27,31 @@ use ss_program::statement::Statement;
 use std::alloc::{AllocError, Global};
 
 // Modes and further ones after them.
-fn joined(alloc: Global, first: &[Mode], second: &[Mode]) -> Result<Vec<Mode>, AllocError> {
+fn joined(alloc: Global, first: &[Mode], second: &[Mode]) -> Result<Vec<Mode>, AllocError>
+    ensures { IfOk result (λ modes. modes.items ≡ first.now ++ second.now) }
+{
     let mut modes = Vec::from_slice(alloc, first)?;
     modes.extend_from_slice(second)?;
     Ok(modes)
 }
 
-// A section's code comes after what was made so far.
+// A section's code comes after what was made so far. Its frame has no room for cells yet.
 fn put_section(
     generator: &mut Generator,
     code: &mut Piece,
+    prints: &mut Vec<Lines>,
     given: Vec<Mode>,
     yielding: usize,
     others: Vec<Mode>,
     body: &[Statement],
-) -> Result<Entry, CodeError> {
+) -> Result<Entry, AllocError>
+    ensures { IfOk result (λ entry. PutsSection generator.old generator.new code.old code.new prints.old.items prints.new.items (record { place = length code.old.instructions; given = given.items; yielding = yielding; others = others.items }) (view_body body.now) entry) }
+{
     let place = code.len();
     generator.locals = joined(generator.alloc, &given, &others)?;
-    generator.deepest = 0;
-    let own = generator.section(body)?;
+    let own = generator.section(prints, body)?;
     code.append(own)?;
-    let room = generator.locals.len() + generator.deepest;
+    let room = generator.locals.len();
     Ok(Entry {
         place,
         given,
@@ -45,85 +62,173 @@ fn put_section(
 }
 
 // MAIN.
-fn put_main(generator: &mut Generator, code: &mut Piece) -> Result<Entry, CodeError> {
+fn put_main(
+    generator: &mut Generator,
+    code: &mut Piece,
+    prints: &mut Vec<Lines>,
+) -> Result<Entry, AllocError>
+    ensures { IfOk result (λ entry. PutsSection generator.old generator.new code.old code.new prints.old.items prints.new.items (record { place = length code.old.instructions; given = []; yielding = 0; others = generator.old.program.now.locals.items }) (view_body generator.old.program.now.main.items) entry) }
+{
     let program = generator.program;
     let others = Vec::from_slice(generator.alloc, &program.locals)?;
     let given = Vec::new(generator.alloc);
-    put_section(generator, code, given, 0, others, &program.main)
+    put_section(generator, code, prints, given, 0, others, &program.main)
 }
 
 // A routine.
 fn put_routine(
     generator: &mut Generator,
     code: &mut Piece,
+    prints: &mut Vec<Lines>,
     routine: &Routine,
-) -> Result<Entry, CodeError> {
+) -> Result<Entry, AllocError>
+    ensures { IfOk result (λ entry. PutsSection generator.old generator.new code.old code.new prints.old.items prints.new.items (routine_entry (length code.old.instructions) (view_routine routine.now)) (view_routine routine.now).body entry) }
+{
     let given = Vec::from_slice(generator.alloc, &routine.given)?;
     let others = joined(generator.alloc, &routine.yielding, &routine.others)?;
     let yielding = routine.yielding.len();
-    put_section(generator, code, given, yielding, others, &routine.body)
+    put_section(
+        generator,
+        code,
+        prints,
+        given,
+        yielding,
+        others,
+        &routine.body,
+    )
 }
 
 // The routine of an event.
 fn put_event(
     generator: &mut Generator,
     code: &mut Piece,
+    prints: &mut Vec<Lines>,
     event: &Event,
-) -> Result<Entry, CodeError> {
+) -> Result<Entry, AllocError>
+    ensures { IfOk result (λ entry. PutsSection generator.old generator.new code.old code.new prints.old.items prints.new.items (event_entry (length code.old.instructions) (view_event event.now)) (view_event event.now).body entry) }
+{
     let given = Vec::from_slice(generator.alloc, &event.given)?;
     let others = Vec::from_slice(generator.alloc, &event.others)?;
-    put_section(generator, code, given, 0, others, &event.body)
+    put_section(generator, code, prints, given, 0, others, &event.body)
 }
 
 // An entry comes after others.
-fn put_entry(entries: &mut Vec<Entry>, entry: Entry) -> Result<(), AllocError> {
+fn put_entry(entries: &mut Vec<Entry>, entry: Entry) -> Result<(), AllocError>
+    ensures { OnOk result (entries.new.items ≡ entries.old.items ++ entry ∷ []) }
+{
     entries.push(entry)?;
     Ok(())
 }
 
 // The routines.
-fn put_routines(generator: &mut Generator, code: &mut Piece) -> Result<Vec<Entry>, CodeError> {
+fn put_routines(
+    generator: &mut Generator,
+    code: &mut Piece,
+    prints: &mut Vec<Lines>,
+) -> Result<Vec<Entry>, AllocError>
+    ensures { IfOk result (λ entries. PutsRoutines generator.old generator.new code.old code.new prints.old.items prints.new.items (map view_routine generator.old.program.now.routines.items) entries.items) }
+{
     let program = generator.program;
     let mut entries = Vec::new(generator.alloc);
     for routine in &program.routines {
-        let entry = put_routine(generator, code, routine)?;
+        let entry = put_routine(generator, code, prints, routine)?;
         put_entry(&mut entries, entry)?;
     }
     Ok(entries)
 }
 
 // The routines of events.
-fn put_events(generator: &mut Generator, code: &mut Piece) -> Result<Vec<Entry>, CodeError> {
+fn put_events(
+    generator: &mut Generator,
+    code: &mut Piece,
+    prints: &mut Vec<Lines>,
+) -> Result<Vec<Entry>, AllocError>
+    ensures { IfOk result (λ entries. PutsEvents generator.old generator.new code.old code.new prints.old.items prints.new.items (map view_event generator.old.program.now.events.items) entries.items) }
+{
     let program = generator.program;
     let mut entries = Vec::new(generator.alloc);
     for event in &program.events {
-        let entry = put_event(generator, code, event)?;
+        let entry = put_event(generator, code, prints, event)?;
         put_entry(&mut entries, entry)?;
     }
     Ok(entries)
 }
 
+// The room of a frame that has so many variables, with as many cells as any frame has.
+fn with_cells(variables: usize, depth: usize) -> Result<usize, AllocError>
+    ensures value { IfOk result (λ room. room ≡ variables + depth) }
+    ensures small { IfOk result (λ room. room < 2 ^ 32) }
+{
+    let room = as_index(variables.saturating_add(depth))?;
+    Ok(room as usize)
+}
+
+// The frame of a section gets room for as many cells as any frame has.
+fn deepen(entry: &mut Entry, depth: usize) -> Result<(), AllocError>
+    ensures { OnOk result (Deepened depth entry.old entry.new) }
+{
+    entry.room = with_cells(entry.room, depth)?;
+    Ok(())
+}
+
+// And so the frames of all.
+fn deepen_all(entries: &mut Vec<Entry>, depth: usize) -> Result<(), AllocError>
+    ensures { OnOk result (AllDeepened depth entries.old.items entries.new.items) }
+{
+    for i in 0..entries.len() {
+        deepen(&mut entries[i], depth)?;
+    }
+    Ok(())
+}
+
+// The sections, each with room for as many cells as any frame has.
+fn sections_of(
+    depth: usize,
+    mut main: Entry,
+    mut routines: Vec<Entry>,
+    mut events: Vec<Entry>,
+) -> Result<Sections, AllocError>
+    ensures depth { IfOk result (λ made. made.depth ≡ depth) }
+    ensures main { IfOk result (λ made. Deepened depth main made.main) }
+    ensures routines { IfOk result (λ made. AllDeepened depth routines.items made.routines.items) }
+    ensures events { IfOk result (λ made. AllDeepened depth events.items made.events.items) }
+{
+    deepen(&mut main, depth)?;
+    deepen_all(&mut routines, depth)?;
+    deepen_all(&mut events, depth)?;
+    Ok(Sections {
+        main,
+        routines,
+        events,
+        depth,
+    })
+}
+
 // The code of a program that is well typed.
-fn code_of(alloc: Global, program: &Program) -> Result<Code, CodeError> {
+fn made(alloc: Global, program: &Program) -> Result<Code, CodeError>
+    requires typed { ∥ WellTyped (view_program program.now) ∥₁ }
+    ensures code { IfOk result (λ code. ∥ IsFor (view_program program.now) code ∥₁) }
+    ensures behaves { IfOk result (λ code. Behaves (view_program program.now) (code_of (view_program program.now))) }
+    ensures lands { IfOk result (λ code. Lands (code_of (view_program program.now))) }
+    ensures limit { IfOk result (λ code. length code.run.instructions ≤ most_instructions) }
+    ensures too_long { result ≡ Err CodeError.CodeTooLong → most_instructions < length (code_of (view_program program.now)).places }
+    ensures small { nodes (view_program program.now) ≤ small_program → result ≡ Err CodeError.CodeTooLong → ⊥ }
+{
+    laws();
     let mut generator = Generator::new(alloc, program)?;
     let mut code = Piece::new(alloc);
-    let main = put_main(&mut generator, &mut code)?;
-    let routines = put_routines(&mut generator, &mut code)?;
-    let events = put_events(&mut generator, &mut code)?;
+    let mut prints = Vec::new(alloc);
+    let main = put_main(&mut generator, &mut code, &mut prints)?;
+    let routines = put_routines(&mut generator, &mut code, &mut prints)?;
+    let events = put_events(&mut generator, &mut code, &mut prints)?;
+    let sections = sections_of(generator.deepest, main, routines, events)?;
     if code.len() > instruction_limit() {
         return Err(CodeError::CodeTooLong);
     }
     let said = sayings(alloc, program)?;
     let globals = Vec::from_slice(alloc, &program.globals)?;
-    let Piece {
-        instructions,
-        lines,
-    } = code;
-    let Generator {
-        constants,
-        prints,
-        ..
-    } = generator;
+    let (instructions, lines) = code.into_parts();
+    let Generator { constants, .. } = generator;
     Ok(Code::new(
         Text {
             instructions,
@@ -131,11 +236,7 @@ fn code_of(alloc: Global, program: &Program) -> Result<Code, CodeError> {
         },
         constants,
         prints,
-        Sections {
-            main,
-            routines,
-            events,
-        },
+        sections,
         said,
         globals,
     ))
@@ -145,7 +246,15 @@ fn code_of(alloc: Global, program: &Program) -> Result<Code, CodeError> {
 /// each jump back in it leads to an instruction that takes a tick.
 ///
 /// `CodeTooLong` comes only where the code has more than 1,048,576 instructions, and never
-/// for a program of at most 16,384 nodes; `Memory` where memory was refused.
-pub fn generate(alloc: Global, checked: &Checked) -> Result<Code, CodeError> {
-    code_of(alloc, checked.program())
+/// for a program of at most 16,384 nodes; `Memory` where memory was refused, also where a program has so many variables or constants that
+/// no memory holds their values.
+pub fn generate(alloc: Global, checked: &Checked) -> Result<Code, CodeError>
+    ensures code { IfOk result (λ code. ∥ IsFor (view_program (program_in checked.now)) code ∥₁) }
+    ensures behaves { IfOk result (λ code. Behaves (view_program (program_in checked.now)) (code_of (view_program (program_in checked.now)))) }
+    ensures lands { IfOk result (λ code. Lands (code_of (view_program (program_in checked.now)))) }
+    ensures limit { IfOk result (λ code. length code.run.instructions ≤ most_instructions) }
+    ensures too_long { result ≡ Err CodeError.CodeTooLong → most_instructions < length (code_of (view_program (program_in checked.now))).places }
+    ensures small { nodes (view_program (program_in checked.now)) ≤ small_program → result ≡ Err CodeError.CodeTooLong → ⊥ }
+{
+    made(alloc, checked.program())
 }

@@ -10,6 +10,7 @@ mod expressions;
 mod facts;
 mod generating;
 mod generator;
+mod leaves;
 pub mod lines;
 mod loops;
 pub mod model;

@@ -1,6 +1,14 @@
 //! The code of loops.
 
-use crate::error::CodeError;
+ghost use Rattle.std.specs.Prelude.{◌≡◌, ◌+◌, ◌≤◌, map, Some, IfOk, OnOk};
+ghost use Rattle.std.specs.List.{AllByRecursion as Every};
+ghost use Rattle.ss_program.specs.Program.{Numbers, Each, Members, From};
+ghost use Rattle.ss_program.specs.View.{view_expression, view_option, view_owner, view_start, view_head, view_guard, view_phrase};
+ghost use Rattle.ss_program.specs.WellTyped.{GoodHead, GoodCondition, GoodPhrase};
+ghost use Rattle.ss_code_instructions.specs.Translation.{loop_code, range_code, for_code, find_code};
+ghost use Rattle.ss_code.specs.Emitted.{Emits, EmitsAround, EmitsAroundBoth, IsNumber, AreNumbers};
+ghost use Rattle.ss_code.specs.Looped.{loop_width, is_after, begin_of, TakesItem, TakesItems, TakesMembers, StartsWalk, KeepsOwner};
+
 use crate::expressions::Operand;
 use crate::generator::{Generator, Site};
 use crate::piece::{Piece, as_index};
@@ -9,6 +17,7 @@ use ss_code_instructions::address::Address;
 use ss_code_instructions::instruction::Instruction;
 use ss_program::expression::{Expression, SetOwner, Variable};
 use ss_program::head::{Guard, Head, Phrase, Start};
+use std::alloc::AllocError;
 
 /// How many cells a FOR over numbers or a class keeps: the item, the limit and the step.
 const NUMBER_CELLS: usize = 3;
@@ -17,9 +26,12 @@ const NUMBER_CELLS: usize = 3;
 const MEMBER_CELLS: usize = 2;
 
 /// How many cells a FOR keeps.
-pub(crate) fn cells_of(head: &Head) -> usize {
+pub(crate) fn cells_of(head: &Head) -> usize
+    ensures { result ≡ loop_width (view_head head.now) }
+{
     match head {
-        Head::Numbers { .. } | Head::Each { .. } => NUMBER_CELLS,
+        Head::Numbers { .. } => NUMBER_CELLS,
+        Head::Each { .. } => NUMBER_CELLS,
         Head::Members { owner, .. } => match owner {
             SetOwner::TheSystem => MEMBER_CELLS,
             SetOwner::Entity { .. } => MEMBER_CELLS + 1,
@@ -29,12 +41,12 @@ pub(crate) fn cells_of(head: &Head) -> usize {
 
 // A walk over the members of a set: the variable, the set, its owner, the cell of the next member and the order.
 #[derive(Clone, Copy)]
-struct Walk {
-    variable: VariableSpot,
-    set: u32,
-    owner: Address,
-    cell: u32,
-    reverse: bool,
+pub(crate) struct Walk {
+    pub(crate) variable: VariableSpot,
+    pub(crate) set: u32,
+    pub(crate) owner: Address,
+    pub(crate) cell: u32,
+    pub(crate) reverse: bool,
 }
 
 // What a comparison of two numbers reads, and how many instructions it jumps over.
@@ -68,6 +80,37 @@ fn is_sieve(turn: &[Instruction], member: Address) -> bool {
     }
 }
 
+// The instruction that begins a walk from a member on, or after it.
+fn begin_at(walk: Walk, after: bool, skip: u32) -> Instruction
+    ensures { result ≡ begin_of walk (Some after) skip }
+{
+    Instruction::BeginAt {
+        set: walk.set,
+        owner: walk.owner,
+        cell: walk.cell,
+        skip,
+        reverse: walk.reverse,
+        after,
+    }
+}
+
+// The instruction that begins a walk, which jumps where there is no member.
+fn begin(walk: Walk, start: &Start, skip: u32) -> Instruction
+    ensures { result ≡ begin_of walk (is_after (view_start start.now)) skip }
+{
+    match start {
+        Start::AtEnd => Instruction::BeginSet {
+            set: walk.set,
+            owner: walk.owner,
+            cell: walk.cell,
+            skip,
+            reverse: walk.reverse,
+        },
+        Start::From { .. } => begin_at(walk, false, skip),
+        Start::After { .. } => begin_at(walk, true, skip),
+    }
+}
+
 impl Generator<'_> {
     /// A loop that begins with WHILE or UNTIL: the guards; the tick of a turn; the body; the guards again; and a jump back to
     /// the tick.
@@ -77,7 +120,9 @@ impl Generator<'_> {
         site: Site,
         guards: &[Guard],
         body: Piece,
-    ) -> Result<(), CodeError> {
+    ) -> Result<(), AllocError>
+        ensures { OnOk result (EmitsAround self.old self.new code.old code.new site body (λ s. Every (λ g. GoodCondition s g.condition) (map view_guard guards.now)) (λ t b. loop_code t (map view_guard guards.now) b)) }
+    {
         let again = self.guards(site, 1, guards, Piece::new(self.alloc))?;
         let mut turn = Piece::new(self.alloc);
         turn.put(site.line, Instruction::Turn)?;
@@ -89,15 +134,16 @@ impl Generator<'_> {
         Ok(())
     }
 
-    // A turn of a FOR: its tick, the item or member in a cell goes to the variable, and what follows.
-    fn take(
-        &mut self,
+    // The tick of an item or a member, which goes from a cell to the variable.
+    fn take_item(
+        &self,
+        code: &mut Piece,
         site: Site,
         cell: u32,
         variable: VariableSpot,
-        turn: Piece,
-    ) -> Result<Piece, CodeError> {
-        let mut code = Piece::new(self.alloc);
+    ) -> Result<(), AllocError>
+        ensures { OnOk result (TakesItem self.now code.old code.new site cell variable) }
+    {
         match variable.watched {
             None => {
                 let to = variable.address;
@@ -109,22 +155,46 @@ impl Generator<'_> {
                 code.put(site.line, Instruction::Keep { from, variable })?;
             }
         }
-        code.append(turn)?;
-        Ok(code)
+        Ok(())
     }
 
     // The items of a FOR: a turn, and on to the next one.
     fn take_items(
-        &mut self,
+        &self,
         site: Site,
         cell: u32,
         variable: VariableSpot,
         turn: Piece,
-    ) -> Result<Piece, CodeError> {
-        let mut code = self.take(site, cell, variable, turn)?;
+    ) -> Result<Piece, AllocError>
+        ensures { IfOk result (λ code. TakesItems self.now code site cell variable turn) }
+    {
+        let mut code = Piece::new(self.alloc);
+        self.take_item(&mut code, site, cell, variable)?;
+        code.append(turn)?;
         let back = as_index(code.len())?;
         code.put(site.line, Instruction::Next { cell, back })?;
         Ok(code)
+    }
+
+    // The first number, the limit and the step of a FOR.
+    fn range(
+        &mut self,
+        code: &mut Piece,
+        site: Site,
+        first: &Expression,
+        limit: &Expression,
+        step: &Option<Expression>,
+    ) -> Result<(), AllocError>
+        ensures code { OnOk result (Emits self.old self.new code.old code.new site (λ s. IsNumber (view_expression first.now) s × IsNumber (view_expression limit.now) s × AreNumbers (view_option view_expression step.now) s) (λ t. range_code t (view_expression first.now) (view_expression limit.now) (view_option view_expression step.now))) }
+        ensures room { OnOk result (site.height + 3 ≤ self.new.deepest) }
+    {
+        self.push(code, site, first)?;
+        self.push(code, site.above(1), limit)?;
+        let third = site.above(2);
+        match step {
+            None => self.push_one(code, third),
+            Some(e) => self.push(code, third, e),
+        }
     }
 
     // A FOR over numbers.
@@ -133,23 +203,22 @@ impl Generator<'_> {
         code: &mut Piece,
         site: Site,
         variable: Variable,
-        bounds: (&Expression, &Expression, &Option<Expression>),
+        first: &Expression,
+        limit: &Expression,
+        step: &Option<Expression>,
         turn: Piece,
-    ) -> Result<(), CodeError> {
-        let (first, limit, step) = bounds;
-        let cell = self.cell_number(site)?;
-        self.push(code, site, first)?;
-        self.push(code, site.above(1), limit)?;
-        match step {
-            None => self.push_one(code, site.above(2))?,
-            Some(e) => self.push(code, site.above(2), e)?,
-        }
+    ) -> Result<(), AllocError>
+        ensures { OnOk result (EmitsAround self.old self.new code.old code.new site turn (λ s. GoodHead s (Numbers variable (view_expression first.now) (view_expression limit.now) (view_option view_expression step.now))) (λ t b. for_code t (Numbers variable (view_expression first.now) (view_expression limit.now) (view_option view_expression step.now)) b)) }
+    {
+        self.range(code, site, first, limit, step)?;
+        let cell = self.place_of(site)?;
         let spot = self.variable_spot(variable)?;
-        let items = self.take_items(site, cell, spot, turn)?;
+        let above = site.above(NUMBER_CELLS);
+        let items = self.take_items(above, cell, spot, turn)?;
         let skip = as_index(items.len())?;
         code.put(site.line, Instruction::Begin { cell, skip })?;
         code.append(items)?;
-        self.forget(code, site, NUMBER_CELLS)
+        self.forget(code, above, NUMBER_CELLS)
     }
 
     // A FOR over a class.
@@ -160,23 +229,30 @@ impl Generator<'_> {
         variable: Variable,
         class: usize,
         turn: Piece,
-    ) -> Result<(), CodeError> {
-        let cell = self.cell_number(site)?;
-        let _top = self.cell_number(site.above(2))?;
+    ) -> Result<(), AllocError>
+        ensures { OnOk result (EmitsAround self.old self.new code.old code.new site turn (λ s. GoodHead s (Each variable class)) (λ t b. for_code t (Each variable class) b)) }
+    {
+        let above = site.above(NUMBER_CELLS);
+        self.reach(above.height);
+        let cell = self.place_of(site)?;
         let spot = self.variable_spot(variable)?;
-        let items = self.take_items(site, cell, spot, turn)?;
+        let items = self.take_items(above, cell, spot, turn)?;
         let skip = as_index(items.len())?;
         let class = as_index(class)?;
         code.put(site.line, Instruction::BeginClass { class, cell, skip })?;
         code.append(items)?;
-        self.forget(code, site, NUMBER_CELLS)
+        self.forget(code, above, NUMBER_CELLS)
     }
 
     // The members of a walk: a turn, and on to the next one.
-    fn take_members(&mut self, site: Site, walk: Walk, turn: Piece) -> Result<Piece, CodeError> {
-        let mut code = self.take(site, walk.cell, walk.variable, turn)?;
+    fn take_members(&self, site: Site, walk: Walk, turn: Piece) -> Result<Piece, AllocError>
+        ensures { IfOk result (λ code. TakesMembers self.now code site walk turn) }
+    {
+        let mut code = Piece::new(self.alloc);
+        self.take_item(&mut code, site, walk.cell, walk.variable)?;
+        code.append(turn)?;
         let back = as_index(code.len())?;
-        let sifts = is_sieve(&code.instructions, walk.variable.address);
+        let sifts = is_sieve(code.instructions(), walk.variable.address);
         code.put(
             site.line,
             Instruction::NextMember {
@@ -197,7 +273,9 @@ impl Generator<'_> {
         code: &mut Piece,
         site: Site,
         owner: &SetOwner,
-    ) -> Result<Operand, CodeError> {
+    ) -> Result<Operand, AllocError>
+        ensures { IfOk result (λ o. KeepsOwner self.old self.new code.old code.new site (view_owner owner.now) o) }
+    {
         match owner {
             SetOwner::TheSystem => self.owner(code, site, owner),
             SetOwner::Entity { entity } => {
@@ -210,6 +288,26 @@ impl Generator<'_> {
         }
     }
 
+    // The owner is looked at, and a member goes into the next cell.
+    fn start_at(
+        &mut self,
+        code: &mut Piece,
+        site: Site,
+        walk: Walk,
+        member: &Expression,
+    ) -> Result<(), AllocError>
+        ensures { OnOk result (StartsWalk self.old self.new code.old code.new site walk (From (view_expression member.now))) }
+    {
+        code.put(
+            site.line,
+            Instruction::LookOwner {
+                set: walk.set,
+                owner: walk.owner,
+            },
+        )?;
+        self.push(code, site, member)
+    }
+
     // The member with which a walk begins, or after which, goes into the cell of the next member.
     fn start(
         &mut self,
@@ -217,40 +315,13 @@ impl Generator<'_> {
         site: Site,
         walk: Walk,
         start: &Start,
-    ) -> Result<(), CodeError> {
+    ) -> Result<(), AllocError>
+        ensures { OnOk result (StartsWalk self.old self.new code.old code.new site walk (view_start start.now)) }
+    {
         match start {
             Start::AtEnd => Ok(()),
-            Start::From { member } | Start::After { member } => {
-                code.put(
-                    site.line,
-                    Instruction::LookOwner {
-                        set: walk.set,
-                        owner: walk.owner,
-                    },
-                )?;
-                self.push(code, site, member)
-            }
-        }
-    }
-
-    // The instruction that begins a walk, which jumps where there is no member.
-    fn begin(&self, walk: Walk, start: &Start, skip: u32) -> Instruction {
-        match start {
-            Start::AtEnd => Instruction::BeginSet {
-                set: walk.set,
-                owner: walk.owner,
-                cell: walk.cell,
-                skip,
-                reverse: walk.reverse,
-            },
-            Start::From { .. } | Start::After { .. } => Instruction::BeginAt {
-                set: walk.set,
-                owner: walk.owner,
-                cell: walk.cell,
-                skip,
-                reverse: walk.reverse,
-                after: matches!(start, Start::After { .. }),
-            },
+            Start::From { member } => self.start_at(code, site, walk, member),
+            Start::After { member } => self.start_at(code, site, walk, member),
         }
     }
 
@@ -259,28 +330,32 @@ impl Generator<'_> {
         &mut self,
         code: &mut Piece,
         site: Site,
-        head: (Variable, usize, bool),
+        variable: Variable,
+        set: usize,
         owner: &SetOwner,
         start: &Start,
+        reverse: bool,
         turn: Piece,
-    ) -> Result<(), CodeError> {
-        let (variable, set, reverse) = head;
+    ) -> Result<(), AllocError>
+        ensures { OnOk result (EmitsAround self.old self.new code.old code.new site turn (λ s. GoodHead s (Members variable set (view_owner owner.now) (view_start start.now) reverse)) (λ t b. for_code t (Members variable set (view_owner owner.now) (view_start start.now) reverse) b)) }
+    {
         let kept = self.kept_owner(code, site, owner)?;
-        let next = site.above(kept.cells);
+        let below = site.above(kept.cells);
         let walk = Walk {
             variable: self.variable_spot(variable)?,
             set: as_index(set)?,
             owner: kept.address,
-            cell: self.cell_number(next)?,
+            cell: self.place_of(below)?,
             reverse,
         };
-        let _after = self.cell_number(next.above(1))?;
-        self.start(code, next, walk, start)?;
-        let members = self.take_members(site, walk, turn)?;
+        self.start(code, below, walk, start)?;
+        let above = below.above(MEMBER_CELLS);
+        self.reach(above.height);
+        let members = self.take_members(above, walk, turn)?;
         let skip = as_index(members.len())?;
-        code.put(site.line, self.begin(walk, start, skip))?;
+        code.put(site.line, begin(walk, start, skip))?;
         code.append(members)?;
-        self.forget(code, site, kept.cells + MEMBER_CELLS)
+        self.forget(code, above, kept.cells.saturating_add(MEMBER_CELLS))
     }
 
     /// A FOR with this turn, which was made above the cells that it keeps.
@@ -290,21 +365,23 @@ impl Generator<'_> {
         site: Site,
         head: &Head,
         turn: Piece,
-    ) -> Result<(), CodeError> {
+    ) -> Result<(), AllocError>
+        ensures { OnOk result (EmitsAround self.old self.new code.old code.new site turn (λ s. GoodHead s (view_head head.now)) (λ t b. for_code t (view_head head.now) b)) }
+    {
         match head {
             Head::Numbers {
                 variable,
                 first,
                 limit,
                 step,
-            } => self.numbers(code, site, *variable, (first, limit, step), turn),
+            } => self.numbers(code, site, *variable, first, limit, step, turn),
             Head::Members {
                 variable,
                 set,
                 owner,
                 start,
                 reverse,
-            } => self.members(code, site, (*variable, *set, *reverse), owner, start, turn),
+            } => self.members(code, site, *variable, *set, owner, start, *reverse, turn),
             Head::Each { variable, class } => self.each(code, site, *variable, *class, turn),
         }
     }
@@ -319,17 +396,19 @@ impl Generator<'_> {
         phrases: &[Phrase],
         found: Piece,
         none: Piece,
-    ) -> Result<(), CodeError> {
+    ) -> Result<(), AllocError>
+        ensures { OnOk result (EmitsAroundBoth self.old self.new code.old code.new site found none (λ s. GoodHead s (view_head head.now) × Every (GoodPhrase s) (map view_phrase phrases.now)) (λ t b. find_code t (view_head head.now) (map view_phrase phrases.now) b.first b.second)) }
+    {
         let cells = cells_of(head);
-        let mut case = Piece::new(self.alloc);
-        let skip = as_index(none.len() + 3)?;
-        case.put(site.line, Instruction::Jump { skip })?;
-        let turn = self.phrases(site.above(cells), phrases, case)?;
+        let above = site.above(cells);
+        self.reach(above.height);
+        let case = self.jump(above, as_index(none.len() + 3)?)?;
+        let turn = self.phrases(above, phrases, case)?;
         self.for_loop(code, site, head, turn)?;
         code.append(none)?;
-        let skip = as_index(found.len() + 1)?;
-        code.put(site.line, Instruction::Jump { skip })?;
-        self.forget(code, site, cells)?;
+        let past = self.jump(site, as_index(found.len() + 1)?)?;
+        code.append(past)?;
+        self.forget(code, above, cells)?;
         code.append(found)?;
         Ok(())
     }

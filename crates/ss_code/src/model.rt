@@ -1,22 +1,36 @@
 //! What may be run.
 
+ghost use Rattle.std.specs.Prelude.{◌≡◌};
+
 use crate::code::Code;
 use std::alloc::{AllocError, Global};
 
-/// A program that may be run.
+/// A program that may be run. A contract sees it as its code.
 #[derive(Drop)]
 pub struct Model {
     code: Code,
 }
 
+impl std::marker::Model for Model {
+    ghost use Rattle.ss_code.specs.Running.{Compiled};
+
+    ghost Value = { Compiled };
+
+    ghost view = { λ m. m.code };
+}
+
 impl Model {
     /// The model that this code is.
-    pub fn new(code: Code) -> Model {
+    pub fn new(code: Code) -> Model
+        ensures { result ≡ code }
+    {
         Model { code }
     }
 
     /// The code of the model.
-    pub fn into_code(self) -> Code {
+    pub fn into_code(self) -> Code
+        ensures { result ≡ self }
+    {
         self.code
     }
 

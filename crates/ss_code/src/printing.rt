@@ -1,33 +1,33 @@
 //! The code of PRINT.
 
-use crate::error::CodeError;
+ghost use Rattle.std.specs.Prelude.{◌≡◌, ◌+◌, ◌≤◌, map, IfOk, OnOk};
+ghost use Rattle.std.specs.List.{AllByRecursion as Every};
+ghost use Rattle.ss_program.specs.View.{view_item};
+ghost use Rattle.ss_code_instructions.specs.Translation.{item_code, items_code, after_items, height};
+ghost use Rattle.ss_code.specs.Preamble.{scope_of};
+ghost use Rattle.ss_code.specs.Items.{kind_of, item_width, GoodItem};
+ghost use Rattle.ss_code.specs.Printed.{PrintsLines};
+ghost use Rattle.ss_code.specs.Emitted.{Makes, Emits};
+
 use crate::facts::expression_mode;
 use crate::generator::{Generator, Site};
 use crate::lines::Lines;
 use crate::piece::{Piece, as_index};
 use ss_base::Mode;
-use ss_code_instructions::address::Address;
 use ss_code_instructions::instruction::Instruction;
 use ss_code_instructions::item::ItemKind;
 use ss_program::statement::Item;
 use std::alloc::AllocError;
 
 impl Generator<'_> {
-    // A look at the mean of a statistic.
-    fn look_mean(
-        &mut self,
-        code: &mut Piece,
-        site: Site,
-        statistic: usize,
-        entity: Address,
-    ) -> Result<(), CodeError> {
-        let statistic = as_index(statistic)?;
-        code.put(site.line, Instruction::LookMean { statistic, entity })?;
-        Ok(())
-    }
-
-    // An item: the value or reference that it takes goes into the next cell, and a mean is looked at.
-    fn item(&mut self, code: &mut Piece, site: Site, item: &Item) -> Result<usize, CodeError> {
+    // An item: the value or reference that it takes goes into the next cell, and a mean is looked at. It answers how many cells
+    // that takes.
+    fn item(&mut self, code: &mut Piece, site: Site, item: &Item) -> Result<usize, AllocError>
+        ensures code { IfOk result (λ n. Emits self.old self.new code.old code.new site (GoodItem (view_item item.now)) (λ t. item_code t (view_item item.now))) }
+        ensures width { IfOk result (λ n. n ≡ item_width (view_item item.now)) }
+        ensures room { IfOk result (λ n. site.height + n ≤ self.new.deepest) }
+    {
+        self.reach(site.height);
         match item {
             Item::Value { value } => {
                 self.push(code, site, value)?;
@@ -35,20 +35,37 @@ impl Generator<'_> {
             }
             Item::Mean { statistic } => {
                 let entity = self.zero()?;
-                self.look_mean(code, site, *statistic, entity)?;
+                let statistic = as_index(*statistic)?;
+                code.put(site.line, Instruction::LookMean { statistic, entity })?;
                 Ok(0)
             }
             Item::MeanOf { statistic, entity } => {
                 self.push(code, site, entity)?;
                 let entity = self.cell(site)?;
-                self.look_mean(code, site, *statistic, entity)?;
+                let statistic = as_index(*statistic)?;
+                code.put(site.line, Instruction::LookMean { statistic, entity })?;
                 Ok(1)
             }
         }
     }
 
+    // Items, one after the other. It answers where the code goes on.
+    fn items(&mut self, code: &mut Piece, site: Site, items: &[Item]) -> Result<(), AllocError>
+        ensures { OnOk result (Makes self.old self.new code.old code.new site (λ f t (u : Unit {0}). Every (λ x. GoodItem x t.scope) (map view_item items.now)) (λ t u. items_code t (map view_item items.now)) (λ f t u. height (after_items t (map view_item items.now)) ≤ f.depth)) }
+    {
+        self.reach(site.height);
+        let mut here = site;
+        for item in items {
+            let cells = self.item(code, here, item)?;
+            here = here.above(cells);
+        }
+        Ok(())
+    }
+
     // What an item is.
-    fn item_kind(&self, item: &Item) -> ItemKind {
+    fn item_kind(&self, item: &Item) -> ItemKind
+        ensures { result ≡ kind_of (scope_of self.now.program.now self.now.locals.items) (view_item item.now) }
+    {
         match item {
             Item::Value { value } => match expression_mode(self.program, &self.locals, value) {
                 Mode::Integer => ItemKind::Number,
@@ -64,36 +81,33 @@ impl Generator<'_> {
     }
 
     // What items are.
-    fn item_kinds(&self, items: &[Item]) -> Result<Vec<ItemKind>, AllocError> {
+    fn item_kinds(&self, items: &[Item]) -> Result<Vec<ItemKind>, AllocError>
+        ensures { IfOk result (λ kinds. kinds.items ≡ map (kind_of (scope_of self.now.program.now self.now.locals.items)) (map view_item items.now)) }
+    {
         let mut kinds = Vec::new(self.alloc);
         for item in items {
-            kinds.push(self.item_kind(item))?;
+            let kind = self.item_kind(item);
+            kinds.push(kind)?;
         }
         Ok(kinds)
-    }
-
-    // The lines of one PRINT more.
-    fn put_lines(&mut self, lines: Lines) -> Result<(), AllocError> {
-        self.prints.push(lines)?;
-        Ok(())
     }
 
     /// PRINT.
     pub(crate) fn print(
         &mut self,
         code: &mut Piece,
+        prints: &mut Vec<Lines>,
         site: Site,
         items: &[Item],
         pictures: &[Vec<u8>],
-    ) -> Result<(), CodeError> {
+    ) -> Result<(), AllocError>
+        ensures { OnOk result (PrintsLines self.old self.new code.old code.new site prints.old.items prints.new.items (map view_item items.now) (map (λ line. line.items) pictures.now)) }
+    {
         let kinds = self.item_kinds(items)?;
         let made = Lines::of(self.alloc, kinds, pictures)?;
-        let lines = as_index(self.prints.len())?;
-        self.put_lines(made)?;
-        let mut cells = 0;
-        for item in items {
-            cells += self.item(code, site.above(cells), item)?;
-        }
+        let lines = as_index(prints.len())?;
+        prints.push(made)?;
+        self.items(code, site, items)?;
         let cell = self.place_of(site)?;
         code.put(site.line, Instruction::Print { lines, cell })?;
         Ok(())

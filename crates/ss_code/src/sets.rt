@@ -1,38 +1,26 @@
 //! The code that works on sets.
 
-use crate::error::CodeError;
-use crate::expressions::{Operand, is_plain, is_plain_owner};
+ghost use Rattle.std.specs.Prelude.{◌≡◌, ◌++◌, if◌then◌else◌, IfOk, OnOk};
+ghost use Rattle.ss_program.specs.Program.{BeforeMember, AfterMember, File, RemoveEnd, Remove};
+ghost use Rattle.ss_program.specs.View.{view_expression, view_owner, view_place, view_position};
+ghost use Rattle.ss_program.specs.WellTyped.{OwnerFits, Good};
+ghost use Rattle.ss_code_instructions.specs.Translation.{with_owner, after as beyond, operand, member_code, file_code, remove_code, remove_end_code};
+ghost use Rattle.ss_code_instructions.specs.Facts.{may_fault, expression_of};
+ghost use Rattle.ss_code_instructions.specs.Instructions.{File as Files};
+ghost use Rattle.ss_code.specs.Preamble.{filing_of};
+ghost use Rattle.ss_code.specs.Forms.{filing, removing};
+ghost use Rattle.ss_code.specs.Emitted.{Emits, IsNumber, ReadsBy};
+
+use crate::expressions::Operand;
 use crate::facts::{Ordering, is_count_watched, ordering_of};
 use crate::generator::{Generator, Site};
+use crate::leaves::owner_may_fault;
 use crate::piece::{Piece, as_index};
 use ss_code_instructions::address::Address;
 use ss_code_instructions::instruction::Instruction;
 use ss_program::expression::{Expression, SetOwner};
 use ss_program::statement::{End, Place, Position};
-
-// The one beside which a member is filed, if there is one.
-fn beside_of(position: &Position) -> Option<&Expression> {
-    match position {
-        Position::ByDiscipline | Position::AsFirst | Position::AsLast => None,
-        Position::BeforeMember { member } | Position::AfterMember { member } => Some(member),
-    }
-}
-
-// Whether the evaluation of what there may be may fault.
-fn may_fault(e: Option<&Expression>) -> bool {
-    match e {
-        None => false,
-        Some(e) => !is_plain(e),
-    }
-}
-
-// How many cells what there may be takes.
-fn cells_of(operand: Option<Operand>) -> usize {
-    match operand {
-        None => 0,
-        Some(operand) => operand.cells,
-    }
-}
+use std::alloc::AllocError;
 
 // A member is filed where the discipline says.
 fn file_by(
@@ -41,7 +29,9 @@ fn file_by(
     member: Address,
     owner: Address,
     noted: bool,
-) -> Instruction {
+) -> Instruction
+    ensures { result ≡ filing ordering set member owner noted }
+{
     match ordering {
         Ordering::First => Instruction::FileFirst {
             set,
@@ -64,6 +54,26 @@ fn file_by(
     }
 }
 
+// The member at an end is removed.
+fn remove_by(end: End, set: u32, owner: Address, to: Address, noted: bool) -> Instruction
+    ensures { result ≡ removing end set owner to noted }
+{
+    match end {
+        End::First => Instruction::RemoveFirst {
+            set,
+            owner,
+            to,
+            noted,
+        },
+        End::Last => Instruction::RemoveLast {
+            set,
+            owner,
+            to,
+            noted,
+        },
+    }
+}
+
 impl Generator<'_> {
     /// A reference to an entity that may be a member of a set. It is looked at where something that may fault comes between.
     pub(crate) fn member(
@@ -73,62 +83,72 @@ impl Generator<'_> {
         set: usize,
         e: &Expression,
         is_looked: bool,
-    ) -> Result<Operand, CodeError> {
+    ) -> Result<Operand, AllocError>
+        ensures { IfOk result (λ o. ReadsBy self.old self.new code.old code.new site (IsNumber (view_expression e.now)) (view_expression e.now) o (λ t. member_code t is_looked set (view_expression e.now))) }
+    {
         let member = self.operand(code, site, e)?;
-        if is_looked {
-            code.put(
-                site.line,
-                Instruction::LookMember {
-                    set: as_index(set)?,
-                    member: member.address,
-                },
-            )?;
+        if !is_looked {
+            return Ok(member);
         }
+        let (set, entity) = (as_index(set)?, member.address);
+        code.put(site.line, Instruction::LookMember {
+            set,
+            member: entity,
+        })?;
         Ok(member)
     }
 
-    // The one beside which a member is filed, if there is one.
-    fn beside(
+    // A member is filed by an ordering.
+    fn file_at(
         &mut self,
         code: &mut Piece,
         site: Site,
         set: usize,
-        position: &Position,
-        is_looked: bool,
-    ) -> Result<Option<Operand>, CodeError> {
-        match beside_of(position) {
-            None => Ok(None),
-            Some(e) => Ok(Some(self.member(code, site, set, e, is_looked)?)),
-        }
+        member: &Expression,
+        ordering: Ordering,
+        owner: &SetOwner,
+    ) -> Result<(), AllocError>
+        ensures { OnOk result (Emits self.old self.new code.old code.new site (λ s. IsNumber (view_expression member.now) s × OwnerFits s set (view_owner owner.now)) (λ t. member_code t (may_fault (expression_of (view_owner owner.now))) set (view_expression member.now) ++ with_owner (beyond t (view_expression member.now)) (view_owner owner.now) (Files (filing_of ordering) set (operand t (view_expression member.now))))) }
+    {
+        let member = self.member(code, site, set, member, owner_may_fault(owner))?;
+        let owner = self.owner(code, site.above(member.cells), owner)?.address;
+        let noted = is_count_watched(self.program, set);
+        code.put(
+            site.line,
+            file_by(ordering, as_index(set)?, member.address, owner, noted),
+        )?;
+        Ok(())
     }
 
-    // The instruction that files.
-    fn filing(
-        &self,
+    // A member is filed directly before another one, or directly after it.
+    fn file_beside(
+        &mut self,
+        code: &mut Piece,
+        site: Site,
         set: usize,
-        position: &Position,
-        member: Address,
-        beside: Option<Operand>,
-        owner: Address,
-    ) -> Result<Instruction, CodeError> {
-        let noted = is_count_watched(self.program, set);
-        let ordering = match position {
-            Position::AsFirst => Ordering::First,
-            Position::AsLast => Ordering::Last,
-            _ => ordering_of(self.program, set),
-        };
-        let set = as_index(set)?;
-        Ok(match beside {
-            None => file_by(ordering, set, member, owner, noted),
-            Some(operand) => Instruction::FileBeside {
-                noted,
-                after: matches!(position, Position::AfterMember { .. }),
-                set,
-                member,
-                beside: operand.address,
+        member: &Expression,
+        after: bool,
+        beside: &Expression,
+        owner: &SetOwner,
+    ) -> Result<(), AllocError>
+        ensures { OnOk result (Emits self.old self.new code.old code.new site (λ s. IsNumber (view_expression member.now) s × IsNumber (view_expression beside.now) s × OwnerFits s set (view_owner owner.now)) (λ t. file_code t set (view_expression member.now) (if after then AfterMember (view_expression beside.now) else BeforeMember (view_expression beside.now)) (view_owner owner.now))) }
+    {
+        let member = self.member(code, site, set, member, true)?;
+        let above = site.above(member.cells);
+        let beside = self.member(code, above, set, beside, true)?;
+        let owner = self.owner(code, above.above(beside.cells), owner)?.address;
+        code.put(
+            site.line,
+            Instruction::FileBeside {
+                noted: is_count_watched(self.program, set),
+                after,
+                set: as_index(set)?,
+                member: member.address,
+                beside: beside.address,
                 owner,
             },
-        })
+        )?;
+        Ok(())
     }
 
     /// FILE.
@@ -140,17 +160,23 @@ impl Generator<'_> {
         member: &Expression,
         position: &Position,
         owner: &SetOwner,
-    ) -> Result<(), CodeError> {
-        let owner_may_fault = !is_plain_owner(owner);
-        let is_looked = owner_may_fault || may_fault(beside_of(position));
-        let member = self.member(code, site, set, member, is_looked)?;
-        let beside_here = site.above(member.cells);
-        let beside = self.beside(code, beside_here, set, position, owner_may_fault)?;
-        let below = member.cells + cells_of(beside);
-        let owner = self.owner(code, site.above(below), owner)?;
-        let filing = self.filing(set, position, member.address, beside, owner.address)?;
-        code.put(site.line, filing)?;
-        Ok(())
+    ) -> Result<(), AllocError>
+        ensures { OnOk result (Emits self.old self.new code.old code.new site (λ s. Good s (File site.line set (view_expression member.now) (view_position position.now) (view_owner owner.now))) (λ t. file_code t set (view_expression member.now) (view_position position.now) (view_owner owner.now))) }
+    {
+        match position {
+            Position::ByDiscipline => {
+                let ordering = ordering_of(self.program, set);
+                self.file_at(code, site, set, member, ordering, owner)
+            }
+            Position::AsFirst => self.file_at(code, site, set, member, Ordering::First, owner),
+            Position::AsLast => self.file_at(code, site, set, member, Ordering::Last, owner),
+            Position::BeforeMember { member: beside } => {
+                self.file_beside(code, site, set, member, false, beside, owner)
+            }
+            Position::AfterMember { member: beside } => {
+                self.file_beside(code, site, set, member, true, beside, owner)
+            }
+        }
     }
 
     /// REMOVE.
@@ -161,48 +187,20 @@ impl Generator<'_> {
         set: usize,
         member: &Expression,
         owner: &SetOwner,
-    ) -> Result<(), CodeError> {
-        let member = self.member(code, site, set, member, !is_plain_owner(owner))?;
-        let owner = self.owner(code, site.above(member.cells), owner)?;
+    ) -> Result<(), AllocError>
+        ensures { OnOk result (Emits self.old self.new code.old code.new site (λ s. Good s (Remove site.line set (view_expression member.now) (view_owner owner.now))) (λ t. remove_code t set (view_expression member.now) (view_owner owner.now))) }
+    {
+        let member = self.member(code, site, set, member, owner_may_fault(owner))?;
+        let owner = self.owner(code, site.above(member.cells), owner)?.address;
         code.put(
             site.line,
             Instruction::Remove {
                 set: as_index(set)?,
                 member: member.address,
-                owner: owner.address,
+                owner,
                 noted: is_count_watched(self.program, set),
             },
         )?;
-        Ok(())
-    }
-
-    // The member at an end is removed, and goes to a place.
-    fn put_remove_end(
-        &mut self,
-        code: &mut Piece,
-        site: Site,
-        end: End,
-        set: usize,
-        owner: Address,
-        to: Address,
-    ) -> Result<(), CodeError> {
-        let noted = is_count_watched(self.program, set);
-        let set = as_index(set)?;
-        let instruction = match end {
-            End::First => Instruction::RemoveFirst {
-                set,
-                owner,
-                to,
-                noted,
-            },
-            End::Last => Instruction::RemoveLast {
-                set,
-                owner,
-                to,
-                noted,
-            },
-        };
-        code.put(site.line, instruction)?;
         Ok(())
     }
 
@@ -215,11 +213,15 @@ impl Generator<'_> {
         set: usize,
         place: &Place,
         owner: &SetOwner,
-    ) -> Result<(), CodeError> {
+    ) -> Result<(), AllocError>
+        ensures { OnOk result (Emits self.old self.new code.old code.new site (λ s. Good s (RemoveEnd site.line end set (view_place place.now) (view_owner owner.now))) (λ t. remove_end_code t end set (view_place place.now) (view_owner owner.now))) }
+    {
         let spot = self.looked_spot(code, site, place)?;
-        let owner = self.owner(code, site.above(spot.cells()), owner)?.address;
-        let to = self.landing(site, spot, spot.cells())?;
-        self.put_remove_end(code, site, end, set, owner, to)?;
-        self.assign(code, site, spot, to)
+        let above = site.above(spot.cells());
+        let owner = self.owner(code, above, owner)?.address;
+        let to = self.landing(above, spot)?;
+        let noted = is_count_watched(self.program, set);
+        code.put(site.line, remove_by(end, as_index(set)?, owner, to, noted))?;
+        self.take(code, site, spot, to)
     }
 }

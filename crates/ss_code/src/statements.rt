@@ -1,35 +1,50 @@
 //! The code of statements.
 
-use crate::error::CodeError;
-use crate::generator::{Created, Generator, Site};
+ghost use Rattle.std.specs.Prelude.{◌≡◌, ◌++◌, ◌∷◌, [], map, IfOk, OnOk};
+ghost use Rattle.std.specs.List.{AllByRecursion as Every};
+ghost use Rattle.ss_program.specs.Program.{Call, Destroy, Skip};
+ghost use Rattle.ss_program.specs.View.{view_expression, view_condition, view_place, view_statement, view_body};
+ghost use Rattle.ss_program.specs.WellTyped.{GoodCondition, Good, GoodBlock};
+ghost use Rattle.ss_code_instructions.specs.Instructions.{Call as Calls, Destroy as Destroys, Skip as Skips, Leave};
+ghost use Rattle.ss_code_instructions.specs.Translation.{with_operand, values_code, after_values, place, height as high_of, if_code, gives_code, block_code, block_prints};
+ghost use Rattle.ss_code.specs.Lined.{nothing};
+ghost use Rattle.ss_code.specs.Emitted.{Emits, EmitsAroundBoth};
+ghost use Rattle.ss_code.specs.Spots.{GoodPlace};
+ghost use Rattle.ss_code.specs.Printed.{statement_site, line_or_none, PrintsBy, EmitsStatement, EmitsBlock};
+
+use crate::generator::{Generator, Site};
+use crate::lines::Lines;
 use crate::loops::cells_of;
-use crate::targets::is_attribute;
 use crate::piece::{Piece, as_index};
 use ss_base::Line;
-use ss_code_instructions::address::Address;
 use ss_code_instructions::instruction::Instruction;
 use ss_program::condition::Condition;
 use ss_program::expression::Expression;
 use ss_program::statement::{Place, Statement};
+use std::alloc::AllocError;
 
 // A condition, and one side.
-fn put_one_side(code: &mut Piece, test: Piece, then: Piece) -> Result<(), CodeError> {
+fn put_one_side(code: &mut Piece, test: Piece, then: Piece) -> Result<(), AllocError>
+    ensures instructions { OnOk result (code.new.instructions ≡ code.old.instructions ++ (test.instructions ++ then.instructions)) }
+    ensures lines { OnOk result (code.new.lines ≡ code.old.lines ++ (test.lines ++ then.lines)) }
+{
     code.append(test)?;
     code.append(then)?;
     Ok(())
 }
 
 impl Generator<'_> {
-    /// Values go into the next cells, one above the other.
-    pub(crate) fn values(
-        &mut self,
+    // An instruction without operands.
+    fn put(
+        &self,
         code: &mut Piece,
         site: Site,
-        values: &[Expression],
-    ) -> Result<(), CodeError> {
-        for (i, value) in values.iter().enumerate() {
-            self.push(code, site.above(i), value)?;
-        }
+        instruction: Instruction,
+    ) -> Result<(), AllocError>
+        ensures instructions { OnOk result (code.new.instructions ≡ code.old.instructions ++ instruction ∷ []) }
+        ensures lines { OnOk result (code.new.lines ≡ code.old.lines ++ site.line ∷ []) }
+    {
+        code.put(site.line, instruction)?;
         Ok(())
     }
 
@@ -41,12 +56,16 @@ impl Generator<'_> {
         condition: &Condition,
         then: Piece,
         otherwise: Piece,
-    ) -> Result<(), CodeError> {
+    ) -> Result<(), AllocError>
+        ensures { OnOk result (EmitsAroundBoth self.old self.new code.old code.new site then otherwise (λ s. GoodCondition s (view_condition condition.now)) (λ t b. if_code t (view_condition condition.now) b.first b.second)) }
+    {
         if otherwise.len() == 0 {
-            let test = self.condition(site, then.len(), condition)?;
+            let past = as_index(then.len())?;
+            let test = self.condition(site, past, condition)?;
             return put_one_side(code, test, then);
         }
-        let test = self.condition(site, then.len() + 1, condition)?;
+        let past = as_index(then.len() + 1)?;
+        let test = self.condition(site, past, condition)?;
         put_one_side(code, test, then)?;
         let skip = as_index(otherwise.len())?;
         code.put(site.line, Instruction::Jump { skip })?;
@@ -55,11 +74,12 @@ impl Generator<'_> {
     }
 
     // What a routine yields lies in cells, the first on top: each place takes one.
-    fn gives(&mut self, code: &mut Piece, site: Site, places: &[Place]) -> Result<(), CodeError> {
+    fn gives(&mut self, code: &mut Piece, site: Site, places: &[Place]) -> Result<(), AllocError>
+        ensures { OnOk result (Emits self.old self.new code.old code.new site (λ s. Every (λ p. GoodPlace p s) (map view_place places.now)) (λ t. gives_code t (map view_place places.now))) }
+    {
         let count = places.len();
         for (i, place) in places.iter().enumerate() {
-            let from = self.cell(site.above(count - 1 - i))?;
-            self.give(code, site.above(count - i), place, from)?;
+            self.give(code, site.above(count - 1 - i), place)?;
         }
         Ok(())
     }
@@ -72,7 +92,9 @@ impl Generator<'_> {
         routine: usize,
         given: &[Expression],
         yielding: &[Place],
-    ) -> Result<(), CodeError> {
+    ) -> Result<(), AllocError>
+        ensures { OnOk result (Emits self.old self.new code.old code.new site (λ s. Good s (Call site.line routine (map view_expression given.now) (map view_place yielding.now))) (λ t. values_code t (map view_expression given.now) ++ place (after_values t (map view_expression given.now)) (Calls routine (high_of t)) ∷ gives_code t (map view_place yielding.now))) }
+    {
         self.values(code, site, given)?;
         let routine = as_index(routine)?;
         let cell = self.place_of(site)?;
@@ -80,24 +102,43 @@ impl Generator<'_> {
         self.gives(code, site, yielding)
     }
 
-    // An expression as an operand, where only its address is asked.
-    fn address(
+    // DESTROY.
+    fn destroy(
         &mut self,
         code: &mut Piece,
         site: Site,
-        e: &Expression,
-    ) -> Result<Address, CodeError> {
-        Ok(self.operand(code, site, e)?.address)
+        class: usize,
+        entity: &Expression,
+    ) -> Result<(), AllocError>
+        ensures { OnOk result (Emits self.old self.new code.old code.new site (λ s. Good s (Destroy site.line class (view_expression entity.now))) (λ t. with_operand t (view_expression entity.now) (Destroys class))) }
+    {
+        let entity = self.operand(code, site, entity)?.address;
+        let class = as_index(class)?;
+        code.put(site.line, Instruction::Destroy { class, entity })?;
+        Ok(())
+    }
+
+    // SKIP.
+    fn skip(&mut self, code: &mut Piece, site: Site, count: &Expression) -> Result<(), AllocError>
+        ensures { OnOk result (Emits self.old self.new code.old code.new site (λ s. Good s (Skip site.line (view_expression count.now))) (λ t. with_operand t (view_expression count.now) Skips)) }
+    {
+        let count = self.operand(code, site, count)?.address;
+        code.put(site.line, Instruction::Skip { count })?;
+        Ok(())
     }
 
     // A statement, above so many cells.
+    #[tactic(auto, unfolding(ss_program::specs::View::view_statement))]
     #[cycle(statements)]
     fn statement(
         &mut self,
         code: &mut Piece,
+        prints: &mut Vec<Lines>,
         height: usize,
         s: &Statement,
-    ) -> Result<(), CodeError> {
+    ) -> Result<(), AllocError>
+        ensures { OnOk result (EmitsStatement self.old self.new code.old code.new height prints.old.items prints.new.items (view_statement s.now)) }
+    {
         let site = Site {
             line: line_of(s),
             height,
@@ -116,8 +157,8 @@ impl Generator<'_> {
                 yielding,
                 ..
             } => self.call(code, site, *routine, given, yielding),
-            Statement::Return => Ok(code.put(site.line, Instruction::Leave)?),
-            Statement::Stop => Ok(code.put(site.line, Instruction::Halt)?),
+            Statement::Return => self.put(code, site, Instruction::Leave),
+            Statement::Stop => self.put(code, site, Instruction::Halt),
             Statement::Read { targets, .. } => self.reads(code, site, targets),
             Statement::Simulate => self.simulate(code, site),
             Statement::If {
@@ -126,12 +167,12 @@ impl Generator<'_> {
                 otherwise,
                 ..
             } => {
-                let first = self.body(height, then)?;
-                let second = self.body(height, otherwise)?;
+                let first = self.body(prints, height, then)?;
+                let second = self.body(prints, height, otherwise)?;
                 self.branches(code, site, condition, first, second)
             }
             Statement::Loop { guards, body, .. } => {
-                let turn = self.body(height, body)?;
+                let turn = self.body(prints, height, body)?;
                 self.guarded_loop(code, site, guards, turn)
             }
             Statement::For {
@@ -141,7 +182,8 @@ impl Generator<'_> {
                 ..
             } => {
                 let above = site.above(cells_of(head));
-                let inner = self.body(above.height, body)?;
+                self.reach(above.height);
+                let inner = self.body(prints, above.height, body)?;
                 let turn = self.phrases(above, phrases, inner)?;
                 self.for_loop(code, site, head, turn)
             }
@@ -152,17 +194,13 @@ impl Generator<'_> {
                 none,
                 ..
             } => {
-                let first = self.body(height, found)?;
-                let second = self.body(height, none)?;
+                let first = self.body(prints, height, found)?;
+                let second = self.body(prints, height, none)?;
                 self.find(code, site, head, phrases, first, second)
             }
             Statement::Create { class, into, .. } => self.create(code, site, *class, into),
             Statement::CreateEvery { classes, .. } => self.creates(code, site, classes),
-            Statement::Destroy { class, entity, .. } => {
-                let entity = self.address(code, site, entity)?;
-                let class = as_index(*class)?;
-                Ok(code.put(site.line, Instruction::Destroy { class, entity })?)
-            }
+            Statement::Destroy { class, entity, .. } => self.destroy(code, site, *class, entity),
             Statement::File {
                 set,
                 member,
@@ -203,64 +241,47 @@ impl Generator<'_> {
                 items,
                 pictures,
                 ..
-            } => self.print(code, site, items, pictures),
-            Statement::Skip { count, .. } => {
-                let count = self.address(code, site, count)?;
-                Ok(code.put(site.line, Instruction::Skip { count })?)
-            }
-        }
-    }
-
-    // The entity that has just been created after a statement, where this one had been before it: assigning an attribute leaves it as
-    // it is.
-    fn created_after(
-        &self,
-        s: &Statement,
-        before: Option<Created>,
-    ) -> Result<Option<Created>, CodeError> {
-        match s {
-            Statement::Create {
-                class,
-                into: Place::ToVariable { variable },
-                ..
-            } => Ok(Some(Created {
-                class: as_index(*class)?,
-                entity: self.variable(*variable)?,
-            })),
-            Statement::Let { target, .. } | Statement::Change { target, .. } => {
-                Ok(if is_attribute(target) { before } else { None })
-            }
-            Statement::Read { targets, .. } => {
-                let all = targets.iter().all(|target| is_attribute(&target.place));
-                Ok(if all { before } else { None })
-            }
-            _ => Ok(None),
+            } => self.print(code, prints, site, items, pictures),
+            Statement::Skip { count, .. } => self.skip(code, site, count),
         }
     }
 
     // One statement after another, above so many cells.
     #[cycle(statements)]
-    fn body(&mut self, height: usize, body: &[Statement]) -> Result<Piece, CodeError> {
+    fn body(
+        &mut self,
+        prints: &mut Vec<Lines>,
+        height: usize,
+        body: &[Statement],
+    ) -> Result<Piece, AllocError>
+        ensures { IfOk result (λ code. EmitsBlock self.old self.new code height prints.old.items prints.new.items (view_body body.now)) }
+    {
         let mut code = Piece::new(self.alloc);
-        self.created = None;
         for s in body {
-            let before = self.created;
-            self.statement(&mut code, height, s)?;
-            self.created = self.created_after(s, before)?;
+            self.statement(&mut code, prints, height, s)?;
         }
         Ok(code)
     }
 
     /// MAIN, a routine or an event routine, which ends with a return.
-    pub(crate) fn section(&mut self, body: &[Statement]) -> Result<Piece, CodeError> {
-        let mut code = self.body(0, body)?;
+    pub(crate) fn section(
+        &mut self,
+        prints: &mut Vec<Lines>,
+        body: &[Statement],
+    ) -> Result<Piece, AllocError>
+        ensures { IfOk result (λ code. PrintsBy self.old self.new nothing code (statement_site 0) prints.old.items prints.new.items (λ s. GoodBlock s (view_body body.now)) (block_prints (view_body body.now)) (λ first t. block_code t first (view_body body.now) ++ place t Leave ∷ [])) }
+    {
+        let mut code = self.body(prints, 0, body)?;
         code.put(Line(0), Instruction::Leave)?;
         Ok(code)
     }
 }
 
 // The line of a statement. One that never faults has none.
-fn line_of(s: &Statement) -> Line {
+#[tactic(auto, unfolding(ss_program::specs::View::view_statement))]
+fn line_of(s: &Statement) -> Line
+    ensures { result ≡ line_or_none (view_statement s.now) }
+{
     match s {
         Statement::Return | Statement::Stop | Statement::Simulate => Line(0),
         Statement::Let { line, .. }

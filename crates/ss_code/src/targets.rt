@@ -1,21 +1,38 @@
 //! The code that assigns.
 
-use crate::error::CodeError;
-use crate::expressions::{begins_with_look, is_plain, move_of};
+ghost use Rattle.std.specs.Prelude.{◌≡◌, ◌∷◌, [], ◌++◌, if◌then◌else◌, map, IfOk, OnOk};
+ghost use Rattle.std.specs.List.{AllByRecursion as Every};
+ghost use Rattle.ss_base.specs.declared.layout.Mode.TheVariants.{Integer};
+ghost use Rattle.ss_program.specs.Program.{Let, Change, Place as Plain, ToVariable, ToAttribute, ToCount};
+ghost use Rattle.ss_program.specs.View.{view_expression, view_place, view_target};
+ghost use Rattle.ss_program.specs.WellTyped.{TakesMode, Good};
+ghost use Rattle.ss_meaning.specs.Values.{operator_of};
+ghost use Rattle.ss_code_instructions.specs.Instructions.{Read, Create};
+ghost use Rattle.ss_code_instructions.specs.declared.instruction.Instruction.TheVariants.{LookEntity};
+ghost use Rattle.ss_code_instructions.specs.Facts.{is_watched};
+ghost use Rattle.ss_code_instructions.specs.Translation.{Site as At, operand_code, forget, to_place_code, place as placed, let_code, change_code, reads_code, creates_code, give_code, place_code};
+ghost use Rattle.ss_code.specs.Forms.{calculating, storing, reading};
+ghost use Rattle.ss_code.specs.declared.generator.Site.{Site as Here};
+ghost use Rattle.ss_code.specs.Emitted.{Final, Around, Grows, Stands, AtTarget, Makes, NoMore, Emits, IsNumber};
+ghost use Rattle.ss_code.specs.Spots.{HasRoom, IsWatched, IsVariable, IsAttribute, IsSpot, IsPlaceOf, spot_cells, spot_code, landing as lands_at, GoodPlace, Gives, Takes, Changed, IsHeldBy};
+
+use crate::expressions::move_of;
 use crate::facts::{attribute_mode, is_attribute_watched, is_variable_watched, variable_mode};
-use crate::generator::{Created, Generator, Site};
+use crate::generator::{Generator, Site};
+use crate::leaves::must_look;
 use crate::piece::{Piece, as_index};
 use ss_base::Mode;
 use ss_code_instructions::address::Address;
 use ss_code_instructions::instruction::Instruction;
 use ss_program::expression::{Expression, Sign, Variable};
 use ss_program::statement::{CountedClass, Place, Target};
+use std::alloc::AllocError;
 
 /// A variable that is assigned: where it lies, its mode, and its number where a statistic watches it.
 #[derive(Clone, Copy)]
 pub(crate) struct VariableSpot {
     pub(crate) address: Address,
-    mode: Mode,
+    pub(crate) mode: Mode,
     pub(crate) watched: Option<u32>,
 }
 
@@ -23,12 +40,12 @@ pub(crate) struct VariableSpot {
 /// statistic watches it.
 #[derive(Clone, Copy)]
 pub(crate) struct AttributeSpot {
-    class: u32,
-    field: u32,
-    mode: Mode,
-    entity: Address,
-    cells: usize,
-    is_watched: bool,
+    pub(crate) class: u32,
+    pub(crate) field: u32,
+    pub(crate) mode: Mode,
+    pub(crate) entity: Address,
+    pub(crate) cells: usize,
+    pub(crate) is_watched: bool,
 }
 
 /// What is assigned.
@@ -42,16 +59,21 @@ pub(crate) enum Spot {
 
 impl Spot {
     /// How many cells it takes.
-    pub(crate) fn cells(self) -> usize {
+    pub(crate) fn cells(self) -> usize
+        ensures { result ≡ spot_cells self }
+    {
         match self {
-            Spot::Variable(_) | Spot::Count(_, _) => 0,
+            Spot::Variable(_) => 0,
             Spot::Attribute(spot) => spot.cells,
+            Spot::Count(_, _) => 0,
         }
     }
 }
 
 // A number is added or subtracted.
-fn change_of(sign: Sign, left: Address, right: Address, to: Address) -> Instruction {
+fn change_of(sign: Sign, left: Address, right: Address, to: Address) -> Instruction
+    ensures { result ≡ calculating (operator_of sign) left right to }
+{
     match sign {
         Sign::Plus => Instruction::Add { left, right, to },
         Sign::Minus => Instruction::Subtract { left, right, to },
@@ -59,7 +81,9 @@ fn change_of(sign: Sign, left: Address, right: Address, to: Address) -> Instruct
 }
 
 // A value goes to an attribute.
-fn set_of(spot: AttributeSpot, from: Address) -> Instruction {
+fn set_of(spot: AttributeSpot, from: Address) -> Instruction
+    ensures { result ≡ storing spot.mode spot.class spot.field spot.entity from spot.is_watched }
+{
     match spot.mode {
         Mode::Integer => Instruction::SetAttribute {
             class: spot.class,
@@ -77,41 +101,65 @@ fn set_of(spot: AttributeSpot, from: Address) -> Instruction {
     }
 }
 
-/// Whether a place is an attribute.
-pub(crate) fn is_attribute(place: &Place) -> bool {
-    matches!(place, Place::ToAttribute { .. })
+// The entity of an attribute is looked at, if it is to be.
+fn look_if(
+    code: &mut Piece,
+    site: Site,
+    spot: AttributeSpot,
+    is_looked: bool,
+) -> Result<(), AllocError>
+    ensures instructions { OnOk result (code.new.instructions ≡ code.old.instructions ++ (if is_looked then LookEntity spot.class spot.entity ∷ [] else [])) }
+    ensures lines { OnOk result (code.new.lines ≡ code.old.lines ++ (if is_looked then site.line ∷ [] else [])) }
+{
+    if is_looked {
+        let (class, entity) = (spot.class, spot.entity);
+        code.put(site.line, Instruction::LookEntity { class, entity })?;
+    }
+    Ok(())
 }
 
-// Whether the entity of an attribute is looked at before the code of a value: there is some, and it does not begin with the same look.
-fn must_look(place: &Place, value: &Expression) -> bool {
-    match place {
-        Place::ToAttribute {
-            class,
-            of: Expression::Fetch { variable },
-            ..
-        } => !is_plain(value) && !begins_with_look(*class, *variable, value),
-        _ => !is_plain(value),
+// A word of input goes to a place.
+fn read_of(mode: Mode, to: Address) -> Instruction
+    ensures { result ≡ reading mode to }
+{
+    match mode {
+        Mode::Integer => Instruction::Read { to },
+        Mode::Alpha => Instruction::ReadText { to },
     }
 }
 
 impl Generator<'_> {
-    /// A variable as what is assigned.
-    pub(crate) fn variable_spot(&self, variable: Variable) -> Result<VariableSpot, CodeError> {
-        let watched = match variable {
-            Variable::Global { number } if is_variable_watched(self.program, number) => {
-                Some(as_index(number)?)
+    // The number of a variable where a statistic watches it. None watches a local one.
+    fn watched(&self, variable: Variable) -> Result<Option<u32>, AllocError>
+        ensures { IfOk result (λ k. IsWatched (is_watched self.now.program.now.statistics.items variable) variable k) }
+    {
+        match variable {
+            Variable::Global { number } => {
+                if is_variable_watched(self.program, number) {
+                    Ok(Some(as_index(number)?))
+                } else {
+                    Ok(None)
+                }
             }
-            _ => None,
-        };
+            Variable::Local { .. } => Ok(None),
+        }
+    }
+
+    /// A variable as what is assigned.
+    pub(crate) fn variable_spot(&self, variable: Variable) -> Result<VariableSpot, AllocError>
+        ensures { IfOk result (λ s. (f : Final) (here : Here) (t : At) → Around f self.now → Stands f self.now here t → IsVariable t variable s) }
+    {
         Ok(VariableSpot {
             address: self.variable(variable)?,
             mode: variable_mode(self.program, &self.locals, variable),
-            watched,
+            watched: self.watched(variable)?,
         })
     }
 
     // N. of a class as what is assigned.
-    fn count_spot(&self, count: CountedClass) -> Result<Spot, CodeError> {
+    fn count_spot(&self, count: CountedClass) -> Result<Spot, AllocError>
+        ensures { IfOk result (λ s. (f : Final) (here : Here) (t : At) → Around f self.now → Stands f self.now here t → IsSpot f t (ToCount count) s) }
+    {
         let variable = Variable::Global {
             number: count.variable,
         };
@@ -126,24 +174,29 @@ impl Generator<'_> {
         class: usize,
         field: usize,
         of: &Expression,
-    ) -> Result<Spot, CodeError> {
+    ) -> Result<AttributeSpot, AllocError>
+        ensures { IfOk result (λ s. Makes self.old self.new code.old code.new site (λ f t (u : Unit {0}). IsNumber (view_expression of.now) t.scope) (λ t u. operand_code t (view_expression of.now)) (λ f t u. IsAttribute f t class field (view_expression of.now) s)) }
+    {
         let entity = self.operand(code, site, of)?;
-        Ok(Spot::Attribute(AttributeSpot {
+        Ok(AttributeSpot {
             class: as_index(class)?,
             field: as_index(field)?,
             mode: attribute_mode(self.program, class, field),
             entity: entity.address,
             cells: entity.cells,
             is_watched: is_attribute_watched(self.program, class, field),
-        }))
+        })
     }
 
     // A place as what is assigned: the reference to the entity of an attribute is evaluated.
-    fn spot(&mut self, code: &mut Piece, site: Site, place: &Place) -> Result<Spot, CodeError> {
+    fn spot(&mut self, code: &mut Piece, site: Site, place: &Place) -> Result<Spot, AllocError>
+        ensures { IfOk result (λ s. Makes self.old self.new code.old code.new site (λ f t (u : Unit {0}). GoodPlace (view_place place.now) t.scope) (λ t u. spot_code t (view_place place.now)) (λ f t u. IsSpot f t (view_place place.now) s)) }
+    {
         match place {
             Place::ToVariable { variable } => Ok(Spot::Variable(self.variable_spot(*variable)?)),
             Place::ToAttribute { class, field, of } => {
-                self.attribute_spot(code, site, *class, *field, of)
+                let spot = self.attribute_spot(code, site, *class, *field, of)?;
+                Ok(Spot::Attribute(spot))
             }
             Place::ToCount { count } => self.count_spot(*count),
         }
@@ -155,94 +208,106 @@ impl Generator<'_> {
         code: &mut Piece,
         site: Site,
         place: &Place,
-    ) -> Result<Spot, CodeError> {
-        let spot = self.spot(code, site, place)?;
-        if let Spot::Attribute(attribute) = spot {
-            self.look(code, site, attribute)?;
+    ) -> Result<Spot, AllocError>
+        ensures { IfOk result (λ s. Makes self.old self.new code.old code.new site (λ f t (u : Unit {0}). GoodPlace (view_place place.now) t.scope) (λ t u. place_code t (view_place place.now)) (λ f t u. IsSpot f t (view_place place.now) s)) }
+    {
+        match place {
+            Place::ToVariable { variable } => Ok(Spot::Variable(self.variable_spot(*variable)?)),
+            Place::ToAttribute { class, field, of } => {
+                let spot = self.attribute_spot(code, site, *class, *field, of)?;
+                let (class, entity) = (spot.class, spot.entity);
+                code.put(site.line, Instruction::LookEntity { class, entity })?;
+                Ok(Spot::Attribute(spot))
+            }
+            Place::ToCount { count } => self.count_spot(*count),
         }
-        Ok(spot)
     }
 
-    // The reference to the entity of an attribute is looked at, unless it was just created.
-    fn look(
-        &mut self,
-        code: &mut Piece,
-        site: Site,
-        attribute: AttributeSpot,
-    ) -> Result<(), CodeError> {
-        let (class, entity) = (attribute.class, attribute.entity);
-        if self.created == Some(Created { class, entity }) {
-            return Ok(());
-        }
-        code.put(site.line, Instruction::LookEntity { class, entity })?;
-        Ok(())
-    }
-
-    /// Where the value that a place will be assigned goes at first: into the variable itself, unless it is watched, or into the next
-    /// cell above so many.
-    pub(crate) fn landing(
-        &mut self,
-        site: Site,
-        spot: Spot,
-        cells: usize,
-    ) -> Result<Address, CodeError> {
+    /// Where the value that a place will be assigned lies at first: in the variable itself, unless it is watched, or in the next cell.
+    pub(crate) fn landing(&mut self, site: Site, spot: Spot) -> Result<Address, AllocError>
+        ensures grows { OnOk result (Grows self.old self.new) }
+        ensures at { IfOk result (λ to. (f : Final) (t u : At) (p : Plain) → Around f self.new → Stands f self.new site u → t.scope ≡ u.scope → IsSpot f t p spot → AtTarget f u (lands_at u p) to × HasRoom f (lands_at u p)) }
+    {
         match spot {
-            Spot::Variable(VariableSpot {
-                address,
-                watched: None,
-                ..
-            }) => Ok(address),
-            _ => self.cell(site.above(cells)),
+            Spot::Variable(variable) => match variable.watched {
+                None => Ok(variable.address),
+                Some(_) => self.cell(site),
+            },
+            Spot::Attribute(_) => self.cell(site),
+            Spot::Count(_, _) => self.cell(site),
         }
     }
 
-    // A variable is assigned a value, unless it lies there already. A statistic that watches it notes that.
+    // A variable is assigned a value. A statistic that watches it notes that.
     fn assign_variable(
-        &mut self,
+        &self,
         code: &mut Piece,
         site: Site,
         variable: VariableSpot,
         from: Address,
-    ) -> Result<(), CodeError> {
-        let to = variable.address;
+    ) -> Result<(), AllocError>
+        ensures { OnOk result (Gives self.now code.old code.new site from (λ f t p. IsPlaceOf t p variable)) }
+    {
         match variable.watched {
-            Some(variable) => code.put(site.line, Instruction::Keep { from, variable })?,
-            None if from == to => {}
-            None => code.put(site.line, move_of(variable.mode, from, to))?,
+            Some(variable) => code.put(site.line, Instruction::Keep { from, variable }),
+            None => code.put(site.line, move_of(variable.mode, from, variable.address)),
         }
-        Ok(())
-    }
-
-    /// So many cells that stayed are forgotten.
-    pub(crate) fn forget(
-        &mut self,
-        code: &mut Piece,
-        site: Site,
-        cells: usize,
-    ) -> Result<(), CodeError> {
-        if cells > 0 {
-            let count = as_index(cells)?;
-            code.put(site.line, Instruction::Forget { count })?;
-        }
-        Ok(())
     }
 
     /// A value goes to what is assigned.
     pub(crate) fn assign(
-        &mut self,
+        &self,
         code: &mut Piece,
         site: Site,
         spot: Spot,
         from: Address,
-    ) -> Result<(), CodeError> {
+    ) -> Result<(), AllocError>
+        ensures { OnOk result (Gives self.now code.old code.new site from (λ f t p. IsSpot f t p spot)) }
+    {
         match spot {
             Spot::Variable(variable) => self.assign_variable(code, site, variable, from),
-            Spot::Attribute(attribute) => Ok(code.put(site.line, set_of(attribute, from))?),
+            Spot::Attribute(attribute) => code.put(site.line, set_of(attribute, from)),
             Spot::Count(class, variable) => {
                 code.put(site.line, Instruction::LookCount { class })?;
                 self.assign_variable(code, site, variable, from)
             }
         }
+    }
+
+    /// A value that lies where it comes at first goes to what is assigned: there is nothing to do where that is the variable itself.
+    pub(crate) fn take(
+        &self,
+        code: &mut Piece,
+        site: Site,
+        spot: Spot,
+        from: Address,
+    ) -> Result<(), AllocError>
+        ensures { OnOk result (Takes self.now code.old code.new site from (λ f t p. IsSpot f t p spot)) }
+    {
+        match spot {
+            Spot::Variable(variable) => match variable.watched {
+                None => Ok(()),
+                Some(_) => self.assign(code, site.above(1), spot, from),
+            },
+            Spot::Attribute(_) => self.assign(code, site.above(1), spot, from),
+            Spot::Count(_, _) => self.assign(code, site.above(1), spot, from),
+        }
+    }
+
+    /// So many cells that stayed are forgotten.
+    pub(crate) fn forget(
+        &self,
+        code: &mut Piece,
+        site: Site,
+        cells: usize,
+    ) -> Result<(), AllocError>
+        ensures { OnOk result (Emits self.now self.now code.old code.new site (λ s. Unit {0}) (λ u. forget u cells)) }
+    {
+        if cells == 0 {
+            return Ok(());
+        }
+        let count = as_index(cells)?;
+        code.put(site.line, Instruction::Forget { count })
     }
 
     /// A value that lies in a cell goes to a place.
@@ -251,10 +316,52 @@ impl Generator<'_> {
         code: &mut Piece,
         site: Site,
         place: &Place,
-        from: Address,
-    ) -> Result<(), CodeError> {
-        let spot = self.spot(code, site, place)?;
-        self.assign(code, site, spot, from)
+    ) -> Result<(), AllocError>
+        ensures { OnOk result (Emits self.old self.new code.old code.new site (GoodPlace (view_place place.now)) (λ t. give_code t (view_place place.now))) }
+    {
+        let from = self.cell(site)?;
+        let above = site.above(1);
+        let spot = self.spot(code, above, place)?;
+        self.assign(code, above.above(spot.cells()), spot, from)
+    }
+
+    // LET of a variable.
+    fn let_variable(
+        &mut self,
+        code: &mut Piece,
+        site: Site,
+        spot: VariableSpot,
+        value: &Expression,
+    ) -> Result<(), AllocError>
+        ensures { OnOk result (Makes self.old self.new code.old code.new site (λ f t x. IsVariable t x spot × Good t.scope (Let site.line (ToVariable x) (view_expression value.now))) (λ t x. let_code t (ToVariable x) (view_expression value.now)) NoMore) }
+    {
+        match spot.watched {
+            None => self.expression(code, site, value, spot.address),
+            Some(variable) => {
+                let from = self.operand(code, site, value)?.address;
+                code.put(site.line, Instruction::Keep { from, variable })?;
+                Ok(())
+            }
+        }
+    }
+
+    // LET of an attribute.
+    fn let_attribute(
+        &mut self,
+        code: &mut Piece,
+        site: Site,
+        class: usize,
+        field: usize,
+        of: &Expression,
+        value: &Expression,
+    ) -> Result<(), AllocError>
+        ensures { OnOk result (Emits self.old self.new code.old code.new site (λ s. Good s (Let site.line (ToAttribute class field (view_expression of.now)) (view_expression value.now))) (λ t. let_code t (ToAttribute class field (view_expression of.now)) (view_expression value.now))) }
+    {
+        let spot = self.attribute_spot(code, site, class, field, of)?;
+        look_if(code, site, spot, must_look(class, of, value))?;
+        let from = self.operand(code, site.above(spot.cells), value)?.address;
+        code.put(site.line, set_of(spot, from))?;
+        Ok(())
     }
 
     /// LET.
@@ -264,23 +371,23 @@ impl Generator<'_> {
         site: Site,
         place: &Place,
         value: &Expression,
-    ) -> Result<(), CodeError> {
-        let spot = self.spot(code, site, place)?;
-        if let Spot::Variable(VariableSpot {
-            address,
-            watched: None,
-            ..
-        }) = spot
-        {
-            return self.expression(code, site, value, address);
+    ) -> Result<(), AllocError>
+        ensures { OnOk result (Emits self.old self.new code.old code.new site (λ s. Good s (Let site.line (view_place place.now) (view_expression value.now))) (λ t. let_code t (view_place place.now) (view_expression value.now))) }
+    {
+        match place {
+            Place::ToVariable { variable } => {
+                let spot = self.variable_spot(*variable)?;
+                self.let_variable(code, site, spot, value)
+            }
+            Place::ToAttribute { class, field, of } => {
+                self.let_attribute(code, site, *class, *field, of, value)
+            }
+            Place::ToCount { count } => {
+                let spot = self.count_spot(*count)?;
+                let from = self.operand(code, site, value)?;
+                self.assign(code, site.above(from.cells), spot, from.address)
+            }
         }
-        if let Spot::Attribute(attribute) = spot
-            && must_look(place, value)
-        {
-            self.look(code, site, attribute)?;
-        }
-        let from = self.operand(code, site.above(spot.cells()), value)?;
-        self.assign(code, site, spot, from.address)
     }
 
     // ADD and SUBTRACT, to a variable or N. of a class.
@@ -291,11 +398,43 @@ impl Generator<'_> {
         sign: Sign,
         spot: Spot,
         variable: VariableSpot,
-        by: Address,
-    ) -> Result<(), CodeError> {
-        let to = self.landing(site, spot, 0)?;
+        value: &Expression,
+    ) -> Result<(), AllocError>
+        ensures { OnOk result (Makes self.old self.new code.old code.new site (λ f t (c : Changed). IsSpot f t c.place spot × IsVariable t c.variable variable × IsHeldBy c × IsNumber (view_expression value.now) t.scope) (λ t c. change_code t sign c.place (view_expression value.now)) NoMore) }
+    {
+        let by = self.operand(code, site, value)?.address;
+        let to = self.landing(site, spot)?;
         code.put(site.line, change_of(sign, variable.address, by, to))?;
-        self.assign(code, site, spot, to)
+        self.take(code, site, spot, to)
+    }
+
+    // ADD and SUBTRACT, to an attribute.
+    fn change_attribute(
+        &mut self,
+        code: &mut Piece,
+        site: Site,
+        sign: Sign,
+        class: usize,
+        field: usize,
+        of: &Expression,
+        value: &Expression,
+    ) -> Result<(), AllocError>
+        ensures { OnOk result (Emits self.old self.new code.old code.new site (λ s. Good s (Change site.line sign (ToAttribute class field (view_expression of.now)) (view_expression value.now))) (λ t. change_code t sign (ToAttribute class field (view_expression of.now)) (view_expression value.now))) }
+    {
+        let by = self.operand(code, site, value)?;
+        let spot = self.attribute_spot(code, site.above(by.cells), class, field, of)?;
+        code.put(
+            site.line,
+            Instruction::ChangeAttribute {
+                class: spot.class,
+                field: spot.field,
+                entity: spot.entity,
+                by: by.address,
+                sign,
+                noted: spot.is_watched,
+            },
+        )?;
+        Ok(())
     }
 
     /// ADD and SUBTRACT.
@@ -306,51 +445,50 @@ impl Generator<'_> {
         sign: Sign,
         place: &Place,
         value: &Expression,
-    ) -> Result<(), CodeError> {
-        let by = self.operand(code, site, value)?;
-        let spot = self.spot(code, site.above(by.cells), place)?;
-        match spot {
-            Spot::Variable(variable) | Spot::Count(_, variable) => {
-                self.change_variable(code, site, sign, spot, variable, by.address)
+    ) -> Result<(), AllocError>
+        ensures { OnOk result (Emits self.old self.new code.old code.new site (λ s. Good s (Change site.line sign (view_place place.now) (view_expression value.now))) (λ t. change_code t sign (view_place place.now) (view_expression value.now))) }
+    {
+        match place {
+            Place::ToVariable { variable } => {
+                let spot = self.variable_spot(*variable)?;
+                self.change_variable(code, site, sign, Spot::Variable(spot), spot, value)
             }
-            Spot::Attribute(attribute) => Ok(code.put(
-                site.line,
-                Instruction::ChangeAttribute {
-                    class: attribute.class,
-                    field: attribute.field,
-                    entity: attribute.entity,
-                    by: by.address,
-                    sign,
-                    noted: attribute.is_watched,
-                },
-            )?),
+            Place::ToAttribute { class, field, of } => {
+                self.change_attribute(code, site, sign, *class, *field, of, value)
+            }
+            Place::ToCount { count } => {
+                let variable = Variable::Global {
+                    number: count.variable,
+                };
+                let spot = self.variable_spot(variable)?;
+                let counted = Spot::Count(as_index(count.class)?, spot);
+                self.change_variable(code, site, sign, counted, spot, value)
+            }
         }
     }
 
     // A target takes a word of input.
-    fn read(&mut self, code: &mut Piece, site: Site, target: &Target) -> Result<(), CodeError> {
+    fn read(&mut self, code: &mut Piece, site: Site, target: &Target) -> Result<(), AllocError>
+        ensures { OnOk result (Emits self.old self.new code.old code.new site (λ s. TakesMode s (view_place target.now.place) target.now.mode) (λ t. to_place_code t (view_place target.now.place) target.now.mode (λ u to. placed u (Read target.now.mode to) ∷ []))) }
+    {
         let spot = self.looked_spot(code, site, &target.place)?;
-        let to = self.landing(site, spot, spot.cells())?;
-        let instruction = match target.mode {
-            Mode::Integer => Instruction::Read { to },
-            Mode::Alpha => Instruction::ReadText { to },
-        };
-        code.put(site.line, instruction)?;
-        self.assign(code, site, spot, to)
+        let above = site.above(spot.cells());
+        let to = self.landing(above, spot)?;
+        code.put(site.line, read_of(target.mode, to))?;
+        self.take(code, above, spot, to)
     }
 
-    /// READ: each target takes a word of input. What was just created may be another entity after a variable has taken one.
+    /// READ: each target takes a word of input.
     pub(crate) fn reads(
         &mut self,
         code: &mut Piece,
         site: Site,
         targets: &[Target],
-    ) -> Result<(), CodeError> {
+    ) -> Result<(), AllocError>
+        ensures { OnOk result (Emits self.old self.new code.old code.new site (λ s. Every (λ x. TakesMode s x.place x.mode) (map view_target targets.now)) (λ t. reads_code t (map view_target targets.now))) }
+    {
         for target in targets {
             self.read(code, site, target)?;
-            if !is_attribute(&target.place) {
-                self.created = None;
-            }
         }
         Ok(())
     }
@@ -362,12 +500,15 @@ impl Generator<'_> {
         site: Site,
         class: usize,
         place: &Place,
-    ) -> Result<(), CodeError> {
+    ) -> Result<(), AllocError>
+        ensures { OnOk result (Emits self.old self.new code.old code.new site (λ s. TakesMode s (view_place place.now) Integer) (λ t. to_place_code t (view_place place.now) Integer (λ u to. placed u (Create class to) ∷ []))) }
+    {
         let spot = self.looked_spot(code, site, place)?;
-        let to = self.landing(site, spot, spot.cells())?;
+        let above = site.above(spot.cells());
+        let to = self.landing(above, spot)?;
         let class = as_index(class)?;
         code.put(site.line, Instruction::Create { class, to })?;
-        self.assign(code, site, spot, to)
+        self.take(code, above, spot, to)
     }
 
     /// CREATE EVERY.
@@ -376,7 +517,9 @@ impl Generator<'_> {
         code: &mut Piece,
         site: Site,
         classes: &[CountedClass],
-    ) -> Result<(), CodeError> {
+    ) -> Result<(), AllocError>
+        ensures { OnOk result (Emits self.old self.new code.old code.new site (λ s. Unit {0}) (λ t. creates_code t classes.now)) }
+    {
         for counted in classes {
             let class = as_index(counted.class)?;
             let variable = as_index(counted.variable)?;

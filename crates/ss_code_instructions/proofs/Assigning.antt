@@ -24,7 +24,7 @@ use Rattle.ss_code_instructions.proofs.Parts.{Leads, onwards, breaks, whatever, 
 use Rattle.ss_code_instructions.proofs.Operands.{on, Tops, put_then}
 
 -- a part whose value is written, and then is no longer needed
-written_goal : {code : Code} (s : MachineState) (k : World → MachineState) (frames : List Frame) (o : Outcome Value) (f : Value → Part (Unit {0})) → Reaches code s (arrive (λ v. k) frames (outcome_then o (λ v w. outcome_then (f v w) (λ _. WentOn v)))) → Reaches code s (arrive (λ u. k) frames (outcome_then o f))
+pub written_goal : {code : Code} (s : MachineState) (k : World → MachineState) (frames : List Frame) (o : Outcome Value) (f : Value → Part (Unit {0})) → Reaches code s (arrive (λ v. k) frames (outcome_then o (λ v w. outcome_then (f v w) (λ _. WentOn v)))) → Reaches code s (arrive (λ u. k) frames (outcome_then o f))
 written_goal s k frames (Left e w) f r = r
 written_goal {code} s k frames (WentOn v w) f r = by (f v w) r
   where

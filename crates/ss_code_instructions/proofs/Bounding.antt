@@ -184,7 +184,7 @@ module _ (code : Code) where
   less : Lands code → (c d : Core) (x : Placed) → slice_get code.places c.place ≡ Some x → c.place < length code.places → Way (goes_back x.instruction) c d → Less c d
   less lands c d x has within (inl on) = omega (arith, at_most d, within, on.0, ap (left_in (length code.places)) on.1)
   less lands c d x has within (inr (inl b)) =
-      let t = lands c.place b.0 x has b.1 in
+      let t = (lands c.place b.0 x has b.1).1 in
       let due : is_due_at (slice_get code.places d.place) ≡ true = ap (λ p. is_due_at (slice_get code.places p)) b.2 ∙ ap is_due_at t.here ∙ t.due in
       let left : left_at code d.place d.frames ≡ left_in (length code.places) d.frames = ap (λ k. left_from k (length code.places - d.place) (left_in (length code.places) d.frames)) due in
       omega (arith, left, within, ap (left_in (length code.places)) b.3)

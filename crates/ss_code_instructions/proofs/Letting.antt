@@ -1,5 +1,6 @@
 -- LET, ADD and SUBTRACT, for each place that they assign.
-use Rattle.std.proofs.Common.{◌≡◌, ℕ, ◌+◌, List, [], ◌∷◌, ◌++◌, length, Option, Some, None, refl, sym, subst, arith, length-append}
+use Rattle.std.proofs.Common.{◌≡◌, ℕ, ◌+◌, Bool, true, false, List, [], ◌∷◌, ◌++◌, length, Option, Some, None, refl, sym, subst, arith, length-append}
+use Rattle.std.specs.Prelude.{if◌then◌else◌}
 use Rattle.ss_base.specs.declared.layout.Mode.TheVariants.{Integer}
 use Rattle.ss_base.specs.declared.value.Value.{Value}
 use Rattle.ss_program.specs.declared.expression.Sign.{Sign}
@@ -9,20 +10,20 @@ use Rattle.ss_program.specs.declared.statement.CountedClass.{CountedClass}
 use Rattle.ss_program.specs.Program.{Expression, Place, ToVariable, ToAttribute, ToCount}
 use Rattle.ss_meaning.specs.Values.{if_ok, sure, calculated, operator_of}
 use Rattle.ss_meaning.specs.Store.{fetched}
-use Rattle.ss_meaning.specs.Places.{InVariable, InCount}
+use Rattle.ss_meaning.specs.Places.{InVariable, InCount, assigned_variable}
 use Rattle.ss_meaning.specs.Expressions.{value}
-use Rattle.ss_meaning.specs.Parts.{World, Part, outcome_then, looked, look, write}
+use Rattle.ss_meaning.specs.Parts.{World, Part, outcome_then, looked, look, settle, write}
 use Rattle.ss_meaning.specs.Statements.{give_to, change_by}
 use Rattle.ss_code_instructions.specs.Instructions.{Held, Taken, Placed, Target as To}
 use Rattle.ss_code_instructions.specs.Instructions as i
-use Rattle.ss_code_instructions.specs.States.{Frame, MachineState, or_zero, core_at, with_value, deliver}
+use Rattle.ss_code_instructions.specs.States.{Frame, MachineState, did, or_zero, core_at, onward, with_value, deliver}
 use Rattle.ss_code_instructions.specs.Machine.{Code}
-use Rattle.ss_code_instructions.specs.Translation.{Site, height, above, place, leaf, operand, after, operand_code, with_operand, expression_code, next, count_code, let_code, change_code}
-use Rattle.ss_code_instructions.proofs.Steps.{has_front, has_back, Reaches, at, arrive, join}
-use Rattle.ss_code_instructions.proofs.Parts.{Leads, whatever, step_leads, at_the_height, Runs, same, done, went, then_then, alike}
+use Rattle.ss_code_instructions.specs.Translation.{Site, height, above, place, leaf, operand, after, operand_code, with_operand, expression_code, next, is_kept, count_code, let_code, change_code}
+use Rattle.ss_code_instructions.proofs.Steps.{has_front, has_back, Comes, Reaches, here, at, arrive, join}
+use Rattle.ss_code_instructions.proofs.Parts.{Leads, onwards, whatever, step_leads, did_leads, at_the_height, Runs, same, done, went, then_then, alike}
 use Rattle.ss_code_instructions.proofs.Operands.{on, Tops, put_then, computes, held, reads, one_join}
 use Rattle.ss_code_instructions.proofs.Expressions.{leaves, evaluates}
-use Rattle.ss_code_instructions.proofs.Assigning.{variable_runs, count_run}
+use Rattle.ss_code_instructions.proofs.Assigning.{written_goal, variable_runs, count_run}
 use Rattle.ss_code_instructions.proofs.Attributes.{let_attribute_runs}
 use Rattle.ss_code_instructions.proofs.Changing.{change_attribute_runs}
 
@@ -38,8 +39,29 @@ module _ (code : Code) (n : ℕ) where
         (count_run code (after t e) c (operand t e) v (p + length ce) (held (leaf e) v cells) cells frames w (λ go. reads t e v w.store cells go high found) has'));
   }
 
+  let_variable_runs : (t : Site) (x : Variable) (e : Expression) → Runs code n (height t) same (let_code t (ToVariable x) e) done (give_to t.line (ToVariable x) (look t.line (value e)))
+  let_variable_runs t x e = by (is_kept t x)
+    where
+      by : (b : Bool) → Runs code n (height t) same (if b then with_operand t e (λ y. i.Keep y x) else expression_code t (i.Into x) e) done (λ w. outcome_then (look t.line (value e) w) (write t.line (InVariable x)))
+      by true = record {
+        by = λ p cells frames w high has in_.
+            let ce : List Placed = operand_code t e in
+            let last : Placed = place (after t e) (i.Keep (operand t e) x) in
+            let end : p + length ce + 1 ≡ p + length (ce ++ last ∷ []) = omega (arith, length-append ce (last ∷ [])) in
+            let ends : Unit {0} → World → MachineState = λ o w'. at (p + length (ce ++ last ∷ [])) cells frames w' in
+            one_join code n t e (evaluates code n t e) (last ∷ []) ends (write t.line (InVariable x)) p cells frames w high has in_ (λ v found has'.
+            step_leads code last (core_at (p + length ce) (held (leaf e) v cells) frames w.store) w _ _ has'.0 refl
+            (reads t e v w.store cells (λ v below. did t.line (assigned_variable x v w.store) (λ s. onward below (core_at (p + length ce) (held (leaf e) v cells) frames w.store) s)) high found)
+            (did_leads code t.line (assigned_variable x v w.store) (λ s. onward cells (core_at (p + length ce) (held (leaf e) v cells) frames w.store) s) w ends frames settle (λ s done_.
+            onwards (subst (λ j. Reaches code (at (p + length ce + 1) cells frames (record w { store = s })) (Comes (at j cells frames (record w { store = s })))) end here))));
+      }
+      by false = record {
+        by = λ p cells frames w high has in_.
+            written_goal (at p cells frames w) (λ w'. at (p + length (expression_code t (i.Into x) e)) cells frames w') frames (look t.line (value e) w) (write t.line (InVariable x)) ((leaves code n t (i.Into x) tt e).by p cells frames w high has in_);
+      }
+
   pub let_runs : (t : Site) (p : Place) (e : Expression) → Runs code n (height t) same (let_code t p e) done (give_to t.line p (look t.line (value e)))
-  let_runs t (ToVariable x) e = variable_runs code n t x (λ to. expression_code t to e) (look t.line (value e)) (λ to tops. leaves code n t to tops e)
+  let_runs t (ToVariable x) e = let_variable_runs t x e
   let_runs t (ToAttribute class field r) e = let_attribute_runs code n t class field r e
   let_runs t (ToCount c) e = let_count_runs t c e
 

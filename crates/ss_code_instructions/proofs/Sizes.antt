@@ -216,7 +216,11 @@ variable_length s x source n q = by (t.is_kept s x)
     by false = omega (arith, q (i.Into x))
 
 let_length : (s : Site) (p : Place) (e : Expression) → length (t.let_code s p e) ≡ z.let_size s.scope.program p e
-let_length s (ToVariable x) e = variable_length s x (λ to. expression_code s to e) (expression_size e) (λ to. expression_length s to e)
+let_length s (ToVariable x) e = by (t.is_kept s x)
+  where
+    by : (b : Bool) → length (if b then t.with_operand s e (λ y. i.Keep y x) else expression_code s (i.Into x) e) ≡ z.let_variable_size s.scope.program b e
+    by true = with_length s e (λ y. i.Keep y x)
+    by false = expression_length s (i.Into x) e
 let_length s (ToAttribute class field r) e =
     both_codes (t.entity_code s (must_look class r e) class r) (t.with_operand (after s r) e (i.SetAttribute class field (operand s r))) (z.looked_size (must_look class r e) r) (operand_size e + 1)
     (looked_length s (must_look class r e) r (i.LookEntity class)) (with_length (after s r) e (i.SetAttribute class field (operand s r)))

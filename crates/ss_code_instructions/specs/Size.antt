@@ -102,8 +102,12 @@ module _ (p : Program) where
   abbrev pub kept_size : Variable → ℕ
   kept_size x = one_if (is_watched p.statistics x)
 
+  abbrev pub let_variable_size : (kept : Bool) → Expression → ℕ
+  let_variable_size false e = expression_size e
+  let_variable_size true e = operand_size e + 1
+
   abbrev pub let_size : Place → Expression → ℕ
-  let_size (ToVariable x) e = expression_size e + kept_size x
+  let_size (ToVariable x) e = let_variable_size (is_watched p.statistics x) e
   let_size (ToAttribute class field r) e = looked_size (must_look class r e) r + (operand_size e + 1)
   let_size (ToCount c) e = operand_size e + 2
 

@@ -274,9 +274,9 @@ assignment t x from = if is_kept t x then i.Keep from x else i.Move from (i.Into
 abbrev pub count_code : Site → CountedClass → Operand → List Placed
 count_code t c from = place t (i.LookCount c.class) ∷ (place t (assignment t (Global c.variable) from) ∷ [])
 
--- LET: a reference is looked at where the value may fault, but where that begins with the same look
+-- LET: a variable that a statistic watches takes an operand; a reference is looked at where the value may fault, but where that begins with the same look
 abbrev pub let_code : Site → Place → Expression → List Placed
-let_code t (ToVariable x) e = variable_code t x (λ to. expression_code t to e)
+let_code t (ToVariable x) e = if is_kept t x then with_operand t e (λ y. i.Keep y x) else expression_code t (i.Into x) e
 let_code t (ToAttribute class field r) e =
     entity_code t (must_look class r e) class r ++ with_operand (after t r) e (i.SetAttribute class field (operand t r))
 let_code t (ToCount c) e = operand_code t e ++ count_code (after t e) c (operand t e)

@@ -1,5 +1,7 @@
 //! Where values lie.
 
+ghost use Rattle.std.specs.Prelude.{◌≡◌};
+
 /// Where a value lies in its row: whole numbers lie in one row, texts in another, and both are numbered alike. The global
 /// variables come first, then the constants, then the frames of open calls. In a frame lie the local variables, and above them
 /// the cells of its stack.
@@ -15,12 +17,16 @@ pub struct Address {
 
 impl Address {
     /// A global variable or a constant, by its place in the row.
-    pub fn fixed(number: u32) -> Address {
+    pub fn fixed(number: u32) -> Address
+        ensures { result ≡ record { number = number; mask = 0 } }
+    {
         Address { number, mask: 0 }
     }
 
     /// A local variable or a cell, counted from where the frame begins.
-    pub fn in_frame(number: u32) -> Address {
+    pub fn in_frame(number: u32) -> Address
+        ensures { result ≡ record { number = number; mask = 4294967295 } }
+    {
         Address {
             number,
             mask: u32::MAX,

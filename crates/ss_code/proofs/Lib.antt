@@ -1,0 +1,14 @@
+mod Emitting
+mod Forms
+mod Modes
+mod Operands
+mod Values
+mod Testing
+mod Assigned
+mod Whole
+mod Steps
+mod Sections
+mod Nodes
+mod Watching
+mod Pushing
+mod Listed

@@ -1,0 +1,179 @@
+-- The whole code of a program, from that of its sections.
+use Rattle.std.proofs.Common.{◌≡◌, ℕ, suc, ◌+◌, ◌≤◌, List, [], ◌∷◌, ◌++◌, length, map, Some, refl, sym, ap, ◌∙◌, subst, arith, append_assoc, length-append}
+use Rattle.std.proofs.lemmas.List.{map-append, length-map}
+use Rattle.std.specs.Prelude.{pos}
+use Rattle.std.specs.List.{AllByRecursion as Every}
+use Rattle.ss_base.specs.declared.value.Value.{Value}
+use Rattle.ss_base.specs.declared.value.Value.TheVariants.{Whole}
+use Rattle.ss_program.specs.Program.{Program, Routine, Event}
+use Rattle.ss_code_instructions.specs.declared.entry.Entry.{Entry}
+use Rattle.ss_code_instructions.specs.declared.instruction.Instruction.{Instruction as Running}
+use Rattle.ss_code_instructions.specs.Instructions.{Placed, EntryPoint, Lines}
+use Rattle.ss_code_instructions.specs.Running.{Lands}
+use Rattle.ss_code_instructions.specs.Translation.{routines_code, events_code, block_prints, routines_prints, events_prints, routine_entries, event_entries, main_code, all_routines, all_events, main_prints, prints_before_events, code_of}
+use Rattle.ss_code_instructions.specs.Carried.{RunningLines, RunningCode, lines_of, item_modes, onto, Carries, Shows, IsEntry, AreEntries, IsPlace, ArePlaces, main_entry, IsCode}
+use Rattle.ss_code_instructions.proofs.Steps.{HasAt, has_all}
+use Rattle.ss_code.specs.declared.generator.Generator.{Generator}
+use Rattle.ss_code.specs.Lined.{Lined, nothing}
+use Rattle.ss_code.specs.Emitted.{Final, Shown, AllRun, Adds}
+use Rattle.ss_code.specs.Running.{Begins, AllBegin, Prints}
+use Rattle.ss_code.specs.Sections.{Deepened, AllDeepened}
+use Rattle.ss_code.proofs.Emitting.{adds_then, adds_same, piece_long}
+
+-- ## Places
+
+some_same : {A : Type 0} {a b : A} → Some a ≡ Some b → a ≡ b
+some_same e = cc
+
+-- what is shown at a PRINT is shown at its lines
+shows_of : (prints : List RunningLines) (x : Placed) → Shown prints x.cells x.instruction → Shows prints x
+shows_of prints x shown = λ n h l e there.
+    let s = subst (λ i. Shown prints x.cells i) e shown in
+    let same : s.0 ≡ l = some_same (sym s.1 ∙ there) in
+    (s.2.0, s.2.1 ∙ ap (λ (l : RunningLines). onto (item_modes l.items) s.2.0) same)
+
+module _ (f : Final) (run : RunningCode) (constants : run.constants ≡ f.constants) (prints : run.prints ≡ f.prints) (depth : run.depth ≡ f.depth) (lands : Lands (code_of f.program)) where
+  -- what runs, from a place of the code on
+  are_places : (n : ℕ) (xs : List Placed) (ys : List Running) → HasAt (code_of f.program).places n xs → AllRun f xs ys → ArePlaces (code_of f.program) run n xs ys
+  are_places n [] [] has h = tt
+  are_places n [] (y ∷ ys) has h = absurd h
+  are_places n (x ∷ xs) [] has h = absurd h
+  are_places n (x ∷ xs) (y ∷ ys) has h =
+      let here : IsPlace (code_of f.program) run n x y = record {
+        carries = subst (λ (c : List Value). Carries (code_of f.program) c x y) (sym constants) h.0.carries;
+        depth = omega (arith, h.0.deep, depth);
+        back = λ back e. (lands n back x has.0 e).0;
+        shows = subst (λ (p : List RunningLines). Shows p x) (sym prints) (shows_of f.prints x h.0.shown);
+      } in
+      let next : n + 1 ≡ suc n = omega arith in
+      (here, are_places (suc n) xs ys (subst (λ k. HasAt (code_of f.program).places k xs) next has.1) h.1)
+
+-- ## Sections
+
+-- a section yields no more than its other variables
+abbrev Yields : EntryPoint → Type 0
+Yields e = e.yielding ≤ length e.others
+
+entry_of : (depth : ℕ) (e : EntryPoint) (old new : Entry) → Begins 0 e old → Deepened depth old new → Yields e → IsEntry depth e new
+entry_of depth e old new b d few =
+    let same_room : new.room ≡ old.room + depth = ap (λ (x : Entry). x.room) d.same in
+    let room : new.room ≡ length e.given + length e.others + depth = omega (arith, same_room, b.room) in
+    let given : new.given.items ≡ e.given = ap (λ (x : Entry). x.given.items) d.same ∙ b.given in
+    let others : new.others.items ≡ e.others = ap (λ (x : Entry). x.others.items) d.same ∙ b.others in
+    let yielding : new.yielding ≡ e.yielding = ap (λ (x : Entry). x.yielding) d.same ∙ b.yielding in
+    let longs : length new.given.items ≡ length e.given = ap length given in
+    let rest : length new.others.items ≡ length e.others = ap length others in
+    record {
+      place = ap (λ (x : Entry). x.place) d.same ∙ b.place;
+      given = given;
+      yielding = yielding;
+      others = others;
+      room = room;
+      sized = record {
+        variables = omega (arith, room, longs, rest);
+        yields = omega (arith, few, yielding, rest);
+        small = d.small;
+      };
+    }
+
+entries_of : (depth : ℕ) (es : List EntryPoint) (olds news : List Entry) → AllBegin 0 es olds → AllDeepened depth olds news → Every Yields es → AreEntries depth es news
+entries_of depth [] [] [] b d y = tt
+entries_of depth [] [] (n ∷ ns) b d y = absurd d
+entries_of depth [] (o ∷ os) news b d y = absurd b
+entries_of depth (e ∷ es) [] news b d y = absurd b
+entries_of depth (e ∷ es) (o ∷ os) [] b d y = absurd d
+entries_of depth (e ∷ es) (o ∷ os) (n ∷ ns) b d y = (entry_of depth e o n b.0 d.0 y.0, entries_of depth es os ns b.1 d.1 y.1)
+
+routines_yield : (p : Program) (at first : ℕ) (rs : List Routine) → Every Yields (routine_entries p at first rs)
+routines_yield p at first [] = tt
+routines_yield p at first (r ∷ rs) =
+    let few : length r.yielding ≤ length (r.yielding ++ r.others) = omega (arith, length-append r.yielding r.others) in
+    (few, routines_yield p _ _ rs)
+
+events_yield : (p : Program) (at first : ℕ) (es : List Event) → Every Yields (event_entries p at first es)
+events_yield p at first [] = tt
+events_yield p at first (e ∷ es) =
+    let few : 0 ≤ length e.others = omega arith in
+    (few, events_yield p _ _ es)
+
+-- ## PRINTs
+
+-- the lines of all PRINTs
+prints_then : (a b c : List RunningLines) (ls ms : List Lines) → Prints a b ls → Prints b c ms → Prints a c (ls ++ ms)
+prints_then a b c ls ms h k = (
+  h.0 ++ k.0,
+  k.1 ∙ ap (λ (l : List RunningLines). l ++ k.0) h.1 ∙ append_assoc a h.0 k.0,
+  map-append lines_of h.0 k.0 ∙ ap (λ (l : List Lines). l ++ map lines_of k.0) h.2 ∙ ap (λ (l : List Lines). ls ++ l) k.2,
+)
+
+-- how many there are then
+prints_long : (a b : List RunningLines) (ls : List Lines) → Prints a b ls → length b ≡ length a + length ls
+prints_long a b ls h = ap length h.1 ∙ length-append a h.0 ∙ ap (λ n. length a + n) (sym (length-map h.0 lines_of) ∙ ap length h.2)
+
+-- ## The whole
+
+-- what is known of the parts once all are made
+pub record Parts (p : Program) (g : Generator) (c1 c2 c3 : Lined) (p1 p2 p3 : List RunningLines) : Type 0 where
+  pub main : Adds (record { program = p; constants = g.constants.items; prints = p3; depth = g.deepest }) nothing c1 (main_code p)
+  pub routines : Adds (record { program = p; constants = g.constants.items; prints = p3; depth = g.deepest }) c1 c2 (routines_code p (length p1) p.routines)
+  pub events : Adds (record { program = p; constants = g.constants.items; prints = p3; depth = g.deepest }) c2 c3 (events_code p (length p2) p.events)
+  pub main_prints : Prints [] p1 (block_prints p.main)
+  pub routine_prints : Prints p1 p2 (routines_prints p.routines)
+  pub event_prints : Prints p2 p3 (events_prints p.events)
+
+module _ (p : Program) (g : Generator) (c1 c2 c3 : Lined) (p1 p2 p3 : List RunningLines) (parts : Parts p g c1 c2 c3 p1 p2 p3) where
+  abbrev final : Final
+  final = record { program = p; constants = g.constants.items; prints = p3; depth = g.deepest }
+
+  first_long : length p1 ≡ main_prints p
+  first_long = prints_long [] p1 (block_prints p.main) parts.main_prints
+
+  second_long : length p2 ≡ prints_before_events p
+  second_long = prints_long p1 p2 (routines_prints p.routines) parts.routine_prints ∙ ap (λ n. n + length (routines_prints p.routines)) first_long
+
+  -- all places, one after the other
+  pub all_added : Adds final nothing c3 (code_of p).places
+  all_added =
+      let rs : Adds final c1 c2 (all_routines p) = adds_same final c1 c2 (routines_code p (length p1) p.routines) (all_routines p) (ap (λ n. routines_code p n p.routines) first_long) parts.routines in
+      let es : Adds final c2 c3 (all_events p) = adds_same final c2 c3 (events_code p (length p2) p.events) (all_events p) (ap (λ n. events_code p n p.events) second_long) parts.events in
+      adds_then final nothing c1 c3 (main_code p) (all_routines p ++ all_events p) parts.main (adds_then final c1 c2 c3 (all_routines p) (all_events p) rs es)
+
+  all_printed : map lines_of p3 ≡ (code_of p).prints
+  all_printed =
+      let all = prints_then [] p1 p3 (block_prints p.main) (routines_prints p.routines ++ events_prints p.events) parts.main_prints
+      (prints_then p1 p2 p3 (routines_prints p.routines) (events_prints p.events) parts.routine_prints parts.event_prints) in
+      ap (map lines_of) all.1 ∙ all.2
+
+  -- where the sections begin
+  pub routines_begin : (entries : List Entry) → AllBegin 0 (routine_entries p (length c1.instructions) (length p1) p.routines) entries → AllBegin 0 (code_of p).routines entries
+  routines_begin entries h =
+      let at : length c1.instructions ≡ length (main_code p) = piece_long final c1 (main_code p) parts.main in
+      subst (λ (es : List EntryPoint). AllBegin 0 es entries) (ap (λ k. routine_entries p k (length p1) p.routines) at ∙ ap (λ k. routine_entries p (length (main_code p)) k p.routines) first_long) h
+
+  pub events_begin : (entries : List Entry) → AllBegin 0 (event_entries p (length c2.instructions) (length p2) p.events) entries → AllBegin 0 (code_of p).events entries
+  events_begin entries h =
+      let rs : Adds final c1 c2 (all_routines p) = adds_same final c1 c2 (routines_code p (length p1) p.routines) (all_routines p) (ap (λ n. routines_code p n p.routines) first_long) parts.routines in
+      let both : Adds final nothing c2 (main_code p ++ all_routines p) = adds_then final nothing c1 c2 (main_code p) (all_routines p) parts.main rs in
+      let at : length c2.instructions ≡ length (main_code p) + length (all_routines p) = piece_long final c2 (main_code p ++ all_routines p) both ∙ length-append (main_code p) (all_routines p) in
+      subst (λ (es : List EntryPoint). AllBegin 0 es entries) (ap (λ k. event_entries p k (length p2) p.events) at ∙ ap (λ k. event_entries p (length (main_code p) + length (all_routines p)) k p.events) second_long) h
+
+  -- the running code is that of the program
+  pub is_code : (main0 main1 : Entry) (routines0 routines1 events0 events1 : List Entry) → Lands (code_of p) → ((rest : List Value) × (g.constants.items ≡ Whole (pos 0) ∷ Whole (pos 1) ∷ rest)) → length c3.instructions ≤ 1048576 → Begins 0 (main_entry (code_of p)) main0 → Deepened g.deepest main0 main1 → AllBegin 0 (code_of p).routines routines0 → AllDeepened g.deepest routines0 routines1 → AllBegin 0 (code_of p).events events0 → AllDeepened g.deepest events0 events1 → IsCode (code_of p) (record { instructions = c3.instructions; lines = c3.lines; constants = g.constants.items; prints = p3; main = main1; routines = routines1; events = events1; depth = g.deepest })
+  is_code main0 main1 routines0 routines1 events0 events1 lands fixed short m dm rs drs es des =
+      let run : RunningCode = record { instructions = c3.instructions; lines = c3.lines; constants = g.constants.items; prints = p3; main = main1; routines = routines1; events = events1; depth = g.deepest } in
+      let nothing_yields : 0 ≤ length p.locals = omega arith in
+      record {
+        places = subst (λ (is : List Running). ArePlaces (code_of p) run 0 (code_of p).places is) (sym all_added.instructions)
+        (are_places final run refl refl refl lands 0 (code_of p).places all_added.more (has_all (code_of p).places []) all_added.run);
+        short = short;
+        lines = all_added.lines;
+        constants = fixed;
+        prints = all_printed;
+        main = entry_of g.deepest (main_entry (code_of p)) main0 main1 m dm nothing_yields;
+        routines = entries_of g.deepest (code_of p).routines routines0 routines1 rs drs (routines_yield p (length (main_code p)) (main_prints p) p.routines);
+        events = entries_of g.deepest (code_of p).events events0 events1 es des (events_yield p (length (main_code p) + length (all_routines p)) (prints_before_events p) p.events);
+      }
+
+-- a program whose code is too long: there are as many instructions as places
+pub as_long : (f : Final) (c : Lined) (xs : List Placed) → Adds f nothing c xs → length c.instructions ≡ length xs
+as_long f c xs h = piece_long f c xs h
