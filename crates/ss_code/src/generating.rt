@@ -19,7 +19,7 @@ use crate::piece::{Piece, as_index};
 use crate::sayings::sayings;
 use ss_base::Mode;
 use ss_code_instructions::entry::Entry;
-use ss_code_instructions::laws::laws;
+use ss_code_instructions::laws::{laws_of_code, laws_of_meaning};
 use ss_code_instructions::limit::instruction_limit;
 use ss_program::checked::Checked;
 use ss_program::sections::{Event, Program, Routine};
@@ -214,7 +214,8 @@ fn made(alloc: Global, program: &Program) -> Result<Code, CodeError>
     ensures too_long { result ≡ Err CodeError.CodeTooLong → most_instructions < length (code_of (view_program program.now)).places }
     ensures small { nodes (view_program program.now) ≤ small_program → result ≡ Err CodeError.CodeTooLong → ⊥ }
 {
-    laws();
+    laws_of_meaning();
+    laws_of_code();
     let mut generator = Generator::new(alloc, program)?;
     let mut code = Piece::new(alloc);
     let mut prints = Vec::new(alloc);

@@ -107,8 +107,17 @@ module _ (p : Program) (typed : WellTyped p) (code : Code) (ls : List Mode) (b :
   -- ## LET, ADD and SUBTRACT
 
   pub let_shapes : (l : Line) (x : Place) (e : Expression) (m : Mode) (ms : List Mode) → TakesMode section_scope x m → HasMode section_scope e m → Shapes p code (Comes ms) (let_code (at_site l ms) x e) (Comes ms)
-  let_shapes l (ToVariable x) e m ms h g =
-      variable_shapes l x m ms (Comes ms) (λ to. expression_code (at_site l ms) to e) (plain_mode x m h) (λ to rest a. expression_shapes p code ls b l e m ms rest to g a)
+  let_shapes l (ToVariable x) e m ms h g = by (is_watched p.statistics x) refl
+    where
+      kept : m ≡ Integer → Shapes p code (Comes ms) (with_operand (at_site l ms) e (λ y. i.Keep y x)) (Comes ms)
+      kept number =
+          let whole : HasMode section_scope e Integer = subst (HasMode section_scope e) number g in
+          operand_then p code ls b (Comes ms) l e Integer ms (λ y. i.Keep y x) whole (λ q end. (plain_mode x m h ∙ ap Some number, (ms, gives p code ls b l e Integer ms whole, end)))
+
+      by : (k : Bool) → is_watched p.statistics x ≡ k → Shapes p code (Comes ms) (if k then with_operand (at_site l ms) e (λ y. i.Keep y x) else expression_code (at_site l ms) (i.Into x) e) (Comes ms)
+      by true q = kept (watched_number p typed ls x m (plain_mode x m h) q)
+      by false q = expression_shapes p code ls b l e m ms ms (i.Into x) g ((plain_mode x m h, q), refl)
+
   let_shapes l (ToAttribute class field r) e m ms h g =
       let mid : List Mode = operand_cells (at_site l ms) r in
       seq (entity_shapes p code ls b l (must_look class r e) class r ms (class_known p class field m h.0) h.1)
