@@ -1,9 +1,9 @@
 -- Items of lists that are cut, joined, turned and written to.
-use Rattle.std.proofs.Common.{◌≡◌, ◌≢◌, ◌⊎◌, inl, inr, ℕ, zero, suc, ◌+◌, ◌-◌, ◌<◌, ◌≤◌, List, [], ◌∷◌, ◌++◌, length, take, drop, get_or, Some, refl, sym, ap, ◌∙◌, arith}
-use Rattle.std.specs.Prelude.{slice_get, slice_set, reverse}
+use Rattle.std.proofs.Common.{◌≡◌, ◌≢◌, ◌⊎◌, inl, inr, ℕ, zero, suc, ◌+◌, ◌-◌, ◌<◌, ◌≤◌, List, [], ◌∷◌, ◌++◌, length, take, drop, get_or, Some, refl, sym, ap, ◌∙◌, subst, arith, length-append}
+use Rattle.std.specs.Prelude.{slice_get, slice_set, reverse, ℤ}
 use Rattle.std.proofs.lemmas.Option.{slice_get-get_or}
 use Rattle.std.proofs.lemmas.List.{length-take-le, length-reverse, length-drop, get_or-reverse}
-use Rattle.ss_machine_frames.specs.Rows.{Turned, MovedDown, TurnedDown}
+use Rattle.ss_machine_frames.specs.Rows.{TwoRows, Agree, Grown, Turned, MovedDown, TurnedDown}
 
 pub set_same : {A : Type 0} (xs : List A) (i : ℕ) (v : A) → i < length xs → slice_get (slice_set xs i v) i ≡ Some v
 set_same [] i v h = absurd (omega (arith, h))
@@ -138,3 +138,38 @@ turned_down old mid new from to count down t m = record {
   moved = λ k i s. m.moved i (omega (arith, s)) ∙ t.moved k i s;
   below = λ j s. m.below j s ∙ t.below j (omega (arith, s, down));
 }
+
+-- ## One place more
+
+-- rows with one place more
+abbrev pub one_longer : TwoRows → ℤ → List ℕ → TwoRows
+one_longer r z t = record { numbers = r.numbers ++ z ∷ []; texts = r.texts ++ t ∷ [] }
+
+pub longer_numbers : (r : TwoRows) (z : ℤ) (t : List ℕ) → length (one_longer r z t).numbers ≡ length r.numbers + 1
+longer_numbers r z t = length-append r.numbers (z ∷ [])
+
+pub longer_texts : (r : TwoRows) (z : ℤ) (t : List ℕ) → length (one_longer r z t).texts ≡ length r.texts + 1
+longer_texts r z t = length-append r.texts (t ∷ [])
+
+-- the rows are of one length, and have grown
+pub record GrownEven (old new : TwoRows) : Type 0 where
+  pub grown : Grown old new
+  pub even : length new.texts ≡ length new.numbers
+
+pub grown_none : (r : TwoRows) → length r.texts ≡ length r.numbers → GrownEven r r
+grown_none r e = record {
+  grown = record { longer = omega arith; same = record { numbers = λ j a b. refl; texts = λ j a b. refl } };
+  even = e;
+}
+
+pub grown_more : (old r new : TwoRows) (z : ℤ) (t : List ℕ) → new ≡ one_longer r z t → GrownEven old r → GrownEven old new
+grown_more old r new z t e g = subst (λ s. GrownEven old s) (sym e) (record {
+  grown = record {
+    longer = omega (arith, g.grown.longer, longer_numbers r z t);
+    same = record {
+      numbers = λ j a b. get_left r.numbers (z ∷ []) j (omega (arith, b, g.grown.longer)) ∙ g.grown.same.numbers j a b;
+      texts = λ j a b. get_left r.texts (t ∷ []) j (omega (arith, b, g.grown.longer, g.even)) ∙ g.grown.same.texts j a b;
+    };
+  };
+  even = longer_texts r z t ∙ ap (λ n. n + 1) g.even ∙ sym (longer_numbers r z t);
+})

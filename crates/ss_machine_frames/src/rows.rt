@@ -144,6 +144,7 @@ impl Rows {
         ensures small { OnOk result (count < 2 ^ 32) }
         ensures most { OnOk result (length self.old.numbers ≤ count → length self.new.numbers ≡ count) }
     {
+        let _ = &self.numbers;
         if count > u32::MAX as usize {
             return Err(AllocError);
         }
