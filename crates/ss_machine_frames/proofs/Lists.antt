@@ -1,8 +1,9 @@
 -- Items of lists that are cut, joined, turned and written to.
-use Rattle.std.proofs.Common.{◌≡◌, ◌≢◌, ◌⊎◌, inl, inr, ℕ, zero, suc, ◌+◌, ◌-◌, ◌<◌, ◌≤◌, List, [], ◌∷◌, ◌++◌, length, take, drop, get_or, Some, refl, sym, ap, ◌∙◌, subst, arith, length-append}
+use Rattle.std.proofs.Common.{◌≡◌, ◌≢◌, ◌⊎◌, inl, inr, ℕ, zero, suc, ◌+◌, ◌-◌, ◌<◌, ◌≤◌, List, [], ◌∷◌, ◌++◌, length, take, drop, get_or, Some, refl, sym, ap, ◌∙◌, subst, arith, length-append, Vec}
 use Rattle.std.specs.Prelude.{slice_get, slice_set, reverse, ℤ}
+use Rattle.std.specs.Vec.{with_items}
 use Rattle.std.proofs.lemmas.Option.{slice_get-get_or}
-use Rattle.std.proofs.lemmas.List.{length-take-le, length-reverse, length-drop, get_or-reverse}
+use Rattle.std.proofs.lemmas.List.{length-take-le, length-reverse, length-drop, get_or-reverse, with_items_is}
 use Rattle.ss_machine_frames.specs.Rows.{TwoRows, Agree, Grown, Turned, MovedDown, TurnedDown}
 
 pub set_same : {A : Type 0} (xs : List A) (i : ℕ) (v : A) → i < length xs → slice_get (slice_set xs i v) i ≡ Some v
@@ -138,6 +139,15 @@ turned_down old mid new from to count down t m = record {
   moved = λ k i s. m.moved i (omega (arith, s)) ∙ t.moved k i s;
   below = λ j s. m.below j s ∙ t.below j (omega (arith, s, down));
 }
+
+-- the items of a vector were turned as a slice, and then moved as one
+pub row_yielded : {A Z : Type 0} (v : Vec A Z) (first mid second new : List A) (from to count : ℕ) → to ≤ from → first ≡ v.items → Turned first mid from count → second ≡ (with_items v mid).items → MovedDown second new from to count → TurnedDown v.items (with_items (with_items v mid) new).items from to count
+row_yielded v first mid second new from to count down f t s d =
+    let mid_long : length mid ≡ v.len = t.long ∙ ap length f ∙ sym v.ok.0 in
+    let second_is : second ≡ mid = s ∙ with_items_is v mid mid_long in
+    let new_is = with_items_is (with_items v mid) new (d.long ∙ ap length second_is ∙ mid_long) in
+    subst (λ l. TurnedDown v.items l from to count) (sym new_is)
+    (turned_down v.items mid new from to count down (subst (λ l. Turned l mid from count) f t) (subst (λ l. MovedDown l new from to count) second_is d))
 
 -- ## One place more
 
