@@ -4,7 +4,7 @@ use Rattle.std.specs.Prelude.{slice_get, slice_set, reverse, ℤ}
 use Rattle.std.specs.Vec.{with_items}
 use Rattle.std.proofs.lemmas.Option.{slice_get-get_or}
 use Rattle.std.proofs.lemmas.List.{length-take-le, length-reverse, length-drop, get_or-reverse, with_items_is}
-use Rattle.ss_machine_frames.specs.Rows.{TwoRows, Agree, Grown, Turned, MovedDown, TurnedDown}
+use Rattle.ss_machine_frames.specs.Rows.{TwoRows, Grown, Turned, MovedDown, TurnedDown}
 
 pub set_same : {A : Type 0} (xs : List A) (i : ℕ) (v : A) → i < length xs → slice_get (slice_set xs i v) i ≡ Some v
 set_same [] i v h = absurd (omega (arith, h))
@@ -73,17 +73,17 @@ pub turned_part : {A : Type 0} (xs new part : List A) (from count : ℕ) → fro
 turned_part xs new part from count le long p e = record {
   long = long;
   moved = λ k i s.
-    ap (λ l. slice_get l (from + i)) e
-    ∙ get_right (take from xs) (part ++ drop count (drop from xs)) (from + i) i (omega (arith, first))
-    ∙ get_left part (drop count (drop from xs)) i (omega (arith, s, part_long))
-    ∙ ap (λ l. slice_get l i) p
-    ∙ get_reverse (take count (drop from xs)) k i (omega (arith, s, middle))
-    ∙ get_take (drop from xs) count k (omega (arith, s))
-    ∙ get_drop xs from k (from + k) refl;
+      ap (λ l. slice_get l (from + i)) e
+      ∙ get_right (take from xs) (part ++ drop count (drop from xs)) (from + i) i (omega (arith, first))
+      ∙ get_left part (drop count (drop from xs)) i (omega (arith, s, part_long))
+      ∙ ap (λ l. slice_get l i) p
+      ∙ get_reverse (take count (drop from xs)) k i (omega (arith, s, middle))
+      ∙ get_take (drop from xs) count k (omega (arith, s))
+      ∙ get_drop xs from k (from + k) refl;
   below = λ j lt.
-    ap (λ l. slice_get l j) e
-    ∙ get_left (take from xs) (part ++ drop count (drop from xs)) j (omega (arith, lt, first))
-    ∙ get_take xs from j lt;
+      ap (λ l. slice_get l j) e
+      ∙ get_left (take from xs) (part ++ drop count (drop from xs)) j (omega (arith, lt, first))
+      ∙ get_take xs from j lt;
 }
   where
     first : length (take from xs) ≡ from

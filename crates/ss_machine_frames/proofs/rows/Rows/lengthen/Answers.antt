@@ -1,4 +1,4 @@
-use Rattle.std.proofs.Common.{rules, ◌≡◌, ◌+◌, ◌≤◌, length, pos, ap, ◌∙◌, arith}
+use Rattle.std.proofs.Common.{rules, ◌≡◌, ◌+◌, length, pos, ap, ◌∙◌, arith}
 use Rattle.ss_machine_frames.proofs.Lists.{one_longer, longer_numbers, grown_more}
 use Rattle.ss_machine_frames.proofs.rows.Rows.lengthen.Goals as goal
 
