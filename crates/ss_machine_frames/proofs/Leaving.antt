@@ -61,8 +61,8 @@ yields_from r s low from to count done below (v ∷ vs) y here e n each =
     let z : from + (done + 0) ≡ from + done = omega arith in (
       subst (λ j. ValueAt s j v) at (yielded_value r s from to count done (length vs) v y (omega (arith, n)) (subst (λ j. ValueAt r j v) z (each 0 v refl))),
       yields_from r s low from to count (suc done) below vs y here e (omega (arith, n)) (λ k w h.
-      let q : from + (done + suc k) ≡ from + (suc done + k) = omega arith in
-      subst (λ j. ValueAt r j w) q (each (suc k) w h)),
+          let q : from + (done + suc k) ≡ from + (suc done + k) = omega arith in
+          subst (λ j. ValueAt r j w) q (each (suc k) w h)),
     )
 
 -- ## The caller's frame

@@ -1,9 +1,10 @@
 -- Items of lists that are cut, joined, turned and written to.
-use Rattle.std.proofs.Common.{◌≡◌, ◌≢◌, ◌⊎◌, inl, inr, ℕ, zero, suc, ◌+◌, ◌-◌, ◌<◌, ◌≤◌, List, [], ◌∷◌, ◌++◌, length, take, drop, get_or, Some, refl, sym, ap, ◌∙◌, arith}
-use Rattle.std.specs.Prelude.{slice_get, slice_set, reverse}
+use Rattle.std.proofs.Common.{◌≡◌, ◌≢◌, ◌⊎◌, inl, inr, ℕ, zero, suc, ◌+◌, ◌-◌, ◌<◌, ◌≤◌, List, [], ◌∷◌, ◌++◌, length, take, drop, get_or, Some, refl, sym, ap, ◌∙◌, subst, arith, length-append, Vec}
+use Rattle.std.specs.Prelude.{slice_get, slice_set, reverse, ℤ}
+use Rattle.std.specs.Vec.{with_items}
 use Rattle.std.proofs.lemmas.Option.{slice_get-get_or}
-use Rattle.std.proofs.lemmas.List.{length-take-le, length-reverse, length-drop, get_or-reverse}
-use Rattle.ss_machine_frames.specs.Rows.{Turned, MovedDown, TurnedDown}
+use Rattle.std.proofs.lemmas.List.{length-take-le, length-reverse, length-drop, get_or-reverse, with_items_is}
+use Rattle.ss_machine_frames.specs.Rows.{TwoRows, Grown, Turned, MovedDown, TurnedDown}
 
 pub set_same : {A : Type 0} (xs : List A) (i : ℕ) (v : A) → i < length xs → slice_get (slice_set xs i v) i ≡ Some v
 set_same [] i v h = absurd (omega (arith, h))
@@ -72,17 +73,17 @@ pub turned_part : {A : Type 0} (xs new part : List A) (from count : ℕ) → fro
 turned_part xs new part from count le long p e = record {
   long = long;
   moved = λ k i s.
-    ap (λ l. slice_get l (from + i)) e
-    ∙ get_right (take from xs) (part ++ drop count (drop from xs)) (from + i) i (omega (arith, first))
-    ∙ get_left part (drop count (drop from xs)) i (omega (arith, s, part_long))
-    ∙ ap (λ l. slice_get l i) p
-    ∙ get_reverse (take count (drop from xs)) k i (omega (arith, s, middle))
-    ∙ get_take (drop from xs) count k (omega (arith, s))
-    ∙ get_drop xs from k (from + k) refl;
+      ap (λ l. slice_get l (from + i)) e
+      ∙ get_right (take from xs) (part ++ drop count (drop from xs)) (from + i) i (omega (arith, first))
+      ∙ get_left part (drop count (drop from xs)) i (omega (arith, s, part_long))
+      ∙ ap (λ l. slice_get l i) p
+      ∙ get_reverse (take count (drop from xs)) k i (omega (arith, s, middle))
+      ∙ get_take (drop from xs) count k (omega (arith, s))
+      ∙ get_drop xs from k (from + k) refl;
   below = λ j lt.
-    ap (λ l. slice_get l j) e
-    ∙ get_left (take from xs) (part ++ drop count (drop from xs)) j (omega (arith, lt, first))
-    ∙ get_take xs from j lt;
+      ap (λ l. slice_get l j) e
+      ∙ get_left (take from xs) (part ++ drop count (drop from xs)) j (omega (arith, lt, first))
+      ∙ get_take xs from j lt;
 }
   where
     first : length (take from xs) ≡ from
@@ -138,3 +139,47 @@ turned_down old mid new from to count down t m = record {
   moved = λ k i s. m.moved i (omega (arith, s)) ∙ t.moved k i s;
   below = λ j s. m.below j s ∙ t.below j (omega (arith, s, down));
 }
+
+-- the items of a vector were turned as a slice, and then moved as one
+pub row_yielded : {A Z : Type 0} (v : Vec A Z) (first mid second new : List A) (from to count : ℕ) → to ≤ from → first ≡ v.items → Turned first mid from count → second ≡ (with_items v mid).items → MovedDown second new from to count → TurnedDown v.items (with_items (with_items v mid) new).items from to count
+row_yielded v first mid second new from to count down f t s d =
+    let mid_long : length mid ≡ v.len = t.long ∙ ap length f ∙ sym v.ok.0 in
+    let second_is : second ≡ mid = s ∙ with_items_is v mid mid_long in
+    let new_is = with_items_is (with_items v mid) new (d.long ∙ ap length second_is ∙ mid_long) in
+    subst (λ l. TurnedDown v.items l from to count) (sym new_is)
+    (turned_down v.items mid new from to count down (subst (λ l. Turned l mid from count) f t) (subst (λ l. MovedDown l new from to count) second_is d))
+
+-- ## One place more
+
+-- rows with one place more
+abbrev pub one_longer : TwoRows → ℤ → List ℕ → TwoRows
+one_longer r z t = record { numbers = r.numbers ++ z ∷ []; texts = r.texts ++ t ∷ [] }
+
+pub longer_numbers : (r : TwoRows) (z : ℤ) (t : List ℕ) → length (one_longer r z t).numbers ≡ length r.numbers + 1
+longer_numbers r z t = length-append r.numbers (z ∷ [])
+
+pub longer_texts : (r : TwoRows) (z : ℤ) (t : List ℕ) → length (one_longer r z t).texts ≡ length r.texts + 1
+longer_texts r z t = length-append r.texts (t ∷ [])
+
+-- the rows are of one length, and have grown
+pub record GrownEven (old new : TwoRows) : Type 0 where
+  pub grown : Grown old new
+  pub even : length new.texts ≡ length new.numbers
+
+pub grown_none : (r : TwoRows) → length r.texts ≡ length r.numbers → GrownEven r r
+grown_none r e = record {
+  grown = record { longer = omega arith; same = record { numbers = λ j a b. refl; texts = λ j a b. refl } };
+  even = e;
+}
+
+pub grown_more : (old r new : TwoRows) (z : ℤ) (t : List ℕ) → new ≡ one_longer r z t → GrownEven old r → GrownEven old new
+grown_more old r new z t e g = subst (λ s. GrownEven old s) (sym e) (record {
+  grown = record {
+    longer = omega (arith, g.grown.longer, longer_numbers r z t);
+    same = record {
+      numbers = λ j a b. get_left r.numbers (z ∷ []) j (omega (arith, b, g.grown.longer)) ∙ g.grown.same.numbers j a b;
+      texts = λ j a b. get_left r.texts (t ∷ []) j (omega (arith, b, g.grown.longer, g.even)) ∙ g.grown.same.texts j a b;
+    };
+  };
+  even = longer_texts r z t ∙ ap (λ n. n + 1) g.even ∙ sym (longer_numbers r z t);
+})

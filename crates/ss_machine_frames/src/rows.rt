@@ -1,6 +1,6 @@
 //! The rows in which values lie.
 
-ghost use Rattle.std.specs.Prelude.{◌≡◌, [], ◌+◌, ◌<◌, ◌≤◌, ◌^◌, length, Some, slice_get, IfOk, OnOk, OnErr};
+ghost use Rattle.std.specs.Prelude.{◌≡◌, [], ◌∷◌, ◌++◌, ◌+◌, ◌<◌, ◌≤◌, ◌^◌, length, Some, slice_get, IfOk, OnOk, OnErr};
 ghost use Rattle.ss_base.specs.Layout.{mode_of};
 ghost use Rattle.ss_machine_frames.specs.Rows.{TwoRows, place_at, with_number, with_text, with_value, with_last, cleared, ValueAt, Grown, Turned, MovedDown, Yielded};
 
@@ -144,6 +144,7 @@ impl Rows {
         ensures small { OnOk result (count < 2 ^ 32) }
         ensures most { OnOk result (length self.old.numbers ≤ count → length self.new.numbers ≡ count) }
     {
+        let _ = &self.numbers;
         if count > u32::MAX as usize {
             return Err(AllocError);
         }

@@ -6,4 +6,4 @@ pub returns : goal.returns
 returns c =
     let old = c.args.row.now in
     let part : c.reverse.new.self ≡ reverse (take c.args.count (drop c.args.from old)) = search rules in
-    turned_part old c.new.row c.reverse.new.self c.args.from c.args.count c.requires (search rules) part (search rules)
+    turned_part old _ c.reverse.new.self c.args.from c.args.count c.requires (search rules) part (search rules)
