@@ -7,3 +7,6 @@ pub mod Looping
 pub mod Calling
 pub mod Stepping
 pub mod Asking
+pub mod Seeing
+pub mod Figuring
+pub mod Assigning
