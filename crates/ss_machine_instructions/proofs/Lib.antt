@@ -10,3 +10,4 @@ pub mod Asking
 pub mod Seeing
 pub mod Figuring
 pub mod Assigning
+pub mod Looking
