@@ -11,3 +11,4 @@ pub mod Seeing
 pub mod Figuring
 pub mod Assigning
 pub mod Looking
+pub mod Creating
