@@ -12,3 +12,5 @@ pub mod Figuring
 pub mod Assigning
 pub mod Looking
 pub mod Creating
+pub mod Inside
+pub mod Walking
