@@ -3,7 +3,7 @@ use Rattle.std.specs.Prelude.{slice_get, MatchResult}
 use Rattle.ss_code_instructions.specs.declared.instruction.Instruction.TheVariants.{ChangeAttribute as Runs}
 use Rattle.ss_base.specs.declared.layout.Layout.{Layout}
 use Rattle.ss_base.specs.declared.layout.Mode.TheVariants.{Integer}
-use Rattle.ss_world.specs.State.{modes_of, value_in, assigned}
+use Rattle.ss_world.specs.State.{modes_of, value_in}
 use Rattle.ss_records.specs.Attributes.{changed_number, IsChanged}
 use Rattle.ss_meaning.specs.Values.{computed, operator_of}
 use Rattle.ss_machine_world.specs.Numbers.{attribute_noted}

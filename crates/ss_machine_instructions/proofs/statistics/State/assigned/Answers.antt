@@ -1,5 +1,4 @@
 use Rattle.std.proofs.Common.{rules, Ok, Err, refl}
-use Rattle.ss_meaning.specs.Histories.{noted}
 use Rattle.ss_machine_world.specs.Seen.{Changes}
 use Rattle.ss_machine_world.specs.Numbers.{attribute_noted}
 use Rattle.ss_machine_instructions.proofs.Figuring.{after_fault, after_unnoted, after_noted}
