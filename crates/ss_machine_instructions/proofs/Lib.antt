@@ -14,3 +14,6 @@ pub mod Looking
 pub mod Creating
 pub mod Inside
 pub mod Walking
+pub mod Alike
+pub mod Turns
+pub mod Sifting
