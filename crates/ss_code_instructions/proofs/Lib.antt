@@ -60,3 +60,4 @@ pub mod ShapingPrograms
 pub mod Valued
 pub mod ShapeKept
 pub mod Unstuck
+pub mod OwnersStay

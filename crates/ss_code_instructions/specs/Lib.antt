@@ -9,3 +9,4 @@ pub mod Shape
 pub mod Carried
 pub mod Laws
 pub mod Examples
+pub mod Walks

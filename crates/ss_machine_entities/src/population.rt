@@ -5,7 +5,7 @@ ghost use Rattle.ss_base.specs.Arithmetic.{plus_of, minus_of};
 ghost use Rattle.ss_meaning.specs.Fitting.{living};
 ghost use Rattle.ss_records.specs.Kept.{IsPermanent};
 ghost use Rattle.ss_records.specs.State.{first_state, is_made, records_in, known_in, value_in, time_in, assigned, timed, created, created_all, destroyed, kind_of, modes_of, no_value, RefusedFor};
-ghost use Rattle.ss_records.specs.Sets.{joiner, owner, first_in, last_in, count_in, next_in, previous_in, owner_of_member};
+ghost use Rattle.ss_records.specs.Sets.{joiner, owner, first_in, last_in, count_in, next_in, previous_in, owner_of_member, Apart};
 ghost use Rattle.ss_records.specs.Attributes.{changed_number, IsAssigned, IsChanged};
 
 mod filing;
@@ -343,6 +343,15 @@ impl Population {
         ensures same { self.new ≡ self.old }
     {
         self.heap.owner_in(set, n)
+    }
+
+    /// A law, for contracts: members are entities of their class, and none is twice in a set or in two sets of a name. It does
+    /// nothing.
+    #[inline(always)]
+    pub fn sets_are_apart(&self)
+        ensures { Apart self.now }
+    {
+        self.heap.sets_are_apart();
     }
 
     /// How many entities a permanent class has: 0 until they are made.

@@ -45,13 +45,13 @@ get_right [] ys n i e = let q : n ≡ i = omega (arith, e) in ap (slice_get ys) 
 get_right (x ∷ xs) ys zero i e = absurd (omega (arith, e))
 get_right (x ∷ xs) ys (suc n) i e = get_right xs ys n i (omega (arith, e))
 
-get_take : {A : Type 0} (xs : List A) (n j : ℕ) → j < n → slice_get (take n xs) j ≡ slice_get xs j
+pub get_take : {A : Type 0} (xs : List A) (n j : ℕ) → j < n → slice_get (take n xs) j ≡ slice_get xs j
 get_take xs zero j h = absurd (omega (arith, h))
 get_take [] (suc n) j h = refl
 get_take (x ∷ xs) (suc n) zero h = refl
 get_take (x ∷ xs) (suc n) (suc j) h = get_take xs n j (omega (arith, h))
 
-get_drop : {A : Type 0} (xs : List A) (n j k : ℕ) → k ≡ n + j → slice_get (drop n xs) j ≡ slice_get xs k
+pub get_drop : {A : Type 0} (xs : List A) (n j k : ℕ) → k ≡ n + j → slice_get (drop n xs) j ≡ slice_get xs k
 get_drop [] zero j k e = refl
 get_drop [] (suc n) j k e = refl
 get_drop (x ∷ xs) zero j k e = let q : j ≡ k = omega (arith, e) in ap (slice_get (x ∷ xs)) q

@@ -7,3 +7,13 @@ pub mod Looping
 pub mod Calling
 pub mod Stepping
 pub mod Asking
+pub mod Seeing
+pub mod Figuring
+pub mod Assigning
+pub mod Looking
+pub mod Creating
+pub mod Inside
+pub mod Walking
+pub mod Alike
+pub mod Turns
+pub mod Sifting

@@ -1,3 +1,7 @@
 pub mod Doing
 pub mod Ways
 pub mod Entered
+pub mod Noted
+pub mod Walked
+pub mod Many
+pub mod Sifted

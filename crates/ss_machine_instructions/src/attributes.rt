@@ -1,9 +1,40 @@
 //! Attributes of entities, and times.
 
+ghost use Rattle.std.specs.Prelude.{◌≡◌, ◌<◌, length, slice_get, Some, Err, MatchResult};
+ghost use Rattle.ss_base.specs.declared.layout.Mode.TheVariants.{Integer};
+ghost use Rattle.ss_meaning.specs.Values.{computed, operator_of};
+ghost use Rattle.ss_records.specs.Attributes.{changed_number, IsChanged};
+ghost use Rattle.ss_world.specs.State.{modes_of, value_in};
+ghost use Rattle.ss_machine_instructions.specs.Doing.{Can, Does};
+
 use crate::flow::Here;
 use crate::state::State;
+use ss_base::FaultKind;
 use ss_code_instructions::address::Address;
+use ss_code_instructions::instruction::Instruction;
+use ss_machine_entities::population::Population;
 use ss_program::expression::Sign;
+
+// An attribute is increased or reduced by a number. Faults: 1 to 5, then 14.
+#[inline(always)]
+fn change_whole(
+    population: &mut Population,
+    sign: Sign,
+    class: usize,
+    field: usize,
+    entity: i64,
+    by: i64,
+) -> Result<(), FaultKind>
+    requires class { class < length population.old.layout.classes }
+    requires mode { slice_get (modes_of population.old.layout class) field ≡ Some Integer }
+    ensures done { MatchResult result (λ _. IsChanged (λ z. computed (operator_of sign) z by) population.old class field entity population.new) (λ kind. (changed_number (λ z. computed (operator_of sign) z by) (value_in population.old class field entity) ≡ Err kind) × (population.new ≡ population.old)) }
+    ensures layout { population.new.layout ≡ population.old.layout }
+{
+    match sign {
+        Sign::Plus => population.add_whole(class, field, entity, by),
+        Sign::Minus => population.subtract_whole(class, field, entity, by),
+    }
+}
 
 impl State {
     /// Attribute.
@@ -15,7 +46,10 @@ impl State {
         field: u32,
         entity: &Address,
         to: &Address,
-    ) -> Option<Here> {
+    ) -> Option<Here>
+        requires { Can here self.old (Instruction.Attribute class field entity.now to.now) }
+        ensures { Does here self.old self.new result (Instruction.Attribute class field entity.now to.now) }
+    {
         let entity = self.number(here, entity);
         let answer = self
             .scene
@@ -33,7 +67,10 @@ impl State {
         field: u32,
         entity: &Address,
         to: &Address,
-    ) -> Option<Here> {
+    ) -> Option<Here>
+        requires { Can here self.old (Instruction.TextAttribute class field entity.now to.now) }
+        ensures { Does here self.old self.new result (Instruction.TextAttribute class field entity.now to.now) }
+    {
         let entity = self.number(here, entity);
         let answer = self
             .scene
@@ -50,16 +87,19 @@ impl State {
         class: u32,
         field: u32,
         entity: &Address,
-        value: &Address,
+        from: &Address,
         noted: bool,
-    ) -> Option<Here> {
-        let (entity, number) = (self.number(here, entity), self.number(here, value));
+    ) -> Option<Here>
+        requires { Can here self.old (Instruction.SetAttribute class field entity.now from.now noted) }
+        ensures { Does here self.old self.new result (Instruction.SetAttribute class field entity.now from.now noted) }
+    {
+        let (entity, number) = (self.number(here, entity), self.number(here, from));
         let (class, field) = (class as usize, field as usize);
         let answer = self
             .scene
             .population
             .set_whole(class, field, entity, number);
-        self.assigned(here, answer, (class, field, entity), noted)
+        self.assigned(here, answer, class, field, entity, noted)
     }
 
     /// SetTextAttribute.
@@ -71,7 +111,10 @@ impl State {
         field: u32,
         entity: &Address,
         from: &Address,
-    ) -> Option<Here> {
+    ) -> Option<Here>
+        requires { Can here self.old (Instruction.SetTextAttribute class field entity.now from.now) }
+        ensures { Does here self.old self.new result (Instruction.SetTextAttribute class field entity.now from.now) }
+    {
         let (entity, text) = (self.number(here, entity), self.text(here, from));
         let answer = self
             .scene
@@ -80,7 +123,7 @@ impl State {
         self.done(here, answer)
     }
 
-    /// ChangeAttribute.
+    /// ChangeAttribute. The attribute is a class and a field of it.
     #[inline(always)]
     pub fn change_attribute(
         &mut self,
@@ -90,29 +133,41 @@ impl State {
         entity: &Address,
         by: &Address,
         noted: bool,
-    ) -> Option<Here> {
-        let (entity, by) = (self.number(here, entity), self.number(here, by));
+    ) -> Option<Here>
+        requires { Can here self.old (Instruction.ChangeAttribute attribute.0 attribute.1 entity.now by.now sign noted) }
+        ensures { Does here self.old self.new result (Instruction.ChangeAttribute attribute.0 attribute.1 entity.now by.now sign noted) }
+    {
+        let (entity, number) = (self.number(here, entity), self.number(here, by));
         let (class, field) = (attribute.0 as usize, attribute.1 as usize);
-        let population = &mut self.scene.population;
-        let answer = match sign {
-            Sign::Plus => population.add_whole(class, field, entity, by),
-            Sign::Minus => population.subtract_whole(class, field, entity, by),
-        };
-        self.assigned(here, answer, (class, field, entity), noted)
+        let answer = change_whole(
+            &mut self.scene.population,
+            sign,
+            class,
+            field,
+            entity,
+            number,
+        );
+        self.assigned(here, answer, class, field, entity, noted)
     }
 
     /// Clock.
     #[inline(always)]
-    pub fn clock(&mut self, here: Here, to: &Address) -> Option<Here> {
+    pub fn clock(&mut self, here: Here, to: &Address) -> Option<Here>
+        requires { Can here self.old (Instruction.Clock to.now) }
+        ensures { Does here self.old self.new result (Instruction.Clock to.now) }
+    {
         let time = self.scene.timeline.time();
-        self.set_number(here, to, time);
-        here.on()
+        self.put(here, to, Ok(time))
     }
 
     /// TimeOf.
     #[inline(always)]
-    pub fn time_of(&mut self, here: Here, notice: &Address, to: &Address) -> Option<Here> {
-        let answer = self.scene.population.time_a(self.number(here, notice));
+    pub fn time_of(&mut self, here: Here, notice: &Address, to: &Address) -> Option<Here>
+        requires { Can here self.old (Instruction.TimeOf notice.now to.now) }
+        ensures { Does here self.old self.new result (Instruction.TimeOf notice.now to.now) }
+    {
+        let notice = self.number(here, notice);
+        let answer = self.scene.population.time_a(notice);
         self.put(here, to, answer)
     }
 }

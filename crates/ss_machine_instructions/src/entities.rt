@@ -1,25 +1,31 @@
 //! Entities that come and go.
 
+ghost use Rattle.ss_machine_instructions.specs.Doing.{Can, Does};
+
 use crate::flow::Here;
 use crate::state::State;
 use ss_code_instructions::address::Address;
+use ss_code_instructions::instruction::Instruction;
 
 impl State {
     /// Create.
     #[inline(always)]
-    pub fn create(&mut self, here: Here, class: u32, to: &Address) -> Option<Here> {
+    pub fn create(&mut self, here: Here, class: u32, to: &Address) -> Option<Here>
+        requires { Can here self.old (Instruction.Create class to.now) }
+        ensures { Does here self.old self.new result (Instruction.Create class to.now) }
+    {
         match self.scene.create(class as usize) {
-            Ok(number) => {
-                self.set_number(here, to, number);
-                here.on()
-            }
+            Ok(number) => self.put(here, to, Ok(number)),
             Err(refused) => self.refused(refused),
         }
     }
 
     /// CreateAll.
     #[inline(always)]
-    pub fn create_all(&mut self, here: Here, class: u32, variable: u32) -> Option<Here> {
+    pub fn create_all(&mut self, here: Here, class: u32, variable: u32) -> Option<Here>
+        requires { Can here self.old (Instruction.CreateAll class variable) }
+        ensures { Does here self.old self.new result (Instruction.CreateAll class variable) }
+    {
         let count = self.rows.number_at(variable as usize);
         match self.scene.create_all(class as usize, count) {
             Ok(()) => here.on(),
@@ -29,7 +35,10 @@ impl State {
 
     /// Destroy.
     #[inline(always)]
-    pub fn destroy(&mut self, here: Here, class: u32, entity: &Address) -> Option<Here> {
+    pub fn destroy(&mut self, here: Here, class: u32, entity: &Address) -> Option<Here>
+        requires { Can here self.old (Instruction.Destroy class entity.now) }
+        ensures { Does here self.old self.new result (Instruction.Destroy class entity.now) }
+    {
         let entity = self.number(here, entity);
         let answer = self.scene.destroy(class as usize, entity);
         self.done(here, answer)

@@ -39,7 +39,7 @@ fn are_related(relation: Relation, left: Alpha, right: Alpha) -> bool
 
 // Whether a number is 0.
 #[inline(always)]
-fn is_none(number: i64) -> bool
+pub(crate) fn is_none(number: i64) -> bool
     ensures { result ≡ is_none number }
 {
     number == 0

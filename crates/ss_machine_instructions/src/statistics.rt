@@ -1,9 +1,18 @@
 //! What statistics note and say, and RESET.
 
+ghost use Rattle.std.specs.Prelude.{◌≡◌, ◌+◌, ◌<◌, ◌^◌, ℕ, length, slice_get, Some};
+ghost use Rattle.ss_base.specs.declared.layout.Mode.TheVariants.{Integer};
+ghost use Rattle.ss_world.specs.State.{modes_of};
+ghost use Rattle.ss_machine_time.specs.Figures.{variable_of};
+ghost use Rattle.ss_machine_world.specs.Numbers.{attribute_noted, count_noted};
+ghost use Rattle.ss_machine_instructions.specs.Doing.{Can, Does};
+ghost use Rattle.ss_machine_instructions.specs.Noted.{Notes};
+
 use crate::flow::Here;
 use crate::state::State;
 use ss_base::FaultKind;
 use ss_code_instructions::address::Address;
+use ss_code_instructions::instruction::Instruction;
 use ss_program::expression::Fold;
 
 impl State {
@@ -16,7 +25,10 @@ impl State {
         statistic: u32,
         entity: &Address,
         to: &Address,
-    ) -> Option<Here> {
+    ) -> Option<Here>
+        requires { Can here self.old (Instruction.Figure statistic entity.now to.now fold) }
+        ensures { Does here self.old self.new result (Instruction.Figure statistic entity.now to.now fold) }
+    {
         let entity = self.number(here, entity);
         let answer = self.scene.figure(fold, statistic as usize, entity);
         self.put(here, to, answer)
@@ -24,7 +36,10 @@ impl State {
 
     /// Keep.
     #[inline(always)]
-    pub fn keep(&mut self, here: Here, from: &Address, variable: u32) -> Option<Here> {
+    pub fn keep(&mut self, here: Here, from: &Address, variable: u32) -> Option<Here>
+        requires { Can here self.old (Instruction.Keep from.now variable) }
+        ensures { Does here self.old self.new result (Instruction.Keep from.now variable) }
+    {
         let value = self.number(here, from);
         let number = variable as usize;
         self.rows.set_number_at(number, value);
@@ -38,16 +53,26 @@ impl State {
         &mut self,
         here: Here,
         answer: Result<(), FaultKind>,
-        attribute: (usize, usize, i64),
+        class: usize,
+        field: usize,
+        entity: i64,
         noted: bool,
-    ) -> Option<Here> {
-        let (class, field, entity) = attribute;
+    ) -> Option<Here>
+        requires place { here.place + 1 < 2 ^ 64 }
+        requires class { class < length self.old.scene.heap.layout.classes }
+        requires mode { slice_get (modes_of self.old.scene.heap.layout class) field ≡ Some Integer }
+        ensures { Notes noted (attribute_noted class field entity) here answer self.old self.new result }
+    {
         match answer {
-            Ok(()) if noted => {
-                let answer = self.scene.note_attribute(class, field, entity);
-                self.done(here, answer)
+            Err(kind) => self.fault(kind),
+            Ok(()) => {
+                if noted {
+                    let answer = self.scene.note_attribute(class, field, entity);
+                    self.done(here, answer)
+                } else {
+                    here.on()
+                }
             }
-            answer => self.done(here, answer),
         }
     }
 
@@ -60,18 +85,29 @@ impl State {
         set: u32,
         owner: i64,
         noted: bool,
-    ) -> Option<Here> {
+    ) -> Option<Here>
+        requires place { here.place + 1 < 2 ^ 64 }
+        requires set { set < length self.old.scene.heap.layout.sets }
+        ensures { Notes noted (count_noted set owner) here answer self.old self.new result }
+    {
         match answer {
-            Ok(()) if noted => {
-                let answer = self.scene.note_count(set as usize, owner);
-                self.done(here, answer)
+            Err(kind) => self.fault(kind),
+            Ok(()) => {
+                if noted {
+                    let answer = self.scene.note_count(set as usize, owner);
+                    self.done(here, answer)
+                } else {
+                    here.on()
+                }
             }
-            answer => self.done(here, answer),
         }
     }
 
-    // The value of the global variable that a statistic is kept of, 0 where it is kept of none.
-    fn held(&self, statistic: usize) -> i64 {
+    // The value of the global variable that a statistic is about, 0 where it is about none.
+    fn held(&self, statistic: usize) -> i64
+        requires within { (k : ℕ) → variable_of self.now.scene.statistics statistic ≡ Some k → k < length self.now.rows.numbers }
+        ensures { (k : ℕ) → variable_of self.now.scene.statistics statistic ≡ Some k → slice_get self.now.rows.numbers k ≡ Some result }
+    {
         match self.scene.variable_of(statistic) {
             None => 0,
             Some(number) => self.rows.number_at(number),
@@ -80,7 +116,10 @@ impl State {
 
     /// Reset.
     #[inline(always)]
-    pub fn reset(&mut self, here: Here, statistic: u32, entity: &Address) -> Option<Here> {
+    pub fn reset(&mut self, here: Here, statistic: u32, entity: &Address) -> Option<Here>
+        requires { Can here self.old (Instruction.Reset statistic entity.now) }
+        ensures { Does here self.old self.new result (Instruction.Reset statistic entity.now) }
+    {
         let statistic = statistic as usize;
         let entity = self.number(here, entity);
         let held = self.held(statistic);

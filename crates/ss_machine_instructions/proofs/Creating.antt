@@ -1,0 +1,193 @@
+-- Entities that come and go.
+use Rattle.std.proofs.Common.{◌≡◌, ℕ, ◌<◌, true, length, Option, Some, None, Ok, Err, refl, ap, ◌∙◌, subst}
+use Rattle.std.proofs.lemmas.Option.{slice_get_within}
+use Rattle.std.specs.Prelude.{ℤ, not, slice_get, Result as OkOr}
+use Rattle.ss_base.specs.declared.fault.FaultKind.{FaultKind}
+use Rattle.ss_base.specs.declared.fault.Refused.{Refused}
+use Rattle.ss_base.specs.declared.layout.ClassKind.{ClassKind}
+use Rattle.ss_base.specs.declared.layout.ClassKind.TheVariants.{Permanent}
+use Rattle.ss_base.specs.declared.layout.ClassLayout.{ClassLayout}
+use Rattle.ss_base.specs.declared.layout.Layout.{Layout}
+use Rattle.ss_base.specs.declared.layout.Mode.TheVariants.{Integer}
+use Rattle.ss_base.specs.declared.value.Value.{Value}
+use Rattle.ss_base.specs.declared.value.Value.TheVariants.{Whole}
+use Rattle.ss_base.specs.Layout.{mode_of}
+use Rattle.ss_program.specs.declared.statement.CountedClass.{CountedClass}
+use Rattle.ss_program.specs.WellTyped.{kind_of_class, is_created_singly, GoodCount}
+use Rattle.ss_meaning.specs.Values.{sure, if_ok, number_of}
+use Rattle.ss_meaning.specs.Store.{Store}
+use Rattle.ss_meaning.specs.Fitting.{Fits}
+use Rattle.ss_meaning.specs.Entities.{comes_singly, is_single, is_permanent, made_one, without}
+use Rattle.ss_meaning.proofs.Fine.{Fine}
+use Rattle.ss_meaning.proofs.Entities.{class_said, single_said, count_said, made_one_fine}
+use Rattle.ss_code_instructions.specs.declared.address.Address.{Address}
+use Rattle.ss_code_instructions.specs.declared.instruction.Instruction.{Instruction as Running}
+use Rattle.ss_code_instructions.specs.Instructions as i
+use Rattle.ss_code_instructions.specs.Instructions.{Instruction}
+use Rattle.ss_code_instructions.specs.States.{Core, Moved, did, onward, deliver_with}
+use Rattle.ss_code_instructions.specs.Machine.{act, is_due}
+use Rattle.ss_code_instructions.specs.Shape.{Suits}
+use Rattle.ss_code_instructions.specs.Carried.{From, To, Is}
+use Rattle.ss_machine_world.specs.Seen.{Seen, Changes, Makes, ChangesWithMemory, with_seen}
+use Rattle.ss_machine_world.specs.Numbers.{created_all_known}
+use Rattle.ss_machine_frames.specs.Rows.{place_at}
+use Rattle.ss_machine_frames.proofs.Reading.{only_number, reads, read_within}
+use Rattle.ss_machine_instructions.specs.declared.flow.Here.{Here}
+use Rattle.ss_machine_instructions.specs.declared.state.State.{State}
+use Rattle.ss_machine_instructions.specs.Doing.{Compiled, Ready, Comes, Delivers, IsDelivered}
+use Rattle.ss_machine_instructions.specs.Ways.{on_at, on_unless, faulted_by, refused_by}
+use Rattle.ss_machine_instructions.proofs.Placing.{site, stands, suits, small, deep_at, deep_here, calm}
+use Rattle.ss_machine_instructions.proofs.Seeing.{makes_not, changes_not, seen_is, layout_is, goes_seeing, changes, refuses}
+use Rattle.ss_machine_instructions.proofs.Figuring.{global_within, global_is}
+
+module _ (w : Compiled) (c : Core) (here : Here) (s : State) (run : Running) (r : Ready w c here s run) where
+  abbrev SuitsHere : Instruction → Type 0
+  SuitsHere x = Suits w.program w.code c.place r.placed.locals r.placed.cells x
+
+  abbrev does : Moved
+  does = act w.code r.placed.line r.placed.instruction c
+
+  -- ## Classes
+
+  class_here : (class : ℕ) (k : ClassLayout) → slice_get w.program.layout.classes class ≡ Some k → slice_get s.scene.heap.layout.classes class ≡ Some k
+  class_here class k e = ap (λ (l : Layout). slice_get l.classes class) (layout_is w c here s run r) ∙ e
+
+  single_within : (class : ℕ) → is_created_singly (kind_of_class w.program class) ≡ true → class < length s.scene.heap.layout.classes
+  single_within class e =
+      let k = single_said w.program class e in
+      slice_get_within s.scene.heap.layout.classes class k.0 (class_here class k.0 k.1)
+
+  single_here : (class : ℕ) → is_created_singly (kind_of_class w.program class) ≡ true → is_single (slice_get s.scene.heap.layout.classes class) ≡ true
+  single_here class e = let k = single_said w.program class e in ap is_single (class_here class k.0 k.1) ∙ k.2
+
+  -- ## Create
+
+  abbrev pub Creates : (class : ℕ) → Address → Type 0
+  Creates class to = To w.code w.run.constants r.placed to (λ t. Is w.code w.run.constants r.placed (i.Create class t))
+
+  pub creates_within : (class : ℕ) (to : Address) → Creates class to → class < length s.scene.heap.layout.classes
+  creates_within class to z = let y = subst SuitsHere z.2 (suits w c here s run r) in single_within class y.0
+
+  pub creates_single : (class : ℕ) (to : Address) → Creates class to → is_single (slice_get s.scene.heap.layout.classes class) ≡ true
+  creates_single class to z = let y = subst SuitsHere z.2 (suits w c here s run r) in single_here class y.0
+
+  -- the number of the new entity goes to its target, in the store that has it
+  pub creates : (class : ℕ) (to : Address) (n : ℤ) (e : Seen) → Creates class to → Makes (made_one class) s.scene e (Ok n) → Delivers w c r.placed.line does here (record s { scene = e }) to (Ok (Whole n))
+  creates class to n e z made =
+      let is = z.2 in
+      let y = subst SuitsHere is (suits w c here s run r) in
+      let target = z.0 in
+      let store = with_seen c.store e in
+      let h = r.holds.held in
+      let made_it : made_one class c.store ≡ Ok (Whole n, store) = ap (made_one class) (seen_is w c here s run r) ∙ made c.store in
+      let fine : Fine (λ (b : Value × Store). (mode_of b.0 ≡ Integer) × Fits w.program r.placed.locals b.1) (made_one class c.store) = made_one_fine w.program r.compiled.typed r.placed.locals class c.store y.0 r.fits.store in
+      let fits : (mode_of (Whole n) ≡ Integer) × Fits w.program r.placed.locals store = subst (Fine (λ (b : Value × Store). (mode_of b.0 ≡ Integer) × Fits w.program r.placed.locals b.1)) made_it fine in
+      record {
+        compiled = r.compiled;
+        placed = r.placed;
+        store = store;
+        cells = c.cells;
+        target = target;
+        mode = Integer;
+        modes = r.placed.cells;
+        after = y.1.0;
+        small = small w c here s run r;
+        acts = ap (λ x. act w.code r.placed.line x c) is ∙ ap (λ q. deliver_with r.placed.line target q c.cells c) made_it;
+        accepts = y.1.1;
+        to_at = z.1;
+        deep = deep_at w c here s run r (c.place + 1) r.placed.locals y.1.0 y.1.2;
+        right = refl;
+        hold = r.fits.cells;
+        at = h.cells;
+        fits = fits.1;
+        holds = record {
+          place = r.holds.place;
+          held = record { globals = h.globals; fixed = h.fixed; locals = h.locals; cells = h.cells; open_calls = h.open_calls; room = h.room; small = h.small };
+          scene = refl;
+          even = r.holds.even;
+          line = r.holds.line;
+        };
+      }
+
+  pub created : (class : ℕ) (to : Address) (n : ℤ) (e : Seen) (new : State) (result : Option Here) → Creates class to → Makes (made_one class) s.scene e (Ok n) → IsDelivered here (record s { scene = e }) new result to (Ok (Whole n)) → Comes (is_due r.placed.instruction) w r.placed.line does s new result
+  created class to n e new result z made delivered =
+      let h = delivered w c r.placed.line does (creates class to n e z made) in
+      calm w c here s run r new result (ap is_due z.2) (record { leads = h.leads; ticks = h.ticks; steps = h.steps })
+
+  pub creates_not : (class : ℕ) (to : Address) (e : Seen) (refused : Refused) (new : State) (result : Option Here) → Creates class to → Makes (made_one class) s.scene e (Err refused) → new ≡ refused_by refused (record s { scene = e }) → result ≡ None → Comes (is_due r.placed.instruction) w r.placed.line does s new result
+  creates_not class to e refused new result z made same none =
+      calm w c here s run r new result (ap is_due z.2)
+      (refuses w c here s run r (made_one class) e refused new result
+      (λ kind no. ap (λ x. act w.code r.placed.line x c) z.2 ∙ ap (λ q. deliver_with r.placed.line z.0 q c.cells c) no)
+      (makes_not (made_one class) s.scene e refused made) same none)
+
+  -- ## CreateAll
+
+  abbrev counted : (class variable : ℕ) → CountedClass
+  counted class variable = record { class = class; variable = variable }
+
+  abbrev pub CreatesAll : (class variable : ℕ) → Type 0
+  CreatesAll class variable = Is w.code w.run.constants r.placed (i.CreateAll (counted class variable))
+
+  good_count : (class variable : ℕ) → CreatesAll class variable → GoodCount w.program (counted class variable)
+  good_count class variable is =
+      let y = subst SuitsHere is (suits w c here s run r) in
+      count_said w.program r.compiled.typed r.placed.locals (counted class variable) y.0
+
+  pub count_within : (class variable : ℕ) → CreatesAll class variable → variable < length s.rows.numbers
+  count_within class variable is = global_within w c here s run r variable (good_count class variable is).1
+
+  pub all_within : (class variable : ℕ) → CreatesAll class variable → class < length s.scene.heap.layout.classes
+  all_within class variable is =
+      let k = class_said w.program class Permanent (good_count class variable is).0 in
+      slice_get_within s.scene.heap.layout.classes class k.0 (class_here class k.0 k.1)
+
+  pub all_permanent : (class variable : ℕ) → CreatesAll class variable → is_permanent (slice_get s.scene.heap.layout.classes class) ≡ true
+  all_permanent class variable is =
+      let k = class_said w.program class Permanent (good_count class variable is).0 in
+      ap is_permanent (class_here class k.0 k.1) ∙ ap (λ (kind : ClassKind). not (comes_singly kind)) k.2
+
+  -- what the definition does, for the number that the variable holds
+  all_is : (class variable : ℕ) (n : ℤ) → CreatesAll class variable → slice_get s.rows.numbers variable ≡ Some n → does ≡ did r.placed.line (created_all_known class n c.store) (λ t. onward c.cells c t)
+  all_is class variable n is e =
+      ap (λ x. act w.code r.placed.line x c) is
+      ∙ ap (λ o. did r.placed.line (if_ok (sure o) (λ v. if_ok (number_of v) (λ n. created_all_known class n c.store))) (λ t. onward c.cells c t)) (global_is w c here s run r variable n (good_count class variable is).1 e)
+
+  pub creates_all : (class variable : ℕ) (n : ℤ) (e : Seen) (new : State) (result : Option Here) → CreatesAll class variable → slice_get s.rows.numbers variable ≡ Some n → ChangesWithMemory (created_all_known class n) s.scene e (Ok tt) → new ≡ record s { scene = e } → result ≡ on_at here → Comes (is_due r.placed.instruction) w r.placed.line does s new result
+  creates_all class variable n e new result is at made same q =
+      calm w c here s run r new result (ap is_due is)
+      (goes_seeing w c here s run r c.cells e new result
+      (all_is class variable n is at ∙ ap (λ q. did r.placed.line q (λ t. onward c.cells c t)) (ap (created_all_known class n) (seen_is w c here s run r) ∙ made c.store))
+      r.holds.held.cells same q)
+
+  pub creates_all_not : (class variable : ℕ) (n : ℤ) (e : Seen) (refused : Refused) (new : State) (result : Option Here) → CreatesAll class variable → slice_get s.rows.numbers variable ≡ Some n → ChangesWithMemory (created_all_known class n) s.scene e (Err refused) → new ≡ refused_by refused (record s { scene = e }) → result ≡ None → Comes (is_due r.placed.instruction) w r.placed.line does s new result
+  creates_all_not class variable n e refused new result is at made same none =
+      calm w c here s run r new result (ap is_due is)
+      (refuses w c here s run r (created_all_known class n) e refused new result
+      (λ kind no. all_is class variable n is at ∙ ap (λ q. did r.placed.line q (λ t. onward c.cells c t)) no)
+      (changes_not (created_all_known class n) s.scene e refused made) same none)
+
+  -- ## Destroy
+
+  abbrev pub Destroys : (class : ℕ) → Address → Type 0
+  Destroys class entity = From w.code w.run.constants r.placed entity (λ y. Is w.code w.run.constants r.placed (i.Destroy class y))
+
+  pub destroys_in : (class : ℕ) (entity : Address) → Destroys class entity → place_at here.frame entity < length s.rows.numbers
+  destroys_in class entity z =
+      let y = subst SuitsHere z.2 (suits w c here s run r) in
+      read_within (site w c here s run r) (stands w c here s run r) z.0 Integer r.placed.cells y.1.0 entity y.1.1 z.1 (deep_here w c here s run r)
+
+  pub destroys_within : (class : ℕ) (entity : Address) → Destroys class entity → class < length s.scene.heap.layout.classes
+  destroys_within class entity z = let y = subst SuitsHere z.2 (suits w c here s run r) in single_within class y.0
+
+  pub destroys_single : (class : ℕ) (entity : Address) → Destroys class entity → is_single (slice_get s.scene.heap.layout.classes class) ≡ true
+  destroys_single class entity z = let y = subst SuitsHere z.2 (suits w c here s run r) in single_here class y.0
+
+  pub destroys : (class : ℕ) (entity : Address) (n : ℤ) (e : Seen) (answer : OkOr (Unit {0}) FaultKind) (new : State) (result : Option Here) → Destroys class entity → slice_get s.rows.numbers (place_at here.frame entity) ≡ Some n → Changes (without class (Whole n)) s.scene e answer → new ≡ faulted_by answer (record s { scene = e }) → result ≡ on_unless here answer → Comes (is_due r.placed.instruction) w r.placed.line does s new result
+  destroys class entity n e answer new result z at changed same q =
+      let is = z.2 in
+      let y = subst SuitsHere is (suits w c here s run r) in
+      let one = reads (site w c here s run r) (stands w c here s run r) z.0 Integer r.placed.cells y.1.0 entity c.cells (Whole n) y.1.1 z.1 r.holds.held.cells r.fits.cells (only_number s.rows (place_at here.frame entity) n at) in
+      changes w c here s run r (without class (Whole n)) one.below e answer new result (ap is_due is)
+      (ap (λ x. act w.code r.placed.line x c) is ∙ one.is (λ x below. did r.placed.line (without class x c.store) (λ t. onward below c t)))
+      one.cells changed same q

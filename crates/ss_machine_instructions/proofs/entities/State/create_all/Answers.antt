@@ -1,0 +1,38 @@
+use Rattle.std.proofs.Common.{arith, rules, Ok, Err, refl}
+use Rattle.ss_code_instructions.specs.declared.instruction.Instruction.TheVariants.{CreateAll as Runs}
+use Rattle.ss_machine_world.specs.Seen.{ChangesWithMemory}
+use Rattle.ss_machine_world.specs.Numbers.{created_all_known}
+use Rattle.ss_machine_instructions.proofs.Placing.{small}
+use Rattle.ss_machine_instructions.proofs.Creating.{count_within, all_within, all_permanent, creates_all, creates_all_not}
+use Rattle.ss_machine_instructions.proofs.entities.State.create_all.Goals as goal
+
+pub number_at-count-requires : goal.number_at-count-requires
+number_at-count-requires c =
+    let z = c.requires in
+    let h = count_within z.0 z.1 c.args.here c.args.self.now (Runs c.args.class c.args.variable) z.2 c.args.class c.args.variable z.2.runs.carries in
+    search rules
+
+pub create_all-requires-clause-class : goal.create_all-requires-clause-class
+create_all-requires-clause-class c =
+    let z = c.requires in
+    let h = all_within z.0 z.1 c.args.here c.args.self.now (Runs c.args.class c.args.variable) z.2 c.args.class c.args.variable z.2.runs.carries in
+    search rules
+
+pub create_all-requires-clause-permanent : goal.create_all-requires-clause-permanent
+create_all-requires-clause-permanent c =
+    let z = c.requires in
+    let h = all_permanent z.0 z.1 c.args.here c.args.self.now (Runs c.args.class c.args.variable) z.2 c.args.class c.args.variable z.2.runs.carries in
+    search rules
+
+pub on-requires : goal.on-requires
+on-requires c = let z = c.requires in let lt = small z.0 z.1 c.args.here c.args.self.now (Runs c.args.class c.args.variable) z.2 in omega (arith, lt)
+
+pub returns-in-Ok : goal.returns-in-Ok
+returns-in-Ok c = λ w core r.
+    let made : ChangesWithMemory (created_all_known c.args.class c.number_at-count.result) c.args.self.now.scene c.create_all.new.self (Ok tt) = search rules in
+    creates_all w core c.args.here c.args.self.now (Runs c.args.class c.args.variable) r c.args.class c.args.variable c.number_at-count.result c.create_all.new.self _ c.on.result r.runs.carries (search rules) made refl c.on.ensures
+
+pub returns-in-Err : goal.returns-in-Err
+returns-in-Err c = λ w core r.
+    let made : ChangesWithMemory (created_all_known c.args.class c.number_at-count.result) c.args.self.now.scene c.create_all.new.self (Err c.in-Err.refused) = search rules in
+    creates_all_not w core c.args.here c.args.self.now (Runs c.args.class c.args.variable) r c.args.class c.args.variable c.number_at-count.result c.create_all.new.self c.in-Err.refused c.refused.new.self c.refused.result r.runs.carries (search rules) made c.refused.ensures.state c.refused.ensures.none
