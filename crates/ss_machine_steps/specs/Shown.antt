@@ -1,16 +1,20 @@
 -- The items of a PRINT.
-use Rattle.std.specs.Prelude.{◌≡◌, ℕ, ◌+◌, ◌<◌, List, [], ◌∷◌, length, map, ℤ, pos, Option, Some, None}
+use Rattle.std.specs.Prelude.{◌≡◌, ℕ, ◌+◌, ◌<◌, true, List, [], ◌∷◌, ◌++◌, ◌⊎◌, length, map, ℤ, pos, Option, Some, None}
+use Rattle.std.specs.List.{flat_map}
+use Rattle.std.specs.Io.KnownBytes.{Appends}
 use Rattle.ss_base.specs.declared.value.Value.{Value}
 use Rattle.ss_base.specs.declared.value.Value.TheVariants.{Whole}
 use Rattle.ss_picture.specs.declared.items.FieldValue.{FieldValue}
 use Rattle.ss_picture.specs.declared.items.FieldValue.TheVariants.{Is, Mean}
+use Rattle.ss_picture.specs.Pictures.{picture_fields}
 use Rattle.ss_picture.specs.Suited.{IsMean}
+use Rattle.ss_meaning.specs.Values.{lines_with, take_all}
 use Rattle.ss_meaning.specs.Store.{Store}
 use Rattle.ss_meaning.specs.Fitting.{Hold}
 use Rattle.ss_code_instructions.specs.declared.item.ItemKind.{ItemKind}
 use Rattle.ss_code_instructions.specs.declared.item.ItemKind.TheVariants as shows
 use Rattle.ss_code_instructions.specs.Machine.{values_shown}
-use Rattle.ss_code_instructions.specs.Carried.{item_modes, kind_of_item}
+use Rattle.ss_code_instructions.specs.Carried.{RunningLines, item_modes, kind_of_item}
 use Rattle.ss_machine_world.specs.Seen.{Seen, with_seen}
 use Rattle.ss_machine_world.specs.Numbers.{HasSubject, RefersToSubject}
 use Rattle.ss_machine_frames.specs.Rows.{TwoRows}
@@ -52,3 +56,38 @@ abbrev pub AreShown : Seen → TwoRows → (at : ℕ) → List ItemKind → List
 AreShown e r at kinds items =
     (s : Store) (vs : List Value) (given : List FieldValue) → AllAt r at vs → Hold vs (item_modes kinds) →
     values_shown (map kind_of_item kinds) vs (with_seen s e) ≡ Some given → given ≡ items
+
+-- ## One item after the other
+
+-- the items begin with this one, and the others are shown of what lies after its cells
+pub record ShowsFirst (e : Seen) (r : TwoRows) (after : ℕ) (ks : List ItemKind) (item : FieldValue) (s : Store) (given : List FieldValue) : Type 0 where
+  pub later : List FieldValue
+  pub rest : List Value
+  pub is : given ≡ item ∷ later
+  pub lie : AllAt r after rest
+  pub modes : Hold rest (item_modes ks)
+  pub shown : values_shown (map kind_of_item ks) rest (with_seen s e) ≡ Some later
+
+-- this is the item of a kind, before those of any others
+abbrev pub IsShown : Seen → TwoRows → (at : ℕ) → ItemKind → FieldValue → Type 0
+IsShown e r at k item =
+    (s : Store) (ks : List ItemKind) (vs : List Value) (given : List FieldValue) → AllAt r at vs → Hold vs (item_modes (k ∷ ks)) →
+    values_shown (map kind_of_item (k ∷ ks)) vs (with_seen s e) ≡ Some given → ShowsFirst e r (at + cells_of k) ks item s given
+
+-- ## Lines
+
+-- nothing was sent, or the first bytes of the lines with items that are shown
+pub record SentPart (e : Seen) (r : TwoRows) (at : ℕ) (l : RunningLines) (before after : Option (List ℕ)) : Type 0 where
+  pub part : List ℕ
+  pub took : Appends before after part
+  pub within : (part ≡ []) ⊎ ((items : List FieldValue) × (rest : List ℕ) × AreShown e r at l.items items × (lines_with l.pictures items ≡ part ++ rest))
+
+-- all lines were sent
+pub record SentAll (e : Seen) (r : TwoRows) (at : ℕ) (l : RunningLines) (before after : Option (List ℕ)) : Type 0 where
+  pub items : List FieldValue
+  pub shown : AreShown e r at l.items items
+  pub took : Appends before after (lines_with l.pictures items)
+
+-- the fields of the lines take the items that are shown
+abbrev pub TakeAll : Seen → TwoRows → (at : ℕ) → RunningLines → Type 0
+TakeAll e r at l = (items : List FieldValue) → AreShown e r at l.items items → take_all (flat_map picture_fields l.pictures) items ≡ true

@@ -20,9 +20,10 @@ IsUnsent Paused = ⊥
 IsUnsent Faulted = ⊥
 IsUnsent NoInput = ⊥
 
-module _ (here : Here) (old : State) (i : Running) (before after : Option (List ℕ)) where
+-- the condition on what is run that a function is handed something of, as the lines of a PRINT; and what is so of each state
+module _ (P : Compiled → Type 0) (here : Here) (old : State) (i : Running) (before after : Option (List ℕ)) where
   abbrev pub ForReady : ((w : Compiled) → (c : Core) → Ready w c here old i → Type 0) → Type 0
-  ForReady So = (w : Compiled) (c : Core) (r : Ready w c here old i) → So w c r
+  ForReady So = (w : Compiled) (c : Core) → P w → (r : Ready w c here old i) → So w c r
 
   -- the definition sends these bytes, and the rest of the input stays
   pub record Sending (w : Compiled) (c : Core) (r : Ready w c here old i) (bytes : List ℕ) : Type 0 where
@@ -30,18 +31,22 @@ module _ (here : Here) (old : State) (i : Running) (before after : Option (List 
     pub sends : act w.code r.placed.line r.placed.instruction c ≡ Sends bytes core
     pub input : input_of core ≡ input_of c
 
-  -- the writer took all of them, and the machine goes on
+  -- and the machine goes on
+  pub record SendingOn (w : Compiled) (c : Core) (r : Ready w c here old i) (bytes : List ℕ) (new : State) (there : Here) : Type 0 where
+    pub sending : Sending w c r bytes
+    pub holds : Holds w sending.core there new
+
+  -- the writer took all of them
   pub record Wrote (new : State) (there : Here) : Type 0 where
     pub bytes : List ℕ
     pub took : Appends before after bytes
-    pub sends : (w : Compiled) (c : Core) (r : Ready w c here old i) → Sending w c r bytes
-    pub holds : (w : Compiled) (c : Core) (r : Ready w c here old i) → Holds w (sends w c r).core there new
+    pub goes : ForReady (λ w c r. SendingOn w c r bytes new there)
 
-  -- it took nothing, or the first of them
+  -- the writer took nothing, or the first of them
   pub record WrotePart : Type 0 where
     pub part : List ℕ
     pub took : Appends before after part
-    pub within : (part ≡ []) ⊎ ((w : Compiled) (c : Core) (r : Ready w c here old i) → (rest : List ℕ) × Sending w c r (part ++ rest))
+    pub within : (part ≡ []) ⊎ ForReady (λ w c r. (rest : List ℕ) × Sending w c r (part ++ rest))
 
   abbrev pub StopsWriting : State → Ending → Type 0
   StopsWriting new Faulted =
