@@ -5,5 +5,6 @@ pub mod Steps
 pub mod Reading
 pub mod Writing
 pub mod Shown
+pub mod Beginning
 pub mod Start
 pub mod Counts

@@ -58,6 +58,6 @@ module _ (P : Compiled → Type 0) (here : Here) (old : State) (i : Running) (be
   StopsWriting new NoInput = ⊥
 
   -- the result
-  abbrev pub HasWritten : State → Option Here → Type 0
-  HasWritten new (Some there) = Wrote new there
-  HasWritten new None = StopsWriting new new.ending
+  abbrev pub DidWrite : State → Option Here → Type 0
+  DidWrite new (Some there) = Wrote new there
+  DidWrite new None = StopsWriting new new.ending

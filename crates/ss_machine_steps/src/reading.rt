@@ -9,7 +9,7 @@ ghost use Rattle.ss_input.specs.Blocks.{KnowsEnd};
 ghost use Rattle.ss_input.specs.Inputs.{source_block, source_missed, source_reader, Reads, Finds, missed_of};
 ghost use Rattle.ss_input.specs.Words.{value_given, is_ended};
 ghost use Rattle.ss_machine_instructions.specs.Doing.{Can};
-ghost use Rattle.ss_machine_steps.specs.Reading.{missed_by, HasRead, IsQuiet};
+ghost use Rattle.ss_machine_steps.specs.Reading.{missed_by, DidRead, IsQuiet};
 
 use ss_base::{Alpha, FaultyRead};
 use ss_code_instructions::address::Address;
@@ -85,7 +85,7 @@ pub(crate) fn read_number<R: FaultyRead>(
 ) -> Option<Here>
     requires can { Can here state.old (Instruction.Read to.now) }
     requires unmissed { source_missed source.old ≡ None }
-    ensures read { HasRead R.remaining here state.old (Instruction.Read to.now) source.old source.new state.new result }
+    ensures read { DidRead R.remaining here state.old (Instruction.Read to.now) source.old source.new state.new result }
     ensures quiet { IsQuiet state.old state.new }
     ensures unmissed { is_some result ≡ true → source_missed source.new ≡ None }
     ensures input { result ≡ None → state.new.ending ≡ Ending.NoInput → HasRisen (R.faults (source_reader source.old)) (R.faults (source_reader source.new)) }
@@ -111,7 +111,7 @@ pub(crate) fn read_text<R: FaultyRead>(
 ) -> Option<Here>
     requires can { Can here state.old (Instruction.ReadText to.now) }
     requires unmissed { source_missed source.old ≡ None }
-    ensures read { HasRead R.remaining here state.old (Instruction.ReadText to.now) source.old source.new state.new result }
+    ensures read { DidRead R.remaining here state.old (Instruction.ReadText to.now) source.old source.new state.new result }
     ensures quiet { IsQuiet state.old state.new }
     ensures unmissed { is_some result ≡ true → source_missed source.new ≡ None }
     ensures input { result ≡ None → state.new.ending ≡ Ending.NoInput → HasRisen (R.faults (source_reader source.old)) (R.faults (source_reader source.new)) }
@@ -138,7 +138,7 @@ pub(crate) fn unless_ended<R: FaultyRead>(
 ) -> Option<Here>
     requires can { Can here state.old (Instruction.UnlessEnded skip negated) }
     requires unmissed { source_missed source.old ≡ None }
-    ensures read { HasRead R.remaining here state.old (Instruction.UnlessEnded skip negated) source.old source.new state.new result }
+    ensures read { DidRead R.remaining here state.old (Instruction.UnlessEnded skip negated) source.old source.new state.new result }
     ensures quiet { IsQuiet state.old state.new }
     ensures unmissed { is_some result ≡ true → source_missed source.new ≡ None }
     ensures input { result ≡ None → state.new.ending ≡ Ending.NoInput → HasRisen (R.faults (source_reader source.old)) (R.faults (source_reader source.new)) }
