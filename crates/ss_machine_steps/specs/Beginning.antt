@@ -1,5 +1,5 @@
 -- What a machine works on before its first instruction.
-use Rattle.std.specs.Prelude.{◌≡◌, ℕ, ◌+◌, ◌<◌, ◌≤◌, ◌^◌, List, [], ◌∷◌, length, map, Some, None, pos, slice_get}
+use Rattle.std.specs.Prelude.{◌≡◌, ◌+◌, ◌<◌, ◌≤◌, ◌^◌, List, [], ◌∷◌, length, map, None, pos}
 use Rattle.std.specs.Ordering.{int_eq}
 use Rattle.ss_base.specs.declared.layout.Mode.{Mode}
 use Rattle.ss_base.specs.declared.layout.Owner.TheVariants.{System}
@@ -11,7 +11,7 @@ use Rattle.ss_meaning.specs.Histories.{no_histories, starting}
 use Rattle.ss_code.specs.Running.{Generated}
 use Rattle.ss_machine_time.specs.Records.{columns_of}
 use Rattle.ss_machine_world.specs.Seen.{Seen}
-use Rattle.ss_machine_frames.specs.Rows.{TwoRows, Grown, with_last}
+use Rattle.ss_machine_frames.specs.Rows.{TwoRows, Grown, with_last, cleared}
 use Rattle.ss_machine_instructions.specs.declared.flow.Here.{Here}
 use Rattle.ss_machine_instructions.specs.declared.state.State.{State}
 
@@ -28,18 +28,14 @@ firsts_laid r modes = values_laid r (map first_value modes)
 abbrev pub none_laid : TwoRows
 none_laid = record { numbers = []; texts = [] }
 
--- a place holds 0 and the empty text
-pub record IsClear (r : TwoRows) (j : ℕ) : Type 0 where
-  pub number : slice_get r.numbers j ≡ Some (pos 0)
-  pub text : slice_get r.texts j ≡ Some []
-
--- the global variables and the constants lie there, and above them is room for the frame of MAIN, whose places are all 0 or the empty text
+-- The global variables and the constants lie there, and above them is room for the frame of MAIN, whose variables hold their first values.
 pub record Laid (code : Generated) (rows : TwoRows) : Type 0 where
-  pub grown : Grown (values_laid (firsts_laid none_laid code.globals) code.run.constants) rows
-  pub even : length rows.texts ≡ length rows.numbers
-  pub long : length rows.numbers ≡ length code.globals + length code.run.constants + code.run.main.room
-  pub small : length rows.numbers < 2 ^ 32
-  pub clear : (j : ℕ) → length code.globals + length code.run.constants ≤ j → j < length rows.numbers → IsClear rows j
+  pub grown : TwoRows
+  pub grows : Grown (values_laid (firsts_laid none_laid code.globals) code.run.constants) grown
+  pub even : length grown.texts ≡ length grown.numbers
+  pub room : length code.globals + length code.run.constants + code.run.main.room ≤ length grown.numbers
+  pub small : length grown.numbers < 2 ^ 32
+  pub is : rows ≡ cleared grown (length code.globals + length code.run.constants) code.run.main.others.items
 
 -- ## The scene
 

@@ -1,10 +1,6 @@
 //! The first state of a machine.
 
-ghost use Rattle.std.specs.Prelude.{◌≡◌, ◌+◌, ◌<◌, ◌^◌, [], length, IfOk, OnOk};
-ghost use Rattle.ss_base.specs.Layout.{first_value};
-ghost use Rattle.ss_code.specs.Running.{IsGenerated};
-ghost use Rattle.ss_machine_frames.specs.Rows.{TwoRows};
-ghost use Rattle.ss_machine_instructions.specs.declared.flow.Here.{Here as HereSeen};
+ghost use Rattle.std.specs.Prelude.{◌≡◌, ◌+◌, ◌<◌, ◌^◌, length, IfOk, OnOk};
 ghost use Rattle.ss_machine_steps.specs.Beginning.{Laid, values_laid, firsts_laid, IsFirstScene, IsFirstState, first_here};
 ghost use Rattle.ss_machine_steps.specs.Start.{IsAtStart};
 ghost use Rattle.ss_machine_steps.specs.Situations.{situated};
@@ -44,11 +40,14 @@ fn put_constants(rows: &mut Rows, constants: &[Value]) -> Result<(), AllocError>
 fn first_rows(alloc: Global, code: &Code) -> Result<Rows, AllocError>
     ensures { IfOk result (λ rows. Laid code.now rows) }
 {
+    let _made = code.len();
     let mut rows = Rows::new(alloc);
     put_firsts(&mut rows, code.globals())?;
     put_constants(&mut rows, code.constants())?;
     let frame = rows.len();
-    rows.lengthen(frame.saturating_add(code.main().room))?;
+    let main = code.main();
+    rows.lengthen(frame.saturating_add(main.room))?;
+    rows.clear(frame, &main.others);
     Ok(rows)
 }
 
