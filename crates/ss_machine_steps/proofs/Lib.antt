@@ -1,0 +1,13 @@
+mod Known
+mod Fields
+mod Inputs
+mod Kinds
+mod Reaching
+mod Stepping
+mod Worded
+mod Written
+mod Items
+mod Subjects
+mod Counting
+mod Ending
+mod Starting
