@@ -7,7 +7,6 @@ mod Stepping
 mod Worded
 mod Written
 mod Items
-mod Subjects
 mod Counting
 mod Ending
 mod Starting

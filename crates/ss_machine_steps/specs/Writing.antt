@@ -20,11 +20,7 @@ IsUnsent Paused = ⊥
 IsUnsent Faulted = ⊥
 IsUnsent NoInput = ⊥
 
--- the condition on what is run that a function is handed something of, as the lines of a PRINT; and what is so of each state
-module _ (P : Compiled → Type 0) (here : Here) (old : State) (i : Running) (before after : Option (List ℕ)) where
-  abbrev pub ForReady : ((w : Compiled) → (c : Core) → Ready w c here old i → Type 0) → Type 0
-  ForReady So = (w : Compiled) (c : Core) → P w → (r : Ready w c here old i) → So w c r
-
+module _ (here : Here) (old : State) (i : Running) where
   -- the definition sends these bytes, and the rest of the input stays
   pub record Sending (w : Compiled) (c : Core) (r : Ready w c here old i) (bytes : List ℕ) : Type 0 where
     pub core : Core
@@ -36,17 +32,22 @@ module _ (P : Compiled → Type 0) (here : Here) (old : State) (i : Running) (be
     pub sending : Sending w c r bytes
     pub holds : Holds w sending.core there new
 
+-- P says of what is run what a function is handed of it, as the lines of a PRINT
+module _ (P : Compiled → Type 0) (here : Here) (old : State) (i : Running) (before after : Option (List ℕ)) where
+  abbrev pub ForReady : ((w : Compiled) → (c : Core) → Ready w c here old i → Type 0) → Type 0
+  ForReady So = (w : Compiled) (c : Core) → P w → (r : Ready w c here old i) → So w c r
+
   -- the writer took all of them
   pub record Wrote (new : State) (there : Here) : Type 0 where
     pub bytes : List ℕ
     pub took : Appends before after bytes
-    pub goes : ForReady (λ w c r. SendingOn w c r bytes new there)
+    pub goes : ForReady (λ w c r. SendingOn here old i w c r bytes new there)
 
   -- the writer took nothing, or the first of them
   pub record WrotePart : Type 0 where
     pub part : List ℕ
     pub took : Appends before after part
-    pub within : (part ≡ []) ⊎ ForReady (λ w c r. (rest : List ℕ) × Sending w c r (part ++ rest))
+    pub within : (part ≡ []) ⊎ ForReady (λ w c r. (rest : List ℕ) × Sending here old i w c r (part ++ rest))
 
   abbrev pub StopsWriting : State → Ending → Type 0
   StopsWriting new Faulted =
