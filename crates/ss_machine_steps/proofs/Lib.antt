@@ -1,12 +1,13 @@
 mod Known
 mod Fields
+mod Items
 mod Inputs
 mod Kinds
 mod Reaching
 mod Stepping
 mod Worded
 mod Written
-mod Items
+mod Sending
 mod Counting
 mod Ending
 mod Starting

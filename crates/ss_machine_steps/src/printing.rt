@@ -1,6 +1,6 @@
 //! What the machine writes.
 
-ghost use Rattle.std.specs.Prelude.{◌≡◌, ◌+◌, ◌<◌, ◌≤◌, ◌^◌, ◌++◌, [], ◌∷◌, ℕ, length, replicate, slice_get, Some, None, Err, OnOk, OnErr, IsErrOf};
+ghost use Rattle.std.specs.Prelude.{◌≡◌, ◌+◌, ◌<◌, ◌≤◌, ◌^◌, ◌||◌, ◌++◌, [], ◌∷◌, ℕ, pos, int_lt, false, length, replicate, slice_get, Some, None, Err, OnOk, OnErr, IsErrOf};
 ghost use Rattle.std.specs.List.{flat_map};
 ghost use Rattle.std.specs.Io.KnownBytes.{Appends};
 ghost use Rattle.ss_base.specs.Failures.{HasRisen, HasRisenBy};
@@ -139,6 +139,24 @@ fn send_empty<W: FaultyWrite>(lines: usize, sink: &mut Sink<W>) -> Result<(), En
     Ok(())
 }
 
+// Whether a SKIP may not write so many empty lines.
+#[inline(always)]
+fn is_bad(count: i64) -> bool
+    ensures { result ≡ (int_lt count (pos 0) || int_lt (pos 1000) count) }
+{
+    count < 0 || count > MOST_LINES
+}
+
+// How many lines a number is that is not bad.
+#[inline(always)]
+fn lines_in(count: i64) -> usize
+    requires { (int_lt count (pos 0) || int_lt (pos 1000) count) ≡ false }
+    ensures number { count ≡ pos result }
+    ensures few { result ≤ 1000 }
+{
+    count as usize
+}
+
 /// Skip.
 #[inline(always)]
 pub(crate) fn skip<W: FaultyWrite>(
@@ -154,10 +172,10 @@ pub(crate) fn skip<W: FaultyWrite>(
     ensures never_falls { HasRisenBy 0 (W.faults sink.old.writer) (W.faults sink.new.writer) }
 {
     let count = state.number(here, count);
-    if count < 0 || count > MOST_LINES {
+    if is_bad(count) {
         return state.fault(FaultKind::BadCount);
     }
-    match send_empty(count as usize, sink) {
+    match send_empty(lines_in(count), sink) {
         Ok(()) => here.on(),
         Err(ending) => state.stop(ending),
     }
