@@ -8,6 +8,8 @@ mod Stepping
 mod Worded
 mod Written
 mod Sending
+mod Trading
+mod Walking
 mod Counting
 mod Ending
 mod Starting
