@@ -10,6 +10,7 @@ mod Written
 mod Sending
 mod Trading
 mod Walking
+mod Arms
 mod Counting
 mod Ending
 mod Starting
