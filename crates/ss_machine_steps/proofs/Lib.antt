@@ -11,6 +11,7 @@ mod Sending
 mod Trading
 mod Walking
 mod Arms
+mod Sifting
 mod Counting
 mod Ending
 mod Starting
