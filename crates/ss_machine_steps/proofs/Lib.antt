@@ -14,4 +14,5 @@ mod Arms
 mod Sifting
 mod Counting
 mod Ending
+mod Turning
 mod Starting
