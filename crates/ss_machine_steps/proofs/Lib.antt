@@ -15,4 +15,7 @@ mod Sifting
 mod Counting
 mod Ending
 mod Turning
+mod Resting
+mod Rising
+mod Laying
 mod Starting
