@@ -2,7 +2,7 @@
 use Rattle.std.proofs.Common.{◌≡◌, ℕ, ◌+◌, ◌-◌, ◌≤◌, true, List, [], ◌++◌, Option, refl, sym, ap, ◌∙◌, inl, inr, ◌⊎◌, arith}
 use Rattle.ss_input.specs.declared.source.Source.{Source}
 use Rattle.ss_input.specs.Inputs.{source_block}
-use Rattle.ss_code.specs.Running.{Generated}
+use Rattle.ss_code.specs.Running.{Compiled as Generated}
 use Rattle.ss_code_instructions.specs.States.{Core}
 use Rattle.ss_code_instructions.specs.Running.{Underway, start, steps}
 use Rattle.ss_code_instructions.specs.Laws.{StepsGoOn}

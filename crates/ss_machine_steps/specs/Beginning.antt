@@ -8,7 +8,7 @@ use Rattle.ss_base.specs.Layout.{first_value}
 use Rattle.ss_world.specs.State.{first_state}
 use Rattle.ss_world.specs.PendingList.{none_pending}
 use Rattle.ss_meaning.specs.Histories.{no_histories, starting}
-use Rattle.ss_code.specs.Running.{Generated}
+use Rattle.ss_code.specs.Running.{Compiled as Generated}
 use Rattle.ss_machine_time.specs.Records.{columns_of}
 use Rattle.ss_machine_world.specs.Seen.{Seen}
 use Rattle.ss_machine_frames.specs.Rows.{TwoRows, Grown, with_last, cleared}
@@ -41,13 +41,13 @@ pub record Laid (code : Generated) (rows : TwoRows) : Type 0 where
 
 -- no entity, nothing pending, at the time 0, with the histories of the system begun
 pub record IsFirstScene (code : Generated) (e : Seen) : Type 0 where
-  pub disciplines : e.disciplines ≡ code.setting.disciplines
-  pub notices : e.notices ≡ code.setting.notices
-  pub statistics : e.statistics ≡ code.setting.statistics
-  pub heap : e.heap ≡ first_state code.layout
+  pub disciplines : e.disciplines ≡ code.said.setting.disciplines
+  pub notices : e.notices ≡ code.said.setting.notices
+  pub statistics : e.statistics ≡ code.said.setting.statistics
+  pub heap : e.heap ≡ first_state code.said.layout
   pub time : e.time ≡ pos 0
-  pub pending : e.pending ≡ none_pending code.ties
-  pub histories : columns_of e.histories ≡ starting code.layout System (int_eq (pos 0)) (pos 0) code.setting.statistics (no_histories code.setting.statistics)
+  pub pending : e.pending ≡ none_pending code.said.ties
+  pub histories : columns_of e.histories ≡ starting code.said.layout System (int_eq (pos 0)) (pos 0) code.said.setting.statistics (no_histories code.said.setting.statistics)
 
 -- ## All of it
 

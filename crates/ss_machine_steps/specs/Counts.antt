@@ -1,7 +1,7 @@
 -- How many steps a run of the machine makes, by what it works on.
 use Rattle.std.specs.Prelude.{ℕ, ◌+◌, ◌-◌, ◌*◌, ◌≤◌, Bool, true, false, List, [], ◌∷◌, length, Option, Some, None, slice_get}
 use Rattle.ss_base.specs.declared.line.Line.{Line}
-use Rattle.ss_code.specs.Running.{Generated}
+use Rattle.ss_code.specs.Running.{Compiled as Generated}
 use Rattle.ss_code_instructions.specs.declared.instruction.Instruction.{Instruction as Running}
 use Rattle.ss_code_instructions.specs.declared.instruction.Instruction.TheVariants as r
 use Rattle.ss_code_instructions.specs.Measure.{left_from}
