@@ -1,6 +1,7 @@
 -- The first state of a machine.
 use Rattle.std.proofs.Common.{◌≡◌, ℕ, ◌+◌, ◌<◌, ◌≤◌, ◌^◌, List, [], ◌∷◌, length, refl, sym, ap, ◌∙◌, subst, pos, arith}
 use Rattle.std.specs.Ordering.{int_eq}
+use Rattle.std.specs.Prelude.{Result, Ok, Err, IfOk}
 use Rattle.ss_base.specs.declared.layout.Mode.{Mode}
 use Rattle.ss_base.specs.declared.layout.Owner.TheVariants.{System}
 use Rattle.ss_base.specs.Layout.{first_value}
@@ -8,12 +9,19 @@ use Rattle.ss_world.specs.State.{first_state}
 use Rattle.ss_world.specs.PendingList.{none_pending}
 use Rattle.ss_meaning.specs.Histories.{starting, no_histories}
 use Rattle.ss_meaning.specs.Store.{first_values}
-use Rattle.ss_code.specs.Running.{Compiled as Generated, Said}
+use Rattle.ss_code.specs.Running.{Compiled as Generated, IsCompiled as IsGenerated, Said}
 use Rattle.ss_code_instructions.specs.Machine.{Code}
 use Rattle.ss_code_instructions.specs.Running.{begin_store}
-use Rattle.ss_code_instructions.specs.Carried.{RunningCode, IsEntry, main_entry}
+use Rattle.ss_code_instructions.specs.Carried.{RunningCode, IsEntry, IsSized, main_entry}
 use Rattle.ss_machine_time.specs.Records.{columns_of}
-use Rattle.ss_machine_frames.specs.Rows.{TwoRows, Agree, with_value, cleared}
+use Rattle.ss_machine_world.specs.Seen.{Seen}
+use Rattle.ss_base.specs.Plain.{PlainLayout}
+use Rattle.ss_base.specs.declared.layout.Discipline.{Discipline}
+use Rattle.ss_program.specs.declared.sections.Statistic.{Statistic}
+use Rattle.ss_meaning.specs.Store.{Notices}
+use Rattle.ss_world.specs.declared.ties.TieShape.{TieShape}
+use Rattle.std.specs.declared.alloc.AllocError.{AllocError}
+use Rattle.ss_machine_frames.specs.Rows.{TwoRows, Agree, Grown, with_value, cleared}
 use Rattle.ss_machine_frames.specs.Holding.{AllAt, CallsAt}
 use Rattle.ss_machine_frames.proofs.Entering.{cleared_all, cleared_below, cleared_long, value_texts}
 use Rattle.ss_machine_frames.proofs.Places.{agree_on, agree_within, all_agree}
@@ -135,4 +143,43 @@ at_start code s first w of input =
         even = ap (λ (r : TwoRows). length r.texts) h.is ∙ cleared_texts h.grown from code.run.main.others.items ∙ h.even ∙ sym long;
         line = first.line;
       };
+    }
+
+-- ## What is made
+
+-- the frame of MAIN has room for its variables
+pub main_sized : (code : Generated) → IsGenerated code → IsSized code.run.main
+main_sized code z = z.2.code.main.sized
+
+-- a scene as it is made is the first one
+pub scene_made : (code : Generated) (layout : PlainLayout) (disciplines : List Discipline) (notices : List Notices) (shapes : List (List TieShape)) (statistics : List Statistic) (answer : Result Seen AllocError)
+    → layout ≡ code.said.layout → disciplines ≡ code.said.setting.disciplines → notices ≡ code.said.setting.notices → shapes ≡ code.said.ties → statistics ≡ code.said.setting.statistics
+    → IfOk answer (λ scene. scene ≡ record { disciplines = disciplines; notices = notices; statistics = statistics; heap = first_state layout; time = pos 0; pending = none_pending shapes; histories = scene.histories })
+    → IfOk answer (λ scene. columns_of scene.histories ≡ starting layout System (int_eq (pos 0)) (pos 0) statistics (no_histories statistics))
+    → IfOk answer (λ scene. IsFirstScene code scene)
+scene_made code layout disciplines notices shapes statistics (Ok scene) l d n t s is histories = record {
+  disciplines = ap (λ (x : Seen). x.disciplines) is ∙ d;
+  notices = ap (λ (x : Seen). x.notices) is ∙ n;
+  statistics = ap (λ (x : Seen). x.statistics) is ∙ s;
+  heap = ap (λ (x : Seen). x.heap) is ∙ ap first_state l;
+  time = ap (λ (x : Seen). x.time) is;
+  pending = ap (λ (x : Seen). x.pending) is ∙ ap none_pending t;
+  histories = subst (λ k. columns_of scene.histories ≡ starting k System (int_eq (pos 0)) (pos 0) code.said.setting.statistics (no_histories code.said.setting.statistics)) l
+      (subst (λ j. columns_of scene.histories ≡ starting layout System (int_eq (pos 0)) (pos 0) j (no_histories j)) s histories);
+}
+scene_made code layout disciplines notices shapes statistics (Err e) l d n t s is histories = is
+
+-- rows as they are laid
+pub laid : (code : Generated) (all grown rows : TwoRows) → all ≡ values_laid (firsts_laid none_laid code.globals) code.run.constants → Grown all grown → length grown.texts ≡ length grown.numbers
+    → length all.numbers + code.run.main.room ≤ length grown.numbers → length grown.numbers < 2 ^ 32 → rows ≡ cleared grown (length all.numbers) code.run.main.others.items → Laid code rows
+laid code all grown rows is grows even room small made =
+    let first : length (firsts_laid none_laid code.globals).numbers ≡ length code.globals = omega (arith, laid_long none_laid (first_values code.globals), firsts_long code.globals) in
+    let long : length all.numbers ≡ length code.globals + length code.run.constants = ap (λ (r : TwoRows). length r.numbers) is ∙ omega (arith, laid_long (firsts_laid none_laid code.globals) code.run.constants, first) in
+    record {
+      grown = grown;
+      grows = subst (λ r. Grown r grown) is grows;
+      even = even;
+      room = omega (arith, room, long);
+      small = small;
+      is = made ∙ ap (λ n. cleared grown n code.run.main.others.items) long;
     }
