@@ -1,10 +1,9 @@
 -- A run that goes on with other ticks, and with the source of the run before.
-use Rattle.std.proofs.Common.{◌≡◌, ℕ, ◌+◌, ◌-◌, ◌≤◌, true, List, [], ◌++◌, Option, refl, sym, ap, ◌∙◌, inl, inr, ◌⊎◌, arith}
+use Rattle.std.proofs.Common.{◌≡◌, ℕ, ◌+◌, ◌-◌, ◌≤◌, List, [], ◌++◌, Option, refl, ap, ◌∙◌, inl, inr, arith}
 use Rattle.ss_input.specs.declared.source.Source.{Source}
-use Rattle.ss_input.specs.Inputs.{source_block}
 use Rattle.ss_code.specs.Running.{Compiled as Generated}
 use Rattle.ss_code_instructions.specs.States.{Core}
-use Rattle.ss_code_instructions.specs.Running.{Underway, start, steps}
+use Rattle.ss_code_instructions.specs.Running.{start}
 use Rattle.ss_code_instructions.specs.Laws.{StepsGoOn}
 use Rattle.ss_code_instructions.specs.Reached.{at_core}
 use Rattle.ss_machine_instructions.specs.declared.flow.Here.{Here}
@@ -12,9 +11,9 @@ use Rattle.ss_machine_instructions.specs.declared.state.State.{State}
 use Rattle.ss_machine_instructions.specs.Doing.{Compiled}
 use Rattle.ss_machine_steps.specs.declared.stop.Stop.{Stop}
 use Rattle.ss_machine_steps.specs.declared.stop.Stop.TheVariants.{Ended, Fault, Paused, Memory, Output, Input, Failed}
-use Rattle.ss_machine_steps.specs.Situations.{Situation, situated, IsOf, Stands, IsSituated}
+use Rattle.ss_machine_steps.specs.Situations.{Situation, situated, Stands, IsSituated}
 use Rattle.ss_machine_steps.specs.Runs.{Comes, IsFinished, Ran}
-use Rattle.ss_machine_steps.specs.Start.{Arrives, HasRead, Continues}
+use Rattle.ss_machine_steps.specs.Start.{HasRead, Continues}
 use Rattle.ss_meaning.specs.Meaning as endings
 use Rattle.ss_machine_steps.proofs.Inputs.{some_input, reads_so, finds_so}
 

@@ -19,7 +19,7 @@ use Rattle.ss_code_instructions.specs.Carried.{item_modes, kind_of_item}
 use Rattle.ss_machine_world.specs.Seen.{Seen, with_seen, IsRight}
 use Rattle.ss_machine_frames.specs.Rows.{TwoRows}
 use Rattle.ss_machine_frames.specs.Holding.{AllAt}
-use Rattle.ss_machine_steps.specs.Shown.{IsPrintable, AreShown, IsShown, ShowsFirst, CanShow, CanShowOne, cells_of}
+use Rattle.ss_machine_steps.specs.Shown.{IsPrintable, AreShown, IsShown, CanShow, CanShowOne, cells_of}
 
 -- ## One item
 

@@ -11,7 +11,7 @@ use Rattle.ss_machine_instructions.specs.declared.flow.Ending.TheVariants as res
 use Rattle.ss_machine_instructions.specs.declared.state.State.{State}
 use Rattle.ss_machine_instructions.specs.Doing.{line_or}
 use Rattle.ss_machine_steps.specs.declared.stop.Stop.{Stop}
-use Rattle.ss_machine_steps.specs.declared.stop.Stop.TheVariants.{Ended, Fault, Paused, Memory, Output, Input, Failed}
+use Rattle.ss_machine_steps.specs.declared.stop.Stop.TheVariants.{Ended, Fault, Paused, Memory, Output, Input}
 use Rattle.ss_machine_steps.specs.Situations.{Situation}
 
 -- ## Kinds of instructions

@@ -1,4 +1,4 @@
-use Rattle.std.proofs.Common.{rules, ◌≡◌, ◌+◌, ◌<◌, ◌≤◌, ◌^◌, length, sym, ap, ◌∙◌, arith}
+use Rattle.std.proofs.Common.{rules, ◌≡◌, ◌+◌, ◌<◌, ◌≤◌, ◌^◌, length, arith}
 use Rattle.ss_machine_frames.specs.Rows.{cleared}
 use Rattle.ss_machine_steps.specs.Beginning.{values_laid, firsts_laid, none_laid}
 use Rattle.ss_machine_steps.proofs.Starting.{main_sized, laid}

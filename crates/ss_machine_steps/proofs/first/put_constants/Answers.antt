@@ -1,5 +1,4 @@
-use Rattle.std.proofs.Common.{◌≡◌, ◌∷◌, drop, sym, ap, ◌∙◌, arith}
-use Rattle.ss_machine_steps.specs.Beginning.{values_laid}
+use Rattle.std.proofs.Common.{arith}
 use Rattle.ss_machine_steps.proofs.Laying.{laid_more, laid_all}
 use Rattle.ss_machine_steps.proofs.first.put_constants.Goals as goal
 

@@ -1,4 +1,4 @@
-use Rattle.std.proofs.Common.{rules, ◌≡◌, ◌∷◌, drop, sym, ap, ◌∙◌, arith}
+use Rattle.std.proofs.Common.{rules, ◌≡◌, arith}
 use Rattle.ss_base.specs.Layout.{first_value}
 use Rattle.ss_machine_frames.specs.Rows.{with_last}
 use Rattle.ss_machine_steps.proofs.Laying.{firsts_more, firsts_all}

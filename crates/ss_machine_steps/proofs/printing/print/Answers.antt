@@ -1,4 +1,4 @@
-use Rattle.std.proofs.Common.{rules, ◌≡◌, ◌+◌, Some, None, sym, subst, arith}
+use Rattle.std.proofs.Common.{rules, sym, subst, arith}
 use Rattle.ss_code_instructions.specs.declared.instruction.Instruction.TheVariants.{Print as Runs}
 use Rattle.ss_machine_instructions.proofs.Placing.{small}
 use Rattle.ss_machine_steps.specs.Shown.{CanShow, TakeAll, SentAll, SentPart}

@@ -1,9 +1,8 @@
-use Rattle.std.proofs.Common.{rules, ◌≡◌, [], Ok, Err, refl, inl, inr, sym, ap, ◌∙◌, subst}
+use Rattle.std.proofs.Common.{rules, ◌≡◌, [], refl, inl}
 use Rattle.std.specs.List.{flat_map, AllByRecursion}
 use Rattle.ss_picture.specs.Pictures.{picture_fields}
 use Rattle.ss_meaning.specs.Values.{lines_with}
-use Rattle.ss_machine_steps.specs.Sent.{TookPart}
-use Rattle.ss_machine_steps.specs.Shown.{IsPrintable, AreShown, SentPart}
+use Rattle.ss_machine_steps.specs.Shown.{IsPrintable, AreShown}
 use Rattle.ss_machine_steps.proofs.Fields.{each_suits}
 use Rattle.ss_machine_steps.proofs.Known.{took_nothing}
 use Rattle.ss_machine_steps.proofs.Sending.{sent_all, sent_part}

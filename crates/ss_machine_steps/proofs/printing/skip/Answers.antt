@@ -1,4 +1,4 @@
-use Rattle.std.proofs.Common.{rules, ◌≡◌, ◌+◌, [], ◌++◌, Ok, replicate, true, false, inl, inr, refl, sym, ap, ◌∙◌, subst, arith}
+use Rattle.std.proofs.Common.{rules, ◌≡◌, replicate, inr, sym, ap, ◌∙◌, subst, arith}
 use Rattle.std.specs.Io.KnownBytes.{Appends}
 use Rattle.ss_base.specs.declared.fault.FaultKind.TheVariants.{BadCount}
 use Rattle.ss_base.specs.declared.value.Value.TheVariants.{Whole}
@@ -7,7 +7,6 @@ use Rattle.ss_code_instructions.specs.declared.instruction.Instruction.TheVarian
 use Rattle.ss_code_instructions.specs.States.{Rest, Breaks}
 use Rattle.ss_machine_instructions.specs.declared.flow.Ending.TheVariants.{NoOutput}
 use Rattle.ss_machine_instructions.specs.Doing.{Compiled, line_or}
-use Rattle.ss_machine_instructions.specs.Ways.{faulted}
 use Rattle.ss_machine_instructions.proofs.Placing.{small}
 use Rattle.ss_machine_steps.specs.Sent.{TookPart}
 use Rattle.ss_machine_steps.specs.Writing.{IsUnsent, Sending, DidWrite}

@@ -1,6 +1,6 @@
-use Rattle.std.proofs.Common.{◌≡◌, Some, None, refl, ap, subst}
+use Rattle.std.proofs.Common.{Some, None, subst}
 use Rattle.ss_base.specs.declared.value.Value.TheVariants.{Whole}
-use Rattle.ss_machine_steps.specs.Shown.{CanShowOne, IsShown}
+use Rattle.ss_machine_steps.specs.Shown.{CanShowOne}
 use Rattle.ss_machine_steps.proofs.Items.{number_first, text_first, mean_first, mean_of_first}
 use Rattle.ss_machine_steps.proofs.showing.item_of.Goals as goal
 

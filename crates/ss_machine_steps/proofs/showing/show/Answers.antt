@@ -1,4 +1,4 @@
-use Rattle.std.proofs.Common.{rules, ◌≡◌, ◌+◌, ◌<◌, ◌^◌, ◌++◌, [], ◌∷◌, drop, sym, ap, ◌∙◌, subst, arith}
+use Rattle.std.proofs.Common.{rules, ◌≡◌, ◌+◌, ◌<◌, ◌^◌, ◌++◌, [], ◌∷◌, drop, sym, subst, arith}
 use Rattle.std.specs.List.{AllByRecursion}
 use Rattle.ss_machine_steps.specs.Shown.{IsPrintable, CanShow, cells_of}
 use Rattle.ss_machine_steps.proofs.Items.{AreSoFar, none_yet, can_now, one_more, all_shown, place_small, printable_more}

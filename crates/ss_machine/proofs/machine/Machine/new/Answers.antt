@@ -1,7 +1,7 @@
-use Rattle.std.proofs.Common.{◌≡◌, None, IfOk, refl, sym, subst}
+use Rattle.std.proofs.Common.{None, IfOk, refl, sym, subst}
 use Rattle.ss_code.specs.Running.{IsCompiled as IsGenerated}
 use Rattle.ss_machine_instructions.specs.declared.state.State.{State}
-use Rattle.ss_machine_steps.specs.Beginning.{IsFirstState, first_here}
+use Rattle.ss_machine_steps.specs.Beginning.{IsFirstState}
 use Rattle.ss_machine_steps.specs.Situations.{situated}
 use Rattle.ss_machine_steps.specs.Start.{IsAtStart}
 use Rattle.ss_machine.specs.Held.{IsReady}
