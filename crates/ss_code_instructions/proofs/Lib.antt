@@ -50,3 +50,4 @@ pub mod Holding
 pub mod Sizes
 pub mod Landing
 pub mod Bounding
+pub mod Arriving

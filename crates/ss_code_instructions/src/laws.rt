@@ -11,6 +11,7 @@ ghost use Rattle.ss_code_instructions.specs.Reached.{ReachedFits, ReachedGoes, I
 ///
 /// Whatever input is handed to a machine as it goes on, it finds at each place what the place says, and is never stuck. (Not all
 /// of this is proved yet.)
+#[inline(always)]
 pub fn laws()
     ensures code_behaves { CodeBehaves }
     ensures jumps_land { JumpsLand }
