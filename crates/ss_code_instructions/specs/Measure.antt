@@ -1,7 +1,7 @@
 -- What a run of the machine has still to do before its next tick.
-use Rattle.std.specs.Prelude.{ℕ, ◌+◌, ◌-◌, ◌*◌, ◌≤◌, Bool, true, false, List, [], ◌∷◌, length, Option, None, Some, slice_get}
+use Rattle.std.specs.Prelude.{ℕ, ◌+◌, ◌-◌, ◌*◌, Bool, true, false, List, [], ◌∷◌, length, Option, None, Some, slice_get}
 use Rattle.ss_code_instructions.specs.Instructions.{Placed}
-use Rattle.ss_code_instructions.specs.States.{Frame, Core, MachineState}
+use Rattle.ss_code_instructions.specs.States.{Frame, MachineState}
 use Rattle.ss_code_instructions.specs.Machine.{Code, is_due}
 
 -- how far the end of the code is from where the open calls go back to
@@ -25,7 +25,3 @@ left_at code place frames = left_from (is_due_at (slice_get code.places place)) 
 -- each step takes a tick, or goes on towards the end of the code, to a tick, or back from a call
 abbrev pub left_to_do : Code → MachineState → ℕ
 left_to_do code s = s.ticks * (2 * length code.places + 1) + left_at code s.core.place s.core.frames
-
--- a machine that goes on has still as many steps as are left up to its next tick
-abbrev pub HasLeft : Code → Core → (used made : ℕ) → Type 0
-HasLeft code c used made = made + left_at code c.place c.frames ≤ used * (2 * length code.places + 1) + length code.places
