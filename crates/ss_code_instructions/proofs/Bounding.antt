@@ -22,6 +22,8 @@ use Rattle.ss_code_instructions.specs.Machine.{Code, changed_attribute, assignab
 use Rattle.ss_program.specs.Program.{Program}
 use Rattle.ss_meaning.specs.Expressions.{unless}
 use Rattle.ss_code_instructions.specs.Running.{Underway, Lands, goes_back, start, after_one_step, steps}
+use Rattle.ss_code_instructions.specs.Measure.{left_in, is_due_at, left_from, left_at, left_to_do}
+use Rattle.ss_code_instructions.specs.Reached.{StepsFall}
 use Rattle.ss_code_instructions.specs.Laws.{StepsAreBounded}
 use Rattle.ss_code_instructions.specs.Translation.{place, code_of, main_code, main_scope, first_site, block_code, all_routines, all_events}
 use Rattle.ss_code_instructions.proofs.Landing.{jumps_land}
@@ -143,26 +145,6 @@ act_way code l (i.Skip count) c calm = value (Way None c) count c.store c.cells 
 
 -- ## What is left to do
 
--- how far the end of the code is from where the open calls go back to
-abbrev left_in : ℕ → List Frame → ℕ
-left_in len [] = 0
-left_in len (f ∷ fs) = (len - f.back) + left_in len fs
-
-abbrev is_due_at : Option Placed → Bool
-is_due_at None = false
-is_due_at (Some x) = is_due x.instruction
-
--- before an instruction that takes a tick only what the open calls have left; else also what is left from here on
-abbrev left_from : Bool → ℕ → ℕ → ℕ
-left_from true here calls = calls
-left_from false here calls = here + calls
-
-abbrev left_at : Code → ℕ → List Frame → ℕ
-left_at code place frames = left_from (is_due_at (slice_get code.places place)) (length code.places - place) (left_in (length code.places) frames)
-
-abbrev left_to_do : Code → MachineState → ℕ
-left_to_do code s = s.ticks * (2 * length code.places + 1) + left_at code s.core.place s.core.frames
-
 left_most : (b : Bool) (here calls : ℕ) → left_from b here calls ≤ here + calls
 left_most true here calls = omega arith
 left_most false here calls = omega arith
@@ -227,6 +209,10 @@ module _ (code : Code) where
   pub step_falls : Lands code → (s x : MachineState) → step code s ≡ Goes x → left_to_do code x < left_to_do code s
   step_falls lands s x e = at_falls lands (slice_get code.places s.core.place) s x refl e
 
+-- in the code of a program
+pub steps_fall : StepsFall
+steps_fall p s t e = step_falls (code_of p) (jumps_land p) s t e
+
 underway : {s t : MachineState} → Underway s ≡ Underway t → s ≡ t
 underway e = cc
 
@@ -284,7 +270,7 @@ times_least (suc u) l q = omega (arith, q, times_least u l q)
 at_least_one : (l m a b : ℕ) → l ≡ m + a → m ≡ b + 1 → 1 ≤ l
 at_least_one l m a b e f = omega (arith, e, f)
 
-never_empty : (p : Program) → 1 ≤ length (code_of p).places
+pub never_empty : (p : Program) → 1 ≤ length (code_of p).places
 never_empty p =
     let body = block_code (first_site (main_scope p)) 0 p.main in
     let leave = place (first_site (main_scope p)) i.Leave in

@@ -61,3 +61,4 @@ pub mod Valued
 pub mod ShapeKept
 pub mod Unstuck
 pub mod OwnersStay
+pub mod Arriving

@@ -7,6 +7,8 @@ pub mod Size
 pub mod Running
 pub mod Shape
 pub mod Carried
+pub mod Measure
+pub mod Reached
 pub mod Laws
 pub mod Examples
 pub mod Walks

@@ -1,16 +1,27 @@
 //! The machine that runs.
 
+ghost use Rattle.std.specs.Prelude.{◌≡◌, ◌+◌, ◌-◌, ◌*◌, ◌^◌, ◌≤◌, min, length, IfOk, Ok, Some, None};
+ghost use Rattle.ss_base.specs.Failures.{HasRisen, HasRisenBy};
+ghost use Rattle.ss_input.specs.Blocks.{KnowsEnd};
+ghost use Rattle.ss_input.specs.Inputs.{source_block, source_missed, source_reader};
+ghost use Rattle.ss_machine_steps.specs.Situations.{IsSituated};
+ghost use Rattle.ss_machine_steps.specs.Start.{Continues};
+ghost use Rattle.ss_machine_steps.specs.Runs.{Ran};
+ghost use Rattle.ss_machine.specs.Held.{IsFirst, answer_again, kept_after};
+
 use ss_base::{FaultyRead, FaultyWrite};
 use ss_code::code::Code;
+use ss_code_instructions::laws::laws;
 use ss_input::Source;
 use ss_machine_instructions::flow::Here;
 use ss_machine_instructions::state::State;
-use ss_machine_steps::first::{first_place, first_state, release_state};
+use ss_machine_steps::first::{first_place, first_state, release_state, stands_first};
 use ss_machine_steps::running::run;
 use ss_machine_steps::showing::Buffers;
 use ss_machine_steps::stop::Stop;
 use ss_picture::Sink;
 use std::alloc::{AllocError, Global};
+use std::marker::Model;
 
 /// A machine that runs the code of a program.
 ///
@@ -27,8 +38,20 @@ pub struct Machine {
     stopped: Option<Stop>,
 }
 
+impl Model for Machine {
+    ghost use Rattle.ss_machine.specs.Held.{Held, IsReady};
+
+    ghost Value = { Held };
+
+    ghost view = { λ m. record { code = m.code; at = record { here = record { place = m.place; frame = m.frame }; state = m.state }; used = m.used; steps = m.state.steps; stopped = m.stopped } };
+
+    ghost invariant = { λ m. IsReady (record { code = m.code; at = record { here = record { place = m.place; frame = m.frame }; state = m.state }; used = m.used; steps = m.state.steps; stopped = m.stopped }) };
+}
+
 // The answer of a run after one that stood still.
-fn again(stop: Stop) -> Stop {
+fn again(stop: Stop) -> Stop
+    ensures { result ≡ answer_again stop }
+{
     match stop {
         Stop::Memory | Stop::Output | Stop::Input => Stop::Failed,
         other => other,
@@ -36,7 +59,9 @@ fn again(stop: Stop) -> Stop {
 }
 
 // Why a machine stands still after a run that answered so; None where the next run goes on.
-fn kept(stop: Stop) -> Option<Stop> {
+fn kept(stop: Stop) -> Option<Stop>
+    ensures { result ≡ kept_after stop }
+{
     match stop {
         Stop::Paused => None,
         other => Some(other),
@@ -44,7 +69,9 @@ fn kept(stop: Stop) -> Option<Stop> {
 }
 
 // A code, beside what was made for it, unless that failed.
-fn beside(code: Code, next: Result<State, AllocError>) -> Result<(Code, State), AllocError> {
+fn beside(code: Code, next: Result<State, AllocError>) -> Result<(Code, State), AllocError>
+    ensures { IfOk result (λ both. (both.0 ≡ code) × (next ≡ Ok both.1)) }
+{
     match next {
         Ok(next) => Ok((code, next)),
         Err(e) => {
@@ -57,9 +84,14 @@ fn beside(code: Code, next: Result<State, AllocError>) -> Result<(Code, State), 
 impl Machine {
     /// A machine before the first instruction of this code: no entity, nothing pending, at the time 0, with the histories of
     /// THE SYSTEM's statistics begun. The error comes where memory was refused.
-    pub fn new(alloc: Global, code: Code) -> Result<Machine, AllocError> {
+    pub fn new(alloc: Global, code: Code) -> Result<Machine, AllocError>
+        ensures { IfOk result (λ machine. IsFirst code machine) }
+    {
+        laws();
+        let _made = code.len();
         let first = first_state(alloc, &code);
         let (code, state) = beside(code, first)?;
+        stands_first(&code, &state);
         let (place, frame) = first_place(&code);
         Ok(Machine {
             code,
@@ -77,21 +109,50 @@ impl Machine {
     ///
     /// The source must have missed nothing, where the machine has not stopped. READ takes the next word of it, and a test
     /// whether data is ended looks for one and takes none; how far the source reads ahead is its own affair. Each line goes
-    /// out as it is filled.
+    /// out as it is filled. Any source will do, in each run: what is read of it is the input from there on. So a machine that is
+    /// new or has paused never answers `Failed`. After a pause the source of the run before goes on with the same input.
     ///
     /// After `Paused` all ticks were used, up to 2^64 - 1 since the start, and a further run goes on; the
     /// source may be used again. After `Ended` and `Fault` a further run answers the same, after
     /// `Memory`, `Output` and `Input` it answers `Failed`; it reads nothing, writes nothing and changes
     /// nothing.
+    ///
+    /// `Memory` comes only where memory was refused, `Output` only where the current instruction writes and
+    /// the writer's count of failures rose in this run, and `Input` only where the current instruction reads
+    /// or tests its input and the reader's count did. What was written by then is the beginning of the
+    /// report: at least what is written before the last tick used, and no more than what is written before
+    /// the next.
     pub fn run<R: FaultyRead, W: FaultyWrite>(
         &mut self,
         ticks: u64,
         source: &mut Source<R>,
         sink: &mut Sink<W>,
-    ) -> Stop {
+    ) -> Stop
+        requires { self.old.stopped ≡ None → source_missed source.old ≡ None }
+        ensures again { (before : Stop) → self.old.stopped ≡ Some before → (result ≡ answer_again before) × (self.new ≡ self.old) × (source.new ≡ source.old) × (sink.new ≡ sink.old) }
+        ensures ran { self.old.stopped ≡ None → Ran R.remaining result self.old.code self.old.at self.new.at source.old source.new (W.contents sink.old.writer) (W.contents sink.new.writer) (self.new.used - self.old.used) (self.new.steps - self.old.steps) }
+        ensures code { self.new.code ≡ self.old.code }
+        ensures situated { self.new.stopped ≡ None → IsSituated self.new.code self.new.at }
+        ensures stopped { self.old.stopped ≡ None → self.new.stopped ≡ kept_after result }
+        ensures used { (self.old.used ≤ self.new.used) × (self.new.used ≤ self.old.used + ticks) }
+        ensures within { self.old.stopped ≡ None → self.new.used ≤ 2 ^ 64 - 1 }
+        ensures paused { self.old.stopped ≡ None → result ≡ Stop.Paused → self.new.used ≡ min (self.old.used + ticks) (2 ^ 64 - 1) }
+        ensures continues { self.old.stopped ≡ None → Continues self.old.code self.old.at source.old → result ≡ Stop.Paused → Continues self.new.code self.new.at source.new }
+        ensures never_failed { self.old.stopped ≡ None → result ≡ Stop.Failed → ⊥ }
+        ensures unmissed { self.old.stopped ≡ None → result ≡ Stop.Paused → source_missed source.new ≡ None }
+        ensures steps { self.old.steps ≤ self.new.steps }
+        ensures least { self.new.used ≤ self.new.steps }
+        ensures most { self.new.steps ≤ (3 * self.new.used + 4) * length self.new.code.run.instructions }
+        ensures output { self.old.stopped ≡ None → result ≡ Stop.Output → HasRisen (W.faults sink.old.writer) (W.faults sink.new.writer) }
+        ensures input { self.old.stopped ≡ None → result ≡ Stop.Input → HasRisen (R.faults (source_reader source.old)) (R.faults (source_reader source.new)) }
+        ensures never_falls { HasRisenBy 0 (W.faults sink.old.writer) (W.faults sink.new.writer) }
+        ensures read_never_falls { HasRisenBy 0 (R.faults (source_reader source.old)) (R.faults (source_reader source.new)) }
+        ensures end { KnowsEnd R.remaining (source_block source.old) → KnowsEnd R.remaining (source_block source.new) }
+    {
         if let Some(stop) = self.stopped {
             return again(stop);
         }
+        laws();
         let last = self.used.saturating_add(ticks);
         let from = Here {
             place: self.place,
@@ -121,21 +182,29 @@ impl Machine {
     }
 
     /// Why the last run stopped; None where a further run goes on.
-    pub fn stopped(&self) -> Option<Stop> {
+    pub fn stopped(&self) -> Option<Stop>
+        ensures { result ≡ self.now.stopped }
+    {
         self.stopped
     }
 
     /// The ticks used since the start.
-    pub fn used(&self) -> u64 {
+    pub fn used(&self) -> u64
+        ensures { result ≡ self.now.used }
+    {
         self.used
     }
 
     /// The steps made since the start: each instruction that was carried out, the one that ended the
     /// program and the one that came to a fault among them. A pause is no step, nor is an instruction
-    /// that failed for want of memory or at its reader or writer.
+    /// that failed for want of memory or at its reader or writer. The count is exact at every stop.
     ///
     /// After u ticks there are at least u, and at most 3u + 4 times as many as there are instructions.
-    pub fn steps(&self) -> u128 {
+    pub fn steps(&self) -> u128
+        ensures value { result ≡ self.now.steps }
+        ensures least { self.now.used ≤ result }
+        ensures most { result ≤ (3 * self.now.used + 4) * length self.now.code.run.instructions }
+    {
         self.state.steps
     }
 }

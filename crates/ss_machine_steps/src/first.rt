@@ -1,8 +1,14 @@
 //! The first state of a machine.
 
+ghost use Rattle.std.specs.Prelude.{◌≡◌, ◌+◌, ◌<◌, ◌^◌, length, IfOk, OnOk};
+ghost use Rattle.ss_machine_steps.specs.Beginning.{Laid, values_laid, firsts_laid, IsFirstScene, IsFirstState, first_here};
+ghost use Rattle.ss_machine_steps.specs.Start.{IsAtStart};
+ghost use Rattle.ss_machine_steps.specs.Situations.{situated};
+
 use ss_base::{FaultKind, Mode, Value, copied_disciplines};
 use ss_code::code::Code;
 use ss_code_instructions::copied_notices;
+use ss_code_instructions::laws::laws;
 use ss_machine_frames::frames::Frames;
 use ss_machine_frames::rows::Rows;
 use ss_machine_instructions::flow::Ending;
@@ -11,7 +17,9 @@ use ss_machine_world::scene::Scene;
 use std::alloc::{AllocError, Global};
 
 // First values of modes come after others.
-fn put_firsts(rows: &mut Rows, modes: &[Mode]) -> Result<(), AllocError> {
+fn put_firsts(rows: &mut Rows, modes: &[Mode]) -> Result<(), AllocError>
+    ensures { OnOk result (rows.new ≡ firsts_laid rows.old modes.now) }
+{
     for mode in modes {
         rows.push(mode.first_value())?;
     }
@@ -19,7 +27,9 @@ fn put_firsts(rows: &mut Rows, modes: &[Mode]) -> Result<(), AllocError> {
 }
 
 // Constants come after others.
-fn put_constants(rows: &mut Rows, constants: &[Value]) -> Result<(), AllocError> {
+fn put_constants(rows: &mut Rows, constants: &[Value]) -> Result<(), AllocError>
+    ensures { OnOk result (rows.new ≡ values_laid rows.old constants.now) }
+{
     for constant in constants {
         rows.push(*constant)?;
     }
@@ -27,17 +37,24 @@ fn put_constants(rows: &mut Rows, constants: &[Value]) -> Result<(), AllocError>
 }
 
 // The rows before the first instruction: the global variables, the constants, and the frame of MAIN.
-fn first_rows(alloc: Global, code: &Code) -> Result<Rows, AllocError> {
+fn first_rows(alloc: Global, code: &Code) -> Result<Rows, AllocError>
+    ensures { IfOk result (λ rows. Laid code.now rows) }
+{
+    let _made = code.len();
     let mut rows = Rows::new(alloc);
     put_firsts(&mut rows, code.globals())?;
     put_constants(&mut rows, code.constants())?;
     let frame = rows.len();
-    rows.lengthen(frame + code.main().room)?;
+    let main = code.main();
+    rows.lengthen(frame.saturating_add(main.room))?;
+    rows.clear(frame, &main.others);
     Ok(rows)
 }
 
 // The world before the first instruction.
-fn first_scene(alloc: Global, code: &Code) -> Result<Scene, AllocError> {
+fn first_scene(alloc: Global, code: &Code) -> Result<Scene, AllocError>
+    ensures { IfOk result (λ scene. IsFirstScene code.now scene) }
+{
     let layout = code.layout().copied(alloc)?;
     let disciplines = copied_disciplines(alloc, code.disciplines())?;
     let notices = copied_notices(alloc, code.notices())?;
@@ -52,7 +69,9 @@ fn first_scene(alloc: Global, code: &Code) -> Result<Scene, AllocError> {
 }
 
 /// What the machine works on before the first instruction of this code. The error comes where memory was refused.
-pub fn first_state(alloc: Global, code: &Code) -> Result<State, AllocError> {
+pub fn first_state(alloc: Global, code: &Code) -> Result<State, AllocError>
+    ensures { IfOk result (λ state. IsFirstState code.now state) }
+{
     let rows = first_rows(alloc, code)?;
     let scene = first_scene(alloc, code)?;
     Ok(State {
@@ -70,9 +89,21 @@ pub fn first_state(alloc: Global, code: &Code) -> Result<State, AllocError> {
 
 /// Where the machine is before the first instruction of this code, but for its ticks: the place, and where the frame of MAIN
 /// begins.
-pub fn first_place(code: &Code) -> (usize, u32) {
+pub fn first_place(code: &Code) -> (usize, u32)
+    requires { length code.now.globals + length code.now.run.constants < 2 ^ 32 }
+    ensures { record { place = result.0; frame = result.1 } ≡ first_here code.now }
+{
     let frame = code.globals().len() + code.constants().len();
     (code.main().place, frame as u32)
+}
+
+/// A machine holds its first state there.
+#[inline(always)]
+pub fn stands_first(code: &Code, state: &State)
+    requires { IsFirstState code.now state.now }
+    ensures { IsAtStart code.now (situated (first_here code.now) state.now) }
+{
+    laws();
 }
 
 /// Gives the memory of what a machine works on back.

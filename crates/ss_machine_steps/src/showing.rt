@@ -1,5 +1,16 @@
 //! What a PRINT shows.
 
+ghost use Rattle.std.specs.Prelude.{◌≡◌, ◌+◌, ◌<◌, ◌^◌, length, Option, Some, OnOk};
+ghost use Rattle.std.specs.List.{AllByRecursion};
+ghost use Rattle.ss_base.specs.declared.value.Value.{Value as ValueSeen};
+ghost use Rattle.ss_code_instructions.specs.Machine.{mean_item};
+ghost use Rattle.ss_meaning.specs.Statistics.{mean};
+ghost use Rattle.ss_meaning.specs.Store.{Store};
+ghost use Rattle.ss_machine_world.specs.Seen.{with_seen};
+ghost use Rattle.ss_machine_world.specs.Numbers.{HasSubject, RefersToSubject};
+ghost use Rattle.ss_picture.specs.declared.items.FieldValue.{FieldValue as ItemSeen};
+ghost use Rattle.ss_machine_steps.specs.Shown.{IsPrintable, CanShowOne, CanShow, AreShown, IsShown, cells_of};
+
 use ss_base::Value;
 use ss_code_instructions::item::ItemKind;
 use ss_machine_instructions::state::State;
@@ -25,7 +36,11 @@ impl Buffers {
 }
 
 // A mean as an item. It was looked at before, so that there is one.
-fn mean_item(state: &mut State, statistic: usize, entity: i64) -> FieldValue {
+fn mean_item(state: &State, statistic: usize, entity: i64) -> FieldValue
+    requires { HasSubject state.now.scene statistic }
+    ensures shown { (o : Option ValueSeen) → RefersToSubject state.now.scene statistic o entity → (s : Store) (x : ItemSeen) → mean_item (mean statistic o (with_seen s state.now.scene)) ≡ Some x → x ≡ result }
+    ensures printable { IsPrintable result }
+{
     match state.scene.mean(statistic, entity) {
         Ok((sum, number)) => FieldValue::Mean(sum, number),
         Err(_) => FieldValue::Mean(0, 0),
@@ -33,7 +48,11 @@ fn mean_item(state: &mut State, statistic: usize, entity: i64) -> FieldValue {
 }
 
 // The item of a kind, which takes the value at a place, if it takes one.
-fn item_of(state: &mut State, kind: ItemKind, at: usize) -> FieldValue {
+fn item_of(state: &State, kind: ItemKind, at: usize) -> FieldValue
+    requires { CanShowOne state.now.scene state.now.rows at kind }
+    ensures shown { IsShown state.now.scene state.now.rows at kind result }
+    ensures printable { IsPrintable result }
+{
     match kind {
         ItemKind::Number => FieldValue::Is(Value::Whole(state.rows.number_at(at))),
         ItemKind::Text => FieldValue::Is(Value::Text(state.rows.text_at(at))),
@@ -46,7 +65,9 @@ fn item_of(state: &mut State, kind: ItemKind, at: usize) -> FieldValue {
 }
 
 // How many cells an item of a kind takes.
-fn cells_of(kind: ItemKind) -> usize {
+fn cells_of(kind: ItemKind) -> usize
+    ensures { result ≡ cells_of kind }
+{
     match kind {
         ItemKind::Mean { .. } => 0,
         ItemKind::Number | ItemKind::Text | ItemKind::MeanOf { .. } => 1,
@@ -56,10 +77,15 @@ fn cells_of(kind: ItemKind) -> usize {
 /// Fills a buffer, whatever it holds, with the items of these kinds, which take the values from a place on.
 pub(crate) fn show(
     items: &mut Vec<FieldValue>,
-    state: &mut State,
+    state: &State,
     kinds: &[ItemKind],
     from: usize,
-) -> Result<(), AllocError> {
+) -> Result<(), AllocError>
+    requires can { CanShow state.now.scene state.now.rows from kinds.now }
+    requires small { length state.now.rows.numbers < 2 ^ 32 }
+    ensures shown { OnOk result (AreShown state.now.scene state.now.rows from kinds.now items.new.items) }
+    ensures printable { OnOk result (AllByRecursion IsPrintable items.new.items) }
+{
     items.clear();
     let mut at = from;
     for kind in kinds {

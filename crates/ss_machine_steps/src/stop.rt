@@ -15,7 +15,6 @@ pub enum Stop {
     Output,
     /// The reader failed.
     Input,
-    /// An earlier run stopped for want of memory, or because its reader or writer failed; or what is read does not go on
-    /// from what was read before.
+    /// An earlier run stopped for want of memory, or because its reader or writer failed.
     Failed,
 }

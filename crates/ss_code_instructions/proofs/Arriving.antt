@@ -1,0 +1,63 @@
+-- Whatever input is handed to a machine as it goes on, it finds at each place what the place says.
+use Rattle.std.proofs.Common.{◌≡◌, ℕ, zero, suc, List, sym, subst}
+use Rattle.ss_program.specs.Program.{Program}
+use Rattle.ss_program.specs.WellTyped.{WellTyped}
+use Rattle.ss_meaning.specs.Fitting.{Fits}
+use Rattle.ss_meaning.specs.Laws.{BeginsFit}
+use Rattle.ss_code_instructions.specs.States.{Core}
+use Rattle.ss_code_instructions.specs.Machine.{Code}
+use Rattle.ss_code_instructions.specs.Running.{begin_store, start}
+use Rattle.ss_code_instructions.specs.Translation.{code_of}
+use Rattle.ss_code_instructions.specs.Shape.{FitsCode}
+use Rattle.ss_code_instructions.specs.Laws.{HasShape, ShapeStays}
+use Rattle.ss_code_instructions.specs.Reached.{ReachedIn, ReachedFits, with_input, at_core}
+
+-- a state fits as well with another input
+fits_input : (p : Program) (code : Code) (c : Core) (input : List ℕ) → FitsCode p code c → FitsCode p code (with_input input c)
+fits_input p code c input f =
+    let s = f.fits.store.sound in
+    record {
+      placed = f.placed;
+      fits = record {
+        there = f.fits.there;
+        store = record {
+          sound = record {
+            globals = s.globals;
+            scene = record {
+              setting = s.scene.setting;
+              layout = s.scene.layout;
+              heap = s.scene.heap;
+              pending = s.scene.pending;
+              histories = s.scene.histories;
+            };
+          };
+          locals = f.fits.store.locals;
+        };
+        cells = f.fits.cells;
+        frames = f.fits.frames;
+      };
+    }
+
+module _ (shape : HasShape) (stays : ShapeStays) (begins : BeginsFit) (p : Program) (typed : WellTyped p) where
+  first_fits : (input : List ℕ) → FitsCode p (code_of p) (start (code_of p) input 0).core
+  first_fits input =
+      let at = (shape p typed).first in
+      record {
+        placed = at.placed;
+        fits = record {
+          there = at.there;
+          store = subst (λ ms. Fits p ms (begin_store (code_of p) input)) (sym at.locals) (begins p input);
+          cells = sym at.cells;
+          frames = tt;
+        };
+      }
+
+  in_fits : (n : ℕ) (c : Core) → ReachedIn n (code_of p) c → FitsCode p (code_of p) c
+  in_fits zero c h = subst (FitsCode p (code_of p)) (sym h.1) (first_fits h.0)
+  in_fits (suc n) c h =
+      let f = h.2 in
+      let next = stays p typed (at_core h.0 f.report f.ticks) f.next (in_fits n h.0 h.1) f.steps in
+      subst (FitsCode p (code_of p)) (sym f.is) (fits_input p (code_of p) f.next.core f.input next)
+
+pub reached_fits : HasShape → ShapeStays → BeginsFit → ReachedFits
+reached_fits shape stays begins p typed c h = in_fits shape stays begins p typed h.0 c h.1

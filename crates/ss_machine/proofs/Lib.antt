@@ -1,0 +1,2 @@
+mod Resuming
+mod First

@@ -1,0 +1,129 @@
+use Rattle.std.proofs.Common.{rules, ◌≡◌, ◌+◌, ◌-◌, ◌*◌, ◌≤◌, ◌<◌, ◌^◌, length, min, refl, sym, ap, subst, inr, ◌∙◌, arith}
+use Rattle.std.proofs.lemmas.Option.{none-some, same_Some}
+use Rattle.ss_machine_instructions.specs.declared.state.State.{State}
+use Rattle.ss_machine_instructions.specs.declared.flow.Here.{Here}
+use Rattle.ss_machine_steps.specs.Situations.{situated}
+use Rattle.ss_machine_steps.specs.Counts.{HasSteps}
+use Rattle.ss_machine_steps.specs.Runs.{Ran}
+use Rattle.ss_machine_steps.specs.Start.{Continues}
+use Rattle.ss_machine.specs.Held.{Held, answer_again}
+use Rattle.ss_machine.proofs.First.{kept_none}
+use Rattle.ss_machine.proofs.Resuming.{stands_ticked, situated_ticked, ran_from, read_on, never, used_by}
+use Rattle.ss_machine.proofs.machine.Machine.run.Goals as goal
+
+pub returns-in-Some : goal.returns-in-Some
+returns-in-Some g c =
+    let view = c.self.view_is in
+    let made = c.self.invariant.made in
+    let stop = c.in-Some.stop in
+    let is = sym (ap (λ (v : Held). v.stopped) view) ∙ c.in-Some.is in
+    record {
+      again = λ before q. (subst (λ s. c.again.result ≡ answer_again s) (same_Some stop before (sym is ∙ q)) c.again.ensures, refl, refl, refl);
+      ran = λ none. absurd (none-some stop (sym none ∙ is));
+      code = refl;
+      situated = λ none. absurd (none-some stop (sym none ∙ is));
+      stopped = λ none. absurd (none-some stop (sym none ∙ is));
+      used = (omega arith, omega arith);
+      within = λ none. absurd (none-some stop (sym none ∙ is));
+      paused = λ none. absurd (none-some stop (sym none ∙ is));
+      continues = λ none. absurd (none-some stop (sym none ∙ is));
+      never_failed = λ none. absurd (none-some stop (sym none ∙ is));
+      unmissed = λ none. absurd (none-some stop (sym none ∙ is));
+      steps = omega arith;
+      least = subst (λ (v : Held). v.used ≤ v.steps) view made.least;
+      most = subst (λ (v : Held). v.steps ≤ (3 * v.used + 4) * length v.code.run.instructions) view made.most;
+      output = λ none. absurd (none-some stop (sym none ∙ is));
+      input = λ none. absurd (none-some stop (sym none ∙ is));
+      never_falls = omega arith;
+      read_never_falls = omega arith;
+      end = λ h. h;
+    }
+
+pub run-rest-requires : goal.run-rest-requires
+run-rest-requires g c =
+    let m = c.self.inside in
+    let i = c.self.invariant in
+    let none = c.in_default.is in
+    let last = c.saturating_add-last.result in
+    let small : last < 2 ^ 64 = search rules in
+    let from : m.used ≤ last = search rules in
+    record {
+      situated = situated_ticked m.code (record { place = m.place; frame = m.frame }) m.state (last - m.used) (i.situated none);
+      left = (m.used, omega (arith, small, from), i.left none);
+      unmissed = c.requires (sym (ap (λ (v : Held). v.stopped) c.self.view_is) ∙ none);
+    }
+
+pub invariant_of-self : goal.invariant_of-self
+invariant_of-self g c =
+    let m = c.self.inside in
+    let e = c.run-rest.ensures in
+    let new = c.run-rest.new.state in
+    let none = c.in_default.is in
+    let last = c.saturating_add-last.result in
+    let from : m.used ≤ last = search rules in
+    let stop = c.run-rest.result.stop in
+    let left = c.self.invariant.left none in
+    let used : m.used + ((last - m.used) - new.ticks) ≡ last - new.ticks = omega (arith, from, e.ticks) in
+    record {
+      made = record {
+        least = omega (arith, c.self.invariant.made.least, e.least, e.rising, e.ticks, from);
+        most = subst (λ u. new.steps ≤ (3 * u + 4) * length m.code.run.instructions) used (e.most m.used left);
+      };
+      situated = λ q. e.situated (kept_none stop (sym c.kept-self-inside.ensures ∙ q));
+      left = λ q. subst (λ u. HasSteps m.code (situated c.run-rest.result.here new) u new.steps) used (e.left (kept_none stop (sym c.kept-self-inside.ensures ∙ q)) m.used left);
+    }
+
+pub returns : goal.returns
+returns g c =
+    let rem = g.R.FaultyRead.remaining in
+    let m = c.self.inside in
+    let old = c.args.self.now in
+    let view = c.self.view_is in
+    let e = c.run-rest.ensures in
+    let new = c.run-rest.new.state in
+    let stop = c.run-rest.result.stop in
+    let none = c.in_default.is in
+    let before = g.W.FaultyWrite.contents c.args.sink.now.writer in
+    let after = g.W.FaultyWrite.contents c.run-rest.new.sink.writer in
+    let first = c.args.source.now in
+    let final = c.run-rest.new.source in
+    let last = c.saturating_add-last.result in
+    let from : m.used ≤ last = search rules in
+    let left = c.self.invariant.left none in
+    let from_here : Here = record { place = m.place; frame = m.frame } in
+    let ticked : State = record m.state { ticks = last - m.used } in
+    let start = situated from_here m.state in
+    let rest = situated c.run-rest.result.here new in
+    let used = used_by last m.used new.ticks from e.ticks in
+    let plain : Ran rem stop m.code start rest first final before after ((last - m.used) - new.ticks) (new.steps - m.state.steps) =
+    ran_from rem m.code start (situated from_here ticked) rest first final before after ((last - m.used) - new.ticks) (new.steps - m.state.steps) (λ w core st. stands_ticked w core from_here m.state (last - m.used) st) stop e.ran in
+    let ran : Ran rem stop m.code start rest first final before after ((last - new.ticks) - m.used) (new.steps - m.state.steps) =
+    subst (λ t. Ran rem stop m.code start rest first final before after t (new.steps - m.state.steps)) used plain in
+    let same = ap (λ (v : Held). v.used) view in
+    let all : m.used + ((last - m.used) - new.ticks) ≡ last - new.ticks = omega (arith, from, e.ticks) in
+    record {
+      again = λ stop q. absurd (none-some stop (sym (sym (ap (λ (v : Held). v.stopped) view) ∙ none) ∙ q));
+      ran = λ q. subst (λ (v : Held). Ran rem stop v.code v.at rest first final before after ((last - new.ticks) - v.used) (new.steps - v.steps)) view ran;
+      code = ap (λ (v : Held). v.code) view;
+      situated = λ q. e.situated (kept_none stop (sym c.kept-self-inside.ensures ∙ q));
+      stopped = λ q. c.kept-self-inside.ensures;
+      used = (omega (arith, same, from, e.ticks), omega (arith, same, c.saturating_add-last.ensures));
+      within = λ q. omega (arith, c.saturating_add-last.ensures);
+      paused = λ q p.
+          let gone = e.paused p in
+          let ends : last - new.ticks ≡ last = omega (arith, gone) in
+          ends ∙ c.saturating_add-last.ensures ∙ ap (λ used. min (used + c.args.ticks) (2 ^ 64 - 1)) same;
+      continues = λ q h p. inr (read_on m.code rem c.laws.ensures.steps_go_on start rest first final before after ((last - new.ticks) - m.used) (new.steps - m.state.steps)
+          (subst (λ (v : Held). Continues v.code v.at first) (sym view) h)
+          (subst (λ s. Ran rem s m.code start rest first final before after ((last - new.ticks) - m.used) (new.steps - m.state.steps)) p ran).0);
+      never_failed = λ q p. never rem stop m.code start rest first final before after ((last - new.ticks) - m.used) (new.steps - m.state.steps) ran p;
+      unmissed = λ q. e.unmissed;
+      steps = subst (λ (v : Held). v.steps ≤ new.steps) view e.rising;
+      least = omega (arith, c.self.invariant.made.least, e.least, e.rising, e.ticks, from);
+      most = subst (λ u. new.steps ≤ (3 * u + 4) * length m.code.run.instructions) all (e.most m.used left);
+      output = λ q. e.output;
+      input = λ q. e.input;
+      never_falls = e.never_falls;
+      read_never_falls = e.read_never_falls;
+      end = e.end;
+    }

@@ -1,0 +1,10 @@
+pub mod Situations
+pub mod Sent
+pub mod Runs
+pub mod Steps
+pub mod Reading
+pub mod Writing
+pub mod Shown
+pub mod Beginning
+pub mod Start
+pub mod Counts

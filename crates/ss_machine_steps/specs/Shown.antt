@@ -1,0 +1,93 @@
+-- The items of a PRINT.
+use Rattle.std.specs.Prelude.{◌≡◌, ℕ, ◌+◌, ◌<◌, true, List, [], ◌∷◌, ◌++◌, ◌⊎◌, length, map, ℤ, pos, Option, Some, None}
+use Rattle.std.specs.List.{flat_map}
+use Rattle.std.specs.Io.KnownBytes.{Appends}
+use Rattle.ss_base.specs.declared.value.Value.{Value}
+use Rattle.ss_base.specs.declared.value.Value.TheVariants.{Whole}
+use Rattle.ss_picture.specs.declared.items.FieldValue.{FieldValue}
+use Rattle.ss_picture.specs.declared.items.FieldValue.TheVariants.{Is, Mean}
+use Rattle.ss_picture.specs.Pictures.{picture_fields}
+use Rattle.ss_picture.specs.Suited.{IsMean}
+use Rattle.ss_meaning.specs.Values.{lines_with, take_all}
+use Rattle.ss_meaning.specs.Store.{Store}
+use Rattle.ss_meaning.specs.Fitting.{Hold}
+use Rattle.ss_code_instructions.specs.declared.item.ItemKind.{ItemKind}
+use Rattle.ss_code_instructions.specs.declared.item.ItemKind.TheVariants as shows
+use Rattle.ss_code_instructions.specs.Machine.{values_shown}
+use Rattle.ss_code_instructions.specs.Carried.{RunningLines, item_modes, kind_of_item}
+use Rattle.ss_machine_world.specs.Seen.{Seen, with_seen}
+use Rattle.ss_machine_world.specs.Numbers.{HasSubject, RefersToSubject}
+use Rattle.ss_machine_frames.specs.Rows.{TwoRows}
+use Rattle.ss_machine_frames.specs.Holding.{AllAt}
+
+-- an item that can be printed in a field that takes it
+abbrev pub IsPrintable : FieldValue → Type 0
+IsPrintable (Is v) = Unit {0}
+IsPrintable (Mean sum number) = IsMean sum number
+
+-- the system has the subject of a statistic; or entities have it, each of which its number refers to
+abbrev pub IsOfSystem : Seen → (statistic : ℕ) → Type 0
+IsOfSystem e j = HasSubject e j × RefersToSubject e j None (pos 0)
+
+abbrev pub IsOfNumbers : Seen → (statistic : ℕ) → Type 0
+IsOfNumbers e j = HasSubject e j × ((n : ℤ) → RefersToSubject e j (Some (Whole n)) n)
+
+-- how many cells an item takes
+abbrev pub cells_of : ItemKind → ℕ
+cells_of shows.Number = 1
+cells_of shows.Text = 1
+cells_of (shows.Mean j) = 0
+cells_of (shows.MeanOf j) = 1
+
+-- the item of a kind can be made of what lies at a place
+abbrev pub CanShowOne : Seen → TwoRows → (at : ℕ) → ItemKind → Type 0
+CanShowOne e r at shows.Number = at < length r.numbers
+CanShowOne e r at shows.Text = at < length r.numbers
+CanShowOne e r at (shows.Mean j) = IsOfSystem e j
+CanShowOne e r at (shows.MeanOf j) = (at < length r.numbers) × IsOfNumbers e j
+
+-- and the items of several kinds
+abbrev pub CanShow : Seen → TwoRows → (at : ℕ) → List ItemKind → Type 0
+CanShow e r at [] = Unit {0}
+CanShow e r at (k ∷ ks) = CanShowOne e r at k × CanShow e r (at + cells_of k) ks
+
+-- what the definition shows of the values that lie from a place on, where it shows anything, are these items
+abbrev pub AreShown : Seen → TwoRows → (at : ℕ) → List ItemKind → List FieldValue → Type 0
+AreShown e r at kinds items =
+    (s : Store) (vs : List Value) (given : List FieldValue) → AllAt r at vs → Hold vs (item_modes kinds) →
+    values_shown (map kind_of_item kinds) vs (with_seen s e) ≡ Some given → given ≡ items
+
+-- ## One item after the other
+
+-- the items begin with this one, and the others are shown of what lies after its cells
+pub record ShowsFirst (e : Seen) (r : TwoRows) (after : ℕ) (ks : List ItemKind) (item : FieldValue) (s : Store) (given : List FieldValue) : Type 0 where
+  pub later : List FieldValue
+  pub rest : List Value
+  pub is : given ≡ item ∷ later
+  pub lie : AllAt r after rest
+  pub modes : Hold rest (item_modes ks)
+  pub shown : values_shown (map kind_of_item ks) rest (with_seen s e) ≡ Some later
+
+-- this is the item of a kind, before those of any others
+abbrev pub IsShown : Seen → TwoRows → (at : ℕ) → ItemKind → FieldValue → Type 0
+IsShown e r at k item =
+    (s : Store) (ks : List ItemKind) (vs : List Value) (given : List FieldValue) → AllAt r at vs → Hold vs (item_modes (k ∷ ks)) →
+    values_shown (map kind_of_item (k ∷ ks)) vs (with_seen s e) ≡ Some given → ShowsFirst e r (at + cells_of k) ks item s given
+
+-- ## Lines
+
+-- nothing was sent, or the first bytes of the lines with items that are shown
+pub record SentPart (e : Seen) (r : TwoRows) (at : ℕ) (l : RunningLines) (before after : Option (List ℕ)) : Type 0 where
+  pub part : List ℕ
+  pub took : Appends before after part
+  pub within : (part ≡ []) ⊎ ((items : List FieldValue) × (rest : List ℕ) × AreShown e r at l.items items × (lines_with l.pictures items ≡ part ++ rest))
+
+-- all lines were sent
+pub record SentAll (e : Seen) (r : TwoRows) (at : ℕ) (l : RunningLines) (before after : Option (List ℕ)) : Type 0 where
+  pub items : List FieldValue
+  pub shown : AreShown e r at l.items items
+  pub took : Appends before after (lines_with l.pictures items)
+
+-- the fields of the lines take the items that are shown
+abbrev pub TakeAll : Seen → TwoRows → (at : ℕ) → RunningLines → Type 0
+TakeAll e r at l = (items : List FieldValue) → AreShown e r at l.items items → take_all (flat_map picture_fields l.pictures) items ≡ true
