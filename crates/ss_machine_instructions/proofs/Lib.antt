@@ -7,3 +7,7 @@ pub mod Looping
 pub mod Calling
 pub mod Stepping
 pub mod Asking
+pub mod Programs
+pub mod Settling
+pub mod Filing
+pub mod Sets

@@ -1,3 +1,4 @@
 pub mod Doing
 pub mod Ways
 pub mod Entered
+pub mod Worldly
