@@ -1,8 +1,7 @@
 -- What an instruction does to the world: it changes what is seen, and notes what has changed.
-use Rattle.std.specs.Prelude.{◌≡◌, ℕ, ◌+◌, Bool, true, false, List, length, ℤ, Option, Some, Result, Ok, Err, slice_get}
+use Rattle.std.specs.Prelude.{◌≡◌, ℕ, ◌+◌, Bool, true, false, List, length, ℤ, Option, Some, None, Result, Ok, Err, slice_get}
 use Rattle.ss_base.specs.declared.fault.FaultKind.{FaultKind}
 use Rattle.ss_base.specs.declared.fault.Refused.{Refused}
-use Rattle.ss_base.specs.declared.fault.Refused.TheVariants.{Fault, Memory}
 use Rattle.ss_base.specs.declared.layout.Discipline.{Discipline}
 use Rattle.ss_base.specs.declared.line.Line.{Line}
 use Rattle.ss_base.specs.declared.value.Value.{Value}
@@ -25,6 +24,7 @@ use Rattle.ss_machine_world.specs.Numbers.{RefersTo, count_noted}
 use Rattle.ss_machine_world.specs.Seen.{Seen, IsRight, Changes, number_if, with_seen}
 use Rattle.ss_machine_instructions.specs.declared.flow.Here.{Here}
 use Rattle.ss_machine_instructions.specs.declared.state.State.{State as Machine}
+use Rattle.ss_machine_instructions.specs.Ways.{on_at, refused_by}
 
 -- ## What an operation does
 
@@ -37,20 +37,6 @@ Settled f old new (Err kind) = (s : Store) → IsRight (f (with_seen s old)) →
 abbrev pub Given : (Store → Result (Value × Store) Trouble) → (old new : Seen) → Result ℤ FaultKind → Type 0
 Given f old new (Ok n) = (s : Store) → IsRight (f (with_seen s old)) → f (with_seen s old) ≡ Ok (Whole n, with_seen s new)
 Given f old new (Err kind) = (s : Store) → IsRight (f (with_seen s old)) → f (with_seen s old) ≡ Err (Fails kind)
-
--- it needs memory. It is out of memory only where no fault is due
-abbrev pub HasNoFault : {A : Type 0} → (Store → Result A Trouble) → Seen → Type 0
-HasNoFault f e = (s : Store) (kind : FaultKind) → f (with_seen s e) ≡ Err (Fails kind) → ⊥
-
-abbrev pub SettledWithMemory : (Store → Result Store Trouble) → (old new : Seen) → Result (Unit {0}) Refused → Type 0
-SettledWithMemory f old new (Ok u) = Settled f old new (Ok u)
-SettledWithMemory f old new (Err (Fault kind)) = Settled f old new (Err kind)
-SettledWithMemory f old new (Err Memory) = HasNoFault f old
-
-abbrev pub GivenWithMemory : (Store → Result (Value × Store) Trouble) → (old new : Seen) → Result ℤ Refused → Type 0
-GivenWithMemory f old new (Ok n) = Given f old new (Ok n)
-GivenWithMemory f old new (Err (Fault kind)) = Given f old new (Err kind)
-GivenWithMemory f old new (Err Memory) = HasNoFault f old
 
 -- ## Notes
 
@@ -111,6 +97,16 @@ abbrev pub member_answer : MemberQuery → State → (set : ℕ) → (member : �
 member_answer Predecessor h set n = previous_in h set n
 member_answer Successor h set n = next_in h set n
 member_answer Membership h set n = one_of (owner_of_member h set n)
+
+-- ## Where it leads, where memory may be refused
+
+abbrev pub on_where : Here → Result (Unit {0}) Refused → Option Here
+on_where h (Ok u) = on_at h
+on_where h (Err refused) = None
+
+abbrev pub refused_where : Result (Unit {0}) Refused → Machine → Machine
+refused_where (Ok u) s = s
+refused_where (Err refused) s = refused_by refused s
 
 -- ## What is left of an instruction once an operation of the world is done
 
