@@ -11,3 +11,4 @@ pub mod Programs
 pub mod Settling
 pub mod Filing
 pub mod Sets
+pub mod Scheduling

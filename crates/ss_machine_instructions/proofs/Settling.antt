@@ -99,20 +99,16 @@ module _ (w : Compiled) (c : Core) (here : Here) (s : State) (run : Running) (r 
         line = r.holds.line;
       }
 
-  -- what the definition's operation gives, by what the machine's did
-  done_is : (f : Store → OkOr Store Trouble) (e : Seen) → IsRight (f c.store) → Settled f s.scene e (Ok tt) → f c.store ≡ Ok (with_seen c.store e)
-  done_is f e right d = ap f store_is ∙ d c.store (λ wrong. right (ap f store_is ∙ wrong))
-
   -- ## It goes on
 
-  pub settles_on : (f : Store → OkOr Store Trouble) (e : Seen) (new : State) (result : Option Here) → is_due r.placed.instruction ≡ false → Settles c r.placed.line (act w.code r.placed.line r.placed.instruction c) here s f → Settled f s.scene e (Ok tt) → new ≡ record s { scene = e } → result ≡ on_at here → Comes (is_due r.placed.instruction) w r.placed.line (act w.code r.placed.line r.placed.instruction c) s new result
-  settles_on f e new result calmly z d same on =
+  pub went_on : (f : Store → OkOr Store Trouble) (e : Seen) (new : State) (result : Option Here) → is_due r.placed.instruction ≡ false → Settles c r.placed.line (act w.code r.placed.line r.placed.instruction c) here s f → f (with_seen c.store s.scene) ≡ Ok (with_seen c.store e) → new ≡ record s { scene = e } → result ≡ on_at here → Comes (is_due r.placed.instruction) w r.placed.line (act w.code r.placed.line r.placed.instruction c) s new result
+  went_on f e new result calmly z d same on =
       let m = act w.code r.placed.line r.placed.instruction c in
       let l = r.placed.line in
       let s' : State = record s { scene = e } in
       let there : Here = record { place = here.place + 1; frame = here.frame } in
       let c' = core_at (c.place + 1) z.below c.frames (with_seen c.store e) in
-      let acts : m ≡ To c' = z.acts ∙ ap (λ q. did l q (λ t. onward z.below c t)) (done_is f e z.right d) in
+      let acts : m ≡ To c' = z.acts ∙ ap (λ q. did l q (λ t. onward z.below c t)) (ap f store_is ∙ d) in
       let holds : Holds w c' there s' = record {
         place = ap (λ p. p + 1) r.holds.place;
         held = scene_held e (c.place + 1) z.below z.at;
@@ -139,5 +135,5 @@ module _ (w : Compiled) (c : Core) (here : Here) (s : State) (run : Running) (r 
 
   -- by the answer
   pub settles : (f : Store → OkOr Store Trouble) (e : Seen) (answer : OkOr (Unit {0}) FaultKind) (new : State) (result : Option Here) → is_due r.placed.instruction ≡ false → Settles c r.placed.line (act w.code r.placed.line r.placed.instruction c) here s f → Settled f s.scene e answer → new ≡ faulted_by answer (record s { scene = e }) → result ≡ on_unless here answer → Comes (is_due r.placed.instruction) w r.placed.line (act w.code r.placed.line r.placed.instruction c) s new result
-  settles f e (Ok u) new result calmly z d same way = settles_on f e new result calmly z d same way
+  settles f e (Ok u) new result calmly z d same way = went_on f e new result calmly z (d c.store (λ wrong. z.right (ap f store_is ∙ wrong))) same way
   settles f e (Err kind) new result calmly z d same way = fails_on kind e new result calmly (fails_by f e kind z d) same way
