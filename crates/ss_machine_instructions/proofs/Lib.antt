@@ -12,3 +12,4 @@ pub mod Settling
 pub mod Filing
 pub mod Sets
 pub mod Scheduling
+pub mod Giving
