@@ -13,3 +13,4 @@ pub mod Filing
 pub mod Sets
 pub mod Scheduling
 pub mod Giving
+pub mod Notices
