@@ -14,3 +14,4 @@ pub mod Sets
 pub mod Scheduling
 pub mod Giving
 pub mod Notices
+pub mod Receiving

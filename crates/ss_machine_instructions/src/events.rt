@@ -339,7 +339,51 @@ fn text_of(scene: &Scene, class: usize, field: usize, notice: i64) -> Result<Alp
     scene.population.text(class, field, notice)
 }
 
-// An attribute of a notice, of this mode, goes to its place.
+// An attribute of a notice that is a number goes to its place.
+#[inline(always)]
+fn read_number(
+    scene: &Scene,
+    rows: &mut Rows,
+    what: Giving,
+    field: usize,
+) -> Result<(), FaultKind>
+    requires class { what.class < length scene.now.heap.layout.classes }
+    requires mode { slice_get (modes_of scene.now.heap.layout what.class) field ≡ Some Integer }
+    requires place { what.from + field < length rows.old.numbers }
+    ensures { IsReadTo scene.now.heap what.class field what.notice Integer (what.from + field) rows.old rows.new result }
+{
+    match number_of(scene, what.class, field, what.notice) {
+        Err(kind) => Err(kind),
+        Ok(number) => {
+            rows.set_number_at(what.from + field, number);
+            Ok(())
+        }
+    }
+}
+
+// One that is a text.
+#[inline(always)]
+fn read_text(
+    scene: &Scene,
+    rows: &mut Rows,
+    what: Giving,
+    field: usize,
+) -> Result<(), FaultKind>
+    requires class { what.class < length scene.now.heap.layout.classes }
+    requires mode { slice_get (modes_of scene.now.heap.layout what.class) field ≡ Some Alpha }
+    requires place { what.from + field < length rows.old.numbers }
+    ensures { IsReadTo scene.now.heap what.class field what.notice Alpha (what.from + field) rows.old rows.new result }
+{
+    match text_of(scene, what.class, field, what.notice) {
+        Err(kind) => Err(kind),
+        Ok(text) => {
+            rows.set_text_at(what.from + field, text);
+            Ok(())
+        }
+    }
+}
+
+// One of this mode.
 #[inline(always)]
 fn read_one(
     scene: &Scene,
@@ -354,20 +398,8 @@ fn read_one(
     ensures { IsReadTo scene.now.heap what.class field what.notice mode (what.from + field) rows.old rows.new result }
 {
     match mode {
-        Mode::Integer => match number_of(scene, what.class, field, what.notice) {
-            Err(kind) => Err(kind),
-            Ok(number) => {
-                rows.set_number_at(what.from + field, number);
-                Ok(())
-            }
-        },
-        Mode::Alpha => match text_of(scene, what.class, field, what.notice) {
-            Err(kind) => Err(kind),
-            Ok(text) => {
-                rows.set_text_at(what.from + field, text);
-                Ok(())
-            }
-        },
+        Mode::Integer => read_number(scene, rows, what, field),
+        Mode::Alpha => read_text(scene, rows, what, field),
     }
 }
 
