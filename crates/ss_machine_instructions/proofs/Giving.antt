@@ -185,7 +185,7 @@ module _ (class field : ℕ) (n : ℤ) (v : Value) (notes : Bool) (e : Seen) (g 
 
 -- ## All of them
 
-got_at : {A : Type 0} (xs : List A) (i : ℕ) → i < length xs → (x : A) × (slice_get xs i ≡ Some x)
+pub got_at : {A : Type 0} (xs : List A) (i : ℕ) → i < length xs → (x : A) × (slice_get xs i ≡ Some x)
 got_at [] i lt = absurd (omega (arith, lt))
 got_at (x ∷ xs) zero lt = (x, refl)
 got_at (x ∷ xs) (suc i) lt = got_at xs i (omega (arith, lt))

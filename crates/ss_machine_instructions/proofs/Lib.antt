@@ -15,3 +15,4 @@ pub mod Scheduling
 pub mod Giving
 pub mod Notices
 pub mod Receiving
+pub mod Beginning

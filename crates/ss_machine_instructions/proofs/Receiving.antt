@@ -1,5 +1,6 @@
 -- The attributes of a notice go where the frame of its event begins.
-use Rattle.std.proofs.Common.{◌≡◌, inr, ℕ, zero, suc, ◌+◌, ◌<◌, ◌≤◌, ℤ, List, [], ◌∷◌, ◌++◌, length, map, take, Some, Ok, refl, sym, ap, ◌∙◌, subst, arith}
+use Rattle.std.proofs.Common.{◌≡◌, inl, inr, ℕ, zero, suc, ◌+◌, ◌<◌, ◌≤◌, ℤ, List, [], ◌∷◌, ◌++◌, length, map, take, Some, Ok, refl, sym, ap, ◌∙◌, subst, arith}
+use Rattle.std.proofs.lemmas.List.{take_all}
 use Rattle.std.specs.Prelude.{slice_get}
 use Rattle.ss_base.specs.declared.layout.Mode.{Mode}
 use Rattle.ss_base.specs.declared.value.Value.{Value}
@@ -8,7 +9,7 @@ use Rattle.ss_world.specs.State.{State, value_in}
 use Rattle.ss_machine_frames.specs.Rows.{TwoRows, ValueAt, with_value, Agree}
 use Rattle.ss_machine_frames.specs.Holding.{AllAt}
 use Rattle.ss_machine_frames.proofs.Entering.{value_long, value_texts}
-use Rattle.ss_machine_frames.proofs.Places.{agree_out, agree_on, agree_same, elsewhere_value, value_same, all_agree}
+use Rattle.ss_machine_frames.proofs.Places.{agree_out, agree_within, agree_on, agree_same, elsewhere_value, value_same, all_agree}
 use Rattle.ss_machine_instructions.specs.Beginning.{AreRead, Received}
 
 -- ## One value more
@@ -51,6 +52,7 @@ module _ (h : State) (class : ℕ) (n : ℤ) (modes : List Mode) (from : ℕ) (o
     pub many : length values ≡ i
     pub lie : AllAt now from values
     pub below : Agree old now 0 from
+    pub above : (to : ℕ) → Agree old now (from + i) to
     pub long : length now.numbers ≡ length old.numbers
     pub even : length now.texts ≡ length old.texts
 
@@ -62,6 +64,7 @@ module _ (h : State) (class : ℕ) (n : ℤ) (modes : List Mode) (from : ℕ) (o
     many = refl;
     lie = tt;
     below = agree_same old 0 from;
+    above = λ to. agree_same old (from + 0) to;
     long = refl;
     even = refl;
   }
@@ -86,10 +89,20 @@ module _ (h : State) (class : ℕ) (n : ℤ) (modes : List Mode) (from : ℕ) (o
         many = long_more d.values v ∙ omega (arith, many);
         lie = all_more (with_value now k v) from d.values v (all_agree now (with_value now k v) from d.values (agree_out now (with_value now k v) k from (from + length d.values) ew (inr (omega (arith, many)))) d.lie) (subst (λ j. ValueAt (with_value now k v) j v) at here);
         below = agree_on old now (with_value now k v) 0 from d.below (agree_out now (with_value now k v) k 0 from ew (inr (omega arith)));
+        above = λ to. agree_on old now (with_value now k v) (from + (i + 1)) to (agree_within old now (from + i) to (from + (i + 1)) to (omega arith) (omega arith) (d.above to)) (agree_out now (with_value now k v) k (from + (i + 1)) to ew (inl (omega arith)));
         long = value_long now k v ∙ d.long;
         even = value_texts now k v ∙ d.even;
       } in
       subst (λ (x : TwoRows). Receiving (i + 1) x) (sym same) r
 
-  pub all_received : (i : ℕ) (now : TwoRows) → Receiving i now → take i modes ≡ modes → Received h class n modes from old now
-  all_received i now d all = record { values = d.values; read = d.read; hold = d.hold ∙ all; lie = d.lie; below = d.below; long = d.long; even = d.even }
+  pub all_received : (i : ℕ) (now : TwoRows) → Receiving i now → i ≡ length modes → Received h class n modes from old now
+  all_received i now d all = record {
+    values = d.values;
+    read = d.read;
+    hold = d.hold ∙ take_all i modes (omega (arith, all));
+    lie = d.lie;
+    below = d.below;
+    above = λ to. subst (λ k. Agree old now (from + k) to) all (d.above to);
+    long = d.long;
+    even = d.even;
+  }

@@ -20,7 +20,7 @@ ghost use Rattle.ss_machine_instructions.specs.Doing.{Compiled, OneTick, Can, Do
 ghost use Rattle.ss_machine_instructions.specs.Ways.{faulted};
 ghost use Rattle.ss_machine_instructions.specs.Worldly.{ChangesIf, on_where, refused_where};
 ghost use Rattle.ss_machine_instructions.specs.Giving.{SettledIn, SettledInWithMemory, MadeIn, IsSet, IsRead, Suiting, GivesOne, Gives, number_or, unpended, refiled};
-ghost use Rattle.ss_machine_instructions.specs.Beginning.{IsReadTo, ReceivedIf, LetsGo, IsUnbegun, ComesNext};
+ghost use Rattle.ss_machine_instructions.specs.Beginning.{IsReadTo, ReceivedIf, LetsGo, IsUnbegun, Receives, ComesNext};
 
 use crate::flow::{Ending, Here};
 use crate::state::State;
@@ -414,7 +414,8 @@ fn read_given(
     requires class { what.class < length scene.now.heap.layout.classes }
     requires modes { (i : ℕ) (m : ModeSeen) → slice_get modes.now i ≡ Some m → slice_get (modes_of scene.now.heap.layout what.class) i ≡ Some m }
     requires places { what.from + length modes.now ≤ length rows.old.numbers }
-    ensures { length rows.old.texts ≡ length rows.old.numbers → ReceivedIf scene.now.heap what.class what.notice modes.now what.from rows.old rows.new result }
+    ensures received { length rows.old.texts ≡ length rows.old.numbers → ReceivedIf scene.now.heap what.class what.notice modes.now what.from rows.old rows.new result }
+    ensures long { length rows.new.numbers ≡ length rows.old.numbers }
 {
     for field in 0..modes.len() {
         match read_one(scene, rows, what, field, modes[field]) {
@@ -610,7 +611,15 @@ impl State {
         what: Giving,
         rank: usize,
         modes: &[Mode],
-    ) -> Result<(), FaultKind> {
+    ) -> Result<(), FaultKind>
+        requires rank { rank < length self.old.scene.notices }
+        requires class { what.class < length self.old.scene.heap.layout.classes }
+        requires single { is_single (slice_get self.old.scene.heap.layout.classes what.class) ≡ true }
+        requires saved { (said : Notices) → slice_get self.old.scene.notices rank ≡ Some said → IfSome said.saved (λ k. k < what.from) }
+        requires modes { (i : ℕ) (m : ModeSeen) → slice_get modes.now i ≡ Some m → slice_get (modes_of self.old.scene.heap.layout what.class) i ≡ Some m }
+        requires places { what.from + length modes.now ≤ length self.old.rows.numbers }
+        ensures { (said : Notices) → slice_get self.old.scene.notices rank ≡ Some said → Receives said what.class what.notice modes.now what.from self.old self.new result }
+    {
         match read_given(&self.scene, &mut self.rows, what, modes) {
             Err(kind) => Err(kind),
             Ok(()) => self.let_go(rank, what.class, what.notice),
