@@ -136,7 +136,7 @@ module _ (w : Compiled) (c : Core) (here : Here) (s : State) (cell : ℕ) (r : R
       ap_second a b q = let same : a ≡ b = cc in ap (λ (p : ℤ × ℤ). p.1) same
 
   -- the machine took it out
-  pub next_taken : (t : ℕ) (e : Seen) (x : ℤ) (class : ℕ) → s.ticks ≡ suc t → IsNextNotice s.scene e (Some x) → living e.heap x ≡ Some class → ComesNext w c here (record s { ticks = t; scene = e }) cell x class
+  abbrev pub next_taken : (t : ℕ) (e : Seen) (x : ℤ) (class : ℕ) → s.ticks ≡ suc t → IsNextNotice s.scene e (Some x) → living e.heap x ≡ Some class → ComesNext w c here (record s { ticks = t; scene = e }) cell x class
   next_taken t e x class some d lives =
       let n = next_is c.store comes_next.0 comes_next.1 in
       let first : Some (n.time, n.number) ≡ Some (e.time, x) = sym n.first ∙ ap (λ (y : Scene). next y.pending) r.holds.scene ∙ d.0 in

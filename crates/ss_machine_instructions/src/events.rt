@@ -665,12 +665,12 @@ impl State {
         if !self.has_taken_tick() {
             return self.stop(Ending::Paused);
         }
-        match next_event(&mut self.scene) {
+        let Some(notice) = next_event(&mut self.scene) else {
+            return here.on();
+        };
+        match class_of(&self.scene, notice) {
             None => here.on(),
-            Some(notice) => match class_of(&self.scene, notice) {
-                None => here.on(),
-                Some(class) => self.begin_event(here, notice, class, events, cell),
-            },
+            Some(class) => self.begin_event(here, notice, class, events, cell),
         }
     }
 }
