@@ -19,7 +19,7 @@ use Rattle.ss_machine_instructions.specs.declared.flow.Here.{Here}
 use Rattle.ss_machine_instructions.specs.declared.state.State.{State}
 use Rattle.ss_machine_instructions.specs.Doing.{Compiled, Ready}
 use Rattle.ss_machine_instructions.specs.Beginning.{LetsGo, ComesNext}
-use Rattle.ss_machine_instructions.proofs.Settling.{store_is}
+use Rattle.ss_machine_instructions.proofs.Settling.{store_is, notices_seen}
 
 -- ## Letting a notice go
 
@@ -160,4 +160,9 @@ module _ (w : Compiled) (c : Core) (here : Here) (s : State) (cell : ℕ) (r : R
             ∙ ap (λ z. at_event z c.store) time
             ∙ ap (at_event e.time) (store_is w c here s (TakeEvent cell) r)
             ∙ ap (with_seen c.store) (sym d.1);
+        place =
+            ap (λ es. ranked_from 0 es class) (ap (λ (t : Seen). t.notices) d.1 ∙ sym (notices_seen w c here s (TakeEvent cell) r))
+            ∙ ap (ranked_from 0 c.store.scene.setting.notices) (sym of)
+            ∙ n.place;
+        lives = lives;
       }

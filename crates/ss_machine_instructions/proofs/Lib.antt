@@ -16,3 +16,4 @@ pub mod Giving
 pub mod Notices
 pub mod Receiving
 pub mod Beginning
+pub mod Begun
