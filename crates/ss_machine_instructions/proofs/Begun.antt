@@ -51,7 +51,7 @@ module _ (w : Compiled) (c : Core) (here : Here) (s : State) (cell : â„•) (x : â
       subst (There (ComingAs w.program n.ready.compiled.typed n.ready.placed.locals)) n.next
       (next_event_there w.program n.ready.compiled.typed n.ready.placed.locals c.store (awaited (next c.store.scene.pending) c.store n.coming n.next) n.ready.fits.store)
 
-  pub event : Event
+  abbrev pub event : Event
   event = known.ranked.event
 
   pub good : GoodEvent w.program event
@@ -87,7 +87,7 @@ module _ (w : Compiled) (c : Core) (here : Here) (s : State) (cell : â„•) (x : â
   begun_rank = slice_get_within s.scene.notices n.coming.ranked.rank n.coming.ranked.said begun_said
 
   -- its entry
-  pub entry_point : EntryPoint
+  abbrev pub entry_point : EntryPoint
   entry_point = event_entry (event_entered w.program (length (main_code w.program) + length (all_routines w.program)) (prints_before_events w.program) w.program.events n.coming.ranked.rank event known.ranked.there).0 event
 
   pub begun_entry : HasEntry w.run.depth n.coming.ranked.rank entry_point w.run.events

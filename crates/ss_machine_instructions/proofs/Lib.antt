@@ -17,3 +17,4 @@ pub mod Notices
 pub mod Receiving
 pub mod Beginning
 pub mod Begun
+pub mod Opening
