@@ -18,3 +18,4 @@ pub mod Receiving
 pub mod Beginning
 pub mod Begun
 pub mod Opening
+pub mod Framing
