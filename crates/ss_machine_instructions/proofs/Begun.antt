@@ -90,10 +90,15 @@ module _ (w : Compiled) (c : Core) (here : Here) (s : State) (cell : ℕ) (x : �
   abbrev pub entry_point : EntryPoint
   entry_point = event_entry (event_entered w.program (length (main_code w.program) + length (all_routines w.program)) (prints_before_events w.program) w.program.events n.coming.ranked.rank event known.ranked.there).0 event
 
+  -- which is that of the definition
+  pub code_entry : slice_get w.code.events n.coming.ranked.rank ≡ Some entry_point
+  code_entry =
+      ap (λ (code : Code). slice_get code.events n.coming.ranked.rank) n.ready.compiled.code
+      ∙ (event_entered w.program (length (main_code w.program) + length (all_routines w.program)) (prints_before_events w.program) w.program.events n.coming.ranked.rank event known.ranked.there).1
+
   pub begun_entry : HasEntry w.run.depth n.coming.ranked.rank entry_point w.run.events
   begun_entry =
-      has_entry w.run.depth n.coming.ranked.rank w.code.events w.run.events entry_point n.ready.compiled.run.events
-      (ap (λ (code : Code). slice_get code.events n.coming.ranked.rank) n.ready.compiled.code ∙ (event_entered w.program (length (main_code w.program) + length (all_routines w.program)) (prints_before_events w.program) w.program.events n.coming.ranked.rank event known.ranked.there).1)
+      has_entry w.run.depth n.coming.ranked.rank w.code.events w.run.events entry_point n.ready.compiled.run.events code_entry
 
   pub begun_entry_within : n.coming.ranked.rank < length w.run.events
   begun_entry_within = slice_get_within w.run.events n.coming.ranked.rank begun_entry.run begun_entry.there

@@ -19,3 +19,4 @@ pub mod Beginning
 pub mod Begun
 pub mod Opening
 pub mod Framing
+pub mod Started

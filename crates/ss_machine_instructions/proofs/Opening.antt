@@ -133,7 +133,7 @@ module _ (w : Compiled) (c : Core) (here : Here) (s : State) (cell : ℕ) (x : �
 
   -- with these attributes
   module _ (vs : List Value) (given : attributes_given class 0 (length (event w c here s cell x class n).given) (Whole x) (with_seen c.store s.scene) ≡ Ok vs) where
-    begun_then : event_begun n.coming ≡ turned (λ t. record { rank = n.coming.ranked.rank; given = vs; store = t }) (saved_or_gone n.coming.ranked.said.saved class (Whole x) (with_seen c.store s.scene))
+    pub begun_then : event_begun n.coming ≡ turned (λ t. record { rank = n.coming.ranked.rank; given = vs; store = t }) (saved_or_gone n.coming.ranked.said.saved class (Whole x) (with_seen c.store s.scene))
     begun_then = begun_is ∙ ap (λ q. if_ok q (λ vs. turned (λ t. record { rank = n.coming.ranked.rank; given = vs; store = t }) (saved_or_gone n.coming.ranked.said.saved class (Whole x) (with_seen c.store s.scene)))) given
 
     pub goes_right : IsRight (saved_or_gone n.coming.ranked.said.saved class (Whole x) (with_seen c.store s.scene))
@@ -142,7 +142,7 @@ module _ (w : Compiled) (c : Core) (here : Here) (s : State) (cell : ℕ) (x : �
         (begun_then ∙ ap (turned (λ t. record { rank = n.coming.ranked.rank; given = vs; store = t })) wrong)
 
     -- what TakeEvent does then
-    take_is : act w.code n.ready.placed.line n.ready.placed.instruction c ≡ take_event w.code n.ready.runs.carries.0 n.coming c
+    pub take_is : act w.code n.ready.placed.line n.ready.placed.instruction c ≡ take_event w.code n.ready.runs.carries.0 n.coming c
     take_is = ap (λ i. act w.code n.ready.placed.line i c) n.ready.runs.carries.2 ∙ ap (λ o. fit o (λ n'. take_event w.code n.ready.runs.carries.0 n' c)) n.next
 
     -- a fault as the notice is let go has the line of the routine

@@ -1,0 +1,152 @@
+-- What the machine does as an event begins is what the definition does.
+use Rattle.std.proofs.Common.{◌≡◌, ℕ, suc, ◌+◌, ◌<◌, ◌≤◌, ◌^◌, ℤ, true, List, [], ◌∷◌, ◌++◌, length, map, Option, Some, None, Ok, Err, refl, sym, ap, ◌∙◌, subst, arith, if◌then◌else◌}
+use Rattle.std.proofs.lemmas.Bool.{eq-eqb}
+use Rattle.std.specs.Prelude.{IfSome, is_some, slice_get, Result as OkOr}
+use Rattle.ss_base.specs.declared.fault.FaultKind.{FaultKind}
+use Rattle.ss_base.specs.declared.layout.Mode.{Mode}
+use Rattle.ss_base.specs.declared.value.Value.{Value}
+use Rattle.ss_base.specs.declared.value.Value.TheVariants.{Whole}
+use Rattle.ss_base.specs.Layout.{mode_of, first_value}
+use Rattle.ss_world.specs.State.{State as Heap, modes_of}
+use Rattle.ss_meaning.specs.Store.{first_values}
+use Rattle.ss_meaning.specs.Values.{turned}
+use Rattle.ss_meaning.specs.Events.{Beginning, attributes_given}
+use Rattle.ss_code_instructions.specs.declared.entry.Entry.{Entry}
+use Rattle.ss_code_instructions.specs.declared.instruction.Instruction.TheVariants.{TakeEvent}
+use Rattle.ss_code_instructions.specs.Carried.{IsEntry}
+use Rattle.ss_code_instructions.specs.Shape.{Suits}
+use Rattle.ss_code_instructions.specs.States.{AnEvent, Core, To, Stuck, did, fit, at_height}
+use Rattle.ss_code_instructions.specs.Machine.{Code, act, enter}
+use Rattle.ss_machine_frames.specs.Rows.{TwoRows, with_value, with_number, cleared}
+use Rattle.ss_machine_frames.specs.Holding.{Held}
+use Rattle.ss_machine_frames.proofs.Entering.{value_long, value_texts, opened_is}
+use Rattle.ss_machine_frames.proofs.Lists.{set_length}
+use Rattle.ss_machine_frames.proofs.Reading.{hold_length}
+use Rattle.ss_machine_world.specs.Seen.{Seen, with_seen}
+use Rattle.ss_machine_instructions.specs.declared.flow.Here.{Here}
+use Rattle.ss_machine_instructions.specs.declared.state.State.{State}
+use Rattle.ss_machine_instructions.specs.Doing.{Compiled, Holds, OneTick}
+use Rattle.ss_machine_instructions.specs.Entered.{Enters}
+use Rattle.ss_machine_instructions.specs.Beginning.{AreRead, LetsGo, ComesNext, Received}
+use Rattle.ss_machine_instructions.proofs.Begun.{event, entry_point, code_entry, begun_entry, begun_modes}
+use Rattle.ss_machine_instructions.proofs.Filing.{one}
+use Rattle.ss_machine_instructions.proofs.Giving.{got_at}
+use Rattle.ss_machine_instructions.proofs.Opening.{left_store, GoesAs, IsSaving, read_is, goes_as, goes_right, begun_then, take_is}
+use Rattle.ss_machine_instructions.proofs.Framing.{begun_core, held_gone, held_saved}
+use Rattle.ss_machine_instructions.proofs.Placing.{suits}
+
+cleared_even : (r : TwoRows) (i : ℕ) (ms : List Mode) → length r.texts ≡ length r.numbers → length (cleared r i ms).texts ≡ length (cleared r i ms).numbers
+cleared_even r i [] e = e
+cleared_even r i (m ∷ ms) e = cleared_even (with_value r i (first_value m)) (i + 1) ms (value_texts r i (first_value m) ∙ e ∙ sym (value_long r i (first_value m)))
+
+module _ (w : Compiled) (c : Core) (here : Here) (s : State) (cell : ℕ) (x : ℤ) (class : ℕ) (n : ComesNext w c here s cell x class) (run : Entry) (at_run : slice_get w.run.events n.coming.ranked.rank ≡ Some run) where
+  -- the entry that is run is that of the event
+  pub entry_is : IsEntry w.run.depth (entry_point w c here s cell x class n) run
+  entry_is = subst (λ r. IsEntry w.run.depth (entry_point w c here s cell x class n) r) (one (sym (begun_entry w c here s cell x class n).there ∙ at_run)) (begun_entry w c here s cell x class n).is
+
+  pub high : length c.cells ≡ n.ready.runs.carries.0
+  high =
+      let y = subst (λ i. Suits w.program w.code c.place n.ready.placed.locals n.ready.placed.cells i) n.ready.runs.carries.2 (suits w c here n.before (TakeEvent cell) n.ready) in
+      hold_length c.cells n.ready.placed.cells n.ready.fits.cells ∙ y.0
+
+  -- the modes are there
+  modes_there : (vs : List Value) → length vs ≡ length (event w c here s cell x class n).given → (i : ℕ) → i < length vs → is_some (slice_get (modes_of s.scene.heap.layout class) (0 + i)) ≡ true
+  modes_there vs long i lt =
+      let m = got_at (event w c here s cell x class n).given i (omega (arith, lt, long)) in
+      let none_on : i ≡ 0 + i = omega arith in
+      subst (λ j. is_some (slice_get (modes_of s.scene.heap.layout class) j) ≡ true) none_on (ap is_some (begun_modes w c here s cell x class n i m.0 m.1))
+
+  -- the definition reads the attributes that were read
+  pub given_is : (vs : List Value) → length vs ≡ length (event w c here s cell x class n).given → AreRead s.scene.heap class 0 x vs → attributes_given class 0 (length (event w c here s cell x class n).given) (Whole x) (with_seen c.store s.scene) ≡ Ok vs
+  given_is vs long read = ap (λ k. attributes_given class 0 k (Whole x) (with_seen c.store s.scene)) (sym long) ∙ read_is s.scene class 0 x vs c.store (modes_there vs long) read
+
+  module _ (s1 : State) (frame : ℕ) (enters : Enters here s s1 run cell frame) where
+    pub even_then : length s1.rows.texts ≡ length s1.rows.numbers
+    even_then = subst (λ (t : State). length t.rows.texts ≡ length t.rows.numbers) (sym enters.is) (cleared_even enters.grown (frame + length run.given.items) run.others.items enters.even)
+
+    module _ (rows : TwoRows) (h : Received s1.scene.heap class x run.given.items frame s1.rows rows) where
+      values_long : length h.values ≡ length (event w c here s cell x class n).given
+      values_long = hold_length h.values run.given.items h.hold ∙ ap length entry_is.given
+
+      pub given_then : attributes_given class 0 (length (event w c here s cell x class n).given) (Whole x) (with_seen c.store s.scene) ≡ Ok h.values
+      given_then = given_is h.values values_long (subst (λ (t : State). AreRead t.scene.heap class 0 x h.values) enters.is h.read)
+
+      -- it begins in the definition
+      acts : (seen : Seen) → GoesAs w c here s cell x class n n.coming.ranked.said.saved seen (Ok tt) → act w.code n.ready.placed.line n.ready.placed.instruction c ≡ enter (entry_point w c here s cell x class n) (AnEvent n.coming.ranked.rank) h.values c.cells c (left_store w c here s cell x class n n.coming.ranked.said.saved seen)
+      acts seen goes =
+          let e = entry_point w c here s cell x class n in
+          let t = left_store w c here s cell x class n n.coming.ranked.said.saved seen in
+          take_is w c here s cell x class n h.values given_then
+          ∙ ap (λ q. did n.coming.ranked.said.line q (λ b. fit (slice_get w.code.events b.rank) (λ e. at_height n.ready.runs.carries.0 c.cells (enter e (AnEvent b.rank) b.given c.cells c b.store)))) (begun_then w c here s cell x class n h.values given_then ∙ ap (turned (λ t. let b : Beginning = record { rank = n.coming.ranked.rank; given = h.values; store = t } in b)) goes)
+          ∙ ap (λ o. fit o (λ e. at_height n.ready.runs.carries.0 c.cells (enter e (AnEvent n.coming.ranked.rank) h.values c.cells c t))) (code_entry w c here s cell x class n)
+          ∙ ap (λ b. if b then enter e (AnEvent n.coming.ranked.rank) h.values c.cells c t else Stuck) (eq-eqb (length c.cells) n.ready.runs.carries.0 high)
+
+      -- the machine goes on where its routine begins
+      fault_line_none : s1.fault_line ≡ None
+      fault_line_none = ap (λ (t : State). t.fault_line) enters.is ∙ ap (λ (t : State). t.fault_line) n.is ∙ n.ready.holds.line
+
+      steps_same : s1.steps ≡ n.before.steps
+      steps_same = ap (λ (t : State). t.steps) enters.is ∙ ap (λ (t : State). t.steps) n.is
+
+      hold_given : map mode_of h.values ≡ (entry_point w c here s cell x class n).given
+      hold_given = h.hold ∙ entry_is.given
+
+      pub begins_gone : (seen : Seen) → n.coming.ranked.said.saved ≡ None → GoesAs w c here s cell x class n n.coming.ranked.said.saved seen (Ok tt) → OneTick s.ticks w n.ready.placed.line (act w.code n.ready.placed.line n.ready.placed.instruction c) n.before (record s1 { rows = rows; scene = seen }) (Some (record { place = run.place; frame = frame }))
+      begins_gone seen none goes =
+          let e = entry_point w c here s cell x class n in
+          let c' = begun_core w c here s cell x class n e run entry_is s1 frame enters high n.coming.ranked.rank h.values (with_seen c.store seen) in
+          record {
+            leads = (
+              c',
+              acts seen goes
+              ∙ ap (λ o. enter e (AnEvent n.coming.ranked.rank) h.values c.cells c (left_store w c here s cell x class n o seen)) none
+              ∙ ap (λ o. fit o (λ vs. To (begun_from vs seen))) (opened_is e.given e.others h.values hold_given),
+              record {
+                place = entry_is.place;
+                held = held_gone w c here s cell x class n e run entry_is s1 frame enters high n.coming.ranked.rank rows h seen;
+                scene = refl;
+                even = h.even ∙ even_then ∙ sym h.long;
+                line = fault_line_none;
+              },
+            );
+            ticks = ap (λ (t : State). t.ticks) enters.is;
+            steps = steps_same;
+          }
+        where
+          abbrev begun_from : List Value → Seen → Core
+          begun_from vs seen = record {
+            place = (entry_point w c here s cell x class n).place;
+            cells = [];
+            frames = record { back = c.place + 1; cells = c.cells; locals = c.store.locals; first = length (entry_point w c here s cell x class n).given; count = (entry_point w c here s cell x class n).yielding; called = AnEvent n.coming.ranked.rank } ∷ c.frames;
+            store = record (with_seen c.store seen) { locals = vs };
+          }
+
+      pub begins_saved : (k : ℕ) (seen : Seen) → n.coming.ranked.said.saved ≡ Some k → k < length c.store.globals → k < frame → GoesAs w c here s cell x class n n.coming.ranked.said.saved seen (Ok tt) → OneTick s.ticks w n.ready.placed.line (act w.code n.ready.placed.line n.ready.placed.instruction c) n.before (record s1 { rows = with_number rows k x; scene = seen }) (Some (record { place = run.place; frame = frame }))
+      begins_saved k seen some lt low goes =
+          let e = entry_point w c here s cell x class n in
+          let c' = begun_core w c here s cell x class n e run entry_is s1 frame enters high n.coming.ranked.rank h.values (left_store w c here s cell x class n (Some k) seen) in
+          record {
+            leads = (
+              c',
+              acts seen goes
+              ∙ ap (λ o. enter e (AnEvent n.coming.ranked.rank) h.values c.cells c (left_store w c here s cell x class n o seen)) some
+              ∙ ap (λ o. fit o (λ vs. To (begun_from vs))) (opened_is e.given e.others h.values hold_given),
+              record {
+                place = entry_is.place;
+                held = held_saved w c here s cell x class n e run entry_is s1 frame enters high n.coming.ranked.rank rows h seen k lt low;
+                scene = refl;
+                even = h.even ∙ even_then ∙ sym h.long ∙ sym (set_length rows.numbers k x);
+                line = fault_line_none;
+              },
+            );
+            ticks = ap (λ (t : State). t.ticks) enters.is;
+            steps = steps_same;
+          }
+        where
+          abbrev begun_from : List Value → Core
+          begun_from vs = record {
+            place = (entry_point w c here s cell x class n).place;
+            cells = [];
+            frames = record { back = c.place + 1; cells = c.cells; locals = c.store.locals; first = length (entry_point w c here s cell x class n).given; count = (entry_point w c here s cell x class n).yielding; called = AnEvent n.coming.ranked.rank } ∷ c.frames;
+            store = record (left_store w c here s cell x class n (Some k) seen) { locals = vs };
+          }
