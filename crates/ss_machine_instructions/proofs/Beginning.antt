@@ -28,6 +28,10 @@ pub lets_go_ticks : (saved : Option ℕ) (class : ℕ) (n : ℤ) (old new : Stat
 lets_go_ticks (Some k) class n old new r d = ap (λ (s : State). s.ticks) d.1
 lets_go_ticks None class n old new r d = ap (λ (s : State). s.ticks) d.1
 
+pub lets_go_steps : (saved : Option ℕ) (class : ℕ) (n : ℤ) (old new : State) (r : OkOr (Unit {0}) FaultKind) → LetsGo saved class n old new r → new.steps ≡ old.steps
+lets_go_steps (Some k) class n old new r d = ap (λ (s : State). s.steps) d.1
+lets_go_steps None class n old new r d = ap (λ (s : State). s.steps) d.1
+
 -- after a fault the world is as it was
 pub lets_go_not : (saved : Option ℕ) (class : ℕ) (n : ℤ) (old new : State) (kind : FaultKind) → LetsGo saved class n old new (Err kind) → new.scene ≡ old.scene
 lets_go_not (Some k) class n old new kind d = d.0.1

@@ -5,8 +5,10 @@ use Rattle.std.specs.Prelude.{IfSome, is_some, slice_get}
 use Rattle.ss_base.specs.declared.layout.ClassKind.TheVariants.{Notice}
 use Rattle.ss_base.specs.declared.layout.Mode.{Mode}
 use Rattle.ss_base.specs.declared.layout.Mode.TheVariants.{Integer}
+use Rattle.ss_base.specs.declared.value.Value.{Value}
+use Rattle.ss_base.specs.Layout.{mode_of}
 use Rattle.ss_world.specs.PendingList.{next}
-use Rattle.ss_world.specs.State.{modes_of}
+use Rattle.ss_world.specs.State.{kind_in, kind_of, modes_of}
 use Rattle.ss_program.specs.Program.{Event, Program}
 use Rattle.ss_program.specs.WellTyped.{kind_of_class, field_mode, GoodEvent, IsPlain}
 use Rattle.ss_program.specs.declared.expression.Variable.TheVariants.{Global}
@@ -26,7 +28,7 @@ use Rattle.ss_code_instructions.specs.Machine.{Code}
 use Rattle.ss_code_instructions.specs.Translation.{main_code, all_routines, prints_before_events, event_entry, event_entries, event_code, block_prints}
 use Rattle.ss_machine_events.proofs.Filing.{said_there}
 use Rattle.ss_machine_world.specs.Seen.{with_seen}
-use Rattle.ss_machine_frames.proofs.Reading.{above_constants, hold_length}
+use Rattle.ss_machine_frames.proofs.Reading.{above_constants, hold_length, found_in}
 use Rattle.ss_machine_instructions.specs.declared.flow.Here.{Here}
 use Rattle.ss_machine_instructions.specs.declared.state.State.{State}
 use Rattle.ss_machine_instructions.specs.Doing.{Compiled}
@@ -123,3 +125,17 @@ module _ (w : Compiled) (c : Core) (here : Here) (s : State) (cell : ℕ) (x : �
       by (Some k) h =
           let lt = slice_get_within w.program.globals k Integer h.0 in
           omega (arith, lt, globals_long, above_constants (site w c here n.before (TakeEvent cell) n.ready) (stands w c here n.before (TakeEvent cell) n.ready))
+
+  -- it holds a number
+  pub begun_saving : IfSome n.coming.ranked.said.saved (λ k. (old : Value) × (slice_get c.store.globals k ≡ Some old) × (mode_of old ≡ Integer))
+  begun_saving = subst (λ o. IfSome o (λ k. (old : Value) × (slice_get c.store.globals k ≡ Some old) × (mode_of old ≡ Integer))) (sym (ap (λ (m : Notices). m.saved) said_is)) (by event.saved good.saved)
+    where
+      by : (o : Option ℕ) → IfSome o (λ k. (slice_get w.program.globals k ≡ Some Integer) × IsPlain w.program (Global k)) → IfSome o (λ k. (old : Value) × (slice_get c.store.globals k ≡ Some old) × (mode_of old ≡ Integer))
+      by None h = h
+      by (Some k) h = let f = found_in c.store.globals k Integer (ap (λ ms. slice_get ms k) n.ready.fits.store.sound.globals ∙ h.0) in (f.value, f.there, f.mode)
+
+  -- the class is one of notices
+  pub begun_kind : kind_of s.scene.heap.layout class ≡ Notice
+  begun_kind =
+      let d = class_said w.program class Notice kind in
+      ap (λ l. kind_in (slice_get l.classes class)) fits_now.sound.scene.layout ∙ ap kind_in d.1 ∙ d.2

@@ -15,7 +15,7 @@ use Rattle.ss_code_instructions.specs.declared.entry.Entry.{Entry}
 use Rattle.ss_code_instructions.specs.declared.instruction.Instruction.TheVariants.{TakeEvent}
 use Rattle.ss_code_instructions.specs.Carried.{IsEntry}
 use Rattle.ss_code_instructions.specs.Shape.{Suits}
-use Rattle.ss_code_instructions.specs.States.{AnEvent, Core, To, Stuck, did, fit, at_height}
+use Rattle.ss_code_instructions.specs.States.{AnEvent, Core, To, Rest, Breaks, Stuck, did, fit, at_height}
 use Rattle.ss_code_instructions.specs.Machine.{Code, act, enter}
 use Rattle.ss_machine_frames.specs.Rows.{TwoRows, with_value, with_number, cleared}
 use Rattle.ss_machine_frames.specs.Holding.{Held}
@@ -23,17 +23,21 @@ use Rattle.ss_machine_frames.proofs.Entering.{value_long, value_texts, opened_is
 use Rattle.ss_machine_frames.proofs.Lists.{set_length}
 use Rattle.ss_machine_frames.proofs.Reading.{hold_length}
 use Rattle.ss_machine_world.specs.Seen.{Seen, with_seen}
+use Rattle.ss_machine_instructions.specs.declared.flow.Ending.TheVariants.{NoMemory}
 use Rattle.ss_machine_instructions.specs.declared.flow.Here.{Here}
 use Rattle.ss_machine_instructions.specs.declared.state.State.{State}
-use Rattle.ss_machine_instructions.specs.Doing.{Compiled, Holds, OneTick}
-use Rattle.ss_machine_instructions.specs.Entered.{Enters}
-use Rattle.ss_machine_instructions.specs.Beginning.{AreRead, LetsGo, ComesNext, Received}
-use Rattle.ss_machine_instructions.proofs.Begun.{event, entry_point, code_entry, begun_entry, begun_modes}
+use Rattle.ss_machine_instructions.specs.Doing.{Compiled, OneTick}
+use Rattle.ss_machine_instructions.specs.Ways.{faulted}
+use Rattle.ss_machine_instructions.specs.Entered.{Enters, IsRefused}
+use Rattle.ss_machine_instructions.specs.Beginning.{AreRead, LetsGo, ThenLetsGo, Receives, ReceivedIf, Unbegun, IsUnbegun, ComesNext, Received}
+use Rattle.ss_machine_instructions.proofs.Begun.{event, entry_point, code_entry, begun_entry, begun_modes, begun_kind, begun_saved, begun_saving}
 use Rattle.ss_machine_instructions.proofs.Filing.{one}
 use Rattle.ss_machine_instructions.proofs.Giving.{got_at}
-use Rattle.ss_machine_instructions.proofs.Opening.{left_store, GoesAs, IsSaving, read_is, goes_as, goes_right, begun_then, take_is}
+use Rattle.ss_machine_instructions.proofs.Opening.{all_lives, begins_not, left_store, GoesAs, IsSaving, read_is, goes_as, goes_right, begun_then, take_is}
 use Rattle.ss_machine_instructions.proofs.Framing.{begun_core, held_gone, held_saved}
 use Rattle.ss_machine_instructions.proofs.Placing.{suits}
+use Rattle.ss_machine_instructions.proofs.Beginning.{lets_go_ticks, lets_go_steps}
+use Rattle.std.proofs.lemmas.Option.{slice_get_within}
 
 cleared_even : (r : TwoRows) (i : ℕ) (ms : List Mode) → length r.texts ≡ length r.numbers → length (cleared r i ms).texts ≡ length (cleared r i ms).numbers
 cleared_even r i [] e = e
@@ -150,3 +154,70 @@ module _ (w : Compiled) (c : Core) (here : Here) (s : State) (cell : ℕ) (x : �
             frames = record { back = c.place + 1; cells = c.cells; locals = c.store.locals; first = length (entry_point w c here s cell x class n).given; count = (entry_point w c here s cell x class n).yielding; called = AnEvent n.coming.ranked.rank } ∷ c.frames;
             store = record (left_store w c here s cell x class n (Some k) seen) { locals = vs };
           }
+
+  -- ## Where it does not begin
+
+  pub fails_as : (kind : FaultKind) (mid new : State) (result : Option Here) → act w.code n.ready.placed.line n.ready.placed.instruction c ≡ Rest (Breaks kind n.coming.ranked.said.line) → mid.ticks ≡ s.ticks → mid.steps ≡ n.before.steps → new ≡ faulted kind (record mid { fault_line = Some n.coming.ranked.said.line }) → result ≡ None → OneTick s.ticks w n.ready.placed.line (act w.code n.ready.placed.line n.ready.placed.instruction c) n.before new result
+  fails_as kind mid new result acts ticks steps same none =
+      let m = act w.code n.ready.placed.line n.ready.placed.instruction c in
+      let s' : State = faulted kind (record mid { fault_line = Some n.coming.ranked.said.line }) in
+      let plain : OneTick s.ticks w n.ready.placed.line m n.before s' None = record { leads = acts; ticks = ticks; steps = steps } in
+      subst (λ o. OneTick s.ticks w n.ready.placed.line m n.before new o) (sym none) (subst (λ (u : State). OneTick s.ticks w n.ready.placed.line m n.before u None) (sym same) plain)
+
+  pub refused_as : (mid new : State) (result : Option Here) → mid.ticks ≡ s.ticks → mid.steps ≡ n.before.steps → new ≡ record mid { ticks = mid.ticks + 1; ending = NoMemory } → result ≡ None → OneTick s.ticks w n.ready.placed.line (act w.code n.ready.placed.line n.ready.placed.instruction c) n.before new result
+  refused_as mid new result ticks steps same none =
+      let m = act w.code n.ready.placed.line n.ready.placed.instruction c in
+      let s' : State = record mid { ticks = mid.ticks + 1; ending = NoMemory } in
+      let plain : OneTick s.ticks w n.ready.placed.line m n.before s' None = record { leads = tt; ticks = omega (arith, ticks); steps = steps } in
+      subst (λ o. OneTick s.ticks w n.ready.placed.line m n.before new o) (sym none) (subst (λ (u : State). OneTick s.ticks w n.ready.placed.line m n.before u None) (sym same) plain)
+
+  -- some attributes are there, read or not
+  pub some_given : (vs : List Value) × (attributes_given class 0 (length (event w c here s cell x class n).given) (Whole x) (with_seen c.store s.scene) ≡ Ok vs)
+  some_given =
+      let all = all_lives s.scene.heap class 0 (length (event w c here s cell x class n).given) x n.lives (begun_kind w c here s cell x class n) in
+      (all.0, given_is all.0 all.1 all.2)
+
+  -- there is no memory for the frame: a fault where one is due
+  pub unbegun_as : (s1 new : State) (result : Option Here) → IsRefused s s1 → IsUnbegun n.coming.ranked.said class x s1 new → result ≡ None → OneTick s.ticks w n.ready.placed.line (act w.code n.ready.placed.line n.ready.placed.instruction c) n.before new result
+  unbegun_as s1 new result refused u none = by u.answer u.lets_go u.is
+    where
+      steps_now : s.steps ≡ n.before.steps
+      steps_now = ap (λ (t : State). t.steps) n.is
+
+      by : (q : OkOr (Unit {0}) FaultKind) → LetsGo n.coming.ranked.said.saved class x s1 u.mid q → Unbegun n.coming.ranked.said.line u.mid new q → OneTick s.ticks w n.ready.placed.line (act w.code n.ready.placed.line n.ready.placed.instruction c) n.before new result
+      by (Ok t) d is = refused_as u.mid new result (lets_go_ticks n.coming.ranked.said.saved class x s1 u.mid (Ok t) d ∙ refused.ticks) (lets_go_steps n.coming.ranked.said.saved class x s1 u.mid (Ok t) d ∙ refused.steps ∙ steps_now) is none
+      by (Err kind) d is =
+          let goes = goes_as w c here s cell x class n n.coming.ranked.said.saved s1 u.mid (Err kind) refused.scene (begun_saving w c here s cell x class n) (goes_right w c here s cell x class n some_given.0 some_given.1) d in
+          fails_as kind u.mid new result (begins_not w c here s cell x class n some_given.0 some_given.1 u.mid.scene kind goes) (lets_go_ticks n.coming.ranked.said.saved class x s1 u.mid (Err kind) d ∙ refused.ticks) (lets_go_steps n.coming.ranked.said.saved class x s1 u.mid (Err kind) d ∙ refused.steps ∙ steps_now) is none
+
+  -- ## Where the frame is there
+
+  module _ (s1 : State) (frame : ℕ) (enters : Enters here s s1 run cell frame) (mid : State) (v : Receives n.coming.ranked.said class x run.given.items frame s1 mid (Ok tt)) where
+    -- the attributes were read
+    pub was_read : (u : Unit {0}) × (v.read ≡ Ok u)
+    was_read = by v.read v.lets_go
+      where
+        by : (q : OkOr (Unit {0}) FaultKind) → ThenLetsGo n.coming.ranked.said class x (record s1 { rows = v.rows }) mid q (Ok tt) → (u : Unit {0}) × (q ≡ Ok u)
+        by (Ok u) d = (u, refl)
+        by (Err kind) d = let wrong : Ok tt ≡ Err kind = d.0 in absurd cc
+
+    pub received : Received s1.scene.heap class x run.given.items frame s1.rows v.rows
+    received = subst (λ q. ReceivedIf s1.scene.heap class x run.given.items frame s1.rows v.rows q) was_read.1 (v.read_is (even_then s1 frame enters))
+
+    pub let_go : LetsGo n.coming.ranked.said.saved class x (record s1 { rows = v.rows }) mid (Ok tt)
+    let_go = subst (λ q. ThenLetsGo n.coming.ranked.said class x (record s1 { rows = v.rows }) mid q (Ok tt)) was_read.1 v.lets_go
+
+    scene_same : s1.scene ≡ s.scene
+    scene_same = ap (λ (t : State). t.scene) enters.is
+
+    goes_now : GoesAs w c here s cell x class n n.coming.ranked.said.saved mid.scene (Ok tt)
+    goes_now = goes_as w c here s cell x class n n.coming.ranked.said.saved (record s1 { rows = v.rows }) mid (Ok tt) scene_same (begun_saving w c here s cell x class n) (goes_right w c here s cell x class n received.values (given_then s1 frame enters v.rows received)) let_go
+
+    pub begins : (result : Option Here) → result ≡ Some (record { place = run.place; frame = frame }) → here.frame ≤ frame → OneTick s.ticks w n.ready.placed.line (act w.code n.ready.placed.line n.ready.placed.instruction c) n.before mid result
+    begins result way above =
+        subst (λ o. OneTick s.ticks w n.ready.placed.line (act w.code n.ready.placed.line n.ready.placed.instruction c) n.before mid o) (sym way)
+        (by n.coming.ranked.said.saved refl let_go (begun_saved w c here s cell x class n) (begun_saving w c here s cell x class n))
+      where
+        by : (o : Option ℕ) → n.coming.ranked.said.saved ≡ o → LetsGo o class x (record s1 { rows = v.rows }) mid (Ok tt) → IfSome o (λ k. k < here.frame) → IsSaving w c here s cell x class n o → OneTick s.ticks w n.ready.placed.line (act w.code n.ready.placed.line n.ready.placed.instruction c) n.before mid (Some (record { place = run.place; frame = frame }))
+        by None q d low saving = subst (λ (t : State). OneTick s.ticks w n.ready.placed.line (act w.code n.ready.placed.line n.ready.placed.instruction c) n.before t (Some (record { place = run.place; frame = frame }))) (sym d.1) (begins_gone s1 frame enters v.rows received mid.scene q goes_now)
+        by (Some k) q d low saving = subst (λ (t : State). OneTick s.ticks w n.ready.placed.line (act w.code n.ready.placed.line n.ready.placed.instruction c) n.before t (Some (record { place = run.place; frame = frame }))) (sym d.1) (begins_saved s1 frame enters v.rows received k mid.scene q (slice_get_within c.store.globals k saving.0 saving.1) (omega (arith, low, above)) goes_now)
