@@ -9,6 +9,7 @@ use Rattle.ss_world.specs.State.{Record, State as Heap, and_then, issued_record,
 use Rattle.ss_meaning.specs.Events.{Ranked, ranked_from, ranked, Coming, at_event, ranked_as, coming_as, coming_with, next_event}
 use Rattle.ss_meaning.specs.Fitting.{class_of_record, living}
 use Rattle.ss_meaning.specs.Store.{Notices, Scene, Store}
+use Rattle.ss_base.specs.declared.layout.Mode.{Mode}
 use Rattle.ss_base.specs.declared.value.Value.TheVariants.{Whole}
 use Rattle.ss_code_instructions.specs.declared.instruction.Instruction.TheVariants.{TakeEvent}
 use Rattle.ss_code_instructions.specs.States.{Core, fit}
@@ -18,7 +19,7 @@ use Rattle.ss_machine_world.specs.Seen.{Seen, with_seen}
 use Rattle.ss_machine_instructions.specs.declared.flow.Here.{Here}
 use Rattle.ss_machine_instructions.specs.declared.state.State.{State}
 use Rattle.ss_machine_instructions.specs.Doing.{Compiled, Ready}
-use Rattle.ss_machine_instructions.specs.Beginning.{LetsGo, ComesNext}
+use Rattle.ss_machine_instructions.specs.Beginning.{LetsGo, ThenLetsGo, Receives, ComesNext}
 use Rattle.ss_machine_instructions.proofs.Settling.{store_is, notices_seen}
 
 -- ## Letting a notice go
@@ -36,6 +37,13 @@ lets_go_steps None class n old new r d = ap (λ (s : State). s.steps) d.1
 pub lets_go_not : (saved : Option ℕ) (class : ℕ) (n : ℤ) (old new : State) (kind : FaultKind) → LetsGo saved class n old new (Err kind) → new.scene ≡ old.scene
 lets_go_not (Some k) class n old new kind d = d.0.1
 lets_go_not None class n old new kind d = d.0.1
+
+pub receives_not : (said : Notices) (class : ℕ) (n : ℤ) (modes : List Mode) (from : ℕ) (old new : State) (kind : FaultKind) → Receives said class n modes from old new (Err kind) → new.scene ≡ old.scene
+receives_not said class n modes from old new kind v = by v.read v.lets_go
+  where
+    by : (q : OkOr (Unit {0}) FaultKind) → ThenLetsGo said class n (record old { rows = v.rows }) new q (Err kind) → new.scene ≡ old.scene
+    by (Ok u) d = lets_go_not said.saved class n (record old { rows = v.rows }) new kind d
+    by (Err k) d = ap (λ (s : State). s.scene) d.1
 
 -- a variable that lies below a place lies within the rows that reach as far
 pub saved_within : (saved : Option ℕ) (from long : ℕ) → from ≤ long → IfSome saved (λ k. k < from) → IfSome saved (λ k. k < long)

@@ -1,5 +1,5 @@
 -- What is known where an event begins: its rank, its entry, and its notice.
-use Rattle.std.proofs.Common.{◌≡◌, ℕ, zero, suc, ◌+◌, ◌<◌, ℤ, true, List, [], ◌∷◌, length, Option, Some, None, refl, sym, ap, ◌∙◌, subst, arith}
+use Rattle.std.proofs.Common.{◌≡◌, ℕ, zero, suc, ◌+◌, ◌<◌, ◌≤◌, ◌^◌, ℤ, true, List, [], ◌∷◌, length, Option, Some, None, refl, sym, ap, ◌∙◌, subst, arith}
 use Rattle.std.proofs.lemmas.Option.{slice_get_within}
 use Rattle.std.specs.Prelude.{IfSome, is_some, slice_get}
 use Rattle.ss_base.specs.declared.layout.ClassKind.TheVariants.{Notice}
@@ -139,3 +139,10 @@ module _ (w : Compiled) (c : Core) (here : Here) (s : State) (cell : ℕ) (x : �
   begun_kind =
       let d = class_said w.program class Notice kind in
       ap (λ l. kind_in (slice_get l.classes class)) fits_now.sound.scene.layout ∙ ap kind_in d.1 ∙ d.2
+
+  -- the rows are those of the state before, and reach beyond the frame's beginning
+  pub held_small : length s.rows.numbers < 2 ^ 32
+  held_small = subst (λ (t : State). length t.rows.numbers < 2 ^ 32) (sym n.is) n.ready.holds.held.small
+
+  pub frame_within : here.frame ≤ length s.rows.numbers
+  frame_within = subst (λ (t : State). here.frame ≤ length t.rows.numbers) (sym n.is) (omega (arith, n.ready.holds.held.room))

@@ -7,7 +7,7 @@ use Rattle.ss_base.specs.declared.layout.Mode.{Mode}
 use Rattle.ss_base.specs.declared.value.Value.{Value}
 use Rattle.ss_base.specs.declared.value.Value.TheVariants.{Whole}
 use Rattle.ss_base.specs.Layout.{mode_of, first_value}
-use Rattle.ss_world.specs.State.{State as Heap, modes_of}
+use Rattle.ss_world.specs.State.{modes_of, value_in}
 use Rattle.ss_meaning.specs.Store.{first_values}
 use Rattle.ss_meaning.specs.Values.{turned}
 use Rattle.ss_meaning.specs.Events.{Beginning, attributes_given}
@@ -33,7 +33,7 @@ use Rattle.ss_machine_instructions.specs.Beginning.{AreRead, LetsGo, ThenLetsGo,
 use Rattle.ss_machine_instructions.proofs.Begun.{event, entry_point, code_entry, begun_entry, begun_modes, begun_kind, begun_saved, begun_saving}
 use Rattle.ss_machine_instructions.proofs.Filing.{one}
 use Rattle.ss_machine_instructions.proofs.Giving.{got_at}
-use Rattle.ss_machine_instructions.proofs.Opening.{all_lives, begins_not, left_store, GoesAs, IsSaving, read_is, goes_as, goes_right, begun_then, take_is}
+use Rattle.ss_machine_instructions.proofs.Opening.{value_lives, all_lives, begins_not, left_store, GoesAs, IsSaving, read_is, goes_as, goes_right, begun_then, take_is}
 use Rattle.ss_machine_instructions.proofs.Framing.{begun_core, held_gone, held_saved}
 use Rattle.ss_machine_instructions.proofs.Placing.{suits}
 use Rattle.ss_machine_instructions.proofs.Beginning.{lets_go_ticks, lets_go_steps}
@@ -221,3 +221,26 @@ module _ (w : Compiled) (c : Core) (here : Here) (s : State) (cell : ℕ) (x : �
         by : (o : Option ℕ) → n.coming.ranked.said.saved ≡ o → LetsGo o class x (record s1 { rows = v.rows }) mid (Ok tt) → IfSome o (λ k. k < here.frame) → IsSaving w c here s cell x class n o → OneTick s.ticks w n.ready.placed.line (act w.code n.ready.placed.line n.ready.placed.instruction c) n.before mid (Some (record { place = run.place; frame = frame }))
         by None q d low saving = subst (λ (t : State). OneTick s.ticks w n.ready.placed.line (act w.code n.ready.placed.line n.ready.placed.instruction c) n.before t (Some (record { place = run.place; frame = frame }))) (sym d.1) (begins_gone s1 frame enters v.rows received mid.scene q goes_now)
         by (Some k) q d low saving = subst (λ (t : State). OneTick s.ticks w n.ready.placed.line (act w.code n.ready.placed.line n.ready.placed.instruction c) n.before t (Some (record { place = run.place; frame = frame }))) (sym d.1) (begins_saved s1 frame enters v.rows received k mid.scene q (slice_get_within c.store.globals k saving.0 saving.1) (omega (arith, low, above)) goes_now)
+
+  -- or there was a fault: it is due as the notice is let go, since its attributes can be read
+  module _ (s1 : State) (frame : ℕ) (enters : Enters here s s1 run cell frame) (mid : State) (kind : FaultKind) (v : Receives n.coming.ranked.said class x run.given.items frame s1 mid (Err kind)) where
+    pub begins_fault : (new : State) (result : Option Here) → new ≡ faulted kind (record mid { fault_line = Some n.coming.ranked.said.line }) → result ≡ None → OneTick s.ticks w n.ready.placed.line (act w.code n.ready.placed.line n.ready.placed.instruction c) n.before new result
+    begins_fault new result same none = by v.read (v.read_is (even_then s1 frame enters)) v.lets_go
+      where
+        scene_is : s1.scene ≡ s.scene
+        scene_is = ap (λ (t : State). t.scene) enters.is
+
+        ticks_then : s1.ticks ≡ s.ticks
+        ticks_then = ap (λ (t : State). t.ticks) enters.is
+
+        steps_then : s1.steps ≡ n.before.steps
+        steps_then = ap (λ (t : State). t.steps) enters.is ∙ ap (λ (t : State). t.steps) n.is
+
+        by : (q : OkOr (Unit {0}) FaultKind) → ReceivedIf s1.scene.heap class x run.given.items frame s1.rows v.rows q → ThenLetsGo n.coming.ranked.said class x (record s1 { rows = v.rows }) mid q (Err kind) → OneTick s.ticks w n.ready.placed.line (act w.code n.ready.placed.line n.ready.placed.instruction c) n.before new result
+        by (Ok u) h d =
+            let goes = goes_as w c here s cell x class n n.coming.ranked.said.saved (record s1 { rows = v.rows }) mid (Err kind) scene_is (begun_saving w c here s cell x class n) (goes_right w c here s cell x class n some_given.0 some_given.1) d in
+            fails_as kind mid new result (begins_not w c here s cell x class n some_given.0 some_given.1 mid.scene kind goes) (lets_go_ticks n.coming.ranked.said.saved class x (record s1 { rows = v.rows }) mid (Err kind) d ∙ ticks_then) (lets_go_steps n.coming.ranked.said.saved class x (record s1 { rows = v.rows }) mid (Err kind) d ∙ steps_then) same none
+        by (Err k) h d =
+            let there = value_lives s.scene.heap class h.0 x n.lives (begun_kind w c here s cell x class n) in
+            let wrong : Ok there.0 ≡ Err k = sym there.1 ∙ ap (λ (e : Seen). value_in e.heap class h.0 x) (sym scene_is) ∙ h.2 in
+            absurd cc
