@@ -13,7 +13,7 @@ use Rattle.ss_program.specs.Program.{Event, Program}
 use Rattle.ss_program.specs.WellTyped.{kind_of_class, field_mode, GoodEvent, IsPlain}
 use Rattle.ss_program.specs.declared.expression.Variable.TheVariants.{Global}
 use Rattle.ss_meaning.specs.Entities.{comes_singly, is_single}
-use Rattle.ss_meaning.specs.Events.{Coming, coming_with, next_event}
+use Rattle.ss_meaning.specs.Events.{Coming, coming_with}
 use Rattle.ss_meaning.specs.Fitting.{Fits}
 use Rattle.ss_meaning.specs.Meaning.{said_of}
 use Rattle.ss_meaning.specs.Store.{Notices, Store}

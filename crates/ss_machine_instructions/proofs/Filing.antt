@@ -1,5 +1,5 @@
 -- Filing and removing in the world: the entities change, and then N. of the set is noted where a statistic watches it.
-use Rattle.std.proofs.Common.{◌≡◌, ◌⊎◌, inl, inr, ℕ, zero, suc, ◌<◌, ℤ, Bool, true, false, List, [], ◌∷◌, ◌++◌, length, Option, Some, Ok, Err, refl, sym, ap, ◌∙◌, subst, arith}
+use Rattle.std.proofs.Common.{◌≡◌, inl, inr, ℕ, zero, suc, ◌<◌, ℤ, Bool, true, false, List, [], ◌∷◌, ◌++◌, length, Option, Some, Ok, Err, refl, sym, ap, ◌∙◌, subst, arith}
 use Rattle.std.specs.Prelude.{pos, negsuc, is_some, slice_get, MatchResult, Result as OkOr}
 use Rattle.ss_base.specs.declared.fault.FaultKind.{FaultKind}
 use Rattle.ss_base.specs.declared.layout.ClassKind.{ClassKind}
@@ -20,7 +20,7 @@ use Rattle.ss_program.specs.declared.statement.End.TheVariants as ends
 use Rattle.ss_meaning.specs.Values.{Trouble, if_ok, turned, due}
 use Rattle.ss_meaning.specs.Store.{Store}
 use Rattle.ss_meaning.specs.Histories.{noted}
-use Rattle.ss_meaning.specs.Sets.{Filing, ByRule, Foremost, Hindmost, JustBefore, JustAfter, is_fit, end_removed, recounted, filed_in, removed_from, removed_at}
+use Rattle.ss_meaning.specs.Sets.{ByRule, Foremost, Hindmost, JustBefore, JustAfter, is_fit, end_removed, recounted, filed_in, removed_from, removed_at}
 use Rattle.ss_code_instructions.specs.Facts.{watch}
 use Rattle.ss_code_instructions.proofs.Noting.{Quiet, noted_quiet}
 use Rattle.ss_machine_entities.proofs.Refiled.{first_refiled, last_refiled, before_refiled, after_refiled, filed_refiled, out_refiled, first_out_refiled, last_out_refiled}

@@ -1,5 +1,5 @@
 -- A notice gets its first attributes and its time.
-use Rattle.std.proofs.Common.{◌≡◌, ◌⊎◌, inl, inr, ℕ, zero, suc, ◌+◌, ◌<◌, ◌≤◌, ℤ, Bool, true, false, List, [], ◌∷◌, length, map, drop, Some, None, Ok, Err, refl, sym, ap, ◌∙◌, subst, arith}
+use Rattle.std.proofs.Common.{◌≡◌, inl, inr, ℕ, zero, suc, ◌+◌, ◌<◌, ◌≤◌, ℤ, Bool, true, false, List, [], ◌∷◌, length, map, drop, Some, Ok, Err, refl, sym, ap, ◌∙◌, subst, arith}
 use Rattle.std.proofs.lemmas.Bool.{eqb-true}
 use Rattle.std.proofs.lemmas.Option.{slice_get_within}
 use Rattle.std.specs.Prelude.{◌&&◌, ◌==◌, IsOk, is_some, slice_get, MatchResult, Result as OkOr, if◌then◌else◌}
@@ -9,7 +9,6 @@ use Rattle.ss_base.specs.declared.fault.FaultKind.TheVariants.{AlreadyScheduled}
 use Rattle.ss_base.specs.declared.fault.Refused.{Refused}
 use Rattle.ss_base.specs.declared.fault.Refused.TheVariants.{Fault, Memory}
 use Rattle.ss_base.specs.declared.layout.ClassKind.TheVariants.{Notice}
-use Rattle.ss_base.specs.declared.layout.ClassLayout.{ClassLayout}
 use Rattle.ss_base.specs.declared.layout.Mode.{Mode}
 use Rattle.ss_base.specs.declared.layout.Mode.TheVariants.{Integer, Alpha}
 use Rattle.ss_base.specs.declared.value.Value.{Value}
@@ -25,11 +24,11 @@ use Rattle.ss_program.specs.Program.{Program}
 use Rattle.ss_program.specs.WellTyped.{field_mode, is_created_singly, GoodSubject}
 use Rattle.ss_meaning.specs.Values.{Trouble, Fails, same_mode, if_ok, turned, due, where_fit, unless_fault}
 use Rattle.ss_meaning.specs.Store.{Setting, Store, with_heap}
-use Rattle.ss_meaning.specs.Entities.{comes_singly, is_single, entity, made_one}
+use Rattle.ss_meaning.specs.Entities.{comes_singly, is_single, made_one}
 use Rattle.ss_meaning.specs.Histories.{same_subject, noted}
 use Rattle.ss_meaning.specs.Places.{is_of_mode, assigned_attribute}
-use Rattle.ss_meaning.specs.Events.{endowed, with_notice_time, prepared, made_notice, filed_notice, rescheduled}
-use Rattle.ss_meaning.specs.Fitting.{Hold, Fits}
+use Rattle.ss_meaning.specs.Events.{endowed, with_notice_time, prepared, filed_notice, rescheduled}
+use Rattle.ss_meaning.specs.Fitting.{Fits}
 use Rattle.ss_meaning.proofs.Fine.{Fine, fine_then, fine_turned, due_fine}
 use Rattle.ss_meaning.proofs.Heaps.{Changed, timed_sane}
 use Rattle.ss_meaning.proofs.Stores.{heap_fits}
@@ -37,7 +36,7 @@ use Rattle.ss_meaning.proofs.Entities.{HasField, field_said, class_said, attribu
 use Rattle.ss_meaning.proofs.Events.{endowed_fine}
 use Rattle.ss_code_instructions.specs.Facts.{watch}
 use Rattle.ss_code_instructions.proofs.Noting.{Quiet, noted_quiet}
-use Rattle.ss_machine_frames.specs.Rows.{TwoRows, ValueAt}
+use Rattle.ss_machine_frames.specs.Rows.{TwoRows}
 use Rattle.ss_machine_frames.proofs.Places.{all_get}
 use Rattle.ss_machine_events.specs.Scheduled.{IsNoticeClass}
 use Rattle.ss_machine_world.specs.Numbers.{attribute_noted}

@@ -12,7 +12,7 @@ use Rattle.ss_base.specs.declared.value.Value.TheVariants.{Whole, Text}
 use Rattle.ss_base.specs.Layout.{mode_of}
 use Rattle.ss_program.specs.declared.sections.Subject.TheVariants.{OfAttribute}
 use Rattle.ss_program.specs.Program.{Program}
-use Rattle.ss_program.specs.WellTyped.{field_mode, fields_of}
+use Rattle.ss_program.specs.WellTyped.{field_mode}
 use Rattle.ss_meaning.specs.Values.{Trouble}
 use Rattle.ss_meaning.specs.Store.{Store}
 use Rattle.ss_meaning.specs.Events.{made_notice, rescheduled}

@@ -21,7 +21,7 @@ use Rattle.ss_program.specs.WellTyped.{WellTyped}
 use Rattle.ss_meaning.specs.Values.{Trouble, Fails, if_ok, turned, due, where_fit}
 use Rattle.ss_meaning.specs.Store.{Scene, Store}
 use Rattle.ss_meaning.specs.Fitting.{Hold, Fits}
-use Rattle.ss_meaning.specs.Sets.{set_at, member, owner_as, owner_by_layout, owner_number, set_answer, of_set, is_one, of_member, Filing as Position, Foremost, Hindmost, ByRule, JustBefore, JustAfter, filed_in, removed_from, removed_at}
+use Rattle.ss_meaning.specs.Sets.{set_at, member, owner_as, owner_by_layout, set_answer, of_set, is_one, of_member, Filing as Position, Foremost, Hindmost, ByRule, JustBefore, JustAfter, filed_in, removed_from, removed_at}
 use Rattle.ss_meaning.proofs.Fine.{Fine}
 use Rattle.ss_meaning.proofs.Sets.{OwnerOk, FilingOk, filed_in_fine, removed_from_fine, removed_at_fine}
 use Rattle.ss_code_instructions.specs.declared.address.Address.{Address}
@@ -29,7 +29,7 @@ use Rattle.ss_code_instructions.specs.declared.instruction.Instruction.{Instruct
 use Rattle.ss_code_instructions.specs.Facts.{watch}
 use Rattle.ss_code_instructions.specs.Instructions as i
 use Rattle.ss_code_instructions.specs.Instructions.{Instruction, Operand, Bearer, Target, Filing, First, Last, Ranked, Before, After}
-use Rattle.ss_code_instructions.specs.States.{Core, did, onward, with_value, with_position, deliver, deliver_with}
+use Rattle.ss_code_instructions.specs.States.{Core, Moved, did, onward, with_value, with_position, deliver, deliver_with}
 use Rattle.ss_code_instructions.specs.Machine.{act, is_due}
 use Rattle.ss_code_instructions.specs.Shape.{Suits, OwnerFits, Gives, GivesBearer, GivesPosition, scope_of}
 use Rattle.ss_code_instructions.specs.Carried.{From, Of, To, Is, OperandAt, BearerAt}
@@ -41,7 +41,7 @@ use Rattle.ss_machine_instructions.specs.declared.flow.Here.{Here}
 use Rattle.ss_machine_instructions.specs.declared.state.State.{State}
 use Rattle.ss_machine_instructions.specs.Doing.{Compiled, Ready, NoTick, Comes, Delivers, as_value}
 use Rattle.ss_machine_instructions.specs.Ways.{faulted, faulted_by, on_unless}
-use Rattle.ss_machine_instructions.specs.Worldly.{Settled, Given, Settles, IsOwner, IsRuled, Files, Removes, Takes, one_of, member_answer}
+use Rattle.ss_machine_instructions.specs.Worldly.{Given, Settles, IsOwner, IsRuled, Files, Removes, Takes, one_of, member_answer}
 use Rattle.ss_machine_instructions.proofs.Placing.{site, stands, suits, small, deep_at, deep_here, calm}
 use Rattle.ss_machine_instructions.proofs.Delivering.{delivers, deliver_is, number_right}
 use Rattle.ss_machine_instructions.proofs.Asking.{owner_is, set_there}

@@ -1,5 +1,5 @@
 -- What the machine does as an event begins is what the definition does.
-use Rattle.std.proofs.Common.{◌≡◌, ℕ, suc, ◌+◌, ◌<◌, ◌≤◌, ◌^◌, ℤ, true, List, [], ◌∷◌, ◌++◌, length, map, Option, Some, None, Ok, Err, refl, sym, ap, ◌∙◌, subst, arith, if◌then◌else◌}
+use Rattle.std.proofs.Common.{◌≡◌, ℕ, ◌+◌, ◌<◌, ◌≤◌, ℤ, true, List, [], ◌∷◌, length, map, Option, Some, None, Ok, Err, refl, sym, ap, ◌∙◌, subst, arith, if◌then◌else◌}
 use Rattle.std.proofs.lemmas.Bool.{eq-eqb}
 use Rattle.std.specs.Prelude.{IfSome, is_some, slice_get, Result as OkOr}
 use Rattle.ss_base.specs.declared.fault.FaultKind.{FaultKind}
@@ -8,7 +8,6 @@ use Rattle.ss_base.specs.declared.value.Value.{Value}
 use Rattle.ss_base.specs.declared.value.Value.TheVariants.{Whole}
 use Rattle.ss_base.specs.Layout.{mode_of, first_value}
 use Rattle.ss_world.specs.State.{modes_of, value_in}
-use Rattle.ss_meaning.specs.Store.{first_values}
 use Rattle.ss_meaning.specs.Values.{turned}
 use Rattle.ss_meaning.specs.Events.{Beginning, attributes_given}
 use Rattle.ss_code_instructions.specs.declared.entry.Entry.{Entry}
@@ -16,9 +15,8 @@ use Rattle.ss_code_instructions.specs.declared.instruction.Instruction.TheVarian
 use Rattle.ss_code_instructions.specs.Carried.{IsEntry}
 use Rattle.ss_code_instructions.specs.Shape.{Suits}
 use Rattle.ss_code_instructions.specs.States.{AnEvent, Core, To, Rest, Breaks, Stuck, did, fit, at_height}
-use Rattle.ss_code_instructions.specs.Machine.{Code, act, enter}
+use Rattle.ss_code_instructions.specs.Machine.{act, enter}
 use Rattle.ss_machine_frames.specs.Rows.{TwoRows, with_value, with_number, cleared}
-use Rattle.ss_machine_frames.specs.Holding.{Held}
 use Rattle.ss_machine_frames.proofs.Entering.{value_long, value_texts, opened_is}
 use Rattle.ss_machine_frames.proofs.Lists.{set_length}
 use Rattle.ss_machine_frames.proofs.Reading.{hold_length}

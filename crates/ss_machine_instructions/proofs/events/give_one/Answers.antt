@@ -1,12 +1,10 @@
-use Rattle.std.proofs.Common.{rules, ◌≡◌, ◌+◌, ℤ, Some, ap, sym, ◌∙◌, subst, to_z, of_z, w64}
-use Rattle.ss_base.specs.declared.layout.Mode.{Mode}
+use Rattle.std.proofs.Common.{rules, ◌≡◌, ◌+◌, ℤ, sym, ◌∙◌, subst, to_z, of_z, w64}
 use Rattle.ss_base.specs.declared.layout.Mode.TheVariants.{Integer, Alpha}
 use Rattle.ss_base.specs.declared.value.Value.{Value}
 use Rattle.ss_base.specs.declared.value.Value.TheVariants.{Whole, Text}
-use Rattle.ss_base.specs.Layout.{mode_of}
 use Rattle.ss_meaning.specs.Places.{assigned_attribute}
 use Rattle.ss_machine_frames.proofs.Places.{number_is, text_is}
-use Rattle.ss_machine_instructions.specs.Giving.{SettledIn, Suiting, GivesOne}
+use Rattle.ss_machine_instructions.specs.Giving.{SettledIn, Suiting}
 use Rattle.ss_machine_instructions.proofs.Filing.{one}
 use Rattle.ss_machine_instructions.proofs.Giving.{suiting_as, suits_class, suits_field, suits_mode}
 use Rattle.ss_machine_instructions.proofs.events.give_one.Goals as goal

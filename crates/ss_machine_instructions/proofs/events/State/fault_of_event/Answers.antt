@@ -1,4 +1,4 @@
-use Rattle.std.proofs.Common.{◌≡◌, Some, ap, ◌∙◌}
+use Rattle.std.proofs.Common.{Some, ap, ◌∙◌}
 use Rattle.ss_base.specs.declared.line.Line.{Line}
 use Rattle.ss_machine_instructions.specs.Ways.{faulted}
 use Rattle.ss_machine_instructions.proofs.events.State.fault_of_event.Goals as goal

@@ -1,5 +1,5 @@
-use Rattle.std.proofs.Common.{rules, ◌≡◌, ◌<◌, ℤ, Some, length, refl, ap, sym, ◌∙◌, subst, to_z, of_z, w64}
-use Rattle.std.specs.Prelude.{pos, Option, IfSome}
+use Rattle.std.proofs.Common.{rules, ◌≡◌, ◌<◌, ℤ, length, refl, ap, sym, ◌∙◌, subst, to_z, of_z, w64}
+use Rattle.std.specs.Prelude.{pos, IfSome}
 use Rattle.ss_base.specs.declared.value.Value.TheVariants.{Whole}
 use Rattle.ss_program.specs.declared.sections.Subject.TheVariants.{OfVariable}
 use Rattle.ss_meaning.specs.Entities.{gone}

@@ -1,4 +1,4 @@
-use Rattle.std.proofs.Common.{rules, ◌≡◌, ◌+◌, ◌<◌, ℤ, Some, Ok, Err, length, ap, sym, ◌∙◌, subst, to_z, of_z, w64, arith}
+use Rattle.std.proofs.Common.{rules, ◌≡◌, ◌+◌, ◌<◌, ℤ, Some, Ok, Err, ap, sym, ◌∙◌, subst, to_z, of_z, w64, arith}
 use Rattle.std.specs.Prelude.{slice_get}
 use Rattle.ss_code_instructions.specs.declared.instruction.Instruction.TheVariants.{MakeNotice as Runs}
 use Rattle.ss_code_instructions.specs.Machine.{act}

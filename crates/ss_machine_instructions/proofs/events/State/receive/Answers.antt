@@ -1,5 +1,4 @@
-use Rattle.std.proofs.Common.{rules, ◌≡◌, ◌+◌, ◌<◌, ℤ, Some, Ok, Err, length, refl, subst, to_z, of_z, w64, arith}
-use Rattle.std.specs.Prelude.{Option, IfSome}
+use Rattle.std.proofs.Common.{rules, ◌≡◌, ◌+◌, ◌<◌, ℤ, Ok, Err, length, refl, subst, to_z, of_z, w64, arith}
 use Rattle.ss_machine_instructions.specs.Beginning.{LetsGo}
 use Rattle.ss_machine_instructions.proofs.Beginning.{saved_within}
 use Rattle.ss_machine_instructions.proofs.events.State.receive.Goals as goal
