@@ -17,3 +17,16 @@ pub mod Walking
 pub mod Alike
 pub mod Turns
 pub mod Sifting
+pub mod Programs
+pub mod Settling
+pub mod Filing
+pub mod Sets
+pub mod Scheduling
+pub mod Giving
+pub mod Notices
+pub mod Receiving
+pub mod Beginning
+pub mod Begun
+pub mod Opening
+pub mod Framing
+pub mod Started

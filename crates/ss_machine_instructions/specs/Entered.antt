@@ -20,7 +20,9 @@ pub record Enters (here : Here) (old new : State) (entry : Entry) (cell frame : 
   pub small : length grown.numbers < 2 ^ 32
   pub is : new ≡ record old { rows = cleared grown (frame + length entry.given.items) entry.others.items; frames = call_of here entry ∷ old.frames }
 
--- memory was refused: no tick is taken
+-- memory was refused: no tick is taken, the world is as it was, and the rows are no shorter
 pub record IsRefused (old new : State) : Type 0 where
   pub ticks : new.ticks ≡ old.ticks
   pub steps : new.steps ≡ old.steps
+  pub scene : new.scene ≡ old.scene
+  pub longer : length old.rows.numbers ≤ length new.rows.numbers

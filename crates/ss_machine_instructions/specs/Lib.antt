@@ -5,3 +5,6 @@ pub mod Noted
 pub mod Walked
 pub mod Many
 pub mod Sifted
+pub mod Worldly
+pub mod Giving
+pub mod Beginning

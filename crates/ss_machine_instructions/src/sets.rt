@@ -1,9 +1,283 @@
 //! Sets: what is asked of them, filing and removing.
 
+ghost use Rattle.std.specs.Prelude.{◌≡◌, ◌<◌, length, true, false};
+ghost use Rattle.ss_program.specs.declared.expression.SetQuery.TheVariants.{FirstMember, LastMember, MemberCount};
+ghost use Rattle.ss_program.specs.declared.expression.MemberQuery.TheVariants.{Predecessor, Successor, Membership};
+ghost use Rattle.ss_program.specs.declared.statement.End.TheVariants as ends;
+ghost use Rattle.ss_base.specs.declared.value.Value.TheVariants.{Whole};
+ghost use Rattle.ss_meaning.specs.Sets.{set_answer, Foremost, Hindmost, ByRule, JustBefore, JustAfter};
+ghost use Rattle.ss_machine_world.specs.Numbers.{count_noted};
+ghost use Rattle.ss_machine_world.specs.Seen.{number_if};
+ghost use Rattle.ss_machine_instructions.specs.Doing.{Can, Does};
+ghost use Rattle.ss_machine_instructions.specs.Worldly.{ChangesIf, Counted, CountedOut, IsRuled, Files, Removes, Takes, one_of, member_answer};
+
 use crate::flow::Here;
 use crate::state::State;
 use ss_base::FaultKind;
 use ss_code_instructions::address::Address;
+use ss_code_instructions::instruction::Instruction;
+use ss_machine_world::scene::Scene;
+
+// The first member of the set of an owner, 0 for none.
+#[inline(always)]
+fn first_of(scene: &mut Scene, set: usize, owner: i64) -> Result<i64, FaultKind>
+    requires set { set < length scene.old.heap.layout.sets }
+    ensures value { result ≡ set_answer FirstMember scene.old.heap set owner }
+    ensures same { scene.new ≡ scene.old }
+{
+    scene.population.first(set, owner)
+}
+
+// The last one.
+#[inline(always)]
+fn last_of(scene: &mut Scene, set: usize, owner: i64) -> Result<i64, FaultKind>
+    requires set { set < length scene.old.heap.layout.sets }
+    ensures value { result ≡ set_answer LastMember scene.old.heap set owner }
+    ensures same { scene.new ≡ scene.old }
+{
+    scene.population.last(set, owner)
+}
+
+// How many there are.
+#[inline(always)]
+fn count_of(scene: &mut Scene, set: usize, owner: i64) -> Result<i64, FaultKind>
+    requires set { set < length scene.old.heap.layout.sets }
+    ensures value { result ≡ set_answer MemberCount scene.old.heap set owner }
+    ensures same { scene.new ≡ scene.old }
+{
+    scene.population.member_count(set, owner)
+}
+
+// The member before another one, 0 for none.
+#[inline(always)]
+fn one_before(scene: &mut Scene, set: usize, member: i64) -> Result<i64, FaultKind>
+    requires set { set < length scene.old.heap.layout.sets }
+    ensures value { result ≡ member_answer Predecessor scene.old.heap set member }
+    ensures same { scene.new ≡ scene.old }
+{
+    scene.population.previous(set, member)
+}
+
+// The member after it.
+#[inline(always)]
+fn one_after(scene: &mut Scene, set: usize, member: i64) -> Result<i64, FaultKind>
+    requires set { set < length scene.old.heap.layout.sets }
+    ensures value { result ≡ member_answer Successor scene.old.heap set member }
+    ensures same { scene.new ≡ scene.old }
+{
+    scene.population.next(set, member)
+}
+
+// 1 where there is an owner, 0 where there is none, or the fault.
+#[inline(always)]
+fn one_where(owner: Result<Option<i64>, FaultKind>) -> Result<i64, FaultKind>
+    ensures { result ≡ one_of owner }
+{
+    match owner {
+        Err(kind) => Err(kind),
+        Ok(None) => Ok(0),
+        Ok(Some(_)) => Ok(1),
+    }
+}
+
+// Whether a number is in some set of the name: 1 or 0.
+#[inline(always)]
+fn filed_in_any(scene: &mut Scene, set: usize, member: i64) -> Result<i64, FaultKind>
+    requires set { set < length scene.old.heap.layout.sets }
+    ensures value { result ≡ member_answer Membership scene.old.heap set member }
+    ensures same { scene.new ≡ scene.old }
+{
+    one_where(scene.population.owner_in(set, member))
+}
+
+// N. of the set of an owner is noted, where that is so.
+#[inline(always)]
+fn note_if(scene: &mut Scene, set: usize, owner: i64, noted: bool) -> Result<(), FaultKind>
+    requires set { set < length scene.old.heap.layout.sets }
+    ensures { ChangesIf noted (count_noted set owner) scene.old scene.new result }
+{
+    if noted {
+        scene.note_count(set, owner)
+    } else {
+        Ok(())
+    }
+}
+
+// The set of an owner has changed, or there was a fault: N. of it is noted, where that is so.
+#[inline(always)]
+fn counted(
+    scene: &mut Scene,
+    changed: Result<(), FaultKind>,
+    set: usize,
+    owner: i64,
+    noted: bool,
+) -> Result<(), FaultKind>
+    requires set { set < length scene.old.heap.layout.sets }
+    ensures { Counted set owner changed noted scene.old scene.new result }
+{
+    match changed {
+        Err(kind) => Err(kind),
+        Ok(()) => note_if(scene, set, owner, noted),
+    }
+}
+
+// A number, unless there was a fault.
+#[inline(always)]
+fn number_if(number: i64, answer: Result<(), FaultKind>) -> Result<i64, FaultKind>
+    ensures { result ≡ number_if number answer }
+{
+    match answer {
+        Err(kind) => Err(kind),
+        Ok(()) => Ok(number),
+    }
+}
+
+// A member was taken out of the set of an owner, or there was a fault: N. of it is noted, where that is so. The member is the answer.
+#[inline(always)]
+fn counted_out(
+    scene: &mut Scene,
+    taken: Result<i64, FaultKind>,
+    set: usize,
+    owner: i64,
+    noted: bool,
+) -> Result<i64, FaultKind>
+    requires set { set < length scene.old.heap.layout.sets }
+    ensures { CountedOut set owner taken noted scene.old scene.new result }
+{
+    match taken {
+        Err(kind) => Err(kind),
+        Ok(member) => number_if(member, note_if(scene, set, owner, noted)),
+    }
+}
+
+// A member is filed first in the set of an owner.
+#[inline(always)]
+fn put_first(
+    scene: &mut Scene,
+    set: usize,
+    owner: i64,
+    member: i64,
+    noted: bool,
+) -> Result<(), FaultKind>
+    requires set { set < length scene.old.heap.layout.sets }
+    ensures { Files Foremost set noted scene.old scene.new result owner member }
+{
+    let changed = scene.population.file_first(set, owner, member);
+    counted(scene, changed, set, owner, noted)
+}
+
+// .. or last.
+#[inline(always)]
+fn put_last(
+    scene: &mut Scene,
+    set: usize,
+    owner: i64,
+    member: i64,
+    noted: bool,
+) -> Result<(), FaultKind>
+    requires set { set < length scene.old.heap.layout.sets }
+    ensures { Files Hindmost set noted scene.old scene.new result owner member }
+{
+    let changed = scene.population.file_last(set, owner, member);
+    counted(scene, changed, set, owner, noted)
+}
+
+// .. or where its rank is.
+#[inline(always)]
+fn put_ranked(
+    scene: &mut Scene,
+    set: usize,
+    owner: i64,
+    member: i64,
+    noted: bool,
+) -> Result<(), FaultKind>
+    requires set { set < length scene.old.heap.layout.sets }
+    requires ruled { IsRuled scene.old set }
+    ensures { Files ByRule set noted scene.old scene.new result owner member }
+{
+    let changed = scene.file_ranked(set, owner, member);
+    counted(scene, changed, set, owner, noted)
+}
+
+// .. or directly before another member.
+#[inline(always)]
+fn put_before(
+    scene: &mut Scene,
+    set: usize,
+    owner: i64,
+    member: i64,
+    beside: i64,
+    noted: bool,
+) -> Result<(), FaultKind>
+    requires set { set < length scene.old.heap.layout.sets }
+    ensures { Files (JustBefore (Whole beside)) set noted scene.old scene.new result owner member }
+{
+    let changed = scene.population.file_before(set, owner, member, beside);
+    counted(scene, changed, set, owner, noted)
+}
+
+// .. or directly after it.
+#[inline(always)]
+fn put_after(
+    scene: &mut Scene,
+    set: usize,
+    owner: i64,
+    member: i64,
+    beside: i64,
+    noted: bool,
+) -> Result<(), FaultKind>
+    requires set { set < length scene.old.heap.layout.sets }
+    ensures { Files (JustAfter (Whole beside)) set noted scene.old scene.new result owner member }
+{
+    let changed = scene.population.file_after(set, owner, member, beside);
+    counted(scene, changed, set, owner, noted)
+}
+
+// A member is removed from the set of an owner.
+#[inline(always)]
+fn take_out(
+    scene: &mut Scene,
+    set: usize,
+    owner: i64,
+    member: i64,
+    noted: bool,
+) -> Result<(), FaultKind>
+    requires set { set < length scene.old.heap.layout.sets }
+    ensures { Removes set noted scene.old scene.new result owner member }
+{
+    let changed = scene.population.remove(set, owner, member);
+    counted(scene, changed, set, owner, noted)
+}
+
+// The first member is, which is the answer.
+#[inline(always)]
+fn take_first(
+    scene: &mut Scene,
+    set: usize,
+    owner: i64,
+    noted: bool,
+) -> Result<i64, FaultKind>
+    requires set { set < length scene.old.heap.layout.sets }
+    ensures { Takes ends.First set noted scene.old scene.new result owner }
+{
+    let taken = scene.population.remove_first(set, owner);
+    counted_out(scene, taken, set, owner, noted)
+}
+
+// .. or the last.
+#[inline(always)]
+fn take_last(
+    scene: &mut Scene,
+    set: usize,
+    owner: i64,
+    noted: bool,
+) -> Result<i64, FaultKind>
+    requires set { set < length scene.old.heap.layout.sets }
+    ensures { Takes ends.Last set noted scene.old scene.new result owner }
+{
+    let taken = scene.population.remove_last(set, owner);
+    counted_out(scene, taken, set, owner, noted)
+}
 
 impl State {
     /// FirstMember.
@@ -14,9 +288,12 @@ impl State {
         set: u32,
         owner: &Address,
         to: &Address,
-    ) -> Option<Here> {
+    ) -> Option<Here>
+        requires { Can here self.old (Instruction.FirstMember set owner.now to.now) }
+        ensures { Does here self.old self.new result (Instruction.FirstMember set owner.now to.now) }
+    {
         let owner = self.number(here, owner);
-        let answer = self.scene.population.first(set as usize, owner);
+        let answer = first_of(&mut self.scene, set as usize, owner);
         self.put(here, to, answer)
     }
 
@@ -28,9 +305,12 @@ impl State {
         set: u32,
         owner: &Address,
         to: &Address,
-    ) -> Option<Here> {
+    ) -> Option<Here>
+        requires { Can here self.old (Instruction.LastMember set owner.now to.now) }
+        ensures { Does here self.old self.new result (Instruction.LastMember set owner.now to.now) }
+    {
         let owner = self.number(here, owner);
-        let answer = self.scene.population.last(set as usize, owner);
+        let answer = last_of(&mut self.scene, set as usize, owner);
         self.put(here, to, answer)
     }
 
@@ -42,9 +322,12 @@ impl State {
         set: u32,
         owner: &Address,
         to: &Address,
-    ) -> Option<Here> {
+    ) -> Option<Here>
+        requires { Can here self.old (Instruction.MemberCount set owner.now to.now) }
+        ensures { Does here self.old self.new result (Instruction.MemberCount set owner.now to.now) }
+    {
         let owner = self.number(here, owner);
-        let answer = self.scene.population.member_count(set as usize, owner);
+        let answer = count_of(&mut self.scene, set as usize, owner);
         self.put(here, to, answer)
     }
 
@@ -56,9 +339,12 @@ impl State {
         set: u32,
         member: &Address,
         to: &Address,
-    ) -> Option<Here> {
+    ) -> Option<Here>
+        requires { Can here self.old (Instruction.Predecessor set member.now to.now) }
+        ensures { Does here self.old self.new result (Instruction.Predecessor set member.now to.now) }
+    {
         let member = self.number(here, member);
-        let answer = self.scene.population.previous(set as usize, member);
+        let answer = one_before(&mut self.scene, set as usize, member);
         self.put(here, to, answer)
     }
 
@@ -70,9 +356,12 @@ impl State {
         set: u32,
         member: &Address,
         to: &Address,
-    ) -> Option<Here> {
+    ) -> Option<Here>
+        requires { Can here self.old (Instruction.Successor set member.now to.now) }
+        ensures { Does here self.old self.new result (Instruction.Successor set member.now to.now) }
+    {
         let member = self.number(here, member);
-        let answer = self.scene.population.next(set as usize, member);
+        let answer = one_after(&mut self.scene, set as usize, member);
         self.put(here, to, answer)
     }
 
@@ -84,13 +373,12 @@ impl State {
         set: u32,
         member: &Address,
         to: &Address,
-    ) -> Option<Here> {
+    ) -> Option<Here>
+        requires { Can here self.old (Instruction.Membership set member.now to.now) }
+        ensures { Does here self.old self.new result (Instruction.Membership set member.now to.now) }
+    {
         let member = self.number(here, member);
-        let answer = match self.scene.population.owner_in(set as usize, member) {
-            Ok(Some(_)) => Ok(1),
-            Ok(None) => Ok(0),
-            Err(kind) => Err(kind),
-        };
+        let answer = filed_in_any(&mut self.scene, set as usize, member);
         self.put(here, to, answer)
     }
 
@@ -103,13 +391,14 @@ impl State {
         member: &Address,
         owner: &Address,
         noted: bool,
-    ) -> Option<Here> {
-        let (member, owner) = (self.number(here, member), self.number(here, owner));
-        let answer = self
-            .scene
-            .population
-            .file_first(set as usize, owner, member);
-        self.counted(here, answer, set, owner, noted)
+    ) -> Option<Here>
+        requires { Can here self.old (Instruction.FileFirst set member.now owner.now noted) }
+        ensures { Does here self.old self.new result (Instruction.FileFirst set member.now owner.now noted) }
+    {
+        let member = self.number(here, member);
+        let owner = self.number(here, owner);
+        let answer = put_first(&mut self.scene, set as usize, owner, member, noted);
+        self.done(here, answer)
     }
 
     /// FileLast.
@@ -121,10 +410,14 @@ impl State {
         member: &Address,
         owner: &Address,
         noted: bool,
-    ) -> Option<Here> {
-        let (member, owner) = (self.number(here, member), self.number(here, owner));
-        let answer = self.scene.population.file_last(set as usize, owner, member);
-        self.counted(here, answer, set, owner, noted)
+    ) -> Option<Here>
+        requires { Can here self.old (Instruction.FileLast set member.now owner.now noted) }
+        ensures { Does here self.old self.new result (Instruction.FileLast set member.now owner.now noted) }
+    {
+        let member = self.number(here, member);
+        let owner = self.number(here, owner);
+        let answer = put_last(&mut self.scene, set as usize, owner, member, noted);
+        self.done(here, answer)
     }
 
     /// FileRanked.
@@ -136,32 +429,56 @@ impl State {
         member: &Address,
         owner: &Address,
         noted: bool,
-    ) -> Option<Here> {
-        let (member, owner) = (self.number(here, member), self.number(here, owner));
-        let answer = self.scene.file_ranked(set as usize, owner, member);
-        self.counted(here, answer, set, owner, noted)
+    ) -> Option<Here>
+        requires { Can here self.old (Instruction.FileRanked set member.now owner.now noted) }
+        ensures { Does here self.old self.new result (Instruction.FileRanked set member.now owner.now noted) }
+    {
+        let member = self.number(here, member);
+        let owner = self.number(here, owner);
+        let answer = put_ranked(&mut self.scene, set as usize, owner, member, noted);
+        self.done(here, answer)
     }
 
-    /// FileBeside.
+    /// FileBeside, before a member.
     #[inline(always)]
-    pub fn file_beside(
+    pub fn file_before(
         &mut self,
         here: Here,
         set: u32,
-        both: (&Address, &Address),
+        member: &Address,
+        beside: &Address,
         owner: &Address,
-        after: bool,
         noted: bool,
-    ) -> Option<Here> {
-        let (member, beside) = (self.number(here, both.0), self.number(here, both.1));
+    ) -> Option<Here>
+        requires { Can here self.old (Instruction.FileBeside noted false set member.now beside.now owner.now) }
+        ensures { Does here self.old self.new result (Instruction.FileBeside noted false set member.now beside.now owner.now) }
+    {
+        let member = self.number(here, member);
+        let beside = self.number(here, beside);
         let owner = self.number(here, owner);
-        let population = &mut self.scene.population;
-        let answer = if after {
-            population.file_after(set as usize, owner, member, beside)
-        } else {
-            population.file_before(set as usize, owner, member, beside)
-        };
-        self.counted(here, answer, set, owner, noted)
+        let answer = put_before(&mut self.scene, set as usize, owner, member, beside, noted);
+        self.done(here, answer)
+    }
+
+    /// FileBeside, after a member.
+    #[inline(always)]
+    pub fn file_after(
+        &mut self,
+        here: Here,
+        set: u32,
+        member: &Address,
+        beside: &Address,
+        owner: &Address,
+        noted: bool,
+    ) -> Option<Here>
+        requires { Can here self.old (Instruction.FileBeside noted true set member.now beside.now owner.now) }
+        ensures { Does here self.old self.new result (Instruction.FileBeside noted true set member.now beside.now owner.now) }
+    {
+        let member = self.number(here, member);
+        let beside = self.number(here, beside);
+        let owner = self.number(here, owner);
+        let answer = put_after(&mut self.scene, set as usize, owner, member, beside, noted);
+        self.done(here, answer)
     }
 
     /// Remove.
@@ -173,29 +490,14 @@ impl State {
         member: &Address,
         owner: &Address,
         noted: bool,
-    ) -> Option<Here> {
-        let (member, owner) = (self.number(here, member), self.number(here, owner));
-        let answer = self.scene.population.remove(set as usize, owner, member);
-        self.counted(here, answer, set, owner, noted)
-    }
-
-    // On to the next instruction where a member of a set was removed, which goes to a place.
-    #[inline(always)]
-    fn removed(
-        &mut self,
-        here: Here,
-        answer: Result<i64, FaultKind>,
-        of: (u32, i64),
-        to: &Address,
-        noted: bool,
-    ) -> Option<Here> {
-        match answer {
-            Ok(member) => {
-                self.set_number(here, to, member);
-                self.counted(here, Ok(()), of.0, of.1, noted)
-            }
-            Err(kind) => self.fault(kind),
-        }
+    ) -> Option<Here>
+        requires { Can here self.old (Instruction.Remove set member.now owner.now noted) }
+        ensures { Does here self.old self.new result (Instruction.Remove set member.now owner.now noted) }
+    {
+        let member = self.number(here, member);
+        let owner = self.number(here, owner);
+        let answer = take_out(&mut self.scene, set as usize, owner, member, noted);
+        self.done(here, answer)
     }
 
     /// RemoveFirst.
@@ -207,10 +509,15 @@ impl State {
         owner: &Address,
         to: &Address,
         noted: bool,
-    ) -> Option<Here> {
+    ) -> Option<Here>
+        requires { Can here self.old (Instruction.RemoveFirst set owner.now to.now noted) }
+        ensures { Does here self.old self.new result (Instruction.RemoveFirst set owner.now to.now noted) }
+    {
         let owner = self.number(here, owner);
-        let answer = self.scene.population.remove_first(set as usize, owner);
-        self.removed(here, answer, (set, owner), to, noted)
+        match take_first(&mut self.scene, set as usize, owner, noted) {
+            Ok(member) => self.put(here, to, Ok(member)),
+            Err(kind) => self.fault(kind),
+        }
     }
 
     /// RemoveLast.
@@ -222,9 +529,14 @@ impl State {
         owner: &Address,
         to: &Address,
         noted: bool,
-    ) -> Option<Here> {
+    ) -> Option<Here>
+        requires { Can here self.old (Instruction.RemoveLast set owner.now to.now noted) }
+        ensures { Does here self.old self.new result (Instruction.RemoveLast set owner.now to.now noted) }
+    {
         let owner = self.number(here, owner);
-        let answer = self.scene.population.remove_last(set as usize, owner);
-        self.removed(here, answer, (set, owner), to, noted)
+        match take_last(&mut self.scene, set as usize, owner, noted) {
+            Ok(member) => self.put(here, to, Ok(member)),
+            Err(kind) => self.fault(kind),
+        }
     }
 }

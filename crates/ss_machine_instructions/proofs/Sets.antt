@@ -1,0 +1,461 @@
+-- What is asked of sets, filing and removing: what the running instructions do is what the definition does.
+use Rattle.std.proofs.Common.{◌≡◌, ℕ, ◌+◌, ◌<◌, ◌≤◌, Bool, false, List, length, Option, Some, None, Ok, Err, refl, sym, ap, ◌∙◌, subst, arith}
+use Rattle.std.proofs.lemmas.Option.{slice_get_within}
+use Rattle.std.specs.Prelude.{ℤ, pos, is_some, slice_get, Result as OkOr}
+use Rattle.ss_base.specs.declared.fault.FaultKind.{FaultKind}
+use Rattle.ss_base.specs.declared.layout.Mode.{Mode}
+use Rattle.ss_base.specs.declared.layout.Mode.TheVariants.{Integer}
+use Rattle.ss_base.specs.declared.layout.SetLayout.{SetLayout}
+use Rattle.ss_base.specs.declared.value.Value.{Value}
+use Rattle.ss_base.specs.declared.value.Value.TheVariants.{Whole}
+use Rattle.ss_base.specs.Layout.{mode_of}
+use Rattle.ss_world.specs.State.{and_then, owner_of}
+use Rattle.ss_world.specs.Sets.{joiner, owner_in, companions, precursor, follower, as_number, previous_in, next_in, owner_of_member}
+use Rattle.ss_program.specs.declared.expression.SetQuery.{SetQuery}
+use Rattle.ss_program.specs.declared.expression.MemberQuery.{MemberQuery}
+use Rattle.ss_program.specs.declared.expression.MemberQuery.TheVariants.{Predecessor, Successor, Membership}
+use Rattle.ss_program.specs.declared.sections.Subject.TheVariants.{OfCount}
+use Rattle.ss_program.specs.declared.statement.End.{End}
+use Rattle.ss_program.specs.Program.{Program}
+use Rattle.ss_program.specs.WellTyped.{WellTyped}
+use Rattle.ss_meaning.specs.Values.{Trouble, Fails, if_ok, turned, due, where_fit}
+use Rattle.ss_meaning.specs.Store.{Scene, Store}
+use Rattle.ss_meaning.specs.Fitting.{Hold, Fits}
+use Rattle.ss_meaning.specs.Sets.{set_at, member, owner_as, owner_by_layout, set_answer, of_set, is_one, of_member, Filing as Position, Foremost, Hindmost, ByRule, JustBefore, JustAfter, filed_in, removed_from, removed_at}
+use Rattle.ss_meaning.proofs.Fine.{Fine}
+use Rattle.ss_meaning.proofs.Sets.{OwnerOk, FilingOk, filed_in_fine, removed_from_fine, removed_at_fine}
+use Rattle.ss_code_instructions.specs.declared.address.Address.{Address}
+use Rattle.ss_code_instructions.specs.declared.instruction.Instruction.{Instruction as Running}
+use Rattle.ss_code_instructions.specs.Facts.{watch}
+use Rattle.ss_code_instructions.specs.Instructions as i
+use Rattle.ss_code_instructions.specs.Instructions.{Instruction, Operand, Bearer, Target, Filing, First, Last, Ranked, Before, After}
+use Rattle.ss_code_instructions.specs.States.{Core, Moved, did, onward, with_value, with_position, deliver, deliver_with}
+use Rattle.ss_code_instructions.specs.Machine.{act, is_due}
+use Rattle.ss_code_instructions.specs.Shape.{Suits, OwnerFits, Gives, GivesBearer, GivesPosition, scope_of}
+use Rattle.ss_code_instructions.specs.Carried.{From, Of, To, Is, OperandAt, BearerAt}
+use Rattle.ss_machine_frames.specs.Rows.{place_at}
+use Rattle.ss_machine_frames.specs.Holding.{CellsAt}
+use Rattle.ss_machine_frames.proofs.Reading.{Refers, only_number, reads, read_within, reads_bearer, bearer_within, shorter}
+use Rattle.ss_machine_world.specs.Seen.{Seen, IsRight, with_seen}
+use Rattle.ss_machine_instructions.specs.declared.flow.Here.{Here}
+use Rattle.ss_machine_instructions.specs.declared.state.State.{State}
+use Rattle.ss_machine_instructions.specs.Doing.{Compiled, Ready, NoTick, Comes, Delivers, as_value}
+use Rattle.ss_machine_instructions.specs.Ways.{faulted, faulted_by, on_unless}
+use Rattle.ss_machine_instructions.specs.Worldly.{Given, Settles, IsOwner, IsRuled, Files, Removes, Takes, one_of, member_answer}
+use Rattle.ss_machine_instructions.proofs.Placing.{site, stands, suits, small, deep_at, deep_here, calm}
+use Rattle.ss_machine_instructions.proofs.Delivering.{delivers, deliver_is, number_right}
+use Rattle.ss_machine_instructions.proofs.Asking.{owner_is, set_there}
+use Rattle.ss_machine_instructions.proofs.Programs.{ruled_in}
+use Rattle.ss_machine_instructions.proofs.Settling.{fine_right, fine_is, store_is, layout_seen, disciplines_seen, scene_holds, is_told, settles, fails_on}
+
+-- ## A member is looked at first
+
+module _ (set : ℕ) (n : ℤ) (s : Store) (t : SetLayout) (there : set_at set s ≡ Some t) where
+  -- an operation that has the fault of its member itself
+  looked : (go : ℤ → OkOr Value Trouble) → ((kind : FaultKind) → joiner s.scene.heap set n ≡ Err kind → go n ≡ Err (Fails kind)) → if_ok (member set (Whole n) s) go ≡ go n
+  looked go no =
+      ap (λ so. if_ok (where_fit (is_some so) (turned (λ _. n) (due (joiner s.scene.heap set n)))) go) there
+      ∙ by (joiner s.scene.heap set n) refl
+    where
+      by : (j : OkOr ℕ FaultKind) → joiner s.scene.heap set n ≡ j → if_ok (turned (λ _. n) (due j)) go ≡ go n
+      by (Ok k) q = refl
+      by (Err kind) q = sym (no kind q)
+
+  ones : (r : OkOr (Option ℤ) FaultKind) → turned (λ o. Whole (is_one o)) (due r) ≡ turned Whole (due (one_of r))
+  ones (Ok o) = refl
+  ones (Err kind) = refl
+
+  member_is : (query : MemberQuery) → of_member query set (Whole n) s ≡ turned Whole (due (member_answer query s.scene.heap set n))
+  member_is Predecessor =
+      looked (λ n. turned Whole (due (previous_in s.scene.heap set n)))
+      (λ kind q. ap (λ j. turned Whole (due (and_then {B = ℤ} j (λ k. Ok (pos (precursor 0 k (companions s.scene.heap.lists set k))))))) q)
+  member_is Successor =
+      looked (λ n. turned Whole (due (next_in s.scene.heap set n)))
+      (λ kind q. ap (λ j. turned Whole (due (and_then {B = ℤ} j (λ k. Ok (pos (follower k (companions s.scene.heap.lists set k))))))) q)
+  member_is Membership =
+      looked (λ n. turned (λ o. Whole (is_one o)) (due (owner_of_member s.scene.heap set n)))
+      (λ kind q. ap (λ j. turned (λ o. Whole (is_one o)) (due (and_then {B = Option ℤ} j (λ k. Ok (as_number (owner_of s.scene.heap.lists set k)))))) q)
+      ∙ ones (owner_of_member s.scene.heap set n)
+
+-- ## Owners
+
+-- what a bearer refers to is an owner, as the program has it
+owner_ok : (p : Program) (typed : WellTyped p) (ms : List Mode) (set : ℕ) (x : Bearer) (o : Option Value) (z : ℤ) → OwnerFits p set x → Refers x o z → OwnerOk p typed ms set o
+owner_ok p typed ms set None o z fits refers = subst (λ o. OwnerOk p typed ms set o) (sym refers.0) fits
+owner_ok p typed ms set (Some x) o z fits refers = subst (λ o. OwnerOk p typed ms set o) (sym refers) (fits, refl)
+
+module _ (w : Compiled) (c : Core) (here : Here) (s : State) (run : Running) (r : Ready w c here s run) where
+  abbrev SuitsHere : Instruction → Type 0
+  SuitsHere x = Suits w.program w.code c.place r.placed.locals r.placed.cells x
+
+  abbrev Low : ℕ
+  Low = here.frame + length c.store.locals
+
+  layout_here : c.store.scene.heap.layout ≡ w.program.layout
+  layout_here = r.fits.store.sound.scene.layout
+
+  heap_here : c.store.scene.heap ≡ s.scene.heap
+  heap_here = ap (λ (x : Scene). x.heap) r.holds.scene
+
+  -- the number that is read is that of the owner, as the machine's scene has it
+  is_owner : (set : ℕ) (x : Bearer) (o : Option Value) (z : ℤ) → OwnerFits w.program set x → Refers x o z → IsOwner s.scene set o z
+  is_owner set x o z fits refers =
+      let t = set_there w.program set x fits in
+      let there : slice_get s.scene.heap.layout.sets set ≡ Some t.0 = ap (λ l. slice_get l.sets set) (layout_seen w c here s run r) ∙ t.1 in
+      let known : set_at set c.store ≡ Some t.0 = ap (λ l. slice_get l.sets set) layout_here ∙ t.1 in
+      ap (λ so. owner_as (owner_in so) o) there
+      ∙ sym (ap (λ so. owner_by_layout so o) known)
+      ∙ owner_is w.program set x o z c.store layout_here fits refers
+
+  pub ruled_here : (set : ℕ) (x : Bearer) → OwnerFits w.program set x → IsRuled s.scene set
+  ruled_here set x fits =
+      let t = set_there w.program set x fits in
+      ruled_in w.program r.compiled.typed s.scene set t.0 t.1 (disciplines_seen w c here s run r) (layout_seen w c here s run r)
+
+  set_seen : (set : ℕ) (x : Bearer) → OwnerFits w.program set x → set < length s.scene.heap.layout.sets
+  set_seen set x fits =
+      let t = set_there w.program set x fits in
+      slice_get_within s.scene.heap.layout.sets set t.0 (ap (λ l. slice_get l.sets set) (layout_seen w c here s run r) ∙ t.1)
+
+  bearer_shorter : (x : Bearer) (rest : List Mode) → GivesBearer (scope_of w.program w.code r.placed.locals) x r.placed.cells rest → length rest ≤ w.run.depth
+  bearer_shorter None rest g = let le = deep_here w c here s run r in omega (arith, ap length g, le)
+  bearer_shorter (Some x) rest g =
+      shorter (site w c here s run r) (stands w c here s run r) x Integer r.placed.cells rest w.run.depth g (deep_here w c here s run r)
+
+  -- ## F., L. and N. of a set
+
+  abbrev pub AsksSet : SetQuery → (set : ℕ) → (owner to : Address) → Type 0
+  AsksSet query set owner to = Of w.code w.run.constants r.placed owner (λ o. To w.code w.run.constants r.placed to (λ t. Is w.code w.run.constants r.placed (i.OfSet query set o t)))
+
+  pub asks_set_in : (query : SetQuery) (set : ℕ) (owner to : Address) → AsksSet query set owner to → (place_at here.frame owner < length s.rows.numbers) × (set < length s.scene.heap.layout.sets)
+  asks_set_in query set owner to z =
+      let y = subst SuitsHere z.2.2 (suits w c here s run r) in (
+        bearer_within (site w c here s run r) (stands w c here s run r) z.0 r.placed.cells y.1.0 owner y.1.1 z.1 (deep_here w c here s run r),
+        set_seen set z.0 y.0,
+      )
+
+  pub asks_set : (query : SetQuery) (set : ℕ) (owner to : Address) (number : ℤ) (answer : OkOr ℤ FaultKind) → AsksSet query set owner to → slice_get s.rows.numbers (place_at here.frame owner) ≡ Some number → answer ≡ set_answer query s.scene.heap set number → Delivers w c r.placed.line (act w.code r.placed.line r.placed.instruction c) here s to (as_value answer)
+  asks_set query set owner to number answer z at e =
+      let is = z.2.2 in
+      let y = subst SuitsHere is (suits w c here s run r) in
+      let b = reads_bearer (site w c here s run r) (stands w c here s run r) z.0 r.placed.cells y.1.0 owner c.cells number y.1.1 z.1 r.holds.held.cells r.fits.cells at in
+      let who = owner_is w.program set z.0 b.value number c.store layout_here y.0 b.refers in
+      let target = z.2.0 in
+      let l = r.placed.line in
+      delivers w c here s run r (as_value answer) to target Integer y.1.0 y.1.2.0 b.below
+      (ap (λ x. act w.code l x c) is
+      ∙ b.is (λ o below. deliver l target (of_set query set o c.store) below c)
+      ∙ ap (λ q. deliver l target (if_ok q (λ n. turned Whole (due (set_answer query c.store.scene.heap set n)))) b.below c) who
+      ∙ ap (λ h. deliver l target (turned Whole (due (set_answer query h set number))) b.below c) heap_here
+      ∙ ap (λ a. deliver l target (turned Whole (due a)) b.below c) (sym e)
+      ∙ deliver_is l target answer b.below c)
+      y.1.2.1 z.2.1 (deep_at w c here s run r (c.place + 1) r.placed.locals y.1.2.0 y.1.2.2) (number_right answer) b.modes b.cells
+
+  -- ## P., S. and M. of a member
+
+  abbrev pub AsksMember : MemberQuery → (set : ℕ) → (member to : Address) → Type 0
+  AsksMember query set member to = From w.code w.run.constants r.placed member (λ y. To w.code w.run.constants r.placed to (λ t. Is w.code w.run.constants r.placed (i.OfMember query set y t)))
+
+  pub asks_member_in : (query : MemberQuery) (set : ℕ) (member to : Address) → AsksMember query set member to → (place_at here.frame member < length s.rows.numbers) × (set < length s.scene.heap.layout.sets)
+  asks_member_in query set member to z =
+      let y = subst SuitsHere z.2.2 (suits w c here s run r) in (
+        read_within (site w c here s run r) (stands w c here s run r) z.0 Integer r.placed.cells y.1.0 member y.1.1 z.1 (deep_here w c here s run r),
+        slice_get_within s.scene.heap.layout.sets set y.0.0 (ap (λ l. slice_get l.sets set) (layout_seen w c here s run r) ∙ y.0.1),
+      )
+
+  pub asks_member : (query : MemberQuery) (set : ℕ) (member to : Address) (number : ℤ) (answer : OkOr ℤ FaultKind) → AsksMember query set member to → slice_get s.rows.numbers (place_at here.frame member) ≡ Some number → answer ≡ member_answer query s.scene.heap set number → Delivers w c r.placed.line (act w.code r.placed.line r.placed.instruction c) here s to (as_value answer)
+  asks_member query set member to number answer z at e =
+      let is = z.2.2 in
+      let y = subst SuitsHere is (suits w c here s run r) in
+      let one = reads (site w c here s run r) (stands w c here s run r) z.0 Integer r.placed.cells y.1.0 member c.cells (Whole number) y.1.1 z.1 r.holds.held.cells r.fits.cells (only_number s.rows (place_at here.frame member) number at) in
+      let known : set_at set c.store ≡ Some y.0.0 = ap (λ l. slice_get l.sets set) layout_here ∙ y.0.1 in
+      let target = z.2.0 in
+      let l = r.placed.line in
+      delivers w c here s run r (as_value answer) to target Integer y.1.0 y.1.2.0 one.below
+      (ap (λ x. act w.code l x c) is
+      ∙ one.is (λ x below. deliver l target (of_member query set x c.store) below c)
+      ∙ ap (λ q. deliver l target q one.below c) (member_is set number c.store y.0.0 known query)
+      ∙ ap (λ h. deliver l target (turned Whole (due (member_answer query h set number))) one.below c) heap_here
+      ∙ ap (λ a. deliver l target (turned Whole (due a)) one.below c) (sym e)
+      ∙ deliver_is l target answer one.below c)
+      y.1.2.1 z.2.1 (deep_at w c here s run r (c.place + 1) r.placed.locals y.1.2.0 y.1.2.2) (number_right answer) one.modes one.cells
+
+  -- ## Where a member is filed
+
+  -- the position that a filing names, once it is read
+  record Positioned (filing : Filing) (at : Position) (cells : List Value) (rest : List Mode) : Type 0 where
+    below : List Value
+    is : (go : Position → List Value → Moved) → with_position filing c.store cells go ≡ go at below
+    cells_at : CellsAt s.rows Low below
+    modes : Hold below rest
+
+  abbrev Shortens : Filing → Type 0
+  Shortens filing = (over above : List Mode) → GivesPosition (scope_of w.program w.code r.placed.locals) filing over above → length over ≤ w.run.depth → length above ≤ w.run.depth
+
+  abbrev Positions : Filing → Position → Type 0
+  Positions filing at = (over above : List Mode) (cells : List Value) → GivesPosition (scope_of w.program w.code r.placed.locals) filing over above → CellsAt s.rows Low cells → Hold cells over → Positioned filing at cells above
+
+  first_shortens : Shortens First
+  first_shortens over above g le = omega (arith, ap length g, le)
+
+  last_shortens : Shortens Last
+  last_shortens over above g le = omega (arith, ap length g, le)
+
+  rank_shortens : Shortens Ranked
+  rank_shortens over above g le = omega (arith, ap length g, le)
+
+  first_positions : Positions First Foremost
+  first_positions over above cells g lie q = record { below = cells; is = λ go. refl; cells_at = lie; modes = q ∙ sym g }
+
+  last_positions : Positions Last Hindmost
+  last_positions over above cells g lie q = record { below = cells; is = λ go. refl; cells_at = lie; modes = q ∙ sym g }
+
+  rank_positions : Positions Ranked ByRule
+  rank_positions over above cells g lie q = record { below = cells; is = λ go. refl; cells_at = lie; modes = q ∙ sym g }
+
+  before_shortens : (y : Operand) → Shortens (Before y)
+  before_shortens y over above g le = shorter (site w c here s run r) (stands w c here s run r) y Integer over above w.run.depth g le
+
+  after_shortens : (y : Operand) → Shortens (After y)
+  after_shortens y over above g le = shorter (site w c here s run r) (stands w c here s run r) y Integer over above w.run.depth g le
+
+  before_positions : (y : Operand) (beside : Address) (b : ℤ) → OperandAt w.code w.run.constants r.placed y beside → slice_get s.rows.numbers (place_at here.frame beside) ≡ Some b → Positions (Before y) (JustBefore (Whole b))
+  before_positions y beside b at e over above cells g lie q =
+      let x = reads (site w c here s run r) (stands w c here s run r) y Integer over above beside cells (Whole b) g at lie q (only_number s.rows (place_at here.frame beside) b e) in
+      record { below = x.below; is = λ go. x.is (λ v below. go (JustBefore v) below); cells_at = x.cells; modes = x.modes }
+
+  after_positions : (y : Operand) (beside : Address) (b : ℤ) → OperandAt w.code w.run.constants r.placed y beside → slice_get s.rows.numbers (place_at here.frame beside) ≡ Some b → Positions (After y) (JustAfter (Whole b))
+  after_positions y beside b at e over above cells g lie q =
+      let x = reads (site w c here s run r) (stands w c here s run r) y Integer over above beside cells (Whole b) g at lie q (only_number s.rows (place_at here.frame beside) b e) in
+      record { below = x.below; is = λ go. x.is (λ v below. go (JustAfter v) below); cells_at = x.cells; modes = x.modes }
+
+  -- ## Filing
+
+  -- the places that are read, and the set, are there
+  pub record FileWithin (member owner : Address) (set : ℕ) : Type 0 where
+    pub member_place : place_at here.frame member < length s.rows.numbers
+    pub owner_place : place_at here.frame owner < length s.rows.numbers
+    pub set_place : set < length s.scene.heap.layout.sets
+    pub ruled_set : IsRuled s.scene set
+
+  file_within : (filing : Filing) (set : ℕ) (y : Operand) (o : Bearer) (member owner : Address) → r.placed.instruction ≡ i.File filing set y o → OperandAt w.code w.run.constants r.placed y member → BearerAt w.code w.run.constants r.placed o owner → Shortens filing → FileWithin member owner set
+  file_within filing set y o member owner is at_y at_o fewer =
+      let t = site w c here s run r in
+      let st = stands w c here s run r in
+      let z = subst SuitsHere is (suits w c here s run r) in
+      let over = bearer_shorter o z.1.0 z.1.1 in
+      record {
+        member_place = read_within t st y Integer z.1.2.0 z.1.2.2.0 member z.1.2.2.1 at_y (fewer z.1.0 z.1.2.0 z.1.2.1 over);
+        owner_place = bearer_within t st o r.placed.cells z.1.0 owner z.1.1 at_o (deep_here w c here s run r);
+        set_place = set_seen set o z.0;
+        ruled_set = ruled_here set o z.0;
+      }
+
+  files_by : (filing : Filing) (at : Position) (set : ℕ) (y : Operand) (o : Bearer) (member owner : Address) (n m : ℤ) (notes : Bool) (e : Seen) (answer : OkOr (Unit {0}) FaultKind) (new : State) (result : Option Here) → r.placed.instruction ≡ i.File filing set y o → OperandAt w.code w.run.constants r.placed y member → BearerAt w.code w.run.constants r.placed o owner → Positions filing at → FilingOk w.program r.compiled.typed r.placed.locals at → (notes ≡ false → watch w.code.setting.statistics (OfCount set) ≡ false) → slice_get s.rows.numbers (place_at here.frame member) ≡ Some n → slice_get s.rows.numbers (place_at here.frame owner) ≡ Some m → Files at set notes s.scene e answer m n → new ≡ faulted_by answer (record s { scene = e }) → result ≡ on_unless here answer → Comes (is_due r.placed.instruction) w r.placed.line (act w.code r.placed.line r.placed.instruction c) s new result
+  files_by filing at set y o member owner n m notes e answer new result is at_y at_o position good told at_member at_owner filed same way =
+      let t = site w c here s run r in
+      let st = stands w c here s run r in
+      let l = r.placed.line in
+      let z = subst SuitsHere is (suits w c here s run r) in
+      let b = reads_bearer t st o r.placed.cells z.1.0 owner c.cells m z.1.1 at_o r.holds.held.cells r.fits.cells at_owner in
+      let f = position z.1.0 z.1.2.0 b.below z.1.2.1 b.cells b.modes in
+      let x = reads t st y Integer z.1.2.0 z.1.2.2.0 member f.below (Whole n) z.1.2.2.1 at_y f.cells_at f.modes (only_number s.rows (place_at here.frame member) n at_member) in
+      let op : Store → OkOr Store Trouble = filed_in at set (Whole n) b.value in
+      let right : IsRight (op c.store) = fine_right (Fits w.program r.placed.locals) (op c.store) (filed_in_fine w.program r.compiled.typed r.placed.locals at set (Whole n) b.value c.store good refl (owner_ok w.program r.compiled.typed r.placed.locals set o b.value m z.0 b.refers) r.fits.store) in
+      let acts : act w.code l r.placed.instruction c ≡ did l (op c.store) (λ t. onward x.below c t) =
+          ap (λ v. act w.code l v c) is
+          ∙ b.is (λ o over. with_position filing c.store over (λ f above. with_value y c.store above (λ x below. did l (filed_in f set x o c.store) (λ t. onward below c t))))
+          ∙ f.is (λ f above. with_value y c.store above (λ x below. did l (filed_in f set x b.value c.store) (λ t. onward below c t)))
+          ∙ x.is (λ x below. did l (filed_in at set x b.value c.store) (λ t. onward below c t)) in
+      let left : Settles c l (act w.code l r.placed.instruction c) here s op = record { below = x.below; acts = acts; right = right; at = x.cells } in
+      settles w c here s run r op e answer new result (ap is_due is) left
+      (filed b.value (is_owner set o b.value m z.0 b.refers) (is_told w c here s run r notes (OfCount set) told)) same way
+
+  abbrev pub IsQuiet : (notes : Bool) → (set : ℕ) → Type 0
+  IsQuiet notes set = notes ≡ false → watch w.code.setting.statistics (OfCount set) ≡ false
+
+  abbrev pub FilesBy : Filing → (set : ℕ) → (member owner : Address) → Type 0
+  FilesBy filing set member owner = From w.code w.run.constants r.placed member (λ y. Of w.code w.run.constants r.placed owner (λ o. Is w.code w.run.constants r.placed (i.File filing set y o)))
+
+  pub files_first_in : (set : ℕ) (member owner : Address) → FilesBy First set member owner → FileWithin member owner set
+  files_first_in set member owner z = file_within First set z.0 z.2.0 member owner z.2.2 z.1 z.2.1 first_shortens
+
+  pub files_last_in : (set : ℕ) (member owner : Address) → FilesBy Last set member owner → FileWithin member owner set
+  files_last_in set member owner z = file_within Last set z.0 z.2.0 member owner z.2.2 z.1 z.2.1 last_shortens
+
+  pub files_ranked_in : (set : ℕ) (member owner : Address) → FilesBy Ranked set member owner → FileWithin member owner set
+  files_ranked_in set member owner z = file_within Ranked set z.0 z.2.0 member owner z.2.2 z.1 z.2.1 rank_shortens
+
+  -- what the machine did, for an operation that a function carried out
+  abbrev IsDone : (e : Seen) → OkOr (Unit {0}) FaultKind → (new : State) → Option Here → Type 0
+  IsDone e answer new result = (new ≡ faulted_by answer (record s { scene = e })) × (result ≡ on_unless here answer)
+
+  pub files_first : (set : ℕ) (member owner : Address) (n m : ℤ) (notes : Bool) (e : Seen) (answer : OkOr (Unit {0}) FaultKind) (new : State) (result : Option Here) → IsQuiet notes set → FilesBy First set member owner → slice_get s.rows.numbers (place_at here.frame member) ≡ Some n → slice_get s.rows.numbers (place_at here.frame owner) ≡ Some m → Files Foremost set notes s.scene e answer m n → IsDone e answer new result → Comes (is_due r.placed.instruction) w r.placed.line (act w.code r.placed.line r.placed.instruction c) s new result
+  files_first set member owner n m notes e answer new result told z at_member at_owner filed done =
+      files_by First Foremost set z.0 z.2.0 member owner n m notes e answer new result z.2.2 z.1 z.2.1 first_positions tt told at_member at_owner filed done.0 done.1
+
+  pub files_last : (set : ℕ) (member owner : Address) (n m : ℤ) (notes : Bool) (e : Seen) (answer : OkOr (Unit {0}) FaultKind) (new : State) (result : Option Here) → IsQuiet notes set → FilesBy Last set member owner → slice_get s.rows.numbers (place_at here.frame member) ≡ Some n → slice_get s.rows.numbers (place_at here.frame owner) ≡ Some m → Files Hindmost set notes s.scene e answer m n → IsDone e answer new result → Comes (is_due r.placed.instruction) w r.placed.line (act w.code r.placed.line r.placed.instruction c) s new result
+  files_last set member owner n m notes e answer new result told z at_member at_owner filed done =
+      files_by Last Hindmost set z.0 z.2.0 member owner n m notes e answer new result z.2.2 z.1 z.2.1 last_positions tt told at_member at_owner filed done.0 done.1
+
+  pub files_ranked : (set : ℕ) (member owner : Address) (n m : ℤ) (notes : Bool) (e : Seen) (answer : OkOr (Unit {0}) FaultKind) (new : State) (result : Option Here) → IsQuiet notes set → FilesBy Ranked set member owner → slice_get s.rows.numbers (place_at here.frame member) ≡ Some n → slice_get s.rows.numbers (place_at here.frame owner) ≡ Some m → Files ByRule set notes s.scene e answer m n → IsDone e answer new result → Comes (is_due r.placed.instruction) w r.placed.line (act w.code r.placed.line r.placed.instruction c) s new result
+  files_ranked set member owner n m notes e answer new result told z at_member at_owner filed done =
+      files_by Ranked ByRule set z.0 z.2.0 member owner n m notes e answer new result z.2.2 z.1 z.2.1 rank_positions tt told at_member at_owner filed done.0 done.1
+
+  -- ## Filing beside another member
+
+  abbrev pub FilesBeside : (Operand → Filing) → (set : ℕ) → (beside member owner : Address) → Type 0
+  FilesBeside filing set beside member owner = From w.code w.run.constants r.placed beside (λ y. FilesBy (filing y) set member owner)
+
+  -- the place of the other member is there as well
+  beside_within : (filing : Filing) (set : ℕ) (k y : Operand) (o : Bearer) (beside : Address) → r.placed.instruction ≡ i.File filing set y o → OperandAt w.code w.run.constants r.placed k beside → ((over above : List Mode) → GivesPosition (scope_of w.program w.code r.placed.locals) filing over above → Gives (scope_of w.program w.code r.placed.locals) k Integer over above) → place_at here.frame beside < length s.rows.numbers
+  beside_within filing set k y o beside is at_k gives =
+      let z = subst SuitsHere is (suits w c here s run r) in
+      read_within (site w c here s run r) (stands w c here s run r) k Integer z.1.0 z.1.2.0 beside (gives z.1.0 z.1.2.0 z.1.2.1) at_k (bearer_shorter o z.1.0 z.1.1)
+
+  pub files_before_in : (set : ℕ) (beside member owner : Address) → FilesBeside Before set beside member owner → (place_at here.frame beside < length s.rows.numbers) × FileWithin member owner set
+  files_before_in set beside member owner z = (
+    beside_within (Before z.0) set z.0 z.2.0 z.2.2.0 beside z.2.2.2 z.1 (λ over above g. g),
+    file_within (Before z.0) set z.2.0 z.2.2.0 member owner z.2.2.2 z.2.1 z.2.2.1 (before_shortens z.0),
+  )
+
+  pub files_after_in : (set : ℕ) (beside member owner : Address) → FilesBeside After set beside member owner → (place_at here.frame beside < length s.rows.numbers) × FileWithin member owner set
+  files_after_in set beside member owner z = (
+    beside_within (After z.0) set z.0 z.2.0 z.2.2.0 beside z.2.2.2 z.1 (λ over above g. g),
+    file_within (After z.0) set z.2.0 z.2.2.0 member owner z.2.2.2 z.2.1 z.2.2.1 (after_shortens z.0),
+  )
+
+  pub files_before : (set : ℕ) (beside member owner : Address) (k n m : ℤ) (notes : Bool) (e : Seen) (answer : OkOr (Unit {0}) FaultKind) (new : State) (result : Option Here) → IsQuiet notes set → FilesBeside Before set beside member owner → slice_get s.rows.numbers (place_at here.frame beside) ≡ Some k → slice_get s.rows.numbers (place_at here.frame member) ≡ Some n → slice_get s.rows.numbers (place_at here.frame owner) ≡ Some m → Files (JustBefore (Whole k)) set notes s.scene e answer m n → IsDone e answer new result → Comes (is_due r.placed.instruction) w r.placed.line (act w.code r.placed.line r.placed.instruction c) s new result
+  files_before set beside member owner k n m notes e answer new result told z at_beside at_member at_owner filed done =
+      files_by (Before z.0) (JustBefore (Whole k)) set z.2.0 z.2.2.0 member owner n m notes e answer new result z.2.2.2 z.2.1 z.2.2.1 (before_positions z.0 beside k z.1 at_beside) refl told at_member at_owner filed done.0 done.1
+
+  pub files_after : (set : ℕ) (beside member owner : Address) (k n m : ℤ) (notes : Bool) (e : Seen) (answer : OkOr (Unit {0}) FaultKind) (new : State) (result : Option Here) → IsQuiet notes set → FilesBeside After set beside member owner → slice_get s.rows.numbers (place_at here.frame beside) ≡ Some k → slice_get s.rows.numbers (place_at here.frame member) ≡ Some n → slice_get s.rows.numbers (place_at here.frame owner) ≡ Some m → Files (JustAfter (Whole k)) set notes s.scene e answer m n → IsDone e answer new result → Comes (is_due r.placed.instruction) w r.placed.line (act w.code r.placed.line r.placed.instruction c) s new result
+  files_after set beside member owner k n m notes e answer new result told z at_beside at_member at_owner filed done =
+      files_by (After z.0) (JustAfter (Whole k)) set z.2.0 z.2.2.0 member owner n m notes e answer new result z.2.2.2 z.2.1 z.2.2.1 (after_positions z.0 beside k z.1 at_beside) refl told at_member at_owner filed done.0 done.1
+
+  -- ## Removing
+
+  abbrev pub RemovesHere : (set : ℕ) → (member owner : Address) → Type 0
+  RemovesHere set member owner = From w.code w.run.constants r.placed member (λ y. Of w.code w.run.constants r.placed owner (λ o. Is w.code w.run.constants r.placed (i.Remove set y o)))
+
+  pub removes_in : (set : ℕ) (member owner : Address) → RemovesHere set member owner → FileWithin member owner set
+  removes_in set member owner z =
+      let t = site w c here s run r in
+      let st = stands w c here s run r in
+      let y = subst SuitsHere z.2.2 (suits w c here s run r) in
+      record {
+        member_place = read_within t st z.0 Integer y.1.0 y.1.2.0 member y.1.2.1 z.1 (bearer_shorter z.2.0 y.1.0 y.1.1);
+        owner_place = bearer_within t st z.2.0 r.placed.cells y.1.0 owner y.1.1 z.2.1 (deep_here w c here s run r);
+        set_place = set_seen set z.2.0 y.0;
+        ruled_set = ruled_here set z.2.0 y.0;
+      }
+
+  pub removes : (set : ℕ) (member owner : Address) (n m : ℤ) (notes : Bool) (e : Seen) (answer : OkOr (Unit {0}) FaultKind) (new : State) (result : Option Here) → IsQuiet notes set → RemovesHere set member owner → slice_get s.rows.numbers (place_at here.frame member) ≡ Some n → slice_get s.rows.numbers (place_at here.frame owner) ≡ Some m → Removes set notes s.scene e answer m n → IsDone e answer new result → Comes (is_due r.placed.instruction) w r.placed.line (act w.code r.placed.line r.placed.instruction c) s new result
+  removes set member owner n m notes e answer new result told z at_member at_owner removed done =
+      let t = site w c here s run r in
+      let st = stands w c here s run r in
+      let l = r.placed.line in
+      let is = z.2.2 in
+      let y = subst SuitsHere is (suits w c here s run r) in
+      let b = reads_bearer t st z.2.0 r.placed.cells y.1.0 owner c.cells m y.1.1 z.2.1 r.holds.held.cells r.fits.cells at_owner in
+      let x = reads t st z.0 Integer y.1.0 y.1.2.0 member b.below (Whole n) y.1.2.1 z.1 b.cells b.modes (only_number s.rows (place_at here.frame member) n at_member) in
+      let op : Store → OkOr Store Trouble = removed_from set (Whole n) b.value in
+      let right : IsRight (op c.store) = fine_right (Fits w.program r.placed.locals) (op c.store) (removed_from_fine w.program r.compiled.typed r.placed.locals set (Whole n) b.value c.store refl (owner_ok w.program r.compiled.typed r.placed.locals set z.2.0 b.value m y.0 b.refers) r.fits.store) in
+      let acts : act w.code l r.placed.instruction c ≡ did l (op c.store) (λ t. onward x.below c t) =
+          ap (λ v. act w.code l v c) is
+          ∙ b.is (λ o above. with_value z.0 c.store above (λ x below. did l (removed_from set x o c.store) (λ t. onward below c t)))
+          ∙ x.is (λ x below. did l (removed_from set x b.value c.store) (λ t. onward below c t)) in
+      let left : Settles c l (act w.code l r.placed.instruction c) here s op = record { below = x.below; acts = acts; right = right; at = x.cells } in
+      settles w c here s run r op e answer new result (ap is_due is) left
+      (removed b.value (is_owner set z.2.0 b.value m y.0 b.refers) (is_told w c here s run r notes (OfCount set) told)) done.0 done.1
+
+  -- ## The first or the last is removed
+
+  abbrev pub TakesHere : End → (set : ℕ) → (owner to : Address) → Type 0
+  TakesHere end set owner to = Of w.code w.run.constants r.placed owner (λ o. To w.code w.run.constants r.placed to (λ t. Is w.code w.run.constants r.placed (i.RemoveEnd end set o t)))
+
+  pub takes_in : (end : End) (set : ℕ) (owner to : Address) → TakesHere end set owner to → (place_at here.frame owner < length s.rows.numbers) × (set < length s.scene.heap.layout.sets)
+  takes_in end set owner to z =
+      let y = subst SuitsHere z.2.2 (suits w c here s run r) in (
+        bearer_within (site w c here s run r) (stands w c here s run r) z.0 r.placed.cells y.1.0 owner y.1.1 z.1 (deep_here w c here s run r),
+        set_seen set z.0 y.0,
+      )
+
+  -- a value and a store that fit
+  abbrev IsFitting : Value × Store → Type 0
+  IsFitting b = (mode_of b.0 ≡ Integer) × Fits w.program r.placed.locals b.1
+
+  -- the operation of the definition, with the owner that was read
+  record TakesAs (end : End) (set : ℕ) (rest : List Mode) (target : Target) (m : ℤ) : Type 0 where
+    of : Option Value
+    below : List Value
+    acts : act w.code r.placed.line r.placed.instruction c ≡ deliver_with r.placed.line target (removed_at end set of c.store) below c
+    refers : IsOwner s.scene set of m
+    fine : Fine IsFitting (removed_at end set of c.store)
+    cells_at : CellsAt s.rows Low below
+    modes : Hold below rest
+
+  takes_as : (end : End) (set : ℕ) (z : Bearer) (owner : Address) (target : Target) (rest : List Mode) (m : ℤ) → OwnerFits w.program set z → GivesBearer (scope_of w.program w.code r.placed.locals) z r.placed.cells rest → BearerAt w.code w.run.constants r.placed z owner → r.placed.instruction ≡ i.RemoveEnd end set z target → slice_get s.rows.numbers (place_at here.frame owner) ≡ Some m → TakesAs end set rest target m
+  takes_as end set z owner target rest m fits gives at_z is at_owner =
+      let b = reads_bearer (site w c here s run r) (stands w c here s run r) z r.placed.cells rest owner c.cells m gives at_z r.holds.held.cells r.fits.cells at_owner in
+      record {
+        of = b.value;
+        below = b.below;
+        acts = ap (λ v. act w.code r.placed.line v c) is ∙ b.is (λ o below. deliver_with r.placed.line target (removed_at end set o c.store) below c);
+        refers = is_owner set z b.value m fits b.refers;
+        fine = removed_at_fine w.program r.compiled.typed r.placed.locals end set b.value c.store (owner_ok w.program r.compiled.typed r.placed.locals set z b.value m fits b.refers) r.fits.store;
+        cells_at = b.cells;
+        modes = b.modes;
+      }
+
+  -- what the operation gives, by what the machine's did
+  given_is : (f : Store → OkOr (Value × Store) Trouble) (e : Seen) (x : ℤ) → IsRight (f c.store) → Given f s.scene e (Ok x) → f c.store ≡ Ok (Whole x, with_seen c.store e)
+  given_is f e x right d = ap f (store_is w c here s run r) ∙ d c.store (λ wrong. right (ap f (store_is w c here s run r) ∙ wrong))
+
+  given_not : (f : Store → OkOr (Value × Store) Trouble) (e : Seen) (kind : FaultKind) → IsRight (f c.store) → Given f s.scene e (Err kind) → f c.store ≡ Err (Fails kind)
+  given_not f e kind right d = ap f (store_is w c here s run r) ∙ d c.store (λ wrong. right (ap f (store_is w c here s run r) ∙ wrong))
+
+  pub takes_delivers : (end : End) (set : ℕ) (owner to : Address) (m x : ℤ) (notes : Bool) (e : Seen) → IsQuiet notes set → TakesHere end set owner to → slice_get s.rows.numbers (place_at here.frame owner) ≡ Some m → Takes end set notes s.scene e (Ok x) m → Delivers w c r.placed.line (act w.code r.placed.line r.placed.instruction c) here (record s { scene = e }) to (as_value (Ok x))
+  takes_delivers end set owner to m x notes e told z at_owner taken =
+      let is = z.2.2 in
+      let y = subst SuitsHere is (suits w c here s run r) in
+      let target = z.2.0 in
+      let a = takes_as end set z.0 owner target y.1.0 m y.0 y.1.1 z.1 is at_owner in
+      let right : IsRight (removed_at end set a.of c.store) = fine_right IsFitting (removed_at end set a.of c.store) a.fine in
+      let gives = given_is (removed_at end set a.of) e x right (taken a.of a.refers (is_told w c here s run r notes (OfCount set) told)) in
+      record {
+        compiled = r.compiled;
+        placed = r.placed;
+        store = with_seen c.store e;
+        cells = a.below;
+        target = target;
+        mode = Integer;
+        modes = y.1.0;
+        after = y.1.2.0;
+        small = small w c here s run r;
+        acts = a.acts ∙ ap (λ q. deliver_with r.placed.line target q a.below c) gives;
+        accepts = y.1.2.1;
+        to_at = z.2.1;
+        deep = deep_at w c here s run r (c.place + 1) r.placed.locals y.1.2.0 y.1.2.2;
+        right = refl;
+        hold = a.modes;
+        at = a.cells_at;
+        fits = (fine_is IsFitting (removed_at end set a.of c.store) (Whole x, with_seen c.store e) a.fine gives).1;
+        holds = scene_holds w c here s run r e;
+      }
+
+  -- the member is at its place
+  pub takes : (e : Seen) (new : State) (result : Option Here) → is_due r.placed.instruction ≡ false → NoTick w r.placed.line (act w.code r.placed.line r.placed.instruction c) (record s { scene = e }) new result → Comes (is_due r.placed.instruction) w r.placed.line (act w.code r.placed.line r.placed.instruction c) s new result
+  takes e new result calmly h = calm w c here s run r new result calmly (record { leads = h.leads; ticks = h.ticks; steps = h.steps })
+
+  -- or there is a fault
+  pub takes_not : (end : End) (set : ℕ) (owner to : Address) (m : ℤ) (kind : FaultKind) (notes : Bool) (e : Seen) (new : State) (result : Option Here) → IsQuiet notes set → TakesHere end set owner to → slice_get s.rows.numbers (place_at here.frame owner) ≡ Some m → Takes end set notes s.scene e (Err kind) m → new ≡ faulted kind (record s { scene = e }) → result ≡ None → Comes (is_due r.placed.instruction) w r.placed.line (act w.code r.placed.line r.placed.instruction c) s new result
+  takes_not end set owner to m kind notes e new result told z at_owner taken same none =
+      let is = z.2.2 in
+      let y = subst SuitsHere is (suits w c here s run r) in
+      let target = z.2.0 in
+      let a = takes_as end set z.0 owner target y.1.0 m y.0 y.1.1 z.1 is at_owner in
+      let right = fine_right IsFitting (removed_at end set a.of c.store) a.fine in
+      fails_on w c here s run r kind e new result (ap is_due is)
+      (a.acts ∙ ap (λ q. deliver_with r.placed.line target q a.below c) (given_not (removed_at end set a.of) e kind right (taken a.of a.refers (is_told w c here s run r notes (OfCount set) told))))
+      same none

@@ -1,0 +1,139 @@
+-- An operation of the world is done, and the machine goes on, or there is a fault.
+use Rattle.std.proofs.Common.{◌≡◌, ℕ, ◌+◌, ◌<◌, ◌^◌, Bool, false, List, length, Option, None, Ok, Err, refl, sym, ap, ◌∙◌, subst, arith}
+use Rattle.std.specs.Prelude.{Result as OkOr}
+use Rattle.ss_base.specs.declared.fault.FaultKind.{FaultKind}
+use Rattle.ss_base.specs.declared.value.Value.{Value}
+use Rattle.ss_program.specs.declared.sections.Statistic.{Statistic}
+use Rattle.ss_program.specs.declared.sections.Subject.{Subject}
+use Rattle.ss_meaning.specs.Values.{Trouble}
+use Rattle.ss_meaning.specs.Store.{Scene, Setting, Store}
+use Rattle.ss_meaning.proofs.Fine.{Fine}
+use Rattle.ss_code_instructions.specs.declared.instruction.Instruction.{Instruction as Running}
+use Rattle.ss_code_instructions.specs.Facts.{watch}
+use Rattle.ss_code_instructions.specs.States.{Core, To, Rest, Breaks, core_at, did, onward}
+use Rattle.ss_code_instructions.specs.Machine.{Code, act, is_due}
+use Rattle.ss_machine_frames.specs.Holding.{CellsAt, Held}
+use Rattle.ss_machine_frames.proofs.Writing.{cells_held}
+use Rattle.ss_machine_world.specs.Seen.{Seen, IsRight, Changes, with_seen}
+use Rattle.ss_machine_instructions.specs.declared.flow.Here.{Here}
+use Rattle.ss_machine_instructions.specs.declared.state.State.{State}
+use Rattle.ss_machine_instructions.specs.Doing.{Compiled, Holds, Ready, NoTick, Comes}
+use Rattle.ss_machine_instructions.specs.Ways.{on_at, on_unless, faulted, faulted_by}
+use Rattle.ss_machine_instructions.specs.Worldly.{Settled, Settles, IsTold}
+use Rattle.ss_machine_instructions.proofs.Placing.{site, stands, small, calm}
+use Rattle.ss_machine_instructions.proofs.Delivering.{faults}
+
+-- ## Operations that do not go wrong
+
+pub fine_right : {A : Type 0} (P : A → Type 0) (r : OkOr A Trouble) → Fine P r → IsRight r
+fine_right P r f = λ wrong. subst (λ q. Fine P q) wrong f
+
+pub fine_is : {A : Type 0} (P : A → Type 0) (r : OkOr A Trouble) (a : A) → Fine P r → r ≡ Ok a → P a
+fine_is P r a f e = subst (λ q. Fine P q) e f
+
+-- what changes what is seen, or has a fault and changes nothing, is settled
+pub changes_settle : (f : Store → OkOr Store Trouble) (old new : Seen) (r : OkOr (Unit {0}) FaultKind) → Changes f old new r → Settled f old new r
+changes_settle f old new (Ok u) d = d
+changes_settle f old new (Err kind) d = d.0
+
+module _ (w : Compiled) (c : Core) (here : Here) (s : State) (run : Running) (r : Ready w c here s run) where
+  -- ## The store of the definition has what is seen
+
+  pub store_is : c.store ≡ with_seen c.store s.scene
+  store_is = ap (λ (x : Scene). record c.store { scene = x }) r.holds.scene
+
+  pub layout_seen : s.scene.heap.layout ≡ w.program.layout
+  layout_seen = sym (ap (λ (x : Scene). x.heap.layout) r.holds.scene) ∙ r.fits.store.sound.scene.layout
+
+  pub setting_seen : c.store.scene.setting ≡ w.code.setting
+  setting_seen = r.fits.store.sound.scene.setting ∙ sym (ap (λ (code : Code). code.setting) r.compiled.code)
+
+  pub statistics_seen : s.scene.statistics ≡ w.code.setting.statistics
+  statistics_seen = sym (ap (λ (x : Scene). x.setting.statistics) r.holds.scene) ∙ ap (λ (x : Setting). x.statistics) setting_seen
+
+  pub disciplines_seen : s.scene.disciplines ≡ w.program.disciplines
+  disciplines_seen = sym (ap (λ (x : Scene). x.setting.disciplines) r.holds.scene) ∙ ap (λ (x : Setting). x.disciplines) r.fits.store.sound.scene.setting
+
+  pub notices_seen : c.store.scene.setting.notices ≡ s.scene.notices
+  notices_seen = ap (λ (x : Scene). x.setting.notices) r.holds.scene
+
+  -- what the running instruction does not note no statistic watches
+  pub is_told : (notes : Bool) (subject : Subject) → (notes ≡ false → watch w.code.setting.statistics subject ≡ false) → IsTold notes subject s.scene
+  is_told notes subject told none = ap (λ (ss : List Statistic). watch ss subject) statistics_seen ∙ told none
+
+  -- there is a next place
+  pub next_small : here.place + 1 < 2 ^ 64
+  next_small = let lt = small w c here s run r in omega (arith, lt)
+
+  -- ## What is held once more is seen
+
+  pub scene_held : (e : Seen) (place : ℕ) (cells : List Value) → CellsAt s.rows (here.frame + length c.store.locals) cells → Held w.run.constants w.run.depth here.frame s.rows s.frames (core_at place cells c.frames (with_seen c.store e))
+  scene_held e place cells at =
+      let h = cells_held (site w c here s run r) (stands w c here s run r) place cells at in
+      record {
+        globals = h.globals;
+        fixed = h.fixed;
+        locals = h.locals;
+        cells = h.cells;
+        open_calls = h.open_calls;
+        room = h.room;
+        small = h.small;
+      }
+
+  pub scene_holds : (e : Seen) → Holds w (record c { store = with_seen c.store e }) here (record s { scene = e })
+  scene_holds e =
+      let h = r.holds.held in
+      record {
+        place = r.holds.place;
+        held = record {
+          globals = h.globals;
+          fixed = h.fixed;
+          locals = h.locals;
+          cells = h.cells;
+          open_calls = h.open_calls;
+          room = h.room;
+          small = h.small;
+        };
+        scene = refl;
+        even = r.holds.even;
+        line = r.holds.line;
+      }
+
+  -- ## It goes on
+
+  pub went_on : (f : Store → OkOr Store Trouble) (e : Seen) (new : State) (result : Option Here) → is_due r.placed.instruction ≡ false → Settles c r.placed.line (act w.code r.placed.line r.placed.instruction c) here s f → f (with_seen c.store s.scene) ≡ Ok (with_seen c.store e) → new ≡ record s { scene = e } → result ≡ on_at here → Comes (is_due r.placed.instruction) w r.placed.line (act w.code r.placed.line r.placed.instruction c) s new result
+  went_on f e new result calmly z d same on =
+      let m = act w.code r.placed.line r.placed.instruction c in
+      let l = r.placed.line in
+      let s' : State = record s { scene = e } in
+      let there : Here = record { place = here.place + 1; frame = here.frame } in
+      let c' = core_at (c.place + 1) z.below c.frames (with_seen c.store e) in
+      let acts : m ≡ To c' = z.acts ∙ ap (λ q. did l q (λ t. onward z.below c t)) (ap f store_is ∙ d) in
+      let holds : Holds w c' there s' = record {
+        place = ap (λ p. p + 1) r.holds.place;
+        held = scene_held e (c.place + 1) z.below z.at;
+        scene = refl;
+        even = r.holds.even;
+        line = r.holds.line;
+      } in
+      let plain : NoTick w l m s s' (on_at here) = record { leads = (c', acts, holds); ticks = refl; steps = refl } in
+      calm w c here s run r new result calmly
+      (subst (λ o. NoTick w l m s new o) (sym on) (subst (λ n. NoTick w l m s n (on_at here)) (sym same) plain))
+
+  -- a fault of the definition, whatever the machine has done to what is seen
+  pub fails_on : (kind : FaultKind) (e : Seen) (new : State) (result : Option Here) → is_due r.placed.instruction ≡ false → act w.code r.placed.line r.placed.instruction c ≡ Rest (Breaks kind r.placed.line) → new ≡ faulted kind (record s { scene = e }) → result ≡ None → Comes (is_due r.placed.instruction) w r.placed.line (act w.code r.placed.line r.placed.instruction c) s new result
+  fails_on kind e new result calmly acts same none =
+      let m = act w.code r.placed.line r.placed.instruction c in
+      let l = r.placed.line in
+      let s' : State = record s { scene = e } in
+      let h : NoTick w l m s' new result = faults w l m s' new result kind r.holds.line acts same none in
+      calm w c here s run r new result calmly (record { leads = h.leads; ticks = h.ticks; steps = h.steps })
+
+  fails_by : (f : Store → OkOr Store Trouble) (e : Seen) (kind : FaultKind) → Settles c r.placed.line (act w.code r.placed.line r.placed.instruction c) here s f → Settled f s.scene e (Err kind) → act w.code r.placed.line r.placed.instruction c ≡ Rest (Breaks kind r.placed.line)
+  fails_by f e kind z d =
+      z.acts ∙ ap (λ q. did r.placed.line q (λ t. onward z.below c t)) (ap f store_is ∙ d c.store (λ wrong. z.right (ap f store_is ∙ wrong)))
+
+  -- by the answer
+  pub settles : (f : Store → OkOr Store Trouble) (e : Seen) (answer : OkOr (Unit {0}) FaultKind) (new : State) (result : Option Here) → is_due r.placed.instruction ≡ false → Settles c r.placed.line (act w.code r.placed.line r.placed.instruction c) here s f → Settled f s.scene e answer → new ≡ faulted_by answer (record s { scene = e }) → result ≡ on_unless here answer → Comes (is_due r.placed.instruction) w r.placed.line (act w.code r.placed.line r.placed.instruction c) s new result
+  settles f e (Ok u) new result calmly z d same way = went_on f e new result calmly z (d c.store (λ wrong. z.right (ap f store_is ∙ wrong))) same way
+  settles f e (Err kind) new result calmly z d same way = fails_on kind e new result calmly (fails_by f e kind z d) same way

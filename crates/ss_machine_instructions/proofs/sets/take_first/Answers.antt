@@ -1,0 +1,33 @@
+use Rattle.std.proofs.Common.{rules, ◌≡◌, ◌<◌, ℤ, length, refl, ap, sym, ◌∙◌, subst, to_z, of_z, w64}
+use Rattle.ss_base.specs.declared.layout.Layout.{Layout}
+use Rattle.ss_program.specs.declared.statement.End.TheVariants as ends
+use Rattle.ss_machine_world.specs.Seen.{Seen}
+use Rattle.ss_machine_world.proofs.Said.{said_still}
+use Rattle.ss_machine_world.proofs.Starting.{seen_of}
+use Rattle.ss_machine_instructions.specs.Worldly.{CountedOut, Takes}
+use Rattle.ss_machine_instructions.proofs.Filing.{within_there, end_taken}
+use Rattle.ss_machine_instructions.proofs.sets.take_first.Goals as goal
+
+pub invariant_of-scene : goal.invariant_of-scene
+invariant_of-scene c =
+    let i = c.scene.inside in
+    let ss = i.timeline.histories.statistics in
+    said_still i.population.layout c.remove_first-taken.new.self.layout i.notices.items ss ss i.classes.items c.remove_first-taken.ensures.layout refl c.scene.invariant
+
+pub counted_out-requires-clause-set : goal.counted_out-requires-clause-set
+counted_out-requires-clause-set c =
+    let layout = c.remove_first-taken.ensures.layout ∙ ap (λ (v : Seen). v.heap.layout) c.scene.view_is in
+    subst (λ (l : Layout). c.args.set < length l.sets) (sym layout) c.requires.set
+
+pub returns : goal.returns
+returns c =
+    let set = c.args.set in let m = c.args.owner in let notes = c.args.noted in
+    let i = c.scene.inside in let h = c.remove_first-taken.new.self in
+    let new = c.counted_out.new.scene in let q = c.remove_first-taken.result in let r = c.counted_out.result in
+    let e : Seen = seen_of i.disciplines.items i.notices.items i.population i.timeline in
+    let mid : Seen = seen_of i.disciplines.items i.notices.items h i.timeline in
+    let same : to_z w64 (of_z w64 m) ≡ m = search rules in
+    let there = within_there e.heap.layout.sets set (subst (λ (v : Seen). set < length v.heap.layout.sets) (sym c.scene.view_is) c.requires.set) in
+    let note = subst (λ (z : ℤ). CountedOut set z q notes mid new r) same c.counted_out.ensures in
+    subst (λ (old : Seen). Takes ends.First set notes old new r m) c.scene.view_is
+    (end_taken e set m mid new notes there ends.First q r refl (simp same at c.remove_first-taken.ensures.done) note)
