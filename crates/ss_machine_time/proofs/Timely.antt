@@ -104,6 +104,6 @@ module _ (t latest : ℤ) where
 pub none_next : (p : PendingList) → next p ≡ None → after_next p ≡ p
 none_next p e = by p.entries e
   where
-    by : (es : List PendingNotice) → option_map (λ (x : PendingNotice). (x.key.time, x.notice)) (least es) ≡ None → record p { entries = option_map_or (λ (x : PendingNotice). without_notice x.notice es) (least es) [] } ≡ record p { entries = es }
+    by : (es : List PendingNotice) → option_map {U = ℤ × ℤ} (λ (x : PendingNotice). (x.key.time, x.notice)) (least es) ≡ None → record p { entries = option_map_or (λ (x : PendingNotice). without_notice x.notice es) (least es) [] } ≡ record p { entries = es }
     by [] e = refl
     by (x ∷ xs) e = absurd cc

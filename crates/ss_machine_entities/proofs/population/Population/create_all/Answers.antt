@@ -10,4 +10,4 @@ invariant_of-self-in-Ok c =
 
 pub returns-in-Ok-clause-layout : goal.returns-in-Ok-clause-layout
 returns-in-Ok-clause-layout c =
-    made_layout c.self.inside.heap.state c.create_all.new.self.state c.args.class _ c.in-Ok.ensures.done ∙ ap (λ (h : State). h.layout) c.self.view_is
+    made_layout c.self.inside.heap.state c.create_all.new.self.state c.args.class (to_z w64 (of_z w64 c.args.count)) c.in-Ok.ensures.done ∙ ap (λ (h : State). h.layout) c.self.view_is
