@@ -20,7 +20,7 @@ pub mod Sifting
 pub mod Programs
 pub mod Settling
 pub mod Filing
-pub mod Sets
+pub mod Setwork
 pub mod Scheduling
 pub mod Giving
 pub mod Notices
