@@ -1,5 +1,5 @@
 -- From the error of each layer to the refusal of the text.
-use Rattle.std.proofs.Common.{◌≡◌, ◌≢◌, ℕ, ◌≤◌, ◌<◌, List, length, None, refl, arith}
+use Rattle.std.proofs.Common.{◌≡◌, ◌≢◌, ℕ, ◌≤◌, ◌<◌, List, length, None, refl, subst, arith}
 use Rattle.ss_lex.specs.declared.token.Token.{Token}
 use Rattle.ss_lex.specs.declared.error.LexError.{LexError}
 use Rattle.ss_lex.specs.declared.error.LexError.TheVariants as lexical
@@ -23,6 +23,7 @@ use Rattle.ss_code.specs.declared.error.CodeError.{CodeError}
 use Rattle.ss_code.specs.declared.error.CodeError.TheVariants as generating
 use Rattle.ss_code.specs.Limits.{instruction_limit, small_program}
 use Rattle.ss_code_instructions.specs.Translation.{code_of}
+use Rattle.ss_code_instructions.specs.Size.{code_size}
 use Rattle.ss_engine.specs.Refusals.{refusal_of_lexer, refusal_of_parser, refusal_of_tables, refusal_of_checker, refusal_of_generator}
 use Rattle.ss_engine.specs.Accepting.{IsTreeOf, IsProgramOf, IsRefusedWith}
 
@@ -69,6 +70,6 @@ checker_refused text tree r d checking.Memory h = tt
 larger : (n m : ℕ) → n ≤ m → (n ≤ small_program → ⊥) → small_program < m
 larger n m k h = omega (arith, k, h)
 
-pub generator_refused : (text : List ℕ) (p : Program) (m : IsProgramOf text p) → resolved.nodes p ≤ tree.nodes m.tree → (e : CodeError) → (resolved.nodes p ≤ small_program → e ≡ generating.CodeTooLong → ⊥) → (e ≡ generating.CodeTooLong → instruction_limit < length (code_of p).instructions) → IsRefusedWith text (refusal_of_generator e)
-generator_refused text p m k generating.CodeTooLong h l = record { program = p; meant = m; large = larger (resolved.nodes p) (tree.nodes m.tree) k (λ small. h small refl); long = l refl }
-generator_refused text p m k generating.Memory h l = tt
+pub generator_refused : (text : List ℕ) (p : Program) (m : IsProgramOf text p) → resolved.nodes p ≤ tree.nodes m.tree → (e : CodeError) → (resolved.nodes p ≤ small_program → e ≡ generating.CodeTooLong → ⊥) → (e ≡ generating.CodeTooLong → instruction_limit < length (code_of p).places) → length (code_of p).places ≡ code_size p → IsRefusedWith text (refusal_of_generator e)
+generator_refused text p m k generating.CodeTooLong h l size = record { program = p; meant = m; large = larger (resolved.nodes p) (tree.nodes m.tree) k (λ small. h small refl); long = subst (λ n. instruction_limit < n) size (l refl) }
+generator_refused text p m k generating.Memory h l size = tt

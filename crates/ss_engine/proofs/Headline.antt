@@ -3,33 +3,44 @@ use Rattle.std.proofs.Common.{◌≡◌, ◌≢◌, ℕ, suc, ◌+◌, ◌-◌, 
 use Rattle.std.proofs.KnownBytes.{Appends-nil, Consumes-nil}
 use Rattle.ss_input.specs.Blocks.{KnowsEnd}
 use Rattle.ss_input.specs.declared.source.Source.{Source}
-use Rattle.ss_input.specs.Inputs.{IsFresh, Finds, Reads, source_block, source_reader}
+use Rattle.ss_input.specs.Inputs.{IsFresh, Finds, source_block, source_reader}
 use Rattle.ss_program.specs.Program.{Program}
+use Rattle.ss_program.specs.WellTyped.{WellTyped}
 use Rattle.ss_meaning.specs.Meaning.{Ending, Ended as EndedThere, Fault as FaultThere, Paused as PausedThere, WentWrong, Run, meaning}
+use Rattle.ss_code.specs.Running.{Compiled as Generated, IsFor}
 use Rattle.ss_code_instructions.specs.States.{MachineState}
-use Rattle.ss_code_instructions.specs.Machine.{Code, Goes, Over, step}
-use Rattle.ss_code_instructions.specs.Running.{Underway, Ends, Behaves, result_at, result_of, start, steps, after_one_step as goes_on}
-use Rattle.ss_code_instructions.specs.Laws.{EndingsStay, Grows, OnTheWay, OneTickFewer, Pauses, Prefixes, StepsGoOn}
+use Rattle.ss_code_instructions.specs.Machine.{Code, Goes, step}
+use Rattle.ss_code_instructions.specs.Running.{Underway, Ends, Behaves, start, steps, after_one_step as goes_on}
+use Rattle.ss_code_instructions.specs.Translation.{code_of}
+use Rattle.ss_code_instructions.specs.Laws.{EndingsStay, Grows, HasShape, OnTheWay, OneTickFewer, Pauses, Prefixes, StepsGoOn}
+use Rattle.ss_machine_instructions.specs.Doing.{Compiled}
+use Rattle.ss_machine.specs.Situations.{Situation, IsOf, ForEach}
 use Rattle.ss_machine.specs.Stop.{Stop}
 use Rattle.ss_machine.specs.Stop.TheVariants.{Ended, Fault, Paused, Memory, Output, Input, Failed}
-use Rattle.ss_machine_instructions.specs.declared.working.Working.{Working}
-use Rattle.ss_machine_instructions.specs.Holding.{machine_state}
-use Rattle.ss_machine.specs.Runs.{Finishes, IsCut, IsCutAt, TookLast, Comes, Ran, does_read, does_write}
+use Rattle.ss_machine.specs.Start.{IsAtStart}
+use Rattle.ss_machine.specs.Runs.{Finishes, IsCut, TookLast, Comes, IsPausing, Ran, does_read, does_write}
 use Rattle.ss_engine.specs.Accepting.{IsProgramOf}
 use Rattle.ss_engine.specs.Headline.{IsMeaning, IsCutShort, Means, Gave, Simulated}
 use Rattle.ss_engine.specs.Laws.{OneProgram}
 use Rattle.ss_engine.proofs.Inputs.{fresh_gave, reads_find}
+use Rattle.ss_engine.proofs.Pieces.{Saying, EachSays, EachLed, finishing, cutting, cutting_at}
 use Rattle.ss_engine.proofs.Ticks.{pauses_with_fewer}
 
-result_is : (e : Ending) (m r : Run) → e ≢ WentWrong → result_at e m ≡ Ends r → m ≡ r
-result_is EndedThere m r right h = cc
-result_is (FaultThere kind line) m r right h = cc
-result_is PausedThere m r right h = cc
-result_is WentWrong m r right h = absurd (right refl)
+-- ## The code of a program, and its first state
 
--- a run of the machine is what a program means that does not go wrong
-of_result : (m r : Run) → m.ending ≢ WentWrong → result_of m ≡ Ends r → m ≡ r
-of_result m r right h = result_is m.ending m r right h
+-- a program and its code, as it is run
+abbrev pub compiled_of : Program → Generated → Compiled
+compiled_of p code = record { program = p; code = code_of p; run = code.run }
+
+pub is_of : HasShape → (p : Program) (code : Generated) → WellTyped p → IsFor p code → IsOf code (compiled_of p code)
+is_of shape p code typed f = record { compiled = record { typed = typed; code = refl; shaped = shape p typed; run = f.code }; run = refl; said = f.said; globals = f.globals }
+
+-- what is said of each state that a machine at its start may hold is said of the first state
+pub at_first : (Q : Saying) (p : Program) (code : Generated) (first : Situation) → IsOf code (compiled_of p code) → IsAtStart code first → (used made : ℕ) (bytes input : List ℕ) →
+    EachSays Q code first used made bytes input → (ticks : ℕ) → Q (code_of p) made (start (code_of p) input (used + ticks)) bytes ticks
+at_first Q p code first of starts used made bytes input s ticks = s (compiled_of p code) of (start (code_of p) input 0).core refl (starts (compiled_of p code) of input) [] ticks
+
+-- ## Numbers and reports
 
 no_more : (n : ℕ) → n + 0 ≡ n
 no_more n = omega arith
@@ -45,7 +56,10 @@ up_to fewer n lt = omega (arith, lt)
 
 -- from a run of the code of a text's program to the meaning of the text
 module _ (on_the_way : OnTheWay) (fewer_ticks : OneTickFewer) (pauses : Pauses) (go_on : StepsGoOn) (stay : EndingsStay) (prefixes : Prefixes) (one : OneProgram)
-    (text : List ℕ) (p : Program) (is_program : IsProgramOf text p) (right : (input : List ℕ) (n : ℕ) → (meaning p input n).ending ≢ WentWrong) (code : Code) (behaves : Behaves p code) where
+    (text : List ℕ) (p : Program) (is_program : IsProgramOf text p) (right : (input : List ℕ) (n : ℕ) → (meaning p input n).ending ≢ WentWrong) (behaves : Behaves p (code_of p)) where
+  abbrev code : Code
+  code = code_of p
+
   -- what the program means, its text means
   means_so : (input : List ℕ) (n : ℕ) (run : Run) → meaning p input n ≡ run → IsMeaning text input n run
   means_so input n run e = record { program = p; is_program = is_program; is_run = e }
@@ -54,19 +68,26 @@ module _ (on_the_way : OnTheWay) (fewer_ticks : OneTickFewer) (pauses : Pauses) 
   meant_so : (input : List ℕ) (n : ℕ) (run : Run) → IsMeaning text input n run → meaning p input n ≡ run
   meant_so input n run h = ap (λ q. meaning q input n) (one text p h.program is_program h.is_program) ∙ h.is_run
 
-  -- a run that ends is what the text means
-  finished : (input : List ℕ) (n m : ℕ) (s : MachineState) (bytes : List ℕ) (ending : Ending) (ticks : ℕ) → s ≡ start code input n → Finishes code s m bytes ending ticks → IsMeaning text input n (record { report = bytes; ending = ending; ticks = ticks })
-  finished input n m s bytes ending ticks same f =
+  -- a run that finishes ends so
+  ends : (m : ℕ) (s : MachineState) (bytes : List ℕ) (ending : Ending) (ticks : ℕ) → Finishes code s m bytes ending ticks → steps code m s ≡ Ends (record { report = bytes; ending = ending; ticks = ticks })
+  ends m s bytes ending ticks f =
+      let count : m ≡ f.before + 1 = omega (arith, f.count) in
+      ap (λ n. steps code n s) count ∙ go_on code f.before 1 s f.last f.passed ∙ ap (λ r. goes_on r f.last (steps code 0)) f.over ∙
+      ap (λ l. Ends (record { report = l; ending = ending; ticks = ticks })) f.written
+
+  -- and that is what the text means
+  finished : (input : List ℕ) (n m : ℕ) (bytes : List ℕ) (ending : Ending) (ticks : ℕ) → Finishes code (start code input n) m bytes ending ticks → IsMeaning text input n (record { report = bytes; ending = ending; ticks = ticks })
+  finished input n m bytes ending ticks f =
       let r : Run = record { report = bytes; ending = ending; ticks = ticks } in
-      means_so input n r (of_result (meaning p input n) r (right input n) (behaves.only input n m r (subst (λ x. steps code m x ≡ Ends r) same f)))
+      means_so input n r (sym (behaves.only input n m r (right input n) (ends m (start code input n) bytes ending ticks f)))
 
   -- the state after a step
   one_step : (m : ℕ) (s x next : MachineState) → steps code m s ≡ Underway x → step code x ≡ Goes next → steps code (m + 1) s ≡ Underway next
   one_step m s x next e f = go_on code m 1 s x e ∙ ap (λ r. goes_on r x (steps code 0)) f
 
   -- a run that is cut wrote a beginning of the report for its ticks, which goes on from the report for fewer
-  cut_between : (input : List ℕ) (n m : ℕ) (s : MachineState) (bytes : List ℕ) → s ≡ start code input n → IsCut code s m bytes 0 → IsCutShort text input n bytes
-  cut_between input n m s bytes same c = record {
+  cut_between : (input : List ℕ) (n m : ℕ) (bytes : List ℕ) → IsCut code (start code input n) m bytes 0 → IsCutShort text input n bytes
+  cut_between input n m bytes c = record {
     run = meaning p input n;
     is_meaning = means_so input n (meaning p input n) refl;
     within = by-part c.cut.within;
@@ -75,12 +96,12 @@ module _ (on_the_way : OnTheWay) (fewer_ticks : OneTickFewer) (pauses : Pauses) 
         (ap (λ (r : Run). r.ending) (sym e) ∙ pauses_with_fewer stay p right code behaves input n m c.state passed c.left fewer lt, subst (λ (r : Run). Grows r.report bytes) e (begun fewer lt));
   } where
     passed : steps code m (start code input n) ≡ Underway c.state
-    passed = subst (λ x. steps code m x ≡ Underway c.state) same c.passed
+    passed = c.passed
 
     begun : (fewer : ℕ) → fewer < n → Grows (meaning p input fewer).report bytes
     begun fewer lt =
         let k = n - 1 in
-        let g = fewer_ticks p code behaves input k m c.state (right input k) (subst (λ j. steps code m (start code input j) ≡ Underway c.state) (one_fewer fewer n lt) passed) c.left in
+        let g = fewer_ticks p code behaves input k m c.state (right input k) (right input (suc k)) (subst (λ j. steps code m (start code input j) ≡ Underway c.state) (one_fewer fewer n lt) passed) c.left in
         let last : Grows (meaning p input k).report bytes = record { by = (g.by.0 ++ c.cut.part, c.cut.begins ∙ ap (λ l. l ++ c.cut.part) g.by.1 ∙ append_assoc (meaning p input k).report g.by.0 c.cut.part) } in
         let first = subst (λ j. Grows (meaning p input fewer).report (meaning p input j).report) (up_to fewer n lt) (prefixes p input fewer (k - fewer) (right input fewer) (right input (fewer + (k - fewer)))) in
         grows_first (meaning p input fewer).report (meaning p input k).report bytes first.by.0 first.by.1 last
@@ -93,59 +114,49 @@ module _ (on_the_way : OnTheWay) (fewer_ticks : OneTickFewer) (pauses : Pauses) 
         let next = one_step m (start code input n) c.state f.0 passed f.2 in
         grows_first bytes f.0.report (meaning p input n).report f.1 f.3 (on_the_way p code behaves input n (m + 1) f.0 (right input n) next)
 
-  module _ {R W : Type 0} (remaining : R → Option (List ℕ)) (contents : W → Option (List ℕ)) (reader last_reader : R) (writer last_writer : W) (w new : Working) (source last : Source R) (used made : ℕ)
-      (first : (input : List ℕ) (ticks : ℕ) → machine_state w input [] ticks ≡ start code input ticks) (fresh : IsFresh reader source) (at_last : source_reader last ≡ last_reader) (knows : KnowsEnd remaining (source_block last)) where
+  module _ {R W : Type 0} (remaining : R → Option (List ℕ)) (contents : W → Option (List ℕ)) (reader last_reader : R) (writer last_writer : W) (run : Generated) (first new : Situation) (source last : Source R) (used made : ℕ)
+      (of : IsOf run (compiled_of p run)) (starts : IsAtStart run first) (fresh : IsFresh reader source) (at_last : source_reader last ≡ last_reader) (knows : KnowsEnd remaining (source_block last)) where
     -- what holds of the input before a run holds of what the reader gave
     gave : (Says Means : List ℕ → Type 0) → ((input : List ℕ) → Says input → Means input) → Finds remaining source last Says → Gave remaining reader last_reader Means
     gave = fresh_gave remaining source last reader last_reader fresh at_last knows
 
-    finds : (Says : (input rest : List ℕ) → Type 0) → Reads remaining source last Says → Finds remaining source last (λ input. (rest : List ℕ) × Says input rest)
-    finds = reads_find remaining source last
-
-    over : (stop : Stop) (ending : Ending) → ((bytes input : List ℕ) → ((more : ℕ) → IsMeaning text input (used + more) (record { report = bytes; ending = ending; ticks = more })) → Means stop text used bytes input)
-        → TookLast remaining source last (contents writer) (contents last_writer) (λ bytes input report ticks. Finishes code (machine_state w input report (used + ticks)) made (report ++ bytes) ending ticks)
-        → Simulated remaining contents text stop used reader last_reader writer last_writer
-    over stop ending to h = record {
+    -- a run after which no more is read
+    took_last : (stop : Stop) (Q : Saying) → ((bytes input : List ℕ) → ((more : ℕ) → Q code made (start code input (used + more)) bytes more) → Means stop text used bytes input)
+        → TookLast remaining source last (contents writer) (contents last_writer) (EachSays Q run first used made) → Simulated remaining contents text stop used reader last_reader writer last_writer
+    took_last stop Q to h = record {
       bytes = h.bytes;
       took = h.took;
-      means = gave (λ input. (report : List ℕ) (ticks : ℕ) → Finishes code (machine_state w input report (used + ticks)) made (report ++ h.bytes) ending ticks) (Means stop text used h.bytes)
-          (λ input s. to h.bytes input (λ more. finished input (used + more) made (machine_state w input [] (used + more)) h.bytes ending more (first input (used + more)) (s [] more)))
-          h.says;
+      means = gave (EachSays Q run first used made h.bytes) (Means stop text used h.bytes) (λ input s. to h.bytes input (at_first Q p run first of starts used made h.bytes input s)) h.says;
     }
 
-    cut : (stop : Stop) (P : MachineState → List ℕ → ℕ → Type 0) → ((s : MachineState) (report : List ℕ) (ticks : ℕ) → P s report ticks → IsCut code s made report ticks) → ((bytes input : List ℕ) → IsCutShort text input used bytes → Means stop text used bytes input)
-        → TookLast remaining source last (contents writer) (contents last_writer) (λ bytes input report ticks. P (machine_state w input report (used + ticks)) (report ++ bytes) ticks)
-        → Simulated remaining contents text stop used reader last_reader writer last_writer
-    cut stop P is to h = record {
-      bytes = h.bytes;
-      took = h.took;
-      means = gave (λ input. (report : List ℕ) (ticks : ℕ) → P (machine_state w input report (used + ticks)) (report ++ h.bytes) ticks) (Means stop text used h.bytes)
-          (λ input s. to h.bytes input (cut_between input used made (machine_state w input [] (used + 0)) h.bytes (first input (used + 0) ∙ ap (start code input) (no_more used)) (is (machine_state w input [] (used + 0)) h.bytes 0 (s [] 0))))
-          h.says;
-    }
+    over : (ending : Ending) (bytes input : List ℕ) → ((more : ℕ) → Finishes code (start code input (used + more)) made bytes ending more) → (more : ℕ) → IsMeaning text input (used + more) (record { report = bytes; ending = ending; ticks = more })
+    over ending bytes input s more = finished input (used + more) made bytes ending more (s more)
 
-    paused : Comes remaining code w new source last (contents writer) (contents last_writer) used made → ((input report : List ℕ) → step code (machine_state new input report 0) ≡ Over PausedThere 0)
-        → Simulated remaining contents text Paused used reader last_reader writer last_writer
+    cut : (bytes input : List ℕ) → ((more : ℕ) → IsCut code (start code input (used + more)) made bytes more) → IsCutShort text input used bytes
+    cut bytes input s = subst (λ n. IsCutShort text input n bytes) (no_more used) (cut_between input (used + 0) made bytes (s 0))
+
+    paused : Comes remaining run first new source last (contents writer) (contents last_writer) used made → IsPausing run new → Simulated remaining contents text Paused used reader last_reader writer last_writer
     paused h due = record {
       bytes = h.bytes;
       took = h.took;
-      means = gave (λ input. (rest : List ℕ) × ((report : List ℕ) (ticks : ℕ) → steps code made (machine_state w input report (used + ticks)) ≡ Underway (machine_state new rest (report ++ h.bytes) ticks))) (Means Paused text used h.bytes)
+      means = gave (λ input. (rest : List ℕ) × EachLed run first new used made h.bytes input rest) (Means Paused text used h.bytes)
           (λ input s.
-          let x = machine_state new s.0 h.bytes 0 in
-          let at : machine_state w input [] (used + 0) ≡ start code input used = first input (used + 0) ∙ ap (start code input) (no_more used) in
-          means_so input used (record { report = h.bytes; ending = PausedThere; ticks = 0 }) (pauses p code behaves input used made 0 x (subst (λ y. steps code made y ≡ Underway x) at (s.1 [] 0)) (due s.0 h.bytes)))
-          (finds (λ input rest. (report : List ℕ) (ticks : ℕ) → steps code made (machine_state w input report (used + ticks)) ≡ Underway (machine_state new rest (report ++ h.bytes) ticks)) h.says);
+          let l = s.1 (compiled_of p run) of (start code input 0).core refl (starts (compiled_of p run) of input) in
+          let x : MachineState = record { core = l.core; report = h.bytes; ticks = 0 } in
+          let passed = subst (λ n. steps code made (start code input n) ≡ Underway x) (no_more used) (l.gets [] 0) in
+          means_so input used (record { report = h.bytes; ending = PausedThere; ticks = 0 }) (pauses p code behaves input used made 0 x (right input used) passed (due (compiled_of p run) of l.core l.stands h.bytes)))
+          (reads_find remaining source last (EachLed run first new used made h.bytes) h.says);
     }
 
     -- what a run from the start did
-    pub ran_simulated : (stop : Stop) → (stop ≡ Failed → ⊥) → Ran remaining stop code w new source last (contents writer) (contents last_writer) used made → Simulated remaining contents text stop used reader last_reader writer last_writer
-    ran_simulated Ended right h = over Ended EndedThere (λ bytes input m. m) h
-    ran_simulated (Fault kind line) right h = over (Fault kind line) (FaultThere kind line) (λ bytes input m. m) h
-    ran_simulated Paused right h = paused h.0 h.1
-    ran_simulated Memory right h = cut Memory (λ s report ticks. IsCut code s made report ticks) (λ s report ticks c. c) (λ bytes input m. m) h
-    ran_simulated Output right h = cut Output (λ s report ticks. IsCutAt does_write code s made report ticks) (λ s report ticks c. c.cut) (λ bytes input m. m) h
-    ran_simulated Input right h = cut Input (λ s report ticks. IsCutAt does_read code s made report ticks) (λ s report ticks c. c.cut) (λ bytes input m. m) h
-    ran_simulated Failed right h = absurd (right refl)
+    pub ran_simulated : (stop : Stop) → Ran remaining stop run first new source last (contents writer) (contents last_writer) used made → Simulated remaining contents text stop used reader last_reader writer last_writer
+    ran_simulated Ended h = took_last Ended (finishing EndedThere) (over EndedThere) h
+    ran_simulated (Fault kind line) h = took_last (Fault kind line) (finishing (FaultThere kind line)) (over (FaultThere kind line)) h
+    ran_simulated Paused h = paused h.0 h.1
+    ran_simulated Memory h = took_last Memory cutting cut h
+    ran_simulated Output h = took_last Output (cutting_at does_write) (λ bytes input s. cut bytes input (λ more. (s more).cut)) h
+    ran_simulated Input h = took_last Input (cutting_at does_read) (λ bytes input s. cut bytes input (λ more. (s more).cut)) h
+    ran_simulated Failed h = absurd h
 
 none_fewer : (fewer : ℕ) → fewer < 0 → ⊥
 none_fewer fewer lt = omega (arith, lt)

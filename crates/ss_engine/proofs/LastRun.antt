@@ -1,6 +1,6 @@
 -- The last of the runs of a text, from the last call of a session.
 use Rattle.std.proofs.Common.{◌≡◌, ◌≢◌, ℕ, ◌≤◌, List, [], ◌∷◌, ◌++◌, Option, ap, ◌∙◌, subst, append_assoc}
-use Rattle.ss_code_instructions.specs.Machine.{Code}
+use Rattle.ss_code.specs.Running.{Compiled as Generated}
 use Rattle.ss_machine.specs.Stop.{Stop}
 use Rattle.ss_machine.specs.Stop.TheVariants.{Paused}
 use Rattle.ss_engine.specs.declared.outcome.Outcome.TheVariants.{Stopped}
@@ -11,7 +11,7 @@ use Rattle.ss_engine.specs.LastRun.{LastRun, runs_of}
 use Rattle.ss_engine.specs.Sessions.{HasRun, WasRun, session_machine, session_reader, session_writer, last_stop}
 use Rattle.ss_engine.proofs.Handing.{at_least}
 
-module _ {R W : Type 0} (remaining : R → Option (List ℕ)) (read_faults : R → ℕ) (contents : W → Option (List ℕ)) (write_faults : W → ℕ) (text : List ℕ) (code : Code) (reader : R) (writer : W) where
+module _ {R W : Type 0} (remaining : R → Option (List ℕ)) (read_faults : R → ℕ) (contents : W → Option (List ℕ)) (write_faults : W → ℕ) (text : List ℕ) (code : Generated) (reader : R) (writer : W) where
   -- the runs of a session are what its text means
   abbrev pub AreMeant : Type 0
   AreMeant =

@@ -60,5 +60,5 @@ reports_grow one never prefixes text input n more run longer a b =
 pub endings_stay : NeverGoesWrong → EndingsStay → TextEndingsStay
 endings_stay never stay text input n more run a going =
     let p = a.program in
-    let later = stay p input n more (λ e. going (ap (λ (r : Run). r.ending) (sym a.is_run) ∙ e)) (program_never_wrong never text p a.is_program input n) in
+    let later = stay p input n more (λ e. going (ap (λ (r : Run). r.ending) (sym a.is_run) ∙ e)) (program_never_wrong never text p a.is_program input n) (program_never_wrong never text p a.is_program input (n + more)) in
     record { program = p; is_program = a.is_program; is_run = later ∙ ap (λ (r : Run). record r { ticks = r.ticks + more }) a.is_run }

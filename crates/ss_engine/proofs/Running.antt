@@ -1,22 +1,20 @@
 -- What a session did, one call after another.
-use Rattle.std.proofs.Common.{◌≡◌, ◌≢◌, ℕ, ◌+◌, ◌-◌, ◌^◌, ◌≤◌, min, List, [], ◌∷◌, ◌++◌, Option, Some, None, inl, refl, sym, ap, subst, ◌∙◌, append-nil, arith}
+use Rattle.std.proofs.Common.{◌≡◌, ◌≢◌, ℕ, ◌+◌, ◌-◌, ◌^◌, ◌≤◌, min, List, [], ◌∷◌, ◌++◌, Option, Some, None, refl, sym, ap, subst, ◌∙◌, append-nil, arith}
 use Rattle.std.proofs.KnownBytes.{Appends-nil, Consumes-nil}
 use Rattle.std.specs.Io.KnownBytes.{Appends}
 use Rattle.ss_base.specs.Failures.{HasRisen, HasRisenBy}
 use Rattle.ss_input.specs.Blocks.{KnowsEnd}
 use Rattle.ss_input.specs.declared.source.Source.{Source}
 use Rattle.ss_input.specs.Inputs.{source_block}
-use Rattle.ss_meaning.specs.Meaning.{Paused as PausedThere}
-use Rattle.ss_code_instructions.specs.Machine.{Code, Over, step}
+use Rattle.ss_code.specs.Running.{Compiled as Generated}
 use Rattle.ss_code_instructions.specs.Running.{Underway, steps}
+use Rattle.ss_code_instructions.specs.Reached.{at_core}
 use Rattle.ss_code_instructions.specs.Laws.{StepsGoOn}
-use Rattle.ss_machine_instructions.specs.declared.working.Working.{Working}
-use Rattle.ss_machine_instructions.specs.Holding.{machine_state}
+use Rattle.ss_machine.specs.Situations.{Situation}
 use Rattle.ss_machine.specs.Stop.{Stop}
 use Rattle.ss_machine.specs.Stop.TheVariants.{Ended, Fault, Paused, Memory, Output, Input, Failed}
 use Rattle.ss_machine.specs.Held.{kept_after}
-use Rattle.ss_machine.specs.Start.{IsAtStart}
-use Rattle.ss_machine.specs.Runs.{Comes, Ran}
+use Rattle.ss_machine.specs.Runs.{Comes, IsPausing, Ran}
 use Rattle.ss_engine.specs.declared.session.Session.{Session}
 use Rattle.ss_engine.specs.Sessions.{Begins, CameTo, GoesOn, HasRun, WasRun, session_machine, session_reader, session_source, session_writer, last_stop}
 use Rattle.ss_engine.proofs.Pieces.{ran_then}
@@ -74,8 +72,8 @@ either_stop None stopped going = going refl
 
 -- ## The state of a machine
 
-module _ {R : Type 0} (remaining : R → Option (List ℕ)) (code : Code) (w new : Working) (source last : Source R) (a b : Option (List ℕ)) (taken made : ℕ) where
-  pub came_kept : (stop : Stop) → Ran remaining stop code w new source last a b taken made → CameTo remaining (kept_after stop) code w new source last a b taken made
+module _ {R : Type 0} (remaining : R → Option (List ℕ)) (code : Generated) (old new : Situation) (source last : Source R) (a b : Option (List ℕ)) (taken made : ℕ) where
+  pub came_kept : (stop : Stop) → Ran remaining stop code old new source last a b taken made → CameTo remaining (kept_after stop) code old new source last a b taken made
   came_kept Ended h = h
   came_kept (Fault kind line) h = h
   came_kept Paused h = h.0
@@ -84,7 +82,7 @@ module _ {R : Type 0} (remaining : R → Option (List ℕ)) (code : Code) (w new
   came_kept Input h = h
   came_kept Failed h = h
 
-  pub came_ran : (o : Option Stop) → CameTo remaining o code w new source last a b taken made → (o ≡ None → (input report : List ℕ) → step code (machine_state new input report 0) ≡ Over PausedThere 0) → Ran remaining (last_stop o) code w new source last a b taken made
+  pub came_ran : (o : Option Stop) → CameTo remaining o code old new source last a b taken made → (o ≡ None → IsPausing code new) → Ran remaining (last_stop o) code old new source last a b taken made
   came_ran None h due = (h, due refl)
   came_ran (Some stop) h due = h
 
@@ -93,8 +91,8 @@ module _ {R : Type 0} (remaining : R → Option (List ℕ)) (code : Code) (w new
 fallen_by_none : (count : ℕ) → HasRisenBy 0 count count
 fallen_by_none count = omega arith
 
-module _ {R W : Type 0} (remaining : R → Option (List ℕ)) (read_faults : R → ℕ) (contents : W → Option (List ℕ)) (write_faults : W → ℕ) (code : Code) (reader : R) (writer : W) (s : Session R W) (b : Begins code reader writer s) where
-  came_none : Comes remaining code (session_machine s).working (session_machine s).working (session_source s) (session_source s) (contents writer) (contents (session_writer s)) (session_machine s).used (session_machine s).steps
+module _ {R W : Type 0} (remaining : R → Option (List ℕ)) (read_faults : R → ℕ) (contents : W → Option (List ℕ)) (write_faults : W → ℕ) (code : Generated) (reader : R) (writer : W) (s : Session R W) (b : Begins code reader writer s) where
+  came_none : Comes remaining code (session_machine s).at (session_machine s).at (session_source s) (session_source s) (contents writer) (contents (session_writer s)) (session_machine s).used (session_machine s).steps
   came_none = record {
     bytes = [];
     took = subst (λ w. Appends (contents writer) (contents w) []) (sym b.writer_is) (Appends-nil (contents writer));
@@ -105,24 +103,29 @@ module _ {R W : Type 0} (remaining : R → Option (List ℕ)) (read_faults : R �
       says = λ more input e there. record {
         rest = input;
         ahead = there;
-        says = λ report ticks.
-            let t : (session_machine s).used + ticks ≡ ticks = omega (arith, b.first.used) in
-            ap (λ m. steps code m (machine_state (session_machine s).working input report ((session_machine s).used + ticks))) b.first.steps ∙ ap (λ n. Underway (machine_state (session_machine s).working input report n)) t ∙
-            ap (λ r. Underway (machine_state (session_machine s).working input r ticks)) (sym (append-nil report));
+        says = λ w of c e stands. record {
+          core = c;
+          input = e;
+          stands = stands;
+          gets = λ report ticks.
+              let t : (session_machine s).used + ticks ≡ ticks = omega (arith, b.first.used) in
+              ap (λ m. steps w.code m (at_core c report ((session_machine s).used + ticks))) b.first.steps ∙ ap (λ n. Underway (at_core c report n)) t ∙
+              ap (λ r. Underway (at_core c r ticks)) (sym (append-nil report));
+        };
       };
     };
   }
 
   pub not_run : HasRun remaining read_faults contents write_faults code reader writer [] s
   not_run = record {
-    first = (session_machine s).working;
+    first = (session_machine s).at;
     source = session_source s;
     starts = b.first.state;
     fresh = b.fresh;
     code_is = b.first.code_is;
-    came = subst (λ o. CameTo remaining o code (session_machine s).working (session_machine s).working (session_source s) (session_source s) (contents writer) (contents (session_writer s)) (session_machine s).used (session_machine s).steps) (sym b.first.stopped) came_none;
+    came = subst (λ o. CameTo remaining o code (session_machine s).at (session_machine s).at (session_source s) (session_source s) (contents writer) (contents (session_writer s)) (session_machine s).used (session_machine s).steps) (sym b.first.stopped) came_none;
     paused = λ none some. absurd (some refl);
-    goes_on = λ none. record { unstopped = none; unmissed = b.fresh.missed; continues = inl (subst (λ k. IsAtStart k (session_machine s).working) (sym b.first.code_is) b.first.state) };
+    goes_on = λ none. record { unstopped = none; unmissed = b.fresh.missed };
     right = λ e. let q : None ≡ Some Failed = sym b.first.stopped ∙ e in absurd cc;
     used = omega (arith, b.first.used);
     all_used = λ none. omega (arith, b.first.used);
@@ -135,7 +138,7 @@ module _ {R W : Type 0} (remaining : R → Option (List ℕ)) (read_faults : R �
 
 -- ## One call more
 
-module _ {R W : Type 0} (remaining : R → Option (List ℕ)) (read_faults : R → ℕ) (contents : W → Option (List ℕ)) (write_faults : W → ℕ) (code : Code) (reader : R) (writer : W) (pieces : List ℕ) (ticks : ℕ) (old new : Session R W) (h : HasRun remaining read_faults contents write_faults code reader writer pieces old) where
+module _ {R W : Type 0} (remaining : R → Option (List ℕ)) (read_faults : R → ℕ) (contents : W → Option (List ℕ)) (write_faults : W → ℕ) (code : Generated) (reader : R) (writer : W) (pieces : List ℕ) (ticks : ℕ) (old new : Session R W) (h : HasRun remaining read_faults contents write_faults code reader writer pieces old) where
   -- of a session that has stopped
   pub runs_again : (stop : Stop) → (session_machine old).stopped ≡ Some stop → new ≡ old → HasRun remaining read_faults contents write_faults code reader writer (pieces ++ ticks ∷ []) new
   runs_again stop stopped same = subst (HasRun remaining read_faults contents write_faults code reader writer (pieces ++ ticks ∷ [])) (sym same) (record {
@@ -159,26 +162,26 @@ module _ {R W : Type 0} (remaining : R → Option (List ℕ)) (read_faults : R �
 
   -- of one that goes on
   module _ (on : StepsGoOn) (stop : Stop) (going : (session_machine old).stopped ≡ None)
-      (ran : Ran remaining stop (session_machine old).code (session_machine old).working (session_machine new).working (session_source old) (session_source new) (contents (session_writer old)) (contents (session_writer new)) ((session_machine new).used - (session_machine old).used) ((session_machine new).steps - (session_machine old).steps))
+      (ran : Ran remaining stop (session_machine old).code (session_machine old).at (session_machine new).at (session_source old) (session_source new) (contents (session_writer old)) (contents (session_writer new)) ((session_machine new).used - (session_machine old).used) ((session_machine new).steps - (session_machine old).steps))
       (right : stop ≡ Failed → ⊥) (stopped : (session_machine new).stopped ≡ kept_after stop) (same : (session_machine new).code ≡ (session_machine old).code)
       (least : (session_machine old).used ≤ (session_machine new).used) (most : (session_machine new).used ≤ (session_machine old).used + ticks) (small : (session_machine new).used ≤ 2 ^ 64 - 1) (steps : (session_machine old).steps ≤ (session_machine new).steps)
       (paused : stop ≡ Paused → (session_machine new).used ≡ min ((session_machine old).used + ticks) (2 ^ 64 - 1)) where
-    before : Comes remaining code h.first (session_machine old).working h.source (session_source old) (contents writer) (contents (session_writer old)) (session_machine old).used (session_machine old).steps
-    before = subst (λ o. CameTo remaining o code h.first (session_machine old).working h.source (session_source old) (contents writer) (contents (session_writer old)) (session_machine old).used (session_machine old).steps) going h.came
+    before : Comes remaining code h.first (session_machine old).at h.source (session_source old) (contents writer) (contents (session_writer old)) (session_machine old).used (session_machine old).steps
+    before = subst (λ o. CameTo remaining o code h.first (session_machine old).at h.source (session_source old) (contents writer) (contents (session_writer old)) (session_machine old).used (session_machine old).steps) going h.came
 
-    here : Ran remaining stop code (session_machine old).working (session_machine new).working (session_source old) (session_source new) (contents (session_writer old)) (contents (session_writer new)) ((session_machine new).used - (session_machine old).used) ((session_machine new).steps - (session_machine old).steps)
-    here = subst (λ k. Ran remaining stop k (session_machine old).working (session_machine new).working (session_source old) (session_source new) (contents (session_writer old)) (contents (session_writer new)) ((session_machine new).used - (session_machine old).used) ((session_machine new).steps - (session_machine old).steps)) h.code_is ran
+    here : Ran remaining stop code (session_machine old).at (session_machine new).at (session_source old) (session_source new) (contents (session_writer old)) (contents (session_writer new)) ((session_machine new).used - (session_machine old).used) ((session_machine new).steps - (session_machine old).steps)
+    here = subst (λ k. Ran remaining stop k (session_machine old).at (session_machine new).at (session_source old) (session_source new) (contents (session_writer old)) (contents (session_writer new)) ((session_machine new).used - (session_machine old).used) ((session_machine new).steps - (session_machine old).steps)) h.code_is ran
 
     -- all runs as one
-    whole : Ran remaining stop code h.first (session_machine new).working h.source (session_source new) (contents writer) (contents (session_writer new)) (session_machine new).used (session_machine new).steps
+    whole : Ran remaining stop code h.first (session_machine new).at h.source (session_source new) (contents writer) (contents (session_writer new)) (session_machine new).used (session_machine new).steps
     whole =
-        let joined = ran_then on code remaining h.first (session_machine old).working (session_machine new).working h.source (session_source old) (session_source new) (contents writer) (contents (session_writer old)) (contents (session_writer new)) (session_machine old).used (session_machine old).steps ((session_machine new).used - (session_machine old).used) ((session_machine new).steps - (session_machine old).steps) stop right before here in
-        subst (λ n. Ran remaining stop code h.first (session_machine new).working h.source (session_source new) (contents writer) (contents (session_writer new)) (session_machine new).used n) (used_since (session_machine old).steps (session_machine new).steps steps)
-        (subst (λ n. Ran remaining stop code h.first (session_machine new).working h.source (session_source new) (contents writer) (contents (session_writer new)) n ((session_machine old).steps + ((session_machine new).steps - (session_machine old).steps))) (used_since (session_machine old).used (session_machine new).used least) joined)
+        let joined = ran_then on remaining code h.first (session_machine old).at (session_machine new).at h.source (session_source old) (session_source new) (contents writer) (contents (session_writer old)) (contents (session_writer new)) (session_machine old).used (session_machine old).steps ((session_machine new).used - (session_machine old).used) ((session_machine new).steps - (session_machine old).steps) stop before here in
+        subst (λ n. Ran remaining stop code h.first (session_machine new).at h.source (session_source new) (contents writer) (contents (session_writer new)) (session_machine new).used n) (used_since (session_machine old).steps (session_machine new).steps steps)
+        (subst (λ n. Ran remaining stop code h.first (session_machine new).at h.source (session_source new) (contents writer) (contents (session_writer new)) n ((session_machine old).steps + ((session_machine new).steps - (session_machine old).steps))) (used_since (session_machine old).used (session_machine new).used least) joined)
 
-    due : (session_machine new).stopped ≡ None → (input report : List ℕ) → step code (machine_state (session_machine new).working input report 0) ≡ Over PausedThere 0
+    due : (session_machine new).stopped ≡ None → IsPausing code (session_machine new).at
     due none =
-        let so = subst (λ s. Ran remaining s code (session_machine old).working (session_machine new).working (session_source old) (session_source new) (contents (session_writer old)) (contents (session_writer new)) ((session_machine new).used - (session_machine old).used) ((session_machine new).steps - (session_machine old).steps)) (kept_none stop (sym stopped ∙ none)) here in
+        let so = subst (λ s. Ran remaining s code (session_machine old).at (session_machine new).at (session_source old) (session_source new) (contents (session_writer old)) (contents (session_writer new)) ((session_machine new).used - (session_machine old).used) ((session_machine new).steps - (session_machine old).steps)) (kept_none stop (sym stopped ∙ none)) here in
         so.1
 
     pub runs_on : (stop ≡ Paused → GoesOn new) → (KnowsEnd remaining (source_block (session_source old)) → KnowsEnd remaining (source_block (session_source new)))
@@ -191,8 +194,8 @@ module _ {R W : Type 0} (remaining : R → Option (List ℕ)) (read_faults : R �
       starts = h.starts;
       fresh = h.fresh;
       code_is = same ∙ h.code_is;
-      came = subst (λ o. CameTo remaining o code h.first (session_machine new).working h.source (session_source new) (contents writer) (contents (session_writer new)) (session_machine new).used (session_machine new).steps) (sym stopped)
-          (came_kept remaining code h.first (session_machine new).working h.source (session_source new) (contents writer) (contents (session_writer new)) (session_machine new).used (session_machine new).steps stop whole);
+      came = subst (λ o. CameTo remaining o code h.first (session_machine new).at h.source (session_source new) (contents writer) (contents (session_writer new)) (session_machine new).used (session_machine new).steps) (sym stopped)
+          (came_kept remaining code h.first (session_machine new).at h.source (session_source new) (contents writer) (contents (session_writer new)) (session_machine new).used (session_machine new).steps stop whole);
       paused = λ none some. due none;
       goes_on = λ none. goes_on (kept_none stop (sym stopped ∙ none));
       right = λ e. right (kept_some stop Failed (sym stopped ∙ e));
@@ -207,7 +210,7 @@ module _ {R W : Type 0} (remaining : R → Option (List ℕ)) (read_faults : R �
 
 -- ## The last call
 
-module _ {R W : Type 0} (remaining : R → Option (List ℕ)) (read_faults : R → ℕ) (contents : W → Option (List ℕ)) (write_faults : W → ℕ) (code : Code) (reader : R) (writer : W) where
+module _ {R W : Type 0} (remaining : R → Option (List ℕ)) (read_faults : R → ℕ) (contents : W → Option (List ℕ)) (write_faults : W → ℕ) (code : Generated) (reader : R) (writer : W) where
   pub runs_last : (pieces before : List ℕ) (last : ℕ) (old new : Session R W) (stop : Stop) → pieces ≡ before ++ last ∷ [] → (before ≡ [] → (session_reader old ≡ reader) × (session_writer old ≡ writer)) → GoesOn old
       → HasRun remaining read_faults contents write_faults code reader writer before old → HasRun remaining read_faults contents write_faults code reader writer (before ++ last ∷ []) new
       → (session_machine new).stopped ≡ kept_after stop → (session_machine old).used ≤ (session_machine new).used

@@ -3,10 +3,10 @@ use Rattle.std.proofs.Common.{◌≡◌, ◌≢◌, ℕ, zero, suc, ◌+◌, ◌
 use Rattle.std.specs.Prelude.{slice_get}
 use Rattle.ss_program.specs.Program.{Program}
 use Rattle.ss_meaning.specs.Meaning.{Ending, Ended, Fault, Paused, WentWrong, Run, meaning}
-use Rattle.ss_code_instructions.specs.declared.instruction.Instruction.{Instruction}
+use Rattle.ss_code_instructions.specs.Instructions.{Placed}
 use Rattle.ss_code_instructions.specs.States.{MachineState, Moved, To, Sends, Rest, Stuck, Done, Breaks}
 use Rattle.ss_code_instructions.specs.Machine.{Code, Stepped, Goes, Over, NoStep, act, is_due, with_rest, when_due, step_at, step}
-use Rattle.ss_code_instructions.specs.Running.{Underway, Ends, Behaves, ended_at, after_one_step, result_at, start, steps}
+use Rattle.ss_code_instructions.specs.Running.{Underway, Ends, Behaves, ended_at, after_one_step, start, steps}
 use Rattle.ss_code_instructions.specs.Laws.{EndingsStay}
 
 -- a step that leaves at most so many ticks
@@ -32,9 +32,9 @@ due_leaves false r t m = rest_leaves r t m
 due_leaves true r zero m = omega arith
 due_leaves true r (suc t) m = leaves_more t (with_rest r t m) (rest_leaves r t m)
 
-at_leaves : (o : Option Instruction) (code : Code) (s : MachineState) → Leaves s.ticks (step_at o code s)
+at_leaves : (o : Option Placed) (code : Code) (s : MachineState) → Leaves s.ticks (step_at o code s)
 at_leaves None code s = tt
-at_leaves (Some i) code s = due_leaves (is_due i) s.report s.ticks (act code i s.core)
+at_leaves (Some x) code s = due_leaves (is_due x.instruction) s.report s.ticks (act code x.line x.instruction s.core)
 
 same_state : (a b : MachineState) → Underway a ≡ Underway b → a ≡ b
 same_state a b e = cc
@@ -52,7 +52,7 @@ module _ (code : Code) where
   ends_within : (m : ℕ) (s : MachineState) (r : Run) → steps code m s ≡ Ends r → r.ticks ≤ s.ticks
   ends_within zero s r e = absurd cc
   ends_within (suc m) s r e =
-      after (step code s) m s r (at_leaves (slice_get code.instructions s.core.place) code s) (λ t f. ends_within m t r f) e
+      after (step code s) m s r (at_leaves (slice_get code.places s.core.place) code s) (λ t f. ends_within m t r f) e
 
   both : (o : Stepped) (m k : ℕ) (s x : MachineState) (r : Run) → ((t : MachineState) → steps code m t ≡ Underway x → steps code k t ≡ Ends r → r.ticks ≤ x.ticks) → after_one_step o s (steps code m) ≡ Underway x → after_one_step o s (steps code k) ≡ Ends r → r.ticks ≤ x.ticks
   both (Goes t) m k s x r so e f = so t e f
@@ -67,12 +67,6 @@ module _ (code : Code) where
   ends_later (suc m) zero s x r e f = absurd cc
   ends_later (suc m) (suc k) s x r e f = both (step code s) m k s x r (λ t g h. ends_later m k t x r g h) e f
 
-ends_at : (e : Ending) (m : Run) → e ≢ WentWrong → result_at e m ≡ Ends m
-ends_at Ended m right = refl
-ends_at (Fault kind line) m right = refl
-ends_at Paused m right = refl
-ends_at WentWrong m right = absurd (right refl)
-
 rest_of : (fewer n : ℕ) → fewer < n → fewer + (n - fewer) ≡ n
 rest_of fewer n h = omega (arith, h)
 
@@ -82,11 +76,10 @@ none_left t fewer n ticks left lt e h z = omega (arith, lt, e, h, z)
 module _ (stay : EndingsStay) (p : Program) (right : (input : List ℕ) (n : ℕ) → (meaning p input n).ending ≢ WentWrong) (code : Code) (behaves : Behaves p code) (input : List ℕ) (n m : ℕ) (x : MachineState) (passed : steps code m (start code input n) ≡ Underway x) (left : x.ticks ≡ 0) (fewer : ℕ) (lt : fewer < n) where
   not_over : (meaning p input fewer).ending ≢ Paused → ⊥
   not_over going =
-      let more = stay p input fewer (n - fewer) going (right input fewer) in
+      let more = stay p input fewer (n - fewer) going (right input fewer) (right input (fewer + (n - fewer))) in
       let whole : meaning p input n ≡ record (meaning p input fewer) { ticks = (meaning p input fewer).ticks + (n - fewer) } = subst (λ k. meaning p input k ≡ record (meaning p input fewer) { ticks = (meaning p input fewer).ticks + (n - fewer) }) (rest_of fewer n lt) more in
-      let comes = behaves.comes input n in
-      let ends : steps code comes.0 (start code input n) ≡ Ends (meaning p input n) = comes.1 ∙ ends_at (meaning p input n).ending (meaning p input n) (right input n) in
-      none_left (meaning p input fewer).ticks fewer n (meaning p input n).ticks x.ticks lt (ap (λ (r : Run). r.ticks) whole) (ends_later code m comes.0 (start code input n) x (meaning p input n) passed ends) left
+      let ends = behaves.ends input n (right input n) in
+      none_left (meaning p input fewer).ticks fewer n (meaning p input n).ticks x.ticks lt (ap (λ (r : Run). r.ticks) whole) (ends_later code m ends.0 (start code input n) x (meaning p input n) passed ends.1) left
 
   by-ending : (e : Ending) → (meaning p input fewer).ending ≡ e → e ≡ Paused
   by-ending Paused q = refl

@@ -1,5 +1,5 @@
 -- What a text is a program of, and why one is refused.
-use Rattle.std.specs.Prelude.{◌≡◌, ℕ, ◌<◌, List, length, Some, None}
+use Rattle.std.specs.Prelude.{◌≡◌, ℕ, ◌<◌, List, Some, None}
 use Rattle.ss_base.specs.declared.line.Line.{Line}
 use Rattle.ss_lex.specs.declared.token.Token.{Token}
 use Rattle.ss_lex.specs.declared.error.LexError.TheVariants as lexical
@@ -19,10 +19,11 @@ use Rattle.ss_check_rules.specs.declared.rule.Rule.{Rule as UseRule}
 use Rattle.ss_check_rules.specs.declared.rule.Rule.TheVariants as using
 use Rattle.ss_check.specs.Checking.{program_of, refusal_of as use_refusal}
 use Rattle.ss_program.specs.Program.{Program}
-use Rattle.ss_code_instructions.specs.Machine.{Code}
 use Rattle.ss_code_instructions.specs.Running.{Behaves}
 use Rattle.ss_code_instructions.specs.Translation.{code_of}
+use Rattle.ss_code_instructions.specs.Size.{code_size}
 use Rattle.ss_code.specs.Limits.{instruction_limit, small_program}
+use Rattle.ss_code.specs.Running.{Compiled as Generated, IsFor}
 use Rattle.ss_engine.specs.declared.refusal.Refusal.{Refusal}
 use Rattle.ss_engine.specs.declared.refusal.Refusal.TheVariants.{TooLong, NotAscii, BadNumber, OpenText, AlphaTooLong, PictureCut, NameTooLong, Syntax, TooDeep, Twice, RealMode, UnknownClass, UnknownSet, NoOwner, NoMember, RankKey, TallyTwice, TooMany, TieKey, NoMain, NoEventRoutine, Mode, Arguments, Subscript, NotAssignable, Fields, StartPlace, Unknown, CodeTooLong, Memory}
 
@@ -48,13 +49,13 @@ pub record IsProgramOf (text : List ℕ) (p : Program) : Type 0 where
 abbrev pub IsWellFormed : List ℕ → Type 0
 IsWellFormed text = (tree : ProgramTree) × IsKeptBy text tree
 
--- the code is that of the text's program, and does what the text means: for every input and every number of ticks what the
+-- the code is that of the text's program, and this code does what the text means: for every input and every number of ticks what the
 -- program means, and nothing else
-pub record Compiles (text : List ℕ) (code : Code) : Type 0 where
+pub record Compiles (text : List ℕ) (code : Generated) : Type 0 where
   pub program : Program
   pub meant : IsProgramOf text program
-  pub code_is : code ≡ code_of program
-  pub behaves : Behaves program code
+  pub code_is : IsFor program code
+  pub behaves : Behaves program (code_of program)
 
 -- the text has tokens, and they spell no program: for syntax none of any depth; where it is too deep, none within the
 -- limit on nesting, while more tokens than that open a level; the line is that of a token
@@ -83,7 +84,7 @@ pub record IsLarge (text : List ℕ) : Type 0 where
   pub program : Program
   pub meant : IsProgramOf text program
   pub large : small_program < nodes meant.tree
-  pub long : instruction_limit < length (code_of program).instructions
+  pub long : instruction_limit < code_size program
 
 -- when a text is refused so; a refusal for memory says nothing of the text
 abbrev pub IsRefusedWith : List ℕ → Refusal → Type 0

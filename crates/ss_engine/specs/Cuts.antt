@@ -2,14 +2,16 @@
 use Rattle.std.specs.Prelude.{ℕ, ◌+◌, List}
 use Rattle.std.specs.declared.option.Option.{Option}
 use Rattle.std.specs.Io.KnownBytes.{Appends}
+use Rattle.ss_program.specs.Program.{Program}
 use Rattle.ss_code_instructions.specs.Machine.{Code}
 use Rattle.ss_code_instructions.specs.Running.{start}
+use Rattle.ss_code_instructions.specs.Translation.{code_of}
 use Rattle.ss_machine.specs.Stop.{Stop}
 use Rattle.ss_machine.specs.Stop.TheVariants.{Ended, Fault, Paused, Memory, Output, Input, Failed}
 use Rattle.ss_machine.specs.Runs.{IsCut, IsCutAt, does_read, does_write}
 use Rattle.ss_engine.specs.declared.outcome.Outcome.{Outcome}
 use Rattle.ss_engine.specs.declared.outcome.Outcome.TheVariants.{Refused, Stopped}
-use Rattle.ss_engine.specs.Accepting.{Compiles}
+use Rattle.ss_engine.specs.Accepting.{IsProgramOf}
 use Rattle.ss_engine.specs.Headline.{Gave}
 
 -- the code, run from its first state with so many ticks and any more, passes after so many steps a state with those more left:
@@ -24,15 +26,15 @@ CutBy Output code used made bytes input = (more : ℕ) → IsCutAt does_write co
 CutBy Input code used made bytes input = (more : ℕ) → IsCutAt does_read code (start code input (used + more)) made bytes more
 CutBy Failed code used made bytes input = Unit {0}
 
--- The run of a text that used so many ticks was cut so, while the reader gave its input and the writer took these bytes: the text has
--- this code, which so many steps bring to the place of the cut.
+-- The run of a text that used so many ticks was cut so, while the reader gave its input and the writer took these bytes: so many steps bring
+-- the code of its program to the place of the cut.
 pub record WasCut {R W : Type 0} (remaining : R → Option (List ℕ)) (contents : W → Option (List ℕ)) (text : List ℕ) (stop : Stop) (used : ℕ) (reader new_reader : R) (writer new_writer : W) : Type 0 where
-  pub code : Code
-  pub compiled : Compiles text code
+  pub program : Program
+  pub is_program : IsProgramOf text program
   pub made : ℕ
   pub bytes : List ℕ
   pub took : Appends (contents writer) (contents new_writer) bytes
-  pub place : Gave remaining reader new_reader (CutBy stop code used made bytes)
+  pub place : Gave remaining reader new_reader (CutBy stop (code_of program) used made bytes)
 
 -- where memory, the reader or the writer failed, the text's code reaches, with these ticks used, a place where its report is cut so
 abbrev pub ReportIsCut : {R W : Type 0} → (R → Option (List ℕ)) → (W → Option (List ℕ)) → List ℕ → Outcome → R → R → W → W → Type 0

@@ -9,6 +9,7 @@ use ss_check::{CheckError, check};
 use ss_code::error::CodeError;
 use ss_code::generate;
 use ss_code::model::Model;
+use ss_code_instructions::laws::laws_of_code;
 use ss_lex::{LexError, tokens};
 use ss_parse::{ParseError, parse};
 use ss_program::release::release_checked;
@@ -102,6 +103,7 @@ pub fn compile(alloc: Global, text: &[u8]) -> Result<Model, Refusal>
     ensures accepted { IfOk result (λ model. Compiles text.now model) }
     ensures refused { IfErr result (λ refusal. IsRefusedWith text.now refusal) }
 {
+    laws_of_code();
     let tokens = match tokens(alloc, text) {
         Ok(tokens) => tokens,
         Err(error) => return Err(lexical(error)),

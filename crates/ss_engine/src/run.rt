@@ -3,7 +3,7 @@
 ghost use Rattle.std.specs.Prelude.{◌≡◌, ◌≤◌, ℕ, List, [], ◌++◌};
 ghost use Rattle.std.specs.List.{sum};
 ghost use Rattle.ss_base.specs.Failures.{HasRisen};
-ghost use Rattle.ss_code_instructions.specs.Machine.{Code};
+ghost use Rattle.ss_code.specs.Running.{Compiled as Generated};
 ghost use Rattle.ss_engine.specs.Accepting.{Compiles};
 ghost use Rattle.ss_engine.specs.Headline.{Simulated, handed_out};
 ghost use Rattle.ss_engine.specs.LastRun.{LastRun, runs_of};
@@ -22,7 +22,7 @@ use std::alloc::Global;
 fn run_pieces<R: FaultyRead, W: FaultyWrite>(session: &mut Session<R, W>, pieces: &[u64]) -> Stop
     requires goes_on { GoesOn session.old }
     requires first { (session_machine session.old).used ≡ 0 }
-    ensures was_run { (code : Code) (reader : R) (writer : W) → Begins code reader writer session.old → HasRun R.remaining R.faults W.contents W.faults code reader writer [] session.old → (done : List ℕ) × (after : List ℕ) × (runs_of pieces.now ≡ done ++ after) × WasRun R.remaining R.faults W.contents W.faults code reader writer done session.new }
+    ensures was_run { (code : Generated) (reader : R) (writer : W) → Begins code reader writer session.old → HasRun R.remaining R.faults W.contents W.faults code reader writer [] session.old → (done : List ℕ) × (after : List ℕ) × (runs_of pieces.now ≡ done ++ after) × WasRun R.remaining R.faults W.contents W.faults code reader writer done session.new }
     ensures stopped { result ≡ last_stop (session_machine session.new).stopped }
     ensures never_failed { result ≡ Stop.Failed → ⊥ }
     ensures used { (session_machine session.new).used ≤ sum pieces.now }

@@ -4,7 +4,7 @@ ghost use Rattle.std.specs.Prelude.{◌≡◌, ℕ, ◌+◌, ◌-◌, ◌^◌, �
 ghost use Rattle.ss_base.specs.Failures.{HasRisen, HasRisenBy};
 ghost use Rattle.ss_input.specs.Blocks.{KnowsEnd};
 ghost use Rattle.ss_input.specs.Inputs.{source_block};
-ghost use Rattle.ss_code_instructions.specs.Machine.{Code};
+ghost use Rattle.ss_code.specs.Running.{Compiled as Generated};
 ghost use Rattle.ss_machine.specs.Held.{answer_again, kept_after};
 ghost use Rattle.ss_machine.specs.Runs.{Ran};
 ghost use Rattle.ss_engine.specs.Accepting.{Compiles};
@@ -14,7 +14,7 @@ ghost use Rattle.ss_engine.specs.Sessions.{Begins, GoesOn, HasRun, last_stop, se
 use crate::session_laws::sessions_are_meant;
 use ss_base::{FaultyRead, FaultyWrite};
 use ss_code::model::Model;
-use ss_code_instructions::laws::laws;
+use ss_code_instructions::laws::laws_of_pieces;
 use ss_machine::{Machine, Source, Stop};
 use ss_picture::Sink;
 use std::alloc::Global;
@@ -57,9 +57,9 @@ impl<R: FaultyRead, W: FaultyWrite> Session<R, W> {
     /// What all runs of a session did, one after another, is what its text means for all their ticks (`meant`).
     pub fn run(&mut self, ticks: u64) -> Stop
         ensures again { (before : Stop) → (session_machine self.old).stopped ≡ Some before → (result ≡ answer_again before) × (self.new ≡ self.old) }
-        ensures ran { GoesOn self.old → Ran R.remaining result (session_machine self.old).code (session_machine self.old).working (session_machine self.new).working (session_source self.old) (session_source self.new) (W.contents (session_writer self.old)) (W.contents (session_writer self.new)) ((session_machine self.new).used - (session_machine self.old).used) ((session_machine self.new).steps - (session_machine self.old).steps) }
-        ensures has_run { (code : Code) (reader : R) (writer : W) (pieces : List ℕ) → HasRun R.remaining R.faults W.contents W.faults code reader writer pieces self.old → HasRun R.remaining R.faults W.contents W.faults code reader writer (pieces ++ ticks ∷ []) self.new }
-        ensures meant { (text : List ℕ) (code : Code) (reader : R) (writer : W) (pieces : List ℕ) → Compiles text code → HasRun R.remaining R.faults W.contents W.faults code reader writer pieces self.old → Simulated R.remaining W.contents text (last_stop (session_machine self.new).stopped) (session_machine self.new).used reader (session_reader self.new) writer (session_writer self.new) }
+        ensures ran { GoesOn self.old → Ran R.remaining result (session_machine self.old).code (session_machine self.old).at (session_machine self.new).at (session_source self.old) (session_source self.new) (W.contents (session_writer self.old)) (W.contents (session_writer self.new)) ((session_machine self.new).used - (session_machine self.old).used) ((session_machine self.new).steps - (session_machine self.old).steps) }
+        ensures has_run { (code : Generated) (reader : R) (writer : W) (pieces : List ℕ) → HasRun R.remaining R.faults W.contents W.faults code reader writer pieces self.old → HasRun R.remaining R.faults W.contents W.faults code reader writer (pieces ++ ticks ∷ []) self.new }
+        ensures meant { (text : List ℕ) (code : Generated) (reader : R) (writer : W) (pieces : List ℕ) → Compiles text code → HasRun R.remaining R.faults W.contents W.faults code reader writer pieces self.old → Simulated R.remaining W.contents text (last_stop (session_machine self.new).stopped) (session_machine self.new).used reader (session_reader self.new) writer (session_writer self.new) }
         ensures goes_on { GoesOn self.old → result ≡ Stop.Paused → GoesOn self.new }
         ensures never_failed { GoesOn self.old → result ≡ Stop.Failed → ⊥ }
         ensures stopped { GoesOn self.old → (session_machine self.new).stopped ≡ kept_after result }
@@ -79,7 +79,7 @@ impl<R: FaultyRead, W: FaultyWrite> Session<R, W> {
         if self.machine.stopped().is_none() && self.source.missed().is_some() {
             return Stop::Failed;
         }
-        laws();
+        laws_of_pieces();
         self.machine.run(ticks, &mut self.source, &mut self.sink)
     }
 

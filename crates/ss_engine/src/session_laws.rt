@@ -1,7 +1,7 @@
 //! Laws of sessions.
 
 ghost use Rattle.std.specs.Prelude.{◌≡◌, ◌≢◌, ℕ, List, []};
-ghost use Rattle.ss_code_instructions.specs.Machine.{Code};
+ghost use Rattle.ss_code.specs.Running.{Compiled as Generated};
 ghost use Rattle.ss_engine.specs.declared.session.Session.{Session as SessionSeen};
 ghost use Rattle.ss_engine.specs.Accepting.{Compiles};
 ghost use Rattle.ss_engine.specs.Headline.{Simulated};
@@ -10,7 +10,7 @@ ghost use Rattle.ss_engine.specs.Cuts.{WasCut};
 
 use crate::text_laws::laws as laws_of_texts;
 use ss_base::{FaultyRead, FaultyWrite};
-use ss_code_instructions::laws::laws as laws_of_runs;
+use ss_code_instructions::laws::{laws_of_code, laws_of_pieces};
 
 /// A session of a text is what `simulate` is: after any list of runs, with whatever ticks, its writer took exactly the report
 /// that the text means for the input and all those ticks, and its last run stopped as the meaning ends. Where memory, the
@@ -19,9 +19,10 @@ use ss_code_instructions::laws::laws as laws_of_runs;
 /// `compile` answers a model that `Compiles` the text, `Session::start` a session that `HasRun` no pieces, and each
 /// `Session::run` makes that one piece more, whatever it answers.
 pub fn sessions_are_meant<R: FaultyRead, W: FaultyWrite>()
-    ensures { (session : SessionSeen R W) (text : List ℕ) (code : Code) (reader : R) (writer : W) (pieces : List ℕ) → Compiles text code → pieces ≢ [] → HasRun R.remaining R.faults W.contents W.faults code reader writer pieces session → Simulated R.remaining W.contents text (last_stop (session_machine session).stopped) (session_machine session).used reader (session_reader session) writer (session_writer session) }
+    ensures { (session : SessionSeen R W) (text : List ℕ) (code : Generated) (reader : R) (writer : W) (pieces : List ℕ) → Compiles text code → pieces ≢ [] → HasRun R.remaining R.faults W.contents W.faults code reader writer pieces session → Simulated R.remaining W.contents text (last_stop (session_machine session).stopped) (session_machine session).used reader (session_reader session) writer (session_writer session) }
 {
-    laws_of_runs();
+    laws_of_pieces();
+    laws_of_code();
     laws_of_texts();
 }
 
@@ -29,5 +30,8 @@ pub fn sessions_are_meant<R: FaultyRead, W: FaultyWrite>()
 /// a place where its report is cut to the bytes that the writer took; where the writer failed the next instruction writes,
 /// where the reader failed it reads. It says that there is such a place, and not which of several.
 pub fn sessions_are_cut<R: FaultyRead, W: FaultyWrite>()
-    ensures { (session : SessionSeen R W) (text : List ℕ) (code : Code) (reader : R) (writer : W) (pieces : List ℕ) → Compiles text code → HasRun R.remaining R.faults W.contents W.faults code reader writer pieces session → WasCut R.remaining W.contents text (last_stop (session_machine session).stopped) (session_machine session).used reader (session_reader session) writer (session_writer session) }
-{}
+    ensures { (session : SessionSeen R W) (text : List ℕ) (code : Generated) (reader : R) (writer : W) (pieces : List ℕ) → Compiles text code → HasRun R.remaining R.faults W.contents W.faults code reader writer pieces session → WasCut R.remaining W.contents text (last_stop (session_machine session).stopped) (session_machine session).used reader (session_reader session) writer (session_writer session) }
+{
+    laws_of_code();
+    laws_of_texts();
+}

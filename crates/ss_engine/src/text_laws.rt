@@ -3,7 +3,7 @@
 ghost use Rattle.ss_engine.specs.Laws.{EachHasOne, TextEndingsStay, NeverGoesWrong, OneMeaning, OneProgram, ProgramsAreTyped, ReportsGrow};
 
 use ss_check::kept_programs_resolve;
-use ss_code_instructions::laws::laws as laws_of_runs;
+use ss_code_instructions::laws::laws_of_pieces;
 use ss_lex::one_list;
 use ss_meaning::laws::laws as laws_of_types;
 use ss_parse::one_tree;
@@ -30,5 +30,5 @@ pub fn longer_bounds_extend_the_report()
     ensures endings_stay { TextEndingsStay }
 {
     laws();
-    laws_of_runs();
+    laws_of_pieces();
 }

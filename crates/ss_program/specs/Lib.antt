@@ -5,4 +5,3 @@ pub mod Views
 pub mod WellTyped
 pub mod Nodes
 pub mod Examples
-pub mod Checking

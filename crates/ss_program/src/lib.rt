@@ -4,7 +4,6 @@
 #![tactic(auto)]
 
 pub mod checked;
-pub mod checking;
 pub mod condition;
 pub mod expression;
 pub mod head;

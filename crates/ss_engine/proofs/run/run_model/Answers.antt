@@ -1,6 +1,5 @@
-use Rattle.std.proofs.Common.{◌≡◌, sym, ap, subst, ◌∙◌, inl}
+use Rattle.std.proofs.Common.{◌≡◌, sym, ap, subst, ◌∙◌}
 use Rattle.ss_base.specs.Failures.{HasRisen}
-use Rattle.ss_machine.specs.Start.{IsAtStart}
 use Rattle.ss_machine.specs.Stop.TheVariants.{Memory, Output, Input}
 use Rattle.ss_engine.specs.Sessions.{session_machine, session_reader, session_writer}
 use Rattle.ss_engine.specs.Headline.{Simulated}
@@ -43,7 +42,7 @@ returns-in-Err-clause-where_cut g c text compiled =
     let same_writer : c.args.writer ≡ c.in-Err.writer = sym (ap (λ (x : g.row.R.Denot × g.row.W.Denot). x.1) given) in
     subst (λ r. WasCut g.R.FaultyRead.remaining g.W.FaultyWrite.contents text Memory 0 c.args.reader r c.args.writer c.in-Err.writer) same_reader
     (subst (λ w. WasCut g.R.FaultyRead.remaining g.W.FaultyWrite.contents text Memory 0 c.args.reader c.args.reader c.args.writer w) same_writer
-    (nothing_cut g.R.FaultyRead.remaining g.W.FaultyWrite.contents text c.args.model compiled c.args.reader c.args.writer))
+    (nothing_cut g.R.FaultyRead.remaining g.W.FaultyWrite.contents text compiled.program compiled.meant c.args.reader c.args.writer))
 
 pub returns-clause-where_cut : goal.returns-clause-where_cut
 returns-clause-where_cut g c text compiled =
@@ -89,9 +88,4 @@ returns-clause-input g c q text compiled =
 pub run_pieces-stop-requires-clause-goes_on : goal.run_pieces-stop-requires-clause-goes_on
 run_pieces-stop-requires-clause-goes_on g c =
     let begins = c.in-Ok.ensures.ok in
-    let m = session_machine c.in-Ok.session in
-    record {
-      unstopped = begins.first.stopped;
-      unmissed = begins.fresh.missed;
-      continues = inl (subst (λ k. IsAtStart k m.working) (sym begins.first.code_is) begins.first.state);
-    }
+    record { unstopped = begins.first.stopped; unmissed = begins.fresh.missed }

@@ -1,6 +1,6 @@
 use Rattle.std.proofs.Common.{◌≡◌, ◌+◌, ◌≤◌, [], take}
 use Rattle.std.specs.List.{sum}
-use Rattle.ss_code_instructions.specs.Machine.{Code}
+use Rattle.ss_code.specs.Running.{Compiled as Generated}
 use Rattle.ss_machine.specs.Stop.TheVariants.{Paused, Failed}
 use Rattle.ss_engine.specs.Headline.{handed_out}
 use Rattle.ss_engine.specs.Sessions.{Begins, GoesOn, HasRun, WasRun, session_machine, last_stop}
@@ -14,7 +14,7 @@ invariant-loop-ticks g l =
       goes_on : l.stop ≡ Paused → GoesOn now;
       stopped : l.stop ≡ last_stop (session_machine now).stopped;
       right : l.stop ≡ Failed → ⊥;
-      was_run : (code : Code) (reader : g.row.R.Denot) (writer : g.row.W.Denot) → Begins code reader writer old → HasRun g.R.FaultyRead.remaining g.R.Faulty.faults g.W.FaultyWrite.contents g.W.Faulty.faults code reader writer [] old → WasRun g.R.FaultyRead.remaining g.R.Faulty.faults g.W.FaultyWrite.contents g.W.Faulty.faults code reader writer (take (l.ticks-index + 1) l.pieces) now;
+      was_run : (code : Generated) (reader : g.row.R.Denot) (writer : g.row.W.Denot) → Begins code reader writer old → HasRun g.R.FaultyRead.remaining g.R.Faulty.faults g.W.FaultyWrite.contents g.W.Faulty.faults code reader writer [] old → WasRun g.R.FaultyRead.remaining g.R.Faulty.faults g.W.FaultyWrite.contents g.W.Faulty.faults code reader writer (take (l.ticks-index + 1) l.pieces) now;
       used : (session_machine now).used ≤ sum (take (l.ticks-index + 1) l.pieces);
       paused : l.stop ≡ Paused → (session_machine now).used ≡ handed_out (take (l.ticks-index + 1) l.pieces);
     }

@@ -1,7 +1,7 @@
 use Rattle.std.proofs.Common.{ap, ◌∙◌, ℕ, List, [], ◌∷◌, ◌++◌}
 use Rattle.ss_machine.specs.Held.{kept_after}
 use Rattle.ss_engine.specs.declared.session.Session.{Session}
-use Rattle.ss_code_instructions.specs.Machine.{Code}
+use Rattle.ss_code.specs.Running.{Compiled as Generated}
 use Rattle.ss_engine.specs.Sessions.{HasRun, session_machine}
 use Rattle.ss_engine.proofs.Sessions.{session_same}
 use Rattle.ss_engine.proofs.Running.{either_stop, last_some, runs_again, runs_on}
@@ -17,15 +17,15 @@ returns g c =
     let read_faults = g.R.Faulty.faults in
     let contents = g.W.FaultyWrite.contents in
     let write_faults = g.W.Faulty.faults in
-    let runs : (code : Code) (reader : g.row.R.Denot) (writer : g.row.W.Denot) (pieces : List ℕ) → HasRun remaining read_faults contents write_faults code reader writer pieces old → HasRun remaining read_faults contents write_faults code reader writer (pieces ++ c.args.ticks ∷ []) new = λ code reader writer pieces h.
+    let runs : (code : Generated) (reader : g.row.R.Denot) (writer : g.row.W.Denot) (pieces : List ℕ) → HasRun remaining read_faults contents write_faults code reader writer pieces old → HasRun remaining read_faults contents write_faults code reader writer (pieces ++ c.args.ticks ∷ []) new = λ code reader writer pieces h.
     either_stop (session_machine old).stopped
     (λ stop e.
     let s = r.again stop e in
     runs_again remaining read_faults contents write_faults code reader writer pieces c.args.ticks old new h stop e (session_same new old s.1 s.2 s.3))
     (λ e.
     let on = h.goes_on e in
-    runs_on remaining read_faults contents write_faults code reader writer pieces c.args.ticks old new h c.laws.ensures.steps_go_on c.run.result e (r.ran e) (r.never_failed e on.continues) (r.stopped e) r.code r.used.0 r.used.1 (r.within e) r.steps (r.paused e)
-    (λ q. record { unstopped = r.stopped e ∙ ap kept_after q; unmissed = r.unmissed e q; continues = r.continues e on.continues q })
+    runs_on remaining read_faults contents write_faults code reader writer pieces c.args.ticks old new h c.laws_of_pieces.ensures.steps_go_on c.run.result e (r.ran e) (r.never_failed e) (r.stopped e) r.code r.used.0 r.used.1 (r.within e) r.steps (r.paused e)
+    (λ q. record { unstopped = r.stopped e ∙ ap kept_after q; unmissed = r.unmissed e q })
     r.end (r.output e) (r.input e) r.never_falls r.read_never_falls) in
     record {
       again = λ before s.
@@ -34,8 +34,8 @@ returns g c =
       ran = λ on. r.ran on.unstopped;
       has_run = runs;
       meant = λ text code reader writer pieces compiled h. c.sessions_are_meant.ensures new text code reader writer (pieces ++ c.args.ticks ∷ []) compiled (last_some pieces c.args.ticks) (runs code reader writer pieces h);
-      goes_on = λ on q. record { unstopped = r.stopped on.unstopped ∙ ap kept_after q; unmissed = r.unmissed on.unstopped q; continues = r.continues on.unstopped on.continues q };
-      never_failed = λ on. r.never_failed on.unstopped on.continues;
+      goes_on = λ on q. record { unstopped = r.stopped on.unstopped ∙ ap kept_after q; unmissed = r.unmissed on.unstopped q };
+      never_failed = λ on. r.never_failed on.unstopped;
       stopped = λ on. r.stopped on.unstopped;
       code = r.code;
       end = r.end;
