@@ -37,8 +37,8 @@ fn none(name: &'static str) -> Detail {
 // What works on these.
 fn with(name: &'static str, all: &[Part]) -> Detail {
     let mut parts = [Part::Nothing; 6];
-    for (i, part) in all.iter().enumerate() {
-        parts[i] = *part;
+    for (place, part) in parts.iter_mut().zip(all) {
+        *place = *part;
     }
     Detail { name, parts }
 }

@@ -1,5 +1,8 @@
 //! The text that shows a list of instructions.
 
+ghost use Rattle.std.specs.Prelude.{◌≡◌, ◌++◌, length, decimal, IfOk, OnOk};
+ghost use Rattle.ss_code_listing.specs.Listing.{AreLines, IsLine, without_feeds};
+
 use crate::detail::{Detail, Part, detail_of};
 use itoa::Buffer;
 use ss_base::Value;
@@ -20,14 +23,15 @@ struct Names<'a> {
 }
 
 // A number.
-fn add_number(text: &mut Vec<u8>, number: usize) -> Result<(), AllocError> {
+fn add_number(text: &mut Vec<u8>, number: usize) -> Result<(), AllocError>
+    ensures { OnOk result (text.new.items ≡ text.old.items ++ decimal number) }
+{
     text.extend_from_slice(Buffer::new().format(number).as_bytes())
 }
 
-// Bytes, and blanks up to so many columns.
-fn add_padded(text: &mut Vec<u8>, width: usize, bytes: &[u8]) -> Result<(), AllocError> {
-    text.extend_from_slice(bytes)?;
-    for _column in bytes.len()..width {
+// Blanks from one column up to another.
+fn add_blanks(text: &mut Vec<u8>, from: usize, to: usize) -> Result<(), AllocError> {
+    for _column in from..to {
         text.push(b' ')?;
     }
     Ok(())
@@ -79,11 +83,11 @@ fn add_part(text: &mut Vec<u8>, names: Names, place: usize, part: Part) -> Resul
         }
         Part::Else(skip) => {
             text.extend_from_slice(b"else to ")?;
-            add_number(text, place + 1 + skip as usize)
+            add_number(text, place.saturating_add(1).saturating_add(skip as usize))
         }
         Part::Back(back) => {
             text.extend_from_slice(b"back to ")?;
-            add_number(text, place - back as usize)
+            add_number(text, place.saturating_sub(back as usize))
         }
         Part::Word(word) => text.extend_from_slice(word.as_bytes()),
     }
@@ -96,7 +100,9 @@ fn add_detail(
     place: usize,
     detail: &Detail,
 ) -> Result<(), AllocError> {
-    add_padded(text, NAME_WIDTH, detail.name.as_bytes())?;
+    let name = detail.name.as_bytes();
+    text.extend_from_slice(name)?;
+    add_blanks(text, name.len(), NAME_WIDTH)?;
     let mut is_first = true;
     for part in &detail.parts {
         if let Part::Nothing = part {
@@ -111,6 +117,42 @@ fn add_detail(
     Ok(())
 }
 
+// Bytes but for line feeds.
+fn add_words(text: &mut Vec<u8>, words: &[u8]) -> Result<(), AllocError>
+    ensures { OnOk result (text.new.items ≡ text.old.items ++ without_feeds words.now) }
+{
+    for word in words {
+        if *word != b'\n' {
+            text.push(*word)?;
+        }
+    }
+    Ok(())
+}
+
+// A line: its number, a blank, and these words.
+fn add_line(text: &mut Vec<u8>, place: usize, words: &[u8]) -> Result<(), AllocError>
+    ensures { OnOk result (IsLine text.old.items place text.new.items) }
+{
+    add_number(text, place)?;
+    text.push(b' ')?;
+    add_words(text, words)?;
+    text.push(b'\n')?;
+    Ok(())
+}
+
+// What comes after the number of an instruction and a blank: what it is called, and what it works on, in their columns.
+fn words_of(
+    alloc: Global,
+    names: Names,
+    place: usize,
+    instruction: &Instruction,
+) -> Result<Vec<u8>, AllocError> {
+    let mut words = Vec::new(alloc);
+    add_blanks(&mut words, Buffer::new().format(place).len(), NUMBER_WIDTH)?;
+    add_detail(&mut words, names, place, &detail_of(instruction))?;
+    Ok(words)
+}
+
 /// A line for each instruction: its number from 0, a blank, what it is called, and what it works on. The error comes where
 /// memory was refused.
 pub fn listing(
@@ -118,18 +160,14 @@ pub fn listing(
     instructions: &[Instruction],
     constants: &[Value],
     globals: usize,
-) -> Result<Vec<u8>, AllocError> {
+) -> Result<Vec<u8>, AllocError>
+    ensures { IfOk result (λ text. AreLines (length instructions.now) text.items) }
+{
     let names = Names { constants, globals };
     let mut text = Vec::new(alloc);
     for (place, instruction) in instructions.iter().enumerate() {
-        add_padded(
-            &mut text,
-            NUMBER_WIDTH,
-            Buffer::new().format(place).as_bytes(),
-        )?;
-        text.push(b' ')?;
-        add_detail(&mut text, names, place, &detail_of(instruction))?;
-        text.push(b'\n')?;
+        let words = words_of(alloc, names, place, instruction)?;
+        add_line(&mut text, place, &words)?;
     }
     Ok(text)
 }
