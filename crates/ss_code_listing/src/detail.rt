@@ -320,17 +320,17 @@ pub(crate) fn detail_of(instruction: &I) -> Detail {
         ),
         I::Turn => none("turn"),
         I::Repeat { back } => with("repeat", &[Part::Back(*back)]),
-        I::Begin { cell, skip } => with("begin", &[Part::Of("cell", *cell), Part::Else(*skip)]),
+        I::Begin { cell, skip } => with("begin", &[Part::From(Address::in_frame(*cell)), Part::Else(*skip)]),
         I::BeginClass { class, cell, skip } => with(
             "begin class",
             &[
                 Part::Of("class", *class),
-                Part::Of("cell", *cell),
+                Part::From(Address::in_frame(*cell)),
                 Part::Else(*skip),
             ],
         ),
-        I::Take { cell, to } => with("take", &[Part::Of("cell", *cell), Part::To(*to)]),
-        I::Next { cell, back } => with("next", &[Part::Of("cell", *cell), Part::Back(*back)]),
+        I::Take { cell, to } => with("take", &[Part::From(Address::in_frame(*cell)), Part::To(*to)]),
+        I::Next { cell, back } => with("next", &[Part::From(Address::in_frame(*cell)), Part::Back(*back)]),
         I::BeginSet {
             set,
             owner,
@@ -342,7 +342,7 @@ pub(crate) fn detail_of(instruction: &I) -> Detail {
             &[
                 Part::Of("set", *set),
                 Part::From(*owner),
-                Part::Of("cell", *cell),
+                Part::From(Address::in_frame(*cell)),
                 Part::Else(*skip),
                 word_if(*reverse, "reverse"),
             ],
@@ -359,7 +359,7 @@ pub(crate) fn detail_of(instruction: &I) -> Detail {
             &[
                 Part::Of("set", *set),
                 Part::From(*owner),
-                Part::Of("cell", *cell),
+                Part::From(Address::in_frame(*cell)),
                 Part::Else(*skip),
                 word_if(*reverse, "reverse"),
                 word_if(*after, "after"),
@@ -377,7 +377,7 @@ pub(crate) fn detail_of(instruction: &I) -> Detail {
             &[
                 Part::Of("set", *set),
                 Part::From(*owner),
-                Part::Of("cell", *cell),
+                Part::From(Address::in_frame(*cell)),
                 Part::Back(*back),
                 word_if(*reverse, "reverse"),
             ],
@@ -385,7 +385,7 @@ pub(crate) fn detail_of(instruction: &I) -> Detail {
         I::Forget { count } => with("forget", &[Part::Of("count", *count)]),
         I::Call { routine, cell } => with(
             "call",
-            &[Part::Of("routine", *routine), Part::Of("cell", *cell)],
+            &[Part::Of("routine", *routine), Part::From(Address::in_frame(*cell))],
         ),
         I::Leave => none("leave"),
         I::Halt => none("halt"),
@@ -466,7 +466,7 @@ pub(crate) fn detail_of(instruction: &I) -> Detail {
             "make notice",
             &[
                 Part::Of("class", *class),
-                Part::Of("cell", *cell),
+                Part::From(Address::in_frame(*cell)),
                 Part::Of("given", *given),
                 Part::To(*to),
             ],
@@ -494,7 +494,7 @@ pub(crate) fn detail_of(instruction: &I) -> Detail {
             &[
                 Part::Of("class", *class),
                 Part::From(*notice),
-                Part::Of("cell", *cell),
+                Part::From(Address::in_frame(*cell)),
                 Part::Of("given", *given),
             ],
         ),
@@ -503,7 +503,7 @@ pub(crate) fn detail_of(instruction: &I) -> Detail {
             &[Part::Of("class", *class), Part::From(*notice)],
         ),
         I::Await { skip } => with("await", &[Part::Else(*skip)]),
-        I::TakeEvent { cell } => with("take event", &[Part::Of("cell", *cell)]),
+        I::TakeEvent { cell } => with("take event", &[Part::From(Address::in_frame(*cell))]),
         I::NextEvent { back } => with("next event", &[Part::Back(*back)]),
         I::Reset { statistic, entity } => with(
             "reset",
@@ -513,7 +513,7 @@ pub(crate) fn detail_of(instruction: &I) -> Detail {
         I::ReadText { to } => with("read text", &[Part::To(*to)]),
         I::Print { lines, cell } => with(
             "print",
-            &[Part::Of("lines", *lines), Part::Of("cell", *cell)],
+            &[Part::Of("lines", *lines), Part::From(Address::in_frame(*cell))],
         ),
         I::Skip { count } => with("skip", &[Part::From(*count)]),
     }

@@ -102,13 +102,14 @@ fn add_detail(
 ) -> Result<(), AllocError> {
     let name = detail.name.as_bytes();
     text.extend_from_slice(name)?;
-    add_blanks(text, name.len(), NAME_WIDTH)?;
     let mut is_first = true;
     for part in &detail.parts {
         if let Part::Nothing = part {
             continue;
         }
-        if !is_first {
+        if is_first {
+            add_blanks(text, name.len(), NAME_WIDTH)?;
+        } else {
             text.extend_from_slice(b", ")?;
         }
         is_first = false;

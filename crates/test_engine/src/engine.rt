@@ -36,36 +36,30 @@ PRINT 1 LINE WITH \"TIME\", TIME.V THUS\n\
 **** *\n\
 END\n";
 
-static BELL_LISTING: &[u8] = b"0       push         1\n\
-1       push         3\n\
-2       push         1\n\
-3       begin        else to 13, line 6\n\
-4       take         local 0, line 6\n\
-5       fetch        local 0\n\
-6       push         1\n\
-7       compare      greater, else to 12\n\
-8       fetch        local 0\n\
-9       push         10\n\
-10      calculate    times, line 8\n\
-11      call         routine 0 at 23, given 1, yielding 0\n\
-12      next         to 4\n\
-13      forget       values 3\n\
-14      push         5\n\
-15      when         at, line 11\n\
-16      make notice  class 0, given 0, line 11\n\
-17      name         global 0, line 11\n\
-18      file notice  class 0, line 11\n\
-19      await        else to 22\n\
-20      take event   to 26\n\
-21      next event   to 20\n\
-22      leave\n\
-23      fetch        local 0\n\
-24      print        pictures 0, values 1\n\
-25      leave\n\
-26      push         \"TIME\"\n\
-27      clock\n\
-28      print        pictures 1, values 2\n\
-29      leave\n";
+static BELL_LISTING: &[u8] = b"0       move                    1, to local 1\n\
+1       move                    3, to local 2\n\
+2       move                    1, to local 3\n\
+3       begin                   local 1, else to 9\n\
+4       take                    local 1, to local 0\n\
+5       unless greater          local 0, 1, else to 8\n\
+6       multiply                local 0, 10, to local 4\n\
+7       call                    routine 0, local 4\n\
+8       next                    local 1, back to 4\n\
+9       forget                  count 3\n\
+10      at                      5, to local 1\n\
+11      make notice             class 0, local 1, given 0, to global 0\n\
+12      file notice             class 0, global 0, local 1\n\
+13      await                   else to 16\n\
+14      take event              local 1\n\
+15      next event              back to 14\n\
+16      leave\n\
+17      move                    local 0, to local 1\n\
+18      print                   lines 0, local 1\n\
+19      leave\n\
+20      move text               \"TIME\", to local 0\n\
+21      clock                   to local 1\n\
+22      print                   lines 1, local 0\n\
+23      leave\n";
 
 // Two numbers that are read, each printed.
 static TWO_WORDS: &[u8] =
