@@ -1,7 +1,7 @@
 //! Laws of the code of programs, and of runs.
 
 ghost use Rattle.ss_code_instructions.specs.Laws.{CodeBehaves, JumpsLand, HasShape, ShapeStays, StatesSuit, NeverStuck, HasSize, HoldsFour, TicksAndCalls, StepsAreBounded, StepsGoOn, InPieces, Pauses, Prefixes, EndingsStay, OnTheWay, OneTickFewer};
-ghost use Rattle.ss_code_instructions.specs.Reached.{ReachedFits, StepsFall};
+ghost use Rattle.ss_code_instructions.specs.Reached.{ReachedFits, ReachedGoes, InputStays, StepsFall};
 
 /// The code of each program comes, with each input and number of ticks, to the report, the ending and the ticks left
 /// that the program means, and to nothing else. No well-typed program is stuck.
@@ -42,9 +42,12 @@ pub fn laws_of_pieces()
     ensures one_tick_fewer { OneTickFewer }
 {}
 
-/// Whatever input is handed to a machine as it goes on, it finds at each place what the place says. Each step leaves less to do.
+/// Whatever input is handed to a machine as it goes on, it finds at each place what the place says, and is never stuck. A READ
+/// takes the next word from the input, and nothing else takes anything. Each step leaves less to do.
 pub fn laws_of_reached()
     ensures reached_fits { ReachedFits }
+    ensures reached_goes { ReachedGoes }
+    ensures input_stays { InputStays }
     ensures steps_fall { StepsFall }
 {}
 
@@ -54,7 +57,8 @@ pub fn laws_of_reached()
 /// more of them. What a run has written on its way is a beginning of its report, and, once all ticks are taken, goes on from the
 /// report of a tick fewer. A run pauses where its program means so.
 ///
-/// Whatever input is handed to a machine as it goes on, it finds at each place what the place says.
+/// Whatever input is handed to a machine as it goes on, it finds at each place what the place says, and is never stuck. A READ
+/// takes the next word from the input, and nothing else takes anything. Each step leaves less to do.
 #[inline(always)]
 pub fn laws()
     ensures code_behaves { CodeBehaves }
@@ -71,6 +75,8 @@ pub fn laws()
     ensures on_the_way { OnTheWay }
     ensures one_tick_fewer { OneTickFewer }
     ensures reached_fits { ReachedFits }
+    ensures reached_goes { ReachedGoes }
+    ensures input_stays { InputStays }
     ensures steps_fall { StepsFall }
 {
     laws_of_meaning();
