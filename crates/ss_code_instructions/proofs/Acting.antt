@@ -1,12 +1,14 @@
--- No instruction changes what the program says once and for all.
-use Rattle.std.proofs.Common.{ℕ, ◌==◌, Bool, true, false, List, [], ◌∷◌, length, Some, Ok, Err, ℤ, refl, ◌∙◌}
-use Rattle.std.specs.Prelude.{Result, int_lt, pos, ◌+ℤ◌, slice_get}
+-- No instruction changes what the program says once and for all, and none but a READ the input.
+use Rattle.std.proofs.Common.{ℕ, ◌==◌, Bool, true, false, List, [], ◌∷◌, length, Option, Some, None, Ok, Err, ℤ, refl, sym, ap, ◌∙◌}
+use Rattle.std.specs.Prelude.{Result, ◌+ℤ◌, slice_get}
+use Rattle.ss_base.specs.declared.fault.FaultKind.{FaultKind}
+use Rattle.ss_base.specs.declared.layout.Mode.{Mode}
 use Rattle.ss_base.specs.declared.line.Line.{Line}
 use Rattle.ss_base.specs.declared.value.Value.{Value}
 use Rattle.ss_base.specs.declared.value.Value.TheVariants.{Whole}
-use Rattle.ss_meaning.specs.Words.{is_ended}
+use Rattle.ss_meaning.specs.Words.{Given, is_ended}
 use Rattle.ss_meaning.specs.Values.{Trouble, if_ok, turned, due, where_fit, number_of, calculated, absolute, related, printed, empty_lines}
-use Rattle.ss_meaning.specs.Store.{Store, opened, yielded}
+use Rattle.ss_meaning.specs.Store.{Setting, Store, opened, yielded}
 use Rattle.ss_meaning.specs.Entities.{entity, attribute, time_of, made_one, made_all, without}
 use Rattle.ss_meaning.specs.Places.{assigned_variable, assigned_attribute}
 use Rattle.ss_meaning.specs.Sets.{member, known_owner, of_set, of_member, is_none, is_empty, is_in, filed_in, removed_from, removed_at, begun, begun_at, goes_on}
@@ -16,10 +18,11 @@ use Rattle.ss_meaning.specs.Loops.{range_of, indices}
 use Rattle.ss_meaning.specs.Statements.{read_value}
 use Rattle.ss_code_instructions.specs.Instructions.{Taken, Target, Into, Onto, Instruction, EntryPoint}
 use Rattle.ss_code_instructions.specs.Instructions as i
-use Rattle.ss_code_instructions.specs.States.{Called, ARoutine, AnEvent, Frame, Core, Moved, Stuck, did, back_if, cell_at, take_off, Written, put_to, deliver_with, onward}
-use Rattle.ss_code_instructions.specs.Machine.{Code, changed_attribute, assignable_count, Walk, walk_at, walk_cells, has_item, next_item, walk_further, values_shown, cells_of_kinds, enter, leave, take_event, act}
-use Rattle.ss_code_instructions.proofs.Keeping.{Only, Same, SameWith, ComingSame, BeginningSame, each, then_only, made, made_from, variable_same, attribute_same, changed_same, made_one_same, made_all_same, without_same, filed_same, removed_same, end_same, notice_same, pending_same, again_same, cancelled_same, read_same, reset_same, event_same, begun_same}
-use Rattle.ss_code_instructions.proofs.Moving.{Every, did_only, did_any, fit_any, fit_where, if_every, high, block, number, value, values, bearer, position, three, walk}
+use Rattle.ss_code_instructions.specs.States.{Called, ARoutine, AnEvent, Frame, Core, Moved, did, back_if, cell_at, take_off, Written, put_to, deliver_with, onward}
+use Rattle.ss_code_instructions.specs.Machine.{Code, changed_attribute, assignable_count, Walk, walk_at, walk_cells, unsigned, has_next, next_item, walk_further, values_shown, cells_of_kinds, enter, leave, take_event, take_next, act}
+use Rattle.ss_code_instructions.specs.Reached.{read_mode, TakesIf, TakesBy, input_of}
+use Rattle.ss_code_instructions.proofs.Keeping.{Only, Where, Says, Same, says_so, SameWith, TakesWord, ComingSame, BeginningSame, each, then_only, made, made_from, variable_same, attribute_same, changed_same, made_one_same, made_all_same, without_same, filed_same, removed_same, end_same, notice_same, pending_same, again_same, cancelled_same, read_takes, reset_same, event_same, begun_same}
+use Rattle.ss_code_instructions.proofs.Moving.{Every, every_so, did_only, did_any, fit_any, if_every, high, block, number, value, values, bearer, position, three, walk}
 
 -- in a state that an instruction leads to the program says the same
 abbrev pub Saying : Store → Core → Type 0
@@ -28,21 +31,25 @@ Saying s c = Same s c.store
 abbrev pub Keeps : Store → Moved → Type 0
 Keeps s m = Every (Saying s) m
 
-module _ (s : Store) where
-  abbrev WrittenSame : Written → Type 0
-  WrittenSame w = Same s w.store
+-- what is so of a store, and of each in which the same is said
+module _ (P : Store → Type 0) (on : (t u : Store) → P t → Same t u → P u) where
+  abbrev IsWritten : Written → Type 0
+  IsWritten w = P w.store
 
-  put_to_same : (to : Target) (v : Value) (cells : List Value) (t : Store) → Same s t → Only WrittenSame (put_to to v cells t)
-  put_to_same (Into x) v cells t p = made_from WrittenSame (Same t) _ (assigned_variable x v t) (variable_same x v t) (λ u q. q ∙ p)
-  put_to_same (Onto h) v cells t p = fits (length cells == h)
+  put_to_so : (to : Target) (v : Value) (cells : List Value) (t : Store) → P t → Only IsWritten (put_to to v cells t)
+  put_to_so (Into x) v cells t p = made_from IsWritten (Same t) _ (assigned_variable x v t) (variable_same x v t) (λ u q. on t u p q)
+  put_to_so (Onto h) v cells t p = fits (length cells == h)
     where
-      fits : (b : Bool) → Only WrittenSame (where_fit b (Ok (record { cells = v ∷ cells; store = t })))
+      fits : (b : Bool) → Only IsWritten (where_fit b (Ok (record { cells = v ∷ cells; store = t })))
       fits true = p
       fits false = tt
 
-  delivers : (l : Line) (to : Target) (r : Result (Value × Store) Trouble) (cells : List Value) (c : Core) → Only (SameWith s) r → Keeps s (deliver_with l to r cells c)
-  delivers l to r cells c q =
-      did_only (Saying s) WrittenSame l (if_ok r (λ b. put_to to b.0 cells b.1)) (λ w. onward w.cells c w.store) (then_only WrittenSame (SameWith s) r (λ b. put_to to b.0 cells b.1) q (λ b p. put_to_same to b.0 cells b.1 p)) (λ w p. p)
+  delivers_so : (l : Line) (to : Target) (r : Result (Value × Store) Trouble) (cells : List Value) (c : Core) → Only (λ (b : Value × Store). P b.1) r → Every (λ (d : Core). P d.store) (deliver_with l to r cells c)
+  delivers_so l to r cells c q =
+      did_only (λ (d : Core). P d.store) IsWritten l (if_ok r (λ b. put_to to b.0 cells b.1)) (λ w. onward w.cells c w.store) (then_only IsWritten (λ (b : Value × Store). P b.1) r (λ b. put_to to b.0 cells b.1) q (λ b p. put_to_so to b.0 cells b.1 p)) (λ w p. p)
+
+delivers : (s : Store) (l : Line) (to : Target) (r : Result (Value × Store) Trouble) (cells : List Value) (c : Core) → Only (SameWith s) r → Keeps s (deliver_with l to r cells c)
+delivers s l to r cells c q = delivers_so (Same s) (λ t u p q. q ∙ p) l to r cells c q
 
 -- what computes a value leaves the store
 computes : (l : Line) (to : Target) (r : Result Value Trouble) (cells : List Value) (c : Core) → Keeps c.store (deliver_with l to (turned (λ v. (v, c.store)) r) cells c)
@@ -61,8 +68,7 @@ leaving (f ∷ fs) c = fit_any (Saying c.store) (yielded f.first f.count c.store
 
 next_keeps : (back : ℕ) (item limit step : ℤ) (below : List Value) (c : Core) → Keeps c.store (next_item back item limit step below c)
 next_keeps back item limit step below c =
-    if_every (Saying c.store) (int_lt step (pos 1)) Stuck _ tt
-    (if_every (Saying c.store) (has_item (item +ℤ step) limit) (back_if back true (Whole step ∷ Whole limit ∷ Whole (item +ℤ step) ∷ below) c) (back_if back false (Whole step ∷ Whole limit ∷ Whole item ∷ below) c) refl refl)
+    if_every (Saying c.store) (has_next item limit step) (back_if back true (Whole step ∷ Whole limit ∷ Whole (item +ℤ unsigned step) ∷ below) c) (back_if back false (Whole step ∷ Whole limit ∷ Whole item ∷ below) c) refl refl
 
 further_keeps : (back : ℕ) (old new : Walk) (below : List Value) (c : Core) → Keeps c.store (walk_further back old new below c)
 further_keeps back old new below c = if_every (Saying c.store) (is_none new.member) (back_if back false (walk_cells old below) c) (back_if back true (walk_cells new below) c) refl refl
@@ -76,7 +82,16 @@ taking code h n c p =
     weaken (Ok b) q = q ∙ p
     weaken (Err t) q = tt
 
-pub act_keeps : (code : Code) (l : Line) (x : Instruction) (c : Core) → Keeps c.store (act code l x c)
+taking_next : (code : Code) (h : ℕ) (o : Option Coming) (c : Core) → Where (ComingSame c.store) o → Keeps c.store (take_next code h o c)
+taking_next code h None c p = refl
+taking_next code h (Some n) c p = taking code h n c p
+
+-- a word of a mode is taken, or all is as it was
+abbrev Leaves : Option Mode → Store → Core → Type 0
+Leaves None s = Saying s
+Leaves (Some mode) s = λ d. TakesWord mode s d.store
+
+act_keeps : (code : Code) (l : Line) (x : Instruction) (c : Core) → Every (Leaves (read_mode x) c.store) (act code l x c)
 act_keeps code l (i.Move from to) c = value (Saying c.store) from c.store c.cells _ (λ v below. computes l to (Ok v) below c)
 act_keeps code l (i.Keep from x) c = value (Saying c.store) from c.store c.cells _ (λ v below. changes l (assigned_variable x v c.store) below c (variable_same x v c.store))
 act_keeps code l (i.Calculate op left right to) c = values (Saying c.store) left right c.store c.cells _ (λ x y below. computes l to (calculated op x y) below c)
@@ -141,9 +156,26 @@ act_keeps code l (i.Reschedule class x h given) c =
     changes l (rescheduled class x vs time c.store) below c (again_same class x vs time c.store))))
 act_keeps code l (i.Cancel class x) c = value (Saying c.store) x c.store c.cells _ (λ x below. changes l (unscheduled class x c.store) below c (cancelled_same class x c.store))
 act_keeps code l (i.Await skip) c = refl
-act_keeps code l (i.TakeEvent h) c = fit_where (Saying c.store) (ComingSame c.store) (next_event c.store) _ (event_same c.store) (λ n p. taking code h n c p)
+act_keeps code l (i.TakeEvent h) c = taking_next code h (next_event c.store) c (event_same c.store)
 act_keeps code l (i.NextEvent back) c = refl
-act_keeps code l (i.Read mode to) c = delivers c.store l to (read_value mode c.store) c.cells c (read_same mode c.store)
+act_keeps code l (i.Read mode to) c =
+    delivers_so (TakesWord mode c.store) (λ t u p q. (says_so t u q ∙ p.0, (p.1.0, p.1.1 ∙ ap (λ (b : Setting × List ℕ). (let g : Result (Given Value) FaultKind = Ok (record { value = p.1.0; rest = b.1 }) in g)) (sym q)))) l to (read_value mode c.store) c.cells c (read_takes mode c.store)
 act_keeps code l (i.Print lines h) c =
     fit_any (Saying c.store) (slice_get code.prints lines) _ (λ p. block (Saying c.store) (cells_of_kinds p.items) h c.cells _ (λ vs below. fit_any (Saying c.store) (values_shown p.items vs c.store) _ (λ items. fit_any (Saying c.store) (printed p.pictures items) _ (λ bytes. refl))))
 act_keeps code l (i.Skip count) c = value (Saying c.store) count c.store c.cells _ (λ v below. did_any (Saying c.store) l (empty_lines v) _ (λ bytes. refl))
+
+-- so the program says the same
+pub act_says : (code : Code) (l : Line) (x : Instruction) (c : Core) → Every (λ (d : Core). Says c.store d.store) (act code l x c)
+act_says code l x c = every_so (Leaves (read_mode x) c.store) (λ (d : Core). Says c.store d.store) (act code l x c) (by (read_mode x)) (act_keeps code l x c)
+  where
+    by : (o : Option Mode) (d : Core) → Leaves o c.store d → Says c.store d.store
+    by None d h = says_so c.store d.store h
+    by (Some mode) d h = h.0
+
+-- and a READ takes a word from the input, and no other instruction takes anything
+pub act_takes : (code : Code) (l : Line) (x : Instruction) (c : Core) → Every (λ (d : Core). TakesBy x (input_of c) (input_of d)) (act code l x c)
+act_takes code l x c = every_so (Leaves (read_mode x) c.store) (λ (d : Core). TakesBy x (input_of c) (input_of d)) (act code l x c) (by (read_mode x)) (act_keeps code l x c)
+  where
+    by : (o : Option Mode) (d : Core) → Leaves o c.store d → TakesIf o (input_of c) (input_of d)
+    by None d h = ap (λ (b : Setting × List ℕ). b.1) h
+    by (Some mode) d h = h.1

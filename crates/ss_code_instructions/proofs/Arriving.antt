@@ -1,5 +1,5 @@
--- Whatever input is handed to a machine as it goes on, it finds at each place what the place says.
-use Rattle.std.proofs.Common.{◌≡◌, ℕ, zero, suc, List, sym, subst}
+-- Whatever input is handed to a machine as it goes on, it finds at each place what the place says, and is never stuck.
+use Rattle.std.proofs.Common.{ℕ, zero, suc, List, sym, subst}
 use Rattle.ss_program.specs.Program.{Program}
 use Rattle.ss_program.specs.WellTyped.{WellTyped}
 use Rattle.ss_meaning.specs.Fitting.{Fits}
@@ -10,7 +10,8 @@ use Rattle.ss_code_instructions.specs.Running.{begin_store, start}
 use Rattle.ss_code_instructions.specs.Translation.{code_of}
 use Rattle.ss_code_instructions.specs.Shape.{FitsCode}
 use Rattle.ss_code_instructions.specs.Laws.{HasShape, ShapeStays}
-use Rattle.ss_code_instructions.specs.Reached.{ReachedIn, ReachedFits, with_input, at_core}
+use Rattle.ss_code_instructions.specs.Reached.{ReachedIn, ReachedFits, ReachedGoes, with_input, at_core}
+use Rattle.ss_code_instructions.proofs.ShapeKept.{fits_goes}
 
 -- a state fits as well with another input
 fits_input : (p : Program) (code : Code) (c : Core) (input : List ℕ) → FitsCode p code c → FitsCode p code (with_input input c)
@@ -61,3 +62,6 @@ module _ (shape : HasShape) (stays : ShapeStays) (begins : BeginsFit) (p : Progr
 
 pub reached_fits : HasShape → ShapeStays → BeginsFit → ReachedFits
 reached_fits shape stays begins p typed c h = in_fits shape stays begins p typed h.0 c h.1
+
+pub reached_goes : ReachedFits → ReachedGoes
+reached_goes fits p typed c h report ticks = fits_goes p typed (at_core c report ticks) (fits p typed c h)

@@ -1,7 +1,7 @@
 -- How many steps a run makes: each takes a tick, or goes on towards the end of the code, to a tick, or back from a call.
-use Rattle.std.proofs.Common.{◌≡◌, ℕ, zero, suc, ◌+◌, ◌-◌, ◌*◌, ◌<◌, ◌≤◌, Bool, true, false, not, List, [], ◌∷◌, ◌++◌, length, Option, Some, None, Ok, ℤ, pos, refl, sym, ap, ◌∙◌, subst, arith, length-append, ◌⊎◌, inl, inr}
+use Rattle.std.proofs.Common.{◌≡◌, ℕ, zero, suc, ◌+◌, ◌-◌, ◌*◌, ◌<◌, ◌≤◌, Bool, true, false, not, List, [], ◌∷◌, ◌++◌, length, Option, Some, None, Ok, ℤ, refl, sym, ap, ◌∙◌, subst, arith, length-append, ◌⊎◌, inl, inr}
 use Rattle.std.proofs.lemmas.Option.{slice_get_within}
-use Rattle.std.specs.Prelude.{Result, int_lt, ◌+ℤ◌, slice_get}
+use Rattle.std.specs.Prelude.{Result, ◌+ℤ◌, slice_get}
 use Rattle.ss_base.specs.declared.line.Line.{Line}
 use Rattle.ss_base.specs.declared.value.Value.{Value}
 use Rattle.ss_base.specs.declared.value.Value.TheVariants.{Whole}
@@ -18,7 +18,7 @@ use Rattle.ss_meaning.specs.Statements.{read_value}
 use Rattle.ss_code_instructions.specs.Instructions.{Taken, Target, Instruction, Placed}
 use Rattle.ss_code_instructions.specs.Instructions as i
 use Rattle.ss_code_instructions.specs.States.{Frame, Core, MachineState, Done, Breaks, Moved, To, Sends, Rest, Stuck, did, back_if, take_off, deliver_with, put_to, onward, onward_if}
-use Rattle.ss_code_instructions.specs.Machine.{Code, changed_attribute, assignable_count, Walk, walk_at, walk_cells, has_item, next_item, walk_further, values_shown, cells_of_kinds, leave, act, is_due, Stepped, Goes, Over, NoStep, with_rest, when_due, step_at, step}
+use Rattle.ss_code_instructions.specs.Machine.{Code, changed_attribute, assignable_count, Walk, walk_at, walk_cells, has_item, unsigned, has_next, next_item, walk_further, values_shown, cells_of_kinds, leave, act, is_due, Stepped, Goes, Over, NoStep, with_rest, when_due, step_at, step}
 use Rattle.ss_program.specs.Program.{Program}
 use Rattle.ss_meaning.specs.Expressions.{unless}
 use Rattle.ss_code_instructions.specs.Running.{Underway, Lands, goes_back, start, after_one_step, steps}
@@ -63,9 +63,8 @@ leaving (f ∷ fs) c e = fit_any (Way None c) (yielded f.first f.count c.store.l
 
 next_way : (back : ℕ) (item limit step : ℤ) (below : List Value) (c : Core) → Every (Way (Some back) c) (next_item back item limit step below c)
 next_way back item limit step below c =
-    if_every (Way (Some back) c) (int_lt step (pos 1)) Stuck _ tt
-    (if_every (Way (Some back) c) (has_item (item +ℤ step) limit) (back_if back true (Whole step ∷ Whole limit ∷ Whole (item +ℤ step) ∷ below) c) (back_if back false (Whole step ∷ Whole limit ∷ Whole item ∷ below) c)
-    (backs c back true (Whole step ∷ Whole limit ∷ Whole (item +ℤ step) ∷ below)) (backs c back false (Whole step ∷ Whole limit ∷ Whole item ∷ below)))
+    if_every (Way (Some back) c) (has_next item limit step) (back_if back true (Whole step ∷ Whole limit ∷ Whole (item +ℤ unsigned step) ∷ below) c) (back_if back false (Whole step ∷ Whole limit ∷ Whole item ∷ below) c)
+    (backs c back true (Whole step ∷ Whole limit ∷ Whole (item +ℤ unsigned step) ∷ below)) (backs c back false (Whole step ∷ Whole limit ∷ Whole item ∷ below))
 
 further_way : (back : ℕ) (old new : Walk) (below : List Value) (c : Core) → Every (Way (Some back) c) (walk_further back old new below c)
 further_way back old new below c =

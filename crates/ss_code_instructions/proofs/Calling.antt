@@ -1,6 +1,6 @@
 -- A step takes at most one tick. It leaves the open calls as they are, opens one and takes a tick, or goes back from the last.
-use Rattle.std.proofs.Common.{◌≡◌, ℕ, zero, suc, ◌+◌, Bool, true, false, List, [], ◌∷◌, ◌++◌, length, Option, Some, None, Ok, ℤ, pos, refl, sym, ap, ◌∙◌, subst, ◌⊎◌, inl, inr}
-use Rattle.std.specs.Prelude.{Result, int_lt, ◌+ℤ◌, slice_get}
+use Rattle.std.proofs.Common.{◌≡◌, ℕ, zero, suc, ◌+◌, Bool, true, false, List, [], ◌∷◌, ◌++◌, length, Option, Some, None, Ok, ℤ, refl, sym, ap, ◌∙◌, subst, ◌⊎◌, inl, inr}
+use Rattle.std.specs.Prelude.{Result, ◌+ℤ◌, slice_get}
 use Rattle.ss_base.specs.declared.line.Line.{Line}
 use Rattle.ss_base.specs.declared.value.Value.{Value}
 use Rattle.ss_base.specs.declared.value.Value.TheVariants.{Whole}
@@ -17,7 +17,7 @@ use Rattle.ss_meaning.specs.Statements.{read_value}
 use Rattle.ss_code_instructions.specs.Instructions.{Taken, Target, Instruction, Placed, EntryPoint}
 use Rattle.ss_code_instructions.specs.Instructions as i
 use Rattle.ss_code_instructions.specs.States.{Called, ARoutine, AnEvent, Frame, Core, MachineState, Done, Breaks, Moved, To, Sends, Rest, Stuck, did, back_if, cell_at, take_off, deliver_with, put_to, onward}
-use Rattle.ss_code_instructions.specs.Machine.{Code, changed_attribute, assignable_count, Walk, walk_at, walk_cells, has_item, next_item, walk_further, values_shown, cells_of_kinds, enter, leave, take_event, act, is_due, Goes, with_rest, when_due, step_at, step}
+use Rattle.ss_code_instructions.specs.Machine.{Code, changed_attribute, assignable_count, Walk, walk_at, walk_cells, unsigned, has_next, next_item, walk_further, values_shown, cells_of_kinds, enter, leave, take_event, take_next, act, is_due, Goes, with_rest, when_due, step_at, step}
 use Rattle.ss_code_instructions.specs.Laws.{CallsAreLike, TicksAndCalls}
 use Rattle.ss_code_instructions.proofs.Moving.{Every, did_any, fit_any, if_every, high, block, number, value, values, bearer, position, three, walk}
 
@@ -48,8 +48,7 @@ leaving (f ∷ fs) c e = fit_any (Calls false c) (yielded f.first f.count c.stor
 
 next_calls : (back : ℕ) (item limit step : ℤ) (below : List Value) (c : Core) → Every (Calls false c) (next_item back item limit step below c)
 next_calls back item limit step below c =
-    if_every (Calls false c) (int_lt step (pos 1)) Stuck _ tt
-    (if_every (Calls false c) (has_item (item +ℤ step) limit) (back_if back true (Whole step ∷ Whole limit ∷ Whole (item +ℤ step) ∷ below) c) (back_if back false (Whole step ∷ Whole limit ∷ Whole item ∷ below) c) (inl refl) (inl refl))
+    if_every (Calls false c) (has_next item limit step) (back_if back true (Whole step ∷ Whole limit ∷ Whole (item +ℤ unsigned step) ∷ below) c) (back_if back false (Whole step ∷ Whole limit ∷ Whole item ∷ below) c) (inl refl) (inl refl)
 
 further_calls : (back : ℕ) (old new : Walk) (below : List Value) (c : Core) → Every (Calls false c) (walk_further back old new below c)
 further_calls back old new below c =
@@ -59,6 +58,10 @@ taking : (code : Code) (h : ℕ) (n : Coming) (c : Core) → Every (Calls true c
 taking code h n c =
     did_any (Calls true c) n.ranked.said.line (event_begun n) _ (λ b. fit_any (Calls true c) (slice_get code.events b.rank) _ (λ e.
     high (Calls true c) h c.cells _ (entering e (AnEvent b.rank) b.given c.cells c b.store)))
+
+taking_next : (code : Code) (h : ℕ) (o : Option Coming) (c : Core) → Every (Calls true c) (take_next code h o c)
+taking_next code h None c = inl refl
+taking_next code h (Some n) c = taking code h n c
 
 pub act_calls : (code : Code) (l : Line) (x : Instruction) (c : Core) → Every (Calls (is_due x) c) (act code l x c)
 act_calls code l (i.Move from to) c = value (Calls false c) from c.store c.cells _ (λ v below. computes l to (Ok v) below c)
@@ -125,7 +128,7 @@ act_calls code l (i.Reschedule class x h given) c =
     changes false l (rescheduled class x vs time c.store) below c)))
 act_calls code l (i.Cancel class x) c = value (Calls false c) x c.store c.cells _ (λ x below. changes false l (unscheduled class x c.store) below c)
 act_calls code l (i.Await skip) c = inl refl
-act_calls code l (i.TakeEvent h) c = fit_any (Calls true c) (next_event c.store) _ (λ n. taking code h n c)
+act_calls code l (i.TakeEvent h) c = taking_next code h (next_event c.store) c
 act_calls code l (i.NextEvent back) c = inl refl
 act_calls code l (i.Read mode to) c = delivers l to (read_value mode c.store) c.cells c
 act_calls code l (i.Print lines h) c =

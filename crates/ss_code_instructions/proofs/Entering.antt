@@ -8,15 +8,15 @@ use Rattle.ss_program.specs.WellTyped.{Scope}
 use Rattle.ss_program.specs.Program.{Block, Routine, Event, Program}
 use Rattle.ss_meaning.specs.Store.{Store, opened, yielded}
 use Rattle.ss_meaning.specs.Events.{Beginning, Coming, next_event, event_begun}
-use Rattle.ss_meaning.specs.Parts.{World, Returned, Stopped, Faulted, OutOfTicks, Wrong, Outcome, WentOn, Left, outcome_then, then_nothing, needed}
+use Rattle.ss_meaning.specs.Parts.{World, Returned, Stopped, Faulted, OutOfTicks, Wrong, Outcome, WentOn, Left, Part, outcome_then, then_nothing, needed}
 use Rattle.ss_meaning.specs.Statements.{Calls, effects}
 use Rattle.ss_meaning.specs.Meaning.{with_locals, come_back, enclosed, routine_called, event_routine, begin, event_taken, calls, setting_of}
 use Rattle.ss_code_instructions.specs.Instructions.{Placed, EntryPoint}
 use Rattle.ss_code_instructions.specs.Instructions as i
 use Rattle.ss_code_instructions.specs.States.{Called, ARoutine, AnEvent, Frame, Core, MachineState, Moved, core_at, fit, at_height, with_block}
-use Rattle.ss_code_instructions.specs.Machine.{Code, act, enter_with, enter, take_event}
+use Rattle.ss_code_instructions.specs.Machine.{Code, act, enter_with, enter, take_event, take_next}
 use Rattle.ss_code_instructions.specs.Translation.{Site, place, block_prints, block_code, section_code, first_site, routine_scope, event_scope, routine_entry, event_entry}
-use Rattle.ss_code_instructions.proofs.Keeping.{Only, Where, ComingSame, BeginningSame, event_same, begun_same}
+use Rattle.ss_code_instructions.proofs.Keeping.{Only, Where, says_so, ComingSame, BeginningSame, event_same, begun_same}
 use Rattle.ss_code_instructions.proofs.Staying.{ComingStays, event_stays, BeginningStays, begun_stays, Lasts, lasts_then}
 use Rattle.ss_code_instructions.proofs.Steps.{HasAt, has_front, has_back, Reaches, reaches_on, at, arrive, landed}
 use Rattle.ss_code_instructions.proofs.Parts.{Within, Leads, onwards, whatever, ticked, tick_run, out_run, did_leads, at_the_height, onto}
@@ -156,14 +156,19 @@ module _ (code : Code) where
         let began : BeginningSame c.store b = subst (Only (BeginningSame c.store)) f (begun_same c) in
         let came_stays : ComingStays w.store c = subst (Where (ComingStays w.store)) e (event_stays w.store) in
         let began_stays : BeginningStays c.store b = subst (Only (BeginningStays c.store)) f (begun_stays c) in
-        within_store {w = w} {s = b.store} in_ (lasts_then w.store c.store b.store (came, came_stays) (began, began_stays))
+        within_store {w = w} {s = b.store} in_ (lasts_then w.store c.store b.store (says_so w.store c.store came, came_stays) (says_so c.store b.store began, began_stays))
+
+    -- where no notice is pending the program would go wrong
+    next_leads : {B : Type 0} (cell : ℕ) (core : Core) (o : Option Coming) (w : World) (k : B → World → MachineState) (frames : List Frame) (f : Coming → Part B) → ((c : Coming) → o ≡ Some c → Leads code w (take_event code cell c core) (arrive k frames (f c w))) → Leads code w (take_next code cell o core) (arrive k frames (outcome_then (needed o w) f))
+    next_leads cell core None w k frames f h = whatever
+    next_leads cell core (Some c) w k frames f h = h c refl
 
     -- the event that comes next; a fault has the line of its routine
     event_leads : (n : ℕ) → CallsRun code n (calls p n) → (l : Line) (cell q : ℕ) (cells : List Value) (frames : List Frame) (w : World) → length cells ≡ cell → Within code n w → Leads code w (act code l (i.TakeEvent cell) (core_at q cells frames w.store)) (arrive (λ (u : Unit {0}) w'. at (q + 1) cells frames w') frames (event_taken p.events (calls p n) n w))
     event_leads n ok l cell q cells frames w high in_ =
         let core : Core = core_at q cells frames w.store in
         let k : Unit {0} → World → MachineState = λ u w'. at (q + 1) cells frames w' in
-        needed_leads code (next_event w.store) (λ c. take_event code cell c core) w w k frames (λ c. begin c (λ b. event_routine (slice_get p.events b.rank) (calls p n) n b.given)) (λ c came.
+        next_leads cell core (next_event w.store) w k frames (λ c. begin c (λ b. event_routine (slice_get p.events b.rank) (calls p n) n b.given)) (λ c came.
         did_leads code c.ranked.said.line (event_begun c) (λ b. fit (slice_get code.events b.rank) (λ e. at_height cell cells (enter e (AnEvent b.rank) b.given cells core b.store))) w k frames (λ b w. event_routine (slice_get p.events b.rank) (calls p n) n b.given (record w { store = b.store })) (λ b began.
         begins_leads n ok cell b (slice_get p.events b.rank) (slice_get code.events b.rank) refl (linked.events b.rank) q cells frames w high (begun_within n w c b came began in_)))
 

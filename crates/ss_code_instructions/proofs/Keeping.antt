@@ -1,5 +1,5 @@
--- No operation changes what the program says once and for all.
-use Rattle.std.proofs.Common.{◌≡◌, ℕ, ◌+◌, Bool, true, false, List, [], ◌∷◌, Option, Some, None, Ok, Err, ℤ, pos, refl, ◌∙◌}
+-- No operation changes what the program says once and for all, and none but that of a READ the input.
+use Rattle.std.proofs.Common.{◌≡◌, ℕ, ◌+◌, Bool, true, false, List, [], ◌∷◌, Option, Some, None, Ok, Err, ℤ, pos, refl, ap, ◌∙◌}
 use Rattle.std.specs.Prelude.{Result, int_lt}
 use Rattle.ss_base.specs.declared.fault.FaultKind.{FaultKind}
 use Rattle.ss_base.specs.declared.fault.FaultKind.TheVariants.{Scheduled, AlreadyScheduled, PastTime}
@@ -9,7 +9,7 @@ use Rattle.ss_base.specs.declared.value.Value.TheVariants.{Whole}
 use Rattle.ss_world.specs.State.{State, notice, assigned, created, created_all, destroyed, timed}
 use Rattle.ss_world.specs.Sets.{count_in, removed}
 use Rattle.ss_world.specs.PendingList.{is_pending, scheduled, cancelled, next}
-use Rattle.ss_meaning.specs.Words.{value_given}
+use Rattle.ss_meaning.specs.Words.{Given, value_given}
 use Rattle.ss_program.specs.declared.sections.Subject.{Subject}
 use Rattle.ss_program.specs.declared.sections.Subject.TheVariants.{OfVariable, OfAttribute, OfCount}
 use Rattle.ss_meaning.specs.Histories.{all_noting, noted, renewed}
@@ -19,7 +19,7 @@ use Rattle.ss_program.specs.declared.expression.Variable.TheVariants.{Global, Lo
 use Rattle.ss_program.specs.declared.statement.CountedClass.{CountedClass}
 use Rattle.ss_program.specs.declared.statement.End.{End}
 use Rattle.ss_meaning.specs.Values.{Trouble, if_ok, turned, due, sure, where_fit, unless_fault, number_of, calculated, operator_of}
-use Rattle.ss_meaning.specs.Store.{Store, with_heap, with_pending, with_histories, fetched, put_at, put}
+use Rattle.ss_meaning.specs.Store.{Setting, Store, with_heap, with_pending, with_histories, fetched, put_at, put}
 use Rattle.ss_meaning.specs.Entities.{class_at, field_at, entity, attribute, is_single, is_permanent, with_new, made_one, with_all, made_all, with_none, gone, without}
 use Rattle.ss_meaning.specs.Places.{is_of_mode, assigned_variable, assigned_attribute}
 use Rattle.ss_meaning.specs.Sets.{Filing, member, owner_number, recounted, filed_by, filed_in, removed_from, end_removed, removed_at}
@@ -27,6 +27,7 @@ use Rattle.ss_meaning.specs.Events.{Ranked, ranked, ties_of, attributes_given, w
 use Rattle.ss_meaning.specs.Statistics.{subject_of, bearer, present, reset}
 use Rattle.ss_meaning.specs.Statements.{with_input, read_value}
 use Rattle.ss_code_instructions.specs.Machine.{changed_attribute}
+use Rattle.ss_code_instructions.specs.Reached.{TakesIf}
 
 -- what an operation gives, where it gives anything, has a property
 abbrev pub Only : {A : Type 0} → (A → Type 0) → Result A Trouble → Type 0
@@ -63,8 +64,18 @@ module _ {B : Type 0} (P : B → Type 0) where
   unless false kind r h = h
 
 -- a store in which the program says the same
+abbrev pub Says : Store → Store → Type 0
+Says s t = t.scene.setting ≡ s.scene.setting
+
+-- and in which the input is the same
+abbrev pub said : Store → Setting × List ℕ
+said s = (s.scene.setting, s.scene.input)
+
 abbrev pub Same : Store → Store → Type 0
-Same s t = t.scene.setting ≡ s.scene.setting
+Same s t = said t ≡ said s
+
+pub says_so : (s t : Store) → Same s t → Says s t
+says_so s t e = ap (λ (b : Setting × List ℕ). b.0) e
 
 abbrev pub SameWith : {A : Type 0} → Store → A × Store → Type 0
 SameWith s b = Same s b.1
@@ -163,8 +174,16 @@ again_same class x vs time s =
 pub cancelled_same : (class : ℕ) (x : Value) (s : Store) → Only (Same s) (unscheduled class x s)
 cancelled_same class x s = each (Same s) (entity class x s) _ (λ n. made (Same s) (with_pending s) (due (cancelled n s.scene.pending)) (λ p. refl))
 
-pub read_same : (mode : Mode) (s : Store) → Only (SameWith {A = Value} s) (read_value mode s)
-read_same mode s = made (SameWith s) (with_input s) (due (value_given mode s.scene.input)) (λ g. refl)
+-- a READ takes a word
+abbrev pub TakesWord : (mode : Mode) (s t : Store) → Type 0
+TakesWord mode s t = Says s t × TakesIf (Some mode) s.scene.input t.scene.input
+
+pub read_takes : (mode : Mode) (s : Store) → Only (λ (b : Value × Store). TakesWord mode s b.1) (read_value mode s)
+read_takes mode s = by (value_given mode s.scene.input) refl
+  where
+    by : (r : Result (Given Value) FaultKind) → value_given mode s.scene.input ≡ r → Only (λ (b : Value × Store). TakesWord mode s b.1) (turned (with_input s) (due r))
+    by (Ok g) e = (refl, (g.value, e))
+    by (Err kind) e = tt
 
 pub reset_same : (j : ℕ) (x : Option Value) (s : Store) → Only (Same s) (reset j x s)
 reset_same j x s =

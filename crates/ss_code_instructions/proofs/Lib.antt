@@ -59,6 +59,6 @@ pub mod ShapingStatements
 pub mod ShapingPrograms
 pub mod Valued
 pub mod ShapeKept
-pub mod Unstuck
 pub mod OwnersStay
 pub mod Arriving
+pub mod Inputs

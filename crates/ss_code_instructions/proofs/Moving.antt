@@ -85,3 +85,10 @@ module _ (Good : Core → Type 0) where
 
   pub walk : (h : ℕ) (cells : List Value) (go : Walk → List Value → Moved) → ((w : Walk) (below : List Value) → Every (go w below)) → Every (with_walk h cells go)
   walk h cells go k = number cells _ (λ next over. number over _ (λ member below. high h below _ (k (record { member = member; next = next }) below)))
+
+-- what is good is good otherwise
+pub every_so : (P Q : Core → Type 0) (m : Moved) → ((d : Core) → P d → Q d) → Every P m → Every Q m
+every_so P Q (To d) f h = f d h
+every_so P Q (Sends bytes d) f h = f d h
+every_so P Q (Rest f) g h = tt
+every_so P Q Stuck g h = tt

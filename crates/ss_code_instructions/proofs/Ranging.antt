@@ -1,7 +1,8 @@
 -- The code of a FOR over numbers, and over the entities of a permanent class.
 use Rattle.std.proofs.Common.{◌≡◌, ℕ, zero, suc, ◌+◌, ◌-◌, ◌≤◌, Bool, true, false, List, [], ◌∷◌, ◌++◌, length, Option, Some, None, Ok, Err, ℤ, pos, refl, sym, ap, ◌∙◌, subst, arith, length-append, append_assoc}
 use Rattle.std.proofs.lemmas.Bool.{ne_eqb}
-use Rattle.std.specs.Prelude.{slice_get, int_le, int_lt, ◌+ℤ◌, Result as OkOr, if◌then◌else◌}
+use Rattle.std.proofs.lemmas.Int.{ints}
+use Rattle.std.specs.Prelude.{slice_get, ◌^◌, int_le, int_lt, ◌+ℤ◌, ◌&&◌, Result as OkOr, if◌then◌else◌}
 use Rattle.std.specs.Int.{int_min}
 use Rattle.ss_base.specs.declared.fault.FaultKind.TheVariants.{LoopStep}
 use Rattle.ss_base.specs.declared.line.Line.{Line}
@@ -18,8 +19,8 @@ use Rattle.ss_meaning.specs.Loops.{Turn, GoesOn, EndsLoop, IsFound, visit, great
 use Rattle.ss_meaning.specs.Parts.{World, Part, outcome_then, looked, look}
 use Rattle.ss_code_instructions.specs.Instructions.{Placed}
 use Rattle.ss_code_instructions.specs.Instructions as i
-use Rattle.ss_code_instructions.specs.States.{Frame, MachineState, To, Stuck, did, cell_at, core_at, past, onward_if, back_if}
-use Rattle.ss_code_instructions.specs.Machine.{Code, act, has_item, next_item}
+use Rattle.ss_code_instructions.specs.States.{Frame, MachineState, To, did, cell_at, core_at, past, onward_if, back_if}
+use Rattle.ss_code_instructions.specs.Machine.{Code, act, has_item, unsigned, next_item}
 use Rattle.ss_code_instructions.specs.Translation.{Site, height, above, place, forget_to, next, expression_code, number_loop, take_code, turns_code, step_code, for_code}
 use Rattle.ss_code_instructions.proofs.Keeping.{Only}
 use Rattle.ss_code_instructions.proofs.Steps.{HasAt, has_front, has_back, Comes, Reaches, free, reaches_on, at, arrive, join}
@@ -50,6 +51,25 @@ item_cell h step limit item cells e =
     ap (λ (b : Bool). if b then Some (Whole step) else cell_at h (Whole limit ∷ Whole item ∷ cells)) (ne_eqb (suc (suc (length cells))) h p)
     ∙ ap (λ (b : Bool). if b then Some (Whole limit) else cell_at h (Whole item ∷ cells)) (ne_eqb (suc (length cells)) h q)
     ∙ top_cell h (Whole item) cells e
+
+-- a step of at least 1 is read as it is
+unsigned_is : (step : ℤ) → int_lt step (pos 1) ≡ false → unsigned step ≡ step
+unsigned_is step rises =
+    let e : int_lt step (pos 0) ≡ false = grind (arith, ints) in
+    ap (λ b. if b then step +ℤ pos (2 ^ 64) else step) e
+
+-- and where the next item is within the limit, this one is below it
+below_too : (item limit step : ℤ) → int_lt step (pos 1) ≡ false → (int_lt item limit && has_item (item +ℤ step) limit) ≡ has_item (item +ℤ step) limit
+below_too item limit step rises = by (has_item (item +ℤ step) limit) refl (int_lt item limit) refl
+  where
+    within : (z : ℤ) → int_le z (int_min limit greatest) ≡ true → int_le z limit ≡ true
+    within z e = grind (arith, ints)
+
+    by : (h : Bool) → has_item (item +ℤ step) limit ≡ h → (b : Bool) → int_lt item limit ≡ b → (b && h) ≡ h
+    by false q false p = refl
+    by false q true p = refl
+    by true q true p = refl
+    by true q false p = let e = within (item +ℤ step) q in absurd (grind (arith, ints))
 
 module _ (limit step : ℤ) where
   no_more : (k : ℕ) (item : ℤ) → int_le item limit ≡ false → items_from k limit step item ≡ []
@@ -91,8 +111,8 @@ module _ (code : Code) (n : ℕ) (t : Site) (x : Variable) (turn : List Placed) 
         let c = core_at end (hold_item step limit item cells) frames w.store in
         let back = far in
         at_the_height (height t) cells (next_item back item limit step cells c) high
-        ∙ ap (λ (a : Bool). if a then Stuck else (if has_item (item +ℤ step) limit then back_if back true (hold_item step limit (item +ℤ step) cells) c else back_if back false (hold_item step limit item cells) c)) rises
-        ∙ ap (λ (a : Bool). if a then back_if back true (hold_item step limit (item +ℤ step) cells) c else back_if back false (hold_item step limit item cells) c) q
+        ∙ ap (λ (z : ℤ). if int_lt item limit && has_item (item +ℤ z) limit then back_if back true (hold_item step limit (item +ℤ z) cells) c else back_if back false (hold_item step limit item cells) c) (unsigned_is step rises)
+        ∙ ap (λ (a : Bool). if a then back_if back true (hold_item step limit (item +ℤ step) cells) c else back_if back false (hold_item step limit item cells) c) (below_too item limit step rises ∙ q)
 
     -- the items from this one on
     abbrev later : ℕ → ℤ → Part Bool

@@ -23,7 +23,7 @@ use Rattle.ss_code_instructions.specs.Instructions as i
 use Rattle.ss_code_instructions.specs.States.{Frame, MachineState, Moved, did, core_at, with_value, with_values, deliver_with, onward}
 use Rattle.ss_code_instructions.specs.Machine.{Code, act, is_due}
 use Rattle.ss_code_instructions.specs.Translation.{Site, height, above, place, leaf, or_cell, operand, after, operand_code, next, stay, count_code, to_place_code, reads_code}
-use Rattle.ss_code_instructions.proofs.Keeping.{Only, Same, made, fitting}
+use Rattle.ss_code_instructions.proofs.Keeping.{Only, Says, made, fitting}
 use Rattle.ss_code_instructions.proofs.Steps.{HasAt, has_front, has_back, Reaches, at, arrive, join, join_known}
 use Rattle.ss_code_instructions.proofs.Parts.{onwards, step_leads, did_leads, at_the_height, Runs, same, done, went, seq, none}
 use Rattle.ss_code_instructions.proofs.Operands.{on, Tops, put_then, delivers, held, held_height, leaf_is, leaf_reads, not_above, one_join}
@@ -36,7 +36,7 @@ use Rattle.ss_code_instructions.proofs.Changing.{by_order}
 -- ## Operations that leave the variables, and what the program says
 
 abbrev pub Alike : Store → Store → Type 0
-Alike s u = (u.globals ≡ s.globals) × (u.locals ≡ s.locals) × Same s u
+Alike s u = (u.globals ≡ s.globals) × (u.locals ≡ s.locals) × Says s u
 
 pub fetched_later : (y : Variable) (s u : Store) → Alike s u → fetched y u ≡ fetched y s
 fetched_later (Global k) s u a = ap (λ vs. slice_get vs k) a.0

@@ -1,46 +1,54 @@
--- A step of code that has shape leads from a state that suits its place to another one.
-use Rattle.std.proofs.Common.{◌≡◌, ℕ, zero, suc, ◌+◌, ◌-◌, Bool, true, false, List, [], ◌∷◌, ◌++◌, length, Option, Some, None, Ok, ℤ, refl, sym, ap, ◌∙◌, subst, arith}
-use Rattle.std.specs.Prelude.{slice_get, take, map, not, is_some, pos, int_lt, ◌+ℤ◌, Result as OkOr, if◌then◌else◌}
+-- A step of code that has shape leads from a state that suits its place to another one, and the machine is not stuck there.
+use Rattle.std.proofs.Common.{◌≡◌, ℕ, zero, suc, ◌+◌, ◌-◌, Bool, true, false, List, [], ◌∷◌, ◌++◌, length, Option, Some, None, Ok, Err, ℤ, refl, sym, ap, ◌∙◌, subst, arith}
+use Rattle.std.specs.Prelude.{slice_get, take, map, replicate, not, is_some, nat_lt, pos, negsuc, ◌+ℤ◌, Result as OkOr, if◌then◌else◌}
+use Rattle.std.specs.List.{AllZip}
+use Rattle.std.specs.Option.{option_map}
+use Rattle.ss_base.specs.declared.fault.FaultKind.TheVariants.{CreatedTwice, BadCount}
+use Rattle.ss_base.specs.declared.layout.ClassLayout.{ClassLayout}
 use Rattle.ss_base.specs.declared.line.Line.{Line}
 use Rattle.ss_base.specs.declared.layout.Mode.{Mode}
 use Rattle.ss_base.specs.declared.layout.Mode.TheVariants.{Integer, Alpha}
 use Rattle.ss_base.specs.declared.value.Value.{Value}
-use Rattle.ss_base.specs.declared.value.Value.TheVariants.{Whole}
+use Rattle.ss_base.specs.declared.value.Value.TheVariants.{Whole, Text}
 use Rattle.ss_base.specs.Layout.{mode_of, first_value}
+use Rattle.ss_program.specs.FieldValue.{FieldValue}
+use Rattle.ss_program.specs.FieldValue.TheVariants.{Is, Mean}
+use Rattle.ss_program.specs.declared.condition.Relation.{Relation}
 use Rattle.ss_program.specs.declared.expression.Sign.{Sign}
-use Rattle.ss_program.specs.Program.{Program}
-use Rattle.ss_program.specs.WellTyped.{WellTyped, field_mode}
+use Rattle.ss_program.specs.Program.{Event, Program}
+use Rattle.ss_program.specs.WellTyped.{WellTyped, IsSet, field_mode}
 use Rattle.ss_meaning.specs.PendingList.{next}
 use Rattle.ss_meaning.specs.Words.{is_ended, value_given}
-use Rattle.ss_meaning.specs.Values.{Trouble, if_ok, turned, due, same_mode, number_of, calculated, operator_of, absolute, related, empty_lines, printed}
+use Rattle.ss_meaning.specs.State.{is_made}
+use Rattle.ss_meaning.specs.Values.{Trouble, Fails, Misfit, if_ok, turned, due, unless_fault, line_end, same_mode, number_of, calculated, operator_of, absolute, related, empty_lines, printed}
 use Rattle.ss_meaning.specs.Store.{Store, first_values, prepended, taken_by_modes, appended, opened, front, yielded}
-use Rattle.ss_meaning.specs.Entities.{entity, attribute, time_of, made_one, made_all, without}
+use Rattle.ss_meaning.specs.Entities.{class_at, is_permanent, made_count, entity, attribute, time_of, made_one, made_all, without}
 use Rattle.ss_meaning.specs.Places.{assigned_variable, assigned_attribute}
-use Rattle.ss_meaning.specs.Sets.{is_none, filed_in, removed_from, removed_at, of_set, of_member, is_empty, is_in, begun, begun_at, goes_on, member, known_owner}
+use Rattle.ss_meaning.specs.Sets.{is_none, filed_in, removed_from, removed_at, of_set, of_member, is_empty, is_in, begun, begun_at, coming as coming_in, goes_on, member, known_owner}
 use Rattle.ss_meaning.specs.Events.{clock, time_at, AtTime, Later, made_notice, filed_notice, rescheduled, unscheduled, is_awaited, Coming, coming_with, next_event, event_begun}
 use Rattle.ss_meaning.specs.Statistics.{figure, mean, reset}
 use Rattle.ss_meaning.specs.Expressions.{unless}
 use Rattle.ss_meaning.specs.Loops.{range_of, indices}
 use Rattle.ss_meaning.specs.Statements.{with_input, read_value}
 use Rattle.ss_meaning.specs.Fitting.{Hold, Fits}
-use Rattle.ss_meaning.proofs.Fine.{Fine, There, fine_then, fine_turned}
+use Rattle.ss_meaning.proofs.Fine.{Fine, There, Any, fine_then, fine_turned, fine_weaker, any_due, fit_fine, unless_fine}
 use Rattle.ss_meaning.proofs.Kept.{number_fine}
-use Rattle.ss_meaning.proofs.Entities.{attribute_fine, time_of_fine, made_one_fine, made_all_fine, without_fine, variable_fine, attribute_assigned_fine}
-use Rattle.ss_meaning.proofs.Sets.{of_set_fine, of_member_fine, filed_in_fine, removed_from_fine, removed_at_fine, figure_fine, reset_fine}
+use Rattle.ss_meaning.proofs.Entities.{permanent_here, entity_fine, attribute_fine, time_of_fine, made_one_fine, made_all_fine, without_fine, variable_fine, attribute_assigned_fine}
+use Rattle.ss_meaning.proofs.Sets.{set_of, member_fine, known_owner_fine, is_empty_fine, is_in_fine, begun_fine as outset_fine, begun_at_fine, coming_fine, goes_on_fine, mean_fine, of_set_fine, of_member_fine, filed_in_fine, removed_from_fine, removed_at_fine, figure_fine, reset_fine}
 use Rattle.ss_meaning.proofs.Events.{FieldsAre, fields_are, time_at_fine, made_notice_fine, filed_notice_fine, rescheduled_fine, unscheduled_fine, ComingAs, next_event_there, BegunAs, begun_fine}
-use Rattle.ss_meaning.proofs.Expressions.{calculated_fine, absolute_fine}
-use Rattle.ss_meaning.proofs.Statements.{word_fine, input_fits}
+use Rattle.ss_meaning.proofs.Expressions.{calculated_fine, absolute_fine, asked_alone, asked_of}
+use Rattle.ss_meaning.proofs.Statements.{held_length, range_of_fine, word_fine, input_fits}
 use Rattle.ss_meaning.proofs.Whole.{first_fits}
 use Rattle.ss_code_instructions.specs.Instructions.{Target, Instruction, Placed, EntryPoint, ItemKind, ShowsValue, ShowsMean, ShowsMeanOf}
 use Rattle.ss_code_instructions.specs.Instructions as i
 use Rattle.ss_code_instructions.specs.States.{Called, ARoutine, AnEvent, Frame, Core, MachineState, Done, Breaks, Moved, To, Sends, Rest, Stuck, TakenOff, did, fit, core_at, onward, take_off, with_block, cell_at, deliver, deliver_with}
-use Rattle.ss_code_instructions.specs.Machine.{Code, changed_attribute, assignable_count, has_item, Walk, walk_at, walk_cells, begin_walk, walk_further, next_item, cells_of_kinds, values_shown, print_lines, enter, leave, take_event, act, is_due, Stepped, Goes, Over, NoStep, with_rest, when_due, step_at, step}
+use Rattle.ss_code_instructions.specs.Machine.{Code, changed_attribute, assignable_count, has_item, unsigned, has_next, Walk, walk_at, walk_cells, begin_walk, walk_further, next_item, mean_item, item_before, cells_of_kinds, values_shown, print_lines, enter, leave, take_event, take_next, act, is_due, Stepped, Goes, Over, NoStep, with_rest, when_due, step_at, step}
 use Rattle.ss_code_instructions.specs.Running.{Underway, after_one_step, start, steps}
-use Rattle.ss_code_instructions.specs.Shape.{GivenFit, ItemsFit, At, Delivers, Suits, Begins, Shaped, FramesFit, FitsCode}
+use Rattle.ss_code_instructions.specs.Shape.{GivenFit, ItemsFit, IsOfKind, At, Delivers, Suits, Begins, Shaped, FramesFit, FitsCode}
 use Rattle.ss_code_instructions.specs.Translation.{code_of}
-use Rattle.ss_code_instructions.specs.Laws.{ShapeStays, StatesSuit}
+use Rattle.ss_code_instructions.specs.Laws.{ShapeStays, StatesSuit, NeverStuck}
 use Rattle.ss_code_instructions.proofs.ShapingPrograms.{has_shape}
-use Rattle.ss_code_instructions.proofs.Valued.{cell_mode, owner_ok, asked, GoesWell, fit_well, did_well, looked_well, height_well, number_well, block_well, loop_well, walk_well, value_well, both_well, bearer_well, position_well, goes_to, ways_well, back_well, delivered_well, deliver_well}
+use Rattle.ss_code_instructions.proofs.Valued.{cell_there, owner_ok, asked, GoesWell, fit_well, did_well, height_well, number_well, block_well, loop_well, walk_well, value_well, both_well, bearer_well, position_well, goes_to, ways_well, back_well, delivered_well, deliver_well}
 
 -- ## Lists of values
 
@@ -59,71 +67,66 @@ first_hold (m ∷ ms) = let here : mode_of (first_value m) ≡ m = first_mode m 
     first_mode Integer = refl
     first_mode Alpha = refl
 
-same_so : (m n : Mode) → same_mode m n ≡ true → m ≡ n
-same_so Integer Integer e = refl
-same_so Integer Alpha e = absurd cc
-same_so Alpha Integer e = absurd cc
-same_so Alpha Alpha e = refl
+same_self : (m : Mode) → same_mode m m ≡ true
+same_self Integer = refl
+same_self Alpha = refl
 
--- a value before others, where they are there
-prepended_hold : (v : Value) (m : Mode) (ms : List Mode) (o : Option (List Value)) (us : List Value) → mode_of v ≡ m → ((ws : List Value) → o ≡ Some ws → Hold ws ms) → prepended v o ≡ Some us → Hold us (m ∷ ms)
-prepended_hold v m ms None us h f e = absurd cc
-prepended_hold v m ms (Some ws) us h f e =
-    let rest : Hold ws ms = f ws refl in
-    let all : Hold (v ∷ ws) (m ∷ ms) = cc in
-    let same : v ∷ ws ≡ us = cc in
-    subst (λ l. Hold l (m ∷ ms)) same all
+-- a value before others
+prepended_there : (v : Value) (m : Mode) (ms : List Mode) (o : Option (List Value)) → mode_of v ≡ m → There (λ (us : List Value). Hold us ms) o → There (λ (us : List Value). Hold us (m ∷ ms)) (prepended v o)
+prepended_there v m ms None h f = absurd f
+prepended_there v m ms (Some us) h f = let all : Hold (v ∷ us) (m ∷ ms) = cc in all
 
-taken_hold : (ms : List Mode) (vs us : List Value) → taken_by_modes ms vs ≡ Some us → Hold us ms
-taken_hold [] [] us e = let same : [] ≡ us = cc in subst (λ l. Hold l []) same refl
-taken_hold [] (v ∷ vs) us e = absurd cc
-taken_hold (m ∷ ms) [] us e = absurd cc
-taken_hold (m ∷ ms) (v ∷ vs) us e = by (same_mode (mode_of v) m) refl e (λ ws f. taken_hold ms vs ws f)
-  where
-    by : (b : Bool) → same_mode (mode_of v) m ≡ b → (if b then prepended v (taken_by_modes ms vs) else None) ≡ Some us → ((ws : List Value) → taken_by_modes ms vs ≡ Some ws → Hold ws ms) → Hold us (m ∷ ms)
-    by true q e f = prepended_hold v m ms (taken_by_modes ms vs) us (same_so (mode_of v) m q) f e
-    by false q e f = absurd cc
+taken_there : (ms : List Mode) (vs : List Value) → Hold vs ms → There (λ (us : List Value). Hold us ms) (taken_by_modes ms vs)
+taken_there [] [] q = refl
+taken_there [] (v ∷ vs) q = absurd cc
+taken_there (m ∷ ms) [] q = absurd cc
+taken_there (m ∷ ms) (v ∷ vs) q =
+    let here : mode_of v ≡ m = cc in
+    let rest : Hold vs ms = cc in
+    let same : same_mode (mode_of v) m ≡ true = ap (λ k. same_mode k m) here ∙ same_self m in
+    subst (λ b. There (λ (us : List Value). Hold us (m ∷ ms)) (if b then prepended v (taken_by_modes ms vs) else None)) (sym same)
+    (prepended_there v m ms (taken_by_modes ms vs) here (taken_there ms vs rest))
 
 -- the variables of a section that is entered
-opened_hold : (given others : List Mode) (vs us : List Value) → opened given others vs ≡ Some us → Hold us (given ++ others)
-opened_hold given others vs us e = by (taken_by_modes given vs) refl e
+opened_there : (given others : List Mode) (vs : List Value) → Hold vs given → There (λ (us : List Value). Hold us (given ++ others)) (opened given others vs)
+opened_there given others vs q = by (taken_by_modes given vs) (taken_there given vs q)
   where
-    by : (o : Option (List Value)) → taken_by_modes given vs ≡ o → appended o (first_values others) ≡ Some us → Hold us (given ++ others)
-    by None q e = absurd cc
-    by (Some ws) q e =
-        let same : ws ++ first_values others ≡ us = cc in
-        subst (λ l. Hold l (given ++ others)) same (both_hold ws (first_values others) given others (taken_hold given vs ws q) (first_hold others))
+    by : (o : Option (List Value)) → There (λ (us : List Value). Hold us given) o → There (λ (us : List Value). Hold us (given ++ others)) (appended o (first_values others))
+    by None h = absurd h
+    by (Some us) h = both_hold us (first_values others) given others h (first_hold others)
 
 -- what a section yields
-front_hold : (count : ℕ) (ls : List Value) (ms : List Mode) (us : List Value) → Hold ls ms → front count ls ≡ Some us → Hold us (take count ms)
-front_hold zero ls ms us h e = let same : [] ≡ us = cc in subst (λ l. Hold l []) same refl
-front_hold (suc k) [] ms us h e = absurd cc
-front_hold (suc k) (v ∷ ls) [] us h e = absurd cc
-front_hold (suc k) (v ∷ ls) (m ∷ ms) us h e =
+front_there : (count : ℕ) (ls : List Value) (ms : List Mode) → Hold ls ms → length (take count ms) ≡ count → There (λ (us : List Value). Hold us (take count ms)) (front count ls)
+front_there zero ls ms q e = refl
+front_there (suc k) [] [] q e = absurd cc
+front_there (suc k) [] (m ∷ ms) q e = absurd cc
+front_there (suc k) (v ∷ ls) [] q e = absurd cc
+front_there (suc k) (v ∷ ls) (m ∷ ms) q e =
     let here : mode_of v ≡ m = cc in
     let rest : Hold ls ms = cc in
-    prepended_hold v m (take k ms) (front k ls) us here (λ ws f. front_hold k ls ms ws rest f) e
+    let fewer : length (take k ms) ≡ k = omega (arith, e) in
+    prepended_there v m (take k ms) (front k ls) here (front_there k ls ms rest fewer)
 
-yielded_hold : (given others : List Mode) (first count : ℕ) (ls us : List Value) → Hold ls (given ++ others) → first ≡ length given → yielded first count ls ≡ Some us → Hold us (take count others)
-yielded_hold [] others zero count ls us h q e = front_hold count ls others us h e
-yielded_hold [] others (suc k) count ls us h q e = absurd cc
-yielded_hold (g ∷ given) others zero count ls us h q e = absurd cc
-yielded_hold (g ∷ given) others (suc k) count [] us h q e = absurd cc
-yielded_hold (g ∷ given) others (suc k) count (l ∷ ls) us h q e =
+yielded_there : (given others : List Mode) (first count : ℕ) (ls : List Value) → Hold ls (given ++ others) → first ≡ length given → length (take count others) ≡ count → There (λ (us : List Value). Hold us (take count others)) (yielded first count ls)
+yielded_there [] others zero count ls h q e = front_there count ls others h e
+yielded_there [] others (suc k) count ls h q e = absurd cc
+yielded_there (g ∷ given) others zero count ls h q e = absurd cc
+yielded_there (g ∷ given) others (suc k) count [] h q e = absurd cc
+yielded_there (g ∷ given) others (suc k) count (l ∷ ls) h q e =
     let rest : Hold ls (given ++ others) = cc in
     let fewer : k ≡ length given = omega (arith, q) in
-    yielded_hold given others k count ls us rest fewer e
+    yielded_there given others k count ls rest fewer e
 
 -- what lies below cells that are taken off
-off_hold : (gone rest : List Mode) (count : ℕ) (cells vs : List Value) (b : TakenOff) → Hold cells (gone ++ rest) → length gone ≡ count → take_off count cells vs ≡ Some b → Hold b.below rest
-off_hold [] rest zero cells vs b h q e = let same : record { values = vs; below = cells } ≡ b = cc in subst (λ (b : TakenOff). Hold b.below rest) same h
-off_hold [] rest (suc k) cells vs b h q e = absurd cc
-off_hold (m ∷ gone) rest zero cells vs b h q e = absurd cc
-off_hold (m ∷ gone) rest (suc k) [] vs b h q e = absurd cc
-off_hold (m ∷ gone) rest (suc k) (v ∷ cells) vs b h q e =
+off_there : (gone rest : List Mode) (count : ℕ) (cells vs : List Value) → Hold cells (gone ++ rest) → length gone ≡ count → There (λ (b : TakenOff). Hold b.below rest) (take_off count cells vs)
+off_there [] rest zero cells vs h q = h
+off_there [] rest (suc k) cells vs h q = absurd cc
+off_there (m ∷ gone) rest zero cells vs h q = absurd cc
+off_there (m ∷ gone) rest (suc k) [] vs h q = absurd cc
+off_there (m ∷ gone) rest (suc k) (v ∷ cells) vs h q =
     let under : Hold cells (gone ++ rest) = cc in
     let fewer : length gone ≡ k = omega (arith, q) in
-    off_hold gone rest k cells (v ∷ vs) b under fewer e
+    off_there gone rest k cells (v ∷ vs) under fewer
 
 -- items take as many cells as they have modes
 kinds_many : (p : Program) (ks : List ItemKind) (modes : List Mode) → ItemsFit p ks modes → cells_of_kinds ks ≡ length modes
@@ -134,6 +137,42 @@ kinds_many p (ShowsValue ∷ ks) (m ∷ ms) h = let e : 1 + cells_of_kinds ks �
 kinds_many p (ShowsMean j ∷ ks) ms h = let e : 0 + cells_of_kinds ks ≡ length ms = omega (arith, kinds_many p ks ms h.1) in e
 kinds_many p (ShowsMeanOf j ∷ ks) [] h = absurd h
 kinds_many p (ShowsMeanOf j ∷ ks) (m ∷ ms) h = let e : 1 + cells_of_kinds ks ≡ suc (length ms) = omega (arith, kinds_many p ks ms h.2) in e
+
+-- ## What is there
+
+is_there : {A : Type 0} (o : Option A) → is_some o ≡ true → There Any o
+is_there (Some a) e = tt
+is_there None e = absurd cc
+
+related_there : (relation : Relation) (v w : Value) (m : Mode) → mode_of v ≡ m → mode_of w ≡ m → There Any (related relation v w)
+related_there relation (Whole x) (Whole y) m p q = tt
+related_there relation (Text s) (Text t) m p q = tt
+related_there relation (Whole x) (Text t) m p q =
+    let both : Integer ≡ Alpha = p ∙ sym q in
+    absurd cc
+related_there relation (Text s) (Whole y) m p q =
+    let both : Alpha ≡ Integer = p ∙ sym q in
+    absurd cc
+
+lines_fine : (v : Value) → mode_of v ≡ Integer → Fine Any (empty_lines v)
+lines_fine (Whole (pos n)) q = unless_fine Any (nat_lt 1000 n) BadCount (Ok (replicate n line_end)) (λ e. tt)
+lines_fine (Whole (negsuc n)) q = tt
+lines_fine (Text t) q = absurd cc
+
+fields_said : (o : Option ClassLayout) (modes : List Mode) → option_map (λ (c : ClassLayout). c.fields) o ≡ Some modes → (cl : ClassLayout) × (o ≡ Some cl)
+fields_said None modes e = absurd cc
+fields_said (Some cl) modes e = (cl, refl)
+
+-- what a mean is shown as
+mean_there : (k : ItemKind) → ((x y : ℤ) → IsOfKind k (Mean x y)) → (r : OkOr (ℤ × ℤ) Trouble) → Fine Any r → There (IsOfKind k) (mean_item r)
+mean_there k f (Ok m) h = f m.0 m.1
+mean_there k f (Err (Fails kind)) h = f (pos 0) (pos 0)
+mean_there k f (Err Misfit) h = absurd h
+
+before_there : (k : ItemKind) (ks : List ItemKind) (o : Option FieldValue) (xs : Option (List FieldValue)) → There (IsOfKind k) o → There (AllZip IsOfKind ks) xs → There (AllZip IsOfKind (k ∷ ks)) (item_before o xs)
+before_there k ks None xs h g = absurd h
+before_there k ks (Some x) None h g = absurd g
+before_there k ks (Some x) (Some xs) h g = (h, g)
 
 module _ (p : Program) (typed : WellTyped p) (code : Code) where
   -- as Valued says it
@@ -149,27 +188,28 @@ module _ (p : Program) (typed : WellTyped p) (code : Code) where
   leave_well : (ls : List Mode) (frames : List Frame) (c : Core) → Fits p ls c.store → FramesFit p code ls frames → Well (leave frames c)
   leave_well ls [] c fits k = tt
   leave_well ls (f ∷ fs) c fits k =
-      fit_well p typed code (yielded f.first f.count c.store.locals) (λ vs. To (core_at f.back (vs ++ f.cells) fs (record c.store { locals = f.locals }))) (λ vs e.
+      fit_well p typed code (λ (us : List Value). Hold us (take f.count k.1)) (yielded f.first f.count c.store.locals) (λ vs. To (core_at f.back (vs ++ f.cells) fs (record c.store { locals = f.locals })))
+      (yielded_there k.0 k.1 f.first f.count c.store.locals (fits.locals ∙ k.4) k.5 k.6) (λ vs h.
       goes_to p typed code k.2 f.back (take f.count k.1 ++ k.3) (vs ++ f.cells) fs (record c.store { locals = f.locals }) k.9
       (record { sound = record { globals = fits.sound.globals; scene = fits.sound.scene }; locals = k.7 })
-      (both_hold vs f.cells (take f.count k.1) k.3 (yielded_hold k.0 k.1 f.first f.count c.store.locals vs (fits.locals ∙ k.4) k.5 e) k.8) k.10)
+      (both_hold vs f.cells (take f.count k.1) k.3 h k.8) k.10)
 
   module _ (ls : List Mode) where
     -- ## Into a section
 
-    enter_well : (e : EntryPoint) (called : Called) (vs below : List Value) (rest : List Mode) (c : Core) (s : Store) → Begins p code e → Fits p ls s → At p code (c.place + 1) ls (take e.yielding e.others ++ rest) → Hold below rest → FramesFit p code ls c.frames → Well (enter e called vs below c s)
-    enter_well e called vs below rest c s begins fits at h k =
-        fit_well p typed code (opened e.given e.others vs) _ (λ variables q.
+    enter_well : (e : EntryPoint) (called : Called) (vs below : List Value) (rest : List Mode) (c : Core) (s : Store) → Hold vs e.given → Begins p code e → Fits p ls s → At p code (c.place + 1) ls (take e.yielding e.others ++ rest) → Hold below rest → FramesFit p code ls c.frames → Well (enter e called vs below c s)
+    enter_well e called vs below rest c s given begins fits at h k =
+        fit_well p typed code (λ (us : List Value). Hold us (e.given ++ e.others)) (opened e.given e.others vs) _ (opened_there e.given e.others vs given) (λ variables q.
         let f : Frame = record { back = c.place + 1; cells = below; locals = s.locals; first = length e.given; count = e.yielding; called = called } in
         goes_to p typed code (e.given ++ e.others) e.place [] [] (f ∷ c.frames) (record s { locals = variables }) begins.0
-        (record { sound = record { globals = fits.sound.globals; scene = fits.sound.scene }; locals = opened_hold e.given e.others vs variables q }) refl
+        (record { sound = record { globals = fits.sound.globals; scene = fits.sound.scene }; locals = q }) refl
         (e.given, e.others, ls, rest, refl, refl, begins.1, fits.locals, h, at, k))
 
     -- ## What several instructions do
 
     -- a look, after which the store is the same
-    look_on : {A : Type 0} (l : Line) (r : OkOr A Trouble) (rest : List Mode) (cells : List Value) (c : Core) → At p code (c.place + 1) ls rest → Fits p ls c.store → Hold cells rest → FramesFit p code ls c.frames → Well (did l r (λ u. onward cells c c.store))
-    look_on l r rest cells c at fits h k = looked_well p typed code l r (λ u. onward cells c c.store) (λ u. goes_to p typed code ls (c.place + 1) rest cells c.frames c.store at fits h k)
+    look_on : {A : Type 0} (l : Line) (r : OkOr A Trouble) (rest : List Mode) (cells : List Value) (c : Core) → Fine Any r → At p code (c.place + 1) ls rest → Fits p ls c.store → Hold cells rest → FramesFit p code ls c.frames → Well (did l r (λ u. onward cells c c.store))
+    look_on l r rest cells c fine at fits h k = did_well p typed code Any l r (λ u. onward cells c c.store) fine (λ u e. goes_to p typed code ls (c.place + 1) rest cells c.frames c.store at fits h k)
 
     -- another store
     change_on : (l : Line) (r : OkOr Store Trouble) (rest : List Mode) (cells : List Value) (c : Core) → Fine (Fits p ls) r → At p code (c.place + 1) ls rest → Hold cells rest → FramesFit p code ls c.frames → Well (did l r (λ s. onward cells c s))
@@ -188,9 +228,23 @@ module _ (p : Program) (typed : WellTyped p) (code : Code) where
     time_well l to ms rest r cells c d fine fits h k = give_on l to Integer ms rest (turned Whole r) cells c d (fine_turned (λ v. mode_of v ≡ Integer) Whole r fine (λ z u. refl)) fits h k
 
     -- a walk begins
-    begin_well : (l : Line) (skip : ℕ) (r : OkOr Walk Trouble) (rest : List Mode) (cells : List Value) (c : Core) → At p code (c.place + 1) ls (Integer ∷ Integer ∷ rest) × At p code (c.place + 1 + skip) ls (Integer ∷ Integer ∷ rest) → Fits p ls c.store → Hold cells rest → FramesFit p code ls c.frames → Well (begin_walk l skip r cells c)
-    begin_well l skip r rest cells c at fits h k =
-        looked_well p typed code l r _ (λ w. ways_well p typed code ls skip (not (is_none w.member)) (Integer ∷ Integer ∷ rest) (walk_cells w cells) c at fits (ap (λ l. Integer ∷ Integer ∷ l) h) k)
+    begin_well : (l : Line) (skip : ℕ) (r : OkOr Walk Trouble) (rest : List Mode) (cells : List Value) (c : Core) → Fine Any r → At p code (c.place + 1) ls (Integer ∷ Integer ∷ rest) × At p code (c.place + 1 + skip) ls (Integer ∷ Integer ∷ rest) → Fits p ls c.store → Hold cells rest → FramesFit p code ls c.frames → Well (begin_walk l skip r cells c)
+    begin_well l skip r rest cells c fine at fits h k =
+        did_well p typed code Any l r _ fine (λ w e. ways_well p typed code ls skip (not (is_none w.member)) (Integer ∷ Integer ∷ rest) (walk_cells w cells) c at fits (ap (λ l. Integer ∷ Integer ∷ l) h) k)
+
+    -- where it gets to
+    walk_fine : (reverse : Bool) (set : ℕ) (x : ℤ) (s : Store) → IsSet p set → Fits p ls s → Fine Any (walk_at reverse set x s)
+    walk_fine reverse set x s q fits = by (is_none x)
+      where
+        walked : ℤ → Walk
+        walked y = record { member = x; next = y }
+
+        by : (b : Bool) → Fine {A = Walk} Any (if b then Ok (record { member = pos 0; next = pos 0 }) else turned walked (coming_in reverse set x s))
+        by true = tt
+        by false = fine_turned {B = Walk} Any walked (coming_in reverse set x s) (coming_fine p typed ls reverse set x s q fits) (λ a u. tt)
+
+    begun_walk_fine : (reverse : Bool) (set : ℕ) (r : OkOr ℤ Trouble) (s : Store) → Fine Any r → IsSet p set → Fits p ls s → Fine Any (if_ok r (λ x. walk_at reverse set x s))
+    begun_walk_fine reverse set r s fine q fits = fine_then Any r (λ x. walk_at reverse set x s) fine (λ x u. walk_fine reverse set x s q fits)
 
     -- a walk goes on, or stays where it is
     further_well : (back : ℕ) (old new : Walk) (rest : List Mode) (cells : List Value) (c : Core) → At p code (c.place + 1) ls (Integer ∷ Integer ∷ rest) → At p code (c.place - back) ls (Integer ∷ Integer ∷ rest) → Fits p ls c.store → Hold cells rest → FramesFit p code ls c.frames → Well (walk_further back old new cells c)
@@ -202,10 +256,9 @@ module _ (p : Program) (typed : WellTyped p) (code : Code) where
     -- the next item of a loop, or none
     next_well : (back : ℕ) (item limit step : ℤ) (ms rest : List Mode) (cells : List Value) (c : Core) → ms ≡ Integer ∷ Integer ∷ Integer ∷ rest → At p code (c.place + 1) ls ms → At p code (c.place - back) ls ms → Fits p ls c.store → Hold cells rest → FramesFit p code ls c.frames → Well (next_item back item limit step cells c)
     next_well back item limit step ms rest cells c e on at fits h k =
-        choose_well (int_lt step (pos 1)) Stuck _ tt
-        (choose_well (has_item (item +ℤ step) limit) _ _
-        (back_well p typed code ls back true ms (Whole step ∷ Whole limit ∷ Whole (item +ℤ step) ∷ cells) c on at fits (ap (λ l. Integer ∷ Integer ∷ Integer ∷ l) h ∙ sym e) k)
-        (back_well p typed code ls back false ms (Whole step ∷ Whole limit ∷ Whole item ∷ cells) c on at fits (ap (λ l. Integer ∷ Integer ∷ Integer ∷ l) h ∙ sym e) k))
+        choose_well (has_next item limit step) _ _
+        (back_well p typed code ls back true ms (Whole step ∷ Whole limit ∷ Whole (item +ℤ unsigned step) ∷ cells) c on at fits (ap (λ l. Integer ∷ Integer ∷ Integer ∷ l) h ∙ sym e) k)
+        (back_well p typed code ls back false ms (Whole step ∷ Whole limit ∷ Whole item ∷ cells) c on at fits (ap (λ l. Integer ∷ Integer ∷ Integer ∷ l) h ∙ sym e) k)
 
     -- an attribute that is increased or reduced
     changed_fine : (sign : Sign) (class field : ℕ) (x y : Value) (s : Store) → field_mode p class field ≡ Some Integer → mode_of x ≡ Integer → mode_of y ≡ Integer → Fits p ls s → Fine (Fits p ls) (changed_attribute sign class field x y s)
@@ -218,6 +271,27 @@ module _ (p : Program) (typed : WellTyped p) (code : Code) where
     fields_given : (class : ℕ) (modes : List Mode) → GivenFit p class modes → FieldsAre p typed ls class 0 modes
     fields_given class modes g = subst (FieldsAre p typed ls class 0) (sym g.1.2) (fields_are p typed ls class (length modes) g.1.0 g.1.1)
 
+    -- what the items of a PRINT show
+    shown_there : (ks : List ItemKind) (ms : List Mode) (vs : List Value) (s : Store) → ItemsFit p ks ms → Hold vs ms → Fits p ls s → There (AllZip IsOfKind ks) (values_shown ks vs s)
+    shown_there [] [] [] s h q fits = tt
+    shown_there [] [] (v ∷ vs) s h q fits = absurd cc
+    shown_there [] (m ∷ ms) vs s h q fits = absurd h
+    shown_there (ShowsValue ∷ ks) [] vs s h q fits = absurd h
+    shown_there (ShowsValue ∷ ks) (m ∷ ms) [] s h q fits = absurd cc
+    shown_there (ShowsValue ∷ ks) (m ∷ ms) (v ∷ vs) s h q fits =
+        let rest : Hold vs ms = cc in
+        before_there ShowsValue ks (Some (Is v)) (values_shown ks vs s) tt (shown_there ks ms vs s h rest fits)
+    shown_there (ShowsMean j ∷ ks) ms [] s h q fits =
+        before_there (ShowsMean j) ks (mean_item (mean j None s)) (values_shown ks [] s) (mean_there (ShowsMean j) (λ x y. tt) (mean j None s) (mean_fine p typed ls j None s (asked_alone p typed ls true j h.0) fits)) (shown_there ks ms [] s h.1 q fits)
+    shown_there (ShowsMean j ∷ ks) ms (v ∷ vs) s h q fits =
+        before_there (ShowsMean j) ks (mean_item (mean j None s)) (values_shown ks (v ∷ vs) s) (mean_there (ShowsMean j) (λ x y. tt) (mean j None s) (mean_fine p typed ls j None s (asked_alone p typed ls true j h.0) fits)) (shown_there ks ms (v ∷ vs) s h.1 q fits)
+    shown_there (ShowsMeanOf j ∷ ks) [] vs s h q fits = absurd h
+    shown_there (ShowsMeanOf j ∷ ks) (m ∷ ms) [] s h q fits = absurd cc
+    shown_there (ShowsMeanOf j ∷ ks) (m ∷ ms) (x ∷ vs) s h q fits =
+        let here : mode_of x ≡ m = cc in
+        let rest : Hold vs ms = cc in
+        before_there (ShowsMeanOf j) ks (mean_item (mean j (Some x) s)) (values_shown ks vs s) (mean_there (ShowsMeanOf j) (λ y z. tt) (mean j (Some x) s) (mean_fine p typed ls j (Some x) s (asked_of p typed ls true j x h.1 (here ∙ h.0)) fits)) (shown_there ks ms vs s h.2 rest fits)
+
     -- the event that comes next
     coming : (s : Store) (n : Coming) → next_event s ≡ Some n → Fits p ls s → ComingAs p typed ls n
     coming s n e fits = by (next s.scene.pending) refl e
@@ -227,13 +301,23 @@ module _ (p : Program) (typed : WellTyped p) (code : Code) where
         by (Some k) q f = subst (There (ComingAs p typed ls)) e (next_event_there p typed ls s (ap is_some q) fits)
 
     module _ (shaped : Shaped p code) where
-      event_well : (h : ℕ) (n : Coming) (ms : List Mode) (c : Core) → ComingAs p typed ls n → At p code (c.place + 1) ls ms → Hold c.cells ms → FramesFit p code ls c.frames → Well (take_event code h n c)
-      event_well h n ms c comes at q k =
+      -- the entry point of an event
+      abbrev IsEntryOf : (rank : ℕ) → Event → EntryPoint → Type 0
+      IsEntryOf rank v e = (slice_get code.events rank ≡ Some e) × (e.given ≡ v.given)
+
+      event_well : (h : ℕ) (n : Coming) (ms : List Mode) (c : Core) → ComingAs p typed ls n → length ms ≡ h → At p code (c.place + 1) ls ms → Hold c.cells ms → FramesFit p code ls c.frames → Well (take_event code h n c)
+      event_well h n ms c comes high at q k =
           did_well p typed code (BegunAs p typed ls) n.ranked.said.line (event_begun n) _ (begun_fine p typed ls n comes) (λ b begun.
-          fit_well p typed code (slice_get code.events b.rank) _ (λ e there.
-          let begins = shaped.events b.rank e there in
-          height_well p typed code h c.cells (enter e (AnEvent b.rank) b.given c.cells c b.store)
-          (enter_well e (AnEvent b.rank) b.given c.cells ms c b.store begins.0 begun.fits (subst (λ n. At p code (c.place + 1) ls (take n e.others ++ ms)) (sym begins.1) at) q k)))
+          let served = shaped.served b.rank begun.event begun.there in
+          fit_well p typed code (IsEntryOf b.rank begun.event) (slice_get code.events b.rank) _ (subst (There (IsEntryOf b.rank begun.event)) (sym served.1) (served.1, served.2)) (λ e there.
+          let begins = shaped.events b.rank e there.0 in
+          height_well p typed code h c.cells (enter e (AnEvent b.rank) b.given c.cells c b.store) (held_length c.cells ms q ∙ high)
+          (enter_well e (AnEvent b.rank) b.given c.cells ms c b.store (begun.given ∙ sym there.1) begins.0 begun.fits (subst (λ n. At p code (c.place + 1) ls (take n e.others ++ ms)) (sym begins.1) at) q k)))
+
+      -- or none
+      next_event_well : (h : ℕ) (ms : List Mode) (c : Core) → Fits p ls c.store → length ms ≡ h → At p code (c.place + 1) ls ms → Hold c.cells ms → FramesFit p code ls c.frames → (o : Option Coming) → next_event c.store ≡ o → Well (take_next code h o c)
+      next_event_well h ms c fits high at q k None e = goes_to p typed code ls (c.place + 1) ms c.cells c.frames c.store at fits q k
+      next_event_well h ms c fits high at q k (Some n) e = event_well h n ms c (coming c.store n e fits) high at q k
 
       -- ## Instructions
 
@@ -263,14 +347,16 @@ module _ (p : Program) (typed : WellTyped p) (code : Code) where
           bearer_well p typed code ls of ms g.1.0 c.store c.cells _ g.1.1 fits q (λ o below e h.
           give_on l to Integer ms g.1.0 (figure fold j o c.store) below c g.1.2 (figure_fine p typed ls fold j o c.store (asked p typed ls j of o g.0 e) fits) fits h k)
       act_well l (i.LookEntity class x) c ms g fits q k =
-          value_well p typed code ls x Integer ms g.1.0 c.store c.cells _ g.1.1 fits q (λ v below e h. look_on l (entity class v c.store) g.1.0 below c g.1.2 fits h k)
+          value_well p typed code ls x Integer ms g.1.0 c.store c.cells _ g.1.1 fits q (λ v below e h. look_on l (entity class v c.store) g.1.0 below c (let cl = fields_said (slice_get p.layout.classes class) g.0.0 g.0.1 in fine_weaker Any (entity class v c.store) (entity_fine p typed ls class cl.0 v c.store cl.1 e fits) (λ n u. tt)) g.1.2 fits h k)
       act_well l (i.LookMember set x) c ms g fits q k =
-          value_well p typed code ls x Integer ms g.1.0 c.store c.cells _ g.1.1 fits q (λ v below e h. look_on l (member set v c.store) g.1.0 below c g.1.2 fits h k)
+          value_well p typed code ls x Integer ms g.1.0 c.store c.cells _ g.1.1 fits q (λ v below e h. look_on l (member set v c.store) g.1.0 below c (fine_weaker Any (member set v c.store) (member_fine p typed ls set v c.store g.0 e fits) (λ n u. tt)) g.1.2 fits h k)
       act_well l (i.LookOwner set owner) c ms g fits q k =
-          bearer_well p typed code ls owner ms g.1.0 c.store c.cells _ g.1.1 fits q (λ o below e h. look_on l (known_owner set o c.store) g.1.0 below c g.1.2 fits h k)
+          bearer_well p typed code ls owner ms g.1.0 c.store c.cells _ g.1.1 fits q (λ o below e h. look_on l (known_owner set o c.store) g.1.0 below c (fine_weaker Any (known_owner set o c.store) (known_owner_fine p typed ls set o c.store (owner_ok p typed ls set owner o g.0 e) fits) (λ n u. tt)) g.1.2 fits h k)
       act_well l (i.LookMean j of) c ms g fits q k =
-          bearer_well p typed code ls of ms g.1.0 c.store c.cells _ g.1.1 fits q (λ o below e h. look_on l (mean j o c.store) g.1.0 below c g.1.2 fits h k)
-      act_well l (i.LookCount class) c ms g fits q k = look_on l (assignable_count class c.store) ms c.cells c g.1 fits q k
+          bearer_well p typed code ls of ms g.1.0 c.store c.cells _ g.1.1 fits q (λ o below e h. look_on l (mean j o c.store) g.1.0 below c (mean_fine p typed ls j o c.store (asked p typed ls j of o g.0 e) fits) g.1.2 fits h k)
+      act_well l (i.LookCount class) c ms g fits q k =
+          look_on l (assignable_count class c.store) ms c.cells c
+          (fit_fine Any (is_permanent (class_at class c.store)) (unless_fault (is_made c.store.scene.heap class) CreatedTwice (Ok tt)) (permanent_here p typed ls c.store class fits g.0) (unless_fine Any (is_made c.store.scene.heap class) CreatedTwice (Ok tt) (λ e. tt))) g.1 fits q k
       act_well l (i.SetAttribute class field x from) c ms g fits q k =
           both_well p typed code ls x from Integer g.0 ms g.2.0 c.store c.cells _ g.2.1 fits q (λ v w below hv hw h.
           change_on l (assigned_attribute class field v w c.store) g.2.0 below c (attribute_assigned_fine p typed ls class field g.0 v w c.store g.1 hv hw fits) g.2.2 h k)
@@ -283,48 +369,53 @@ module _ (p : Program) (typed : WellTyped p) (code : Code) where
       act_well l (i.Jump skip) c ms g fits q k = goes_to p typed code ls (c.place + 1 + skip) ms c.cells c.frames c.store g fits q k
       act_well l (i.Unless relation left right skip) c ms g fits q k =
           both_well p typed code ls left right g.0 g.0 ms g.1.0 c.store c.cells _ g.1.1 fits q (λ v w below hv hw h.
-          fit_well p typed code (related relation v w) _ (λ b e. ways_well p typed code ls skip b g.1.0 below c g.1.2 fits h k))
+          fit_well p typed code Any (related relation v w) _ (related_there relation v w g.0 hv hw) (λ b e. ways_well p typed code ls skip b g.1.0 below c g.1.2 fits h k))
       act_well l (i.UnlessEnded negated skip) c ms g fits q k =
-          looked_well p typed code l (due (is_ended c.store.scene.input)) _ (λ b. ways_well p typed code ls skip (unless negated b) ms c.cells c g fits q k)
+          did_well p typed code Any l (due (is_ended c.store.scene.input)) _ (any_due (is_ended c.store.scene.input)) (λ b e. ways_well p typed code ls skip (unless negated b) ms c.cells c g fits q k)
       act_well l (i.UnlessEmpty negated set owner skip) c ms g fits q k =
           bearer_well p typed code ls owner ms g.1.0 c.store c.cells _ g.1.1 fits q (λ o below e h.
-          looked_well p typed code l (is_empty set o c.store) _ (λ b. ways_well p typed code ls skip (unless negated b) g.1.0 below c g.1.2 fits h k))
+          did_well p typed code Any l (is_empty set o c.store) _ (is_empty_fine p typed ls set o c.store (owner_ok p typed ls set owner o g.0 e) fits) (λ b u. ways_well p typed code ls skip (unless negated b) g.1.0 below c g.1.2 fits h k))
       act_well l (i.UnlessMember negated set x owner skip) c ms g fits q k =
           bearer_well p typed code ls owner ms g.1.0 c.store c.cells _ g.1.1 fits q (λ o above e a.
           value_well p typed code ls x Integer g.1.0 g.1.2.0 c.store above _ g.1.2.1 fits a (λ v below f h.
-          looked_well p typed code l (is_in set v o c.store) _ (λ b. ways_well p typed code ls skip (unless negated b) g.1.2.0 below c g.1.2.2 fits h k)))
+          did_well p typed code Any l (is_in set v o c.store) _ (is_in_fine p typed ls set v o c.store f (owner_ok p typed ls set owner o g.0 e) fits) (λ b u. ways_well p typed code ls skip (unless negated b) g.1.2.0 below c g.1.2.2 fits h k)))
       act_well l i.Turn c ms g fits q k = goes_to p typed code ls (c.place + 1) ms c.cells c.frames c.store g fits q k
       act_well l (i.Repeat back) c ms g fits q k = goes_to p typed code ls (c.place - back) ms c.cells c.frames c.store g.at fits q k
       act_well l (i.Begin h skip) c ms g fits q k =
           loop_well p typed code h ms g.0 c.cells _ g.1 q (λ item limit step below a.
-          looked_well p typed code l (range_of (Whole item) (Whole limit) (Some (Whole step))) _ (λ r. ways_well p typed code ls skip (has_item item limit) ms c.cells c g.2 fits q k))
+          did_well p typed code Any l (range_of (Whole item) (Whole limit) (Some (Whole step))) _ (range_of_fine (Whole item) (Whole limit) (Some (Whole step)) (λ z. Unit {0}) refl refl tt) (λ r u. ways_well p typed code ls skip (has_item item limit) ms c.cells c g.2 fits q k))
       act_well l (i.BeginClass class h skip) c ms g fits q k =
-          height_well p typed code h c.cells _
-          (looked_well p typed code l (indices class c.store) _ (λ r.
+          height_well p typed code h c.cells _ (held_length c.cells ms q ∙ g.1)
+          (did_well p typed code Any l (indices class c.store) _ (fit_fine Any (is_permanent (class_at class c.store)) (Ok (record { first = pos 1; limit = pos (made_count class c.store); step = pos 1 })) (permanent_here p typed ls c.store class fits g.0) tt) (λ r u.
           ways_well p typed code ls skip (has_item r.first r.limit) (Integer ∷ Integer ∷ Integer ∷ ms) (Whole r.step ∷ Whole r.limit ∷ Whole r.first ∷ c.cells) c g.2 fits (ap (λ l. Integer ∷ Integer ∷ Integer ∷ l) q) k))
       act_well l (i.Take h x) c ms g fits q k =
-          fit_well p typed code (cell_at h c.cells) _ (λ v e.
-          change_on l (assigned_variable x v c.store) ms c.cells c (variable_fine p typed ls true x Integer v c.store g.0.0 (cell_mode h c.cells ms Integer v q g.1 e) fits) g.2 q k)
+          fit_well p typed code (λ (v : Value). mode_of v ≡ Integer) (cell_at h c.cells) _ (cell_there h c.cells ms Integer q g.1) (λ v e.
+          change_on l (assigned_variable x v c.store) ms c.cells c (variable_fine p typed ls true x Integer v c.store g.0.0 e fits) g.2 q k)
       act_well l (i.Next h back) c ms g fits q k =
           loop_well p typed code h ms g.0 c.cells _ g.1 q (λ item limit step below a. next_well back item limit step ms g.0 below c g.1.is g.2.0 g.2.1.at fits a k)
       act_well l (i.BeginSet reverse set owner h skip) c ms g fits q k =
           bearer_well p typed code ls owner ms g.1.0 c.store c.cells _ g.1.1 fits q (λ o below e a.
-          height_well p typed code h below _ (begin_well l skip (if_ok (begun reverse set o c.store) (λ x. walk_at reverse set x c.store)) g.1.0 below c g.1.2.1 fits a k))
+          let ok = owner_ok p typed ls set owner o g.0 e in
+          height_well p typed code h below _ (held_length below g.1.0 a ∙ g.1.2.0)
+          (begin_well l skip (if_ok (begun reverse set o c.store) (λ x. walk_at reverse set x c.store)) g.1.0 below c (begun_walk_fine reverse set (begun reverse set o c.store) c.store (outset_fine p typed ls reverse set o c.store ok fits) (set_of p typed ls set o ok) fits) g.1.2.1 fits a k))
       act_well l (i.BeginAt reverse after set owner h skip) c ms g fits q k =
           value_well p typed code ls (i.Taken h) Integer ms g.1.0 c.store c.cells _ g.1.1 fits q (λ y above e a.
           bearer_well p typed code ls owner g.1.0 g.1.2.0 c.store above _ g.1.2.1 fits a (λ o below f b.
-          begin_well l skip (if_ok (begun_at reverse after set y o c.store) (λ x. walk_at reverse set x c.store)) g.1.2.0 below c g.1.2.2 fits b k))
+          let ok = owner_ok p typed ls set owner o g.0 f in
+          begin_well l skip (if_ok (begun_at reverse after set y o c.store) (λ x. walk_at reverse set x c.store)) g.1.2.0 below c (begun_walk_fine reverse set (begun_at reverse after set y o c.store) c.store (begun_at_fine p typed ls reverse after set y o c.store e ok fits) (set_of p typed ls set o ok) fits) g.1.2.2 fits b k))
       act_well l (i.NextMember reverse set owner h back) c ms g fits q k =
           walk_well p typed code h ms g.1.0 c.cells _ g.1.1 q (λ w above a.
           bearer_well p typed code ls owner g.1.0 g.1.2.0 c.store above _ g.1.2.1 fits a (λ o below e b.
-          looked_well p typed code l (if_ok (goes_on set w.next o c.store) (λ u. walk_at reverse set w.next c.store)) _ (λ n. further_well back w n g.1.2.0 below c g.1.2.2.0 g.1.2.2.1.at fits b k)))
+          let ok = owner_ok p typed ls set owner o g.0 e in
+          did_well p typed code Any l (if_ok (goes_on set w.next o c.store) (λ u. walk_at reverse set w.next c.store)) _
+          (fine_then Any (goes_on set w.next o c.store) (λ u. walk_at reverse set w.next c.store) (goes_on_fine p typed ls set w.next o c.store ok fits) (λ u v. walk_fine reverse set w.next c.store (set_of p typed ls set o ok) fits)) (λ n u. further_well back w n g.1.2.0 below c g.1.2.2.0 g.1.2.2.1.at fits b k)))
       act_well l (i.Forget count) c ms g fits q k =
-          fit_well p typed code (take_off count c.cells []) _ (λ b e.
-          goes_to p typed code ls (c.place + 1) g.1 b.below c.frames c.store g.4 fits (off_hold g.0 g.1 count c.cells [] b (q ∙ g.2) g.3 e) k)
+          fit_well p typed code (λ (b : TakenOff). Hold b.below g.1) (take_off count c.cells []) _ (off_there g.0 g.1 count c.cells [] (q ∙ g.2) g.3) (λ b e.
+          goes_to p typed code ls (c.place + 1) g.1 b.below c.frames c.store g.4 fits e k)
       act_well l (i.Call routine h) c ms g fits q k =
           subst (λ o. Well (fit o (λ (e : EntryPoint). with_block (length e.given) h c.cells (λ vs below. enter e (ARoutine routine) vs below c c.store)))) (sym g.1)
           (block_well p typed code (length g.0.given) h g.0.given ms g.2.0 c.cells _ g.2.1 refl q (λ vs below a b.
-          enter_well g.0 (ARoutine routine) vs below g.2.0 c c.store (shaped.routines routine g.0 g.1) fits g.2.2 b k))
+          enter_well g.0 (ARoutine routine) vs below g.2.0 c c.store a (shaped.routines routine g.0 g.1) fits g.2.2 b k))
       act_well l i.Leave c ms g fits q k = leave_well ls c.frames c fits k
       act_well l i.Halt c ms g fits q k = tt
       act_well l (i.Create class to) c ms g fits q k = give_with l to Integer ms ms (made_one class c.store) c.cells c g.1 (made_one_fine p typed ls class c.store g.0 fits) q k
@@ -366,7 +457,7 @@ module _ (p : Program) (typed : WellTyped p) (code : Code) where
           change_on l (unscheduled class v c.store) g.1.0 below c (unscheduled_fine p typed ls class v c.store g.0 e fits) g.1.2 h k)
       act_well l (i.Await skip) c ms g fits q k = ways_well p typed code ls skip (is_awaited c.store) ms c.cells c g fits q k
       act_well l (i.TakeEvent h) c ms g fits q k =
-          fit_well p typed code (next_event c.store) (λ n. take_event code h n c) (λ n e. event_well h n ms c (coming c.store n e fits) g.1 q k)
+          next_event_well h ms c fits g.0 g.1 q k (next_event c.store) refl
       act_well l (i.NextEvent back) c ms g fits q k = back_well p typed code ls back (is_awaited c.store) ms c.cells c g.0 g.1.at fits q k
       act_well l (i.Read m to) c ms g fits q k =
           give_with l to m ms ms (read_value m c.store) c.cells c g
@@ -374,25 +465,25 @@ module _ (p : Program) (typed : WellTyped p) (code : Code) where
       act_well l (i.Print lines h) c ms g fits q k =
           subst (λ o. Well (fit o (λ x. print_lines x h c))) (sym g.1)
           (block_well p typed code (cells_of_kinds g.0.items) h g.2.0 ms g.2.2.0 c.cells _ g.2.2.1 (kinds_many p g.0.items g.2.0 g.2.1) q (λ vs below hv b.
-          fit_well p typed code (values_shown g.0.items vs c.store) _ (λ items e.
-          fit_well p typed code (printed g.0.pictures items) _ (λ bytes f. goes_to p typed code ls (c.place + 1) g.2.2.0 below c.frames c.store g.2.2.2 fits b k))))
+          fit_well p typed code (AllZip IsOfKind g.0.items) (values_shown g.0.items vs c.store) _ (shown_there g.0.items g.2.0 vs c.store g.2.1 hv fits) (λ items e.
+          fit_well p typed code Any (printed g.0.pictures items) _ (is_there (printed g.0.pictures items) (g.3 items e)) (λ bytes f. goes_to p typed code ls (c.place + 1) g.2.2.0 below c.frames c.store g.2.2.2 fits b k))))
       act_well l (i.Skip count) c ms g fits q k =
           value_well p typed code ls count Integer ms g.0 c.store c.cells _ g.1 fits q (λ v below e h.
-          looked_well p typed code l (empty_lines v) _ (λ bytes. goes_to p typed code ls (c.place + 1) g.0 below c.frames c.store g.2 fits h k))
+          did_well p typed code Any l (empty_lines v) _ (lines_fine v e) (λ bytes u. goes_to p typed code ls (c.place + 1) g.0 below c.frames c.store g.2 fits h k))
 
   -- ## Steps
 
   abbrev StepWell : Stepped → Type 0
   StepWell (Goes t) = FitsCode p code t.core
   StepWell (Over e t) = Unit {0}
-  StepWell NoStep = Unit {0}
+  StepWell NoStep = ⊥
 
   rest_well : (r : List ℕ) (t : ℕ) (m : Moved) → Well m → StepWell (with_rest r t m)
   rest_well r t (To c) h = h
   rest_well r t (Sends bytes c) h = h
   rest_well r t (Rest Done) h = tt
   rest_well r t (Rest (Breaks kind line)) h = tt
-  rest_well r t Stuck h = tt
+  rest_well r t Stuck h = absurd h
 
   due_well : (b : Bool) (r : List ℕ) (t : ℕ) (m : Moved) → Well m → StepWell (when_due b r t m)
   due_well false r t m h = rest_well r t m h
@@ -425,3 +516,10 @@ states_suit p typed input n m x e =
     let shaped : Shaped p code = has_shape p typed in
     let first : FitsCode p code (start code input n).core = goes_to p typed code p.locals 0 [] [] [] (start code input n).core.store shaped.first (first_fits p input) refl tt in
     steps_well p typed code shaped m (start code input n) x first e
+
+-- the machine is stuck in no state that suits its place
+pub fits_goes : (p : Program) → WellTyped p → (s : MachineState) → FitsCode p (code_of p) s.core → step (code_of p) s ≡ NoStep → ⊥
+fits_goes p typed s d e = subst (StepWell p typed (code_of p)) e (step_well p typed (code_of p) (has_shape p typed) s d)
+
+pub never_stuck : NeverStuck
+never_stuck p typed input n m x e q = fits_goes p typed x (states_suit p typed input n m x e) q

@@ -1,6 +1,7 @@
 -- The code of statements on sets, entities, notices and statistics has shape, and that of the items of a PRINT.
-use Rattle.std.proofs.Common.{◌≡◌, ℕ, suc, ◌-◌, Bool, true, List, [], ◌∷◌, ◌++◌, length, Option, Some, None, refl, sym, ap, subst, arith}
-use Rattle.std.specs.Prelude.{slice_get, take, map, Contains}
+use Rattle.std.proofs.Common.{◌≡◌, ℕ, suc, ◌-◌, Bool, true, List, [], ◌∷◌, ◌++◌, length, Option, Some, None, refl, sym, ap, ◌∙◌, subst, arith}
+use Rattle.std.proofs.lemmas.Bool.{eq-eqb, le-leb}
+use Rattle.std.specs.Prelude.{slice_get, take, map, ◌&&◌, is_some, Contains, if◌then◌else◌}
 use Rattle.std.specs.List.{AllByRecursion as Every, AllZip}
 use Rattle.ss_base.specs.declared.line.Line.{Line}
 use Rattle.ss_base.specs.declared.layout.Mode.{Mode}
@@ -11,14 +12,17 @@ use Rattle.ss_base.specs.declared.layout.Discipline.TheVariants as disciplines
 use Rattle.ss_program.specs.declared.statement.CountedClass.{CountedClass}
 use Rattle.ss_program.specs.declared.statement.End.{End}
 use Rattle.ss_program.specs.Program.{Expression, SetOwner, Place, ToVariable, ToAttribute, ToCount, Position, ByDiscipline, AsFirst, AsLast, BeforeMember, AfterMember, When, At as AtTime, In, Now, Restart, Item, AValue, AMean, AMeanOf, Program}
-use Rattle.ss_program.specs.WellTyped.{Scope, WellTyped, kind_of_class, HasMode, OwnerFits, TakesMode, GoodPosition, GoodWhen, GoodGiven, GoodRestart, TakesItem, HasSubject, IsAlone, IsOfEntities}
+use Rattle.ss_program.specs.FieldValue.{FieldValue}
+use Rattle.ss_program.specs.FieldValue.TheVariants.{Is, Mean}
+use Rattle.ss_program.specs.WellTyped.{Scope, WellTyped, kind_of_class, HasMode, OwnerFits, TakesMode, GoodPosition, GoodWhen, GoodGiven, GoodRestart, TakesItem, GoodPrint, HasSubject, IsAlone, IsOfEntities}
+use Rattle.ss_meaning.specs.Values.{lines_with, takes, take_all}
 use Rattle.ss_code_instructions.specs.Instructions.{Operand, Filing, Placed}
 use Rattle.ss_code_instructions.specs.Instructions.{Target as To}
 use Rattle.ss_code_instructions.specs.Instructions as i
 use Rattle.ss_code_instructions.specs.Machine.{Code}
 use Rattle.ss_code_instructions.specs.Facts.{expression_of, may_fault, needs_look, beside}
-use Rattle.ss_code_instructions.specs.Shape.{Gives, GivesPosition, Accepts, Block, modes_onto, GivenFit, ItemsFit}
-use Rattle.ss_code_instructions.specs.Translation.{Site, place, next, leaf, or_in_cell, filing_by, expression_mode, operand, operand_cells, stay, forget, forget_to, values_cells, beside_code, filing, file_code, remove_code, remove_end_code, with_owner, creates_code, when_code, place_code, place_cells, notice_code, schedule_new_code, schedule_code, bearer, bearer_code, after_bearer, restarts_code, item_code, item_cells, items_code, items_cells, item_kind}
+use Rattle.ss_code_instructions.specs.Shape.{Gives, GivesPosition, Accepts, Block, modes_onto, GivenFit, ItemsFit, IsOfKind, FieldsTake}
+use Rattle.ss_code_instructions.specs.Translation.{Site, place, next, leaf, or_in_cell, filing_by, expression_mode, operand, operand_cells, stay, forget, forget_to, values_cells, beside_code, filing, file_code, remove_code, remove_end_code, with_owner, creates_code, when_code, place_code, place_cells, notice_code, schedule_new_code, schedule_code, bearer, bearer_code, after_bearer, restarts_code, item_code, item_cells, items_code, items_cells, item_kind, lines_of}
 use Rattle.ss_code_instructions.proofs.Changing.{next_above}
 use Rattle.ss_code_instructions.proofs.Stacked.{under_cell}
 use Rattle.ss_code_instructions.proofs.Leaves.{stay_low}
@@ -65,6 +69,26 @@ items_fit s [] h = tt
 items_fit s (AValue e ∷ xs) h = items_fit s xs h.1
 items_fit s (AMean j ∷ xs) h = (h.0, items_fit s xs h.1)
 items_fit s (AMeanOf j e ∷ xs) h = (refl, h.0.0, items_fit s xs h.1)
+
+-- the fields take whatever the items show
+items_take : (s : Scope) (fields : _) (xs : List Item) (shown : List FieldValue) → AllZip (TakesItem s) fields xs → AllZip IsOfKind (map item_kind xs) shown → take_all fields shown ≡ true
+items_take s [] [] [] h k = refl
+items_take s [] [] (y ∷ shown) h k = absurd k
+items_take s [] (x ∷ xs) shown h k = absurd h
+items_take s (f ∷ fields) [] shown h k = absurd h
+items_take s (f ∷ fields) (x ∷ xs) [] h k = absurd k
+items_take s (f ∷ fields) (x ∷ xs) (y ∷ shown) h k = ap (λ b. b && take_all fields shown) (one x y h.0 k.0) ∙ items_take s fields xs shown h.1 k.1
+  where
+    one : (x : Item) (y : FieldValue) → TakesItem s f x → IsOfKind (item_kind x) y → takes f y ≡ true
+    one (AValue e) (Is v) h k = eq-eqb f.decimals 0 h.1
+    one (AValue e) (Mean sum number) h k = absurd k
+    one (AMean j) (Is v) h k = absurd k
+    one (AMean j) (Mean sum number) h k = le-leb f.decimals 9 h.1
+    one (AMeanOf j e) (Is v) h k = absurd k
+    one (AMeanOf j e) (Mean sum number) h k = le-leb f.decimals 9 h.2
+
+pub fields_take : (s : Scope) (xs : List Item) (pictures : List (List ℕ)) → GoodPrint s xs pictures → FieldsTake (lines_of xs pictures)
+fields_take s xs pictures g = λ shown k. ap (λ b. is_some (if b then Some (lines_with pictures shown) else None)) (items_take s _ xs shown g k)
 
 module _ (p : Program) (typed : WellTyped p) (code : Code) (ls : List Mode) (b : Bool) where
   -- the section's variables, and how Shape sees them; sites in the section; and places with such cells

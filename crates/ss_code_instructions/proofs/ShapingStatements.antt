@@ -10,7 +10,7 @@ use Rattle.ss_program.specs.WellTyped.{Scope, WellTyped, HaveModes, TakesMode, G
 use Rattle.ss_code_instructions.specs.Instructions.{Placed, EntryPoint}
 use Rattle.ss_code_instructions.specs.Instructions as i
 use Rattle.ss_code_instructions.specs.Machine.{Code}
-use Rattle.ss_code_instructions.specs.Shape.{Block as CellBlock, At, DueAt, Suits}
+use Rattle.ss_code_instructions.specs.Shape.{Block as CellBlock, FieldsTake, At, DueAt, Suits}
 use Rattle.ss_code_instructions.specs.Translation.{Site, place, loop_cells, values_code, values_cells, results_cells, gives_code, items_code, items_cells, lines_of, statement_prints, block_prints, no_line, statement_code, block_code, section_code, routine_entry}
 use Rattle.ss_code_instructions.proofs.Steps.{HasAt, has_front, has_back}
 use Rattle.ss_code_instructions.proofs.Entering.{RoutineAt, Linked}
@@ -18,7 +18,7 @@ use Rattle.ss_code_instructions.proofs.Suiting.{Shapes, seq, none, one, put_befo
 use Rattle.ss_code_instructions.proofs.Shaping.{values_so, here, site, Onward, gives, operand_then, values_shapes}
 use Rattle.ss_code_instructions.proofs.ShapingPlaces.{let_shapes, change_shapes, to_place_shapes, reads_shapes, results_so, gives_shapes}
 use Rattle.ss_code_instructions.proofs.ShapingLoops.{if_shapes, loop_shapes, for_each_shapes, find_shapes}
-use Rattle.ss_code_instructions.proofs.ShapingSets.{shown_modes, items_so, GoodItem, items_good, items_fit, file_shapes, remove_shapes, remove_end_shapes, creates_shapes, restarts_shapes, items_shapes, schedule_new_shapes, schedule_shapes}
+use Rattle.ss_code_instructions.proofs.ShapingSets.{shown_modes, items_so, GoodItem, items_good, items_fit, fields_take, file_shapes, remove_shapes, remove_end_shapes, creates_shapes, restarts_shapes, items_shapes, schedule_new_shapes, schedule_shapes}
 
 -- what a routine yields comes first of its other variables
 pub front_of : (ws others : List Mode) → take (length ws) (ws ++ others) ≡ ws
@@ -68,12 +68,12 @@ module _ (p : Program) (typed : WellTyped p) (code : Code) (linked : Linked code
 
   -- ## PRINT, START SIMULATION
 
-  print_shapes : (l : Line) (first : ℕ) (items : List Item) (pictures : List (List ℕ)) (ms : List Mode) → slice_get code.prints first ≡ Some (lines_of items pictures) → Every (GoodItem section_scope) items → Shapes p code (Comes ms) (items_code (at_site l ms) items ++ place (at_site l (items_cells section_scope items ms)) (i.Print first (length ms)) ∷ []) (Comes ms)
-  print_shapes l first items pictures ms there g =
+  print_shapes : (l : Line) (first : ℕ) (items : List Item) (pictures : List (List ℕ)) (ms : List Mode) → slice_get code.prints first ≡ Some (lines_of items pictures) → Every (GoodItem section_scope) items → FieldsTake (lines_of items pictures) → Shapes p code (Comes ms) (items_code (at_site l ms) items ++ place (at_site l (items_cells section_scope items ms)) (i.Print first (length ms)) ∷ []) (Comes ms)
+  print_shapes l first items pictures ms there g take =
       let block : CellBlock (length ms) (shown_modes section_scope items) (items_cells section_scope items ms) ms = record { is = items_so section_scope items ms; height = refl } in
       seq (items_shapes p typed code ls b l items ms g)
       (one p code (Comes ms) (place (at_site l (items_cells section_scope items ms)) (i.Print first (length ms))) (λ q end.
-      (lines_of items pictures, there, (shown_modes section_scope items, items_fit section_scope items g, (ms, block, end)))))
+      (lines_of items pictures, there, (shown_modes section_scope items, items_fit section_scope items g, (ms, block, end)), take)))
 
   abbrev BackToEvent : List Mode → ℕ → Type 0
   BackToEvent ms q = Comes ms q × DueAt p code (q - (1 + 1)) ls ms
@@ -134,7 +134,7 @@ module _ (p : Program) (typed : WellTyped p) (code : Code) (linked : Linked code
     statement_shapes k ms first (Cancel l class e) g has =
         operand_then p code ls b (Comes ms) l e Integer ms (i.Cancel class) g.1 (λ q end. (g.0, (ms, gives p code ls b l e Integer ms g.1, end)))
     statement_shapes k ms first (Reset l restarts) g has = restarts_shapes p typed code ls b l restarts ms g
-    statement_shapes k ms first (Print l items pictures) g has = print_shapes l first items pictures ms has.0 (items_good section_scope _ items g)
+    statement_shapes k ms first (Print l items pictures) g has = print_shapes l first items pictures ms has.0 (items_good section_scope _ items g) (fields_take section_scope items pictures g)
     statement_shapes k ms first (Skip l e) g has =
         operand_then p code ls b (Comes ms) l e Integer ms i.Skip g (λ q end. (ms, gives p code ls b l e Integer ms g, end))
 

@@ -36,10 +36,10 @@ use Rattle.ss_meaning.proofs.Fine.{Sane}
 use Rattle.ss_code_instructions.specs.Instructions.{Taken, Target, Into, Onto, Instruction, EntryPoint}
 use Rattle.ss_code_instructions.specs.Instructions as i
 use Rattle.ss_code_instructions.specs.States.{Called, ARoutine, AnEvent, Frame, Core, Moved, To, Sends, Rest, Stuck, did, back_if, cell_at, take_off, Written, put_to, deliver_with, onward}
-use Rattle.ss_code_instructions.specs.Machine.{Code, changed_attribute, assignable_count, Walk, walk_at, walk_cells, has_item, next_item, walk_further, values_shown, cells_of_kinds, enter, leave, take_event, act}
-use Rattle.ss_code_instructions.proofs.Keeping.{Only, Where, Same, each, then_only, made, made_from, fitting, unless}
-use Rattle.ss_code_instructions.proofs.Moving.{Every, did_only, did_any, fit_any, fit_where, if_every, high, block, number, value, values, bearer, position, three, walk}
-use Rattle.ss_code_instructions.proofs.Acting.{Saying, act_keeps}
+use Rattle.ss_code_instructions.specs.Machine.{Code, changed_attribute, assignable_count, Walk, walk_at, walk_cells, unsigned, has_next, next_item, walk_further, values_shown, cells_of_kinds, enter, leave, take_event, take_next, act}
+use Rattle.ss_code_instructions.proofs.Keeping.{Only, Where, Says, each, then_only, made, made_from, fitting, unless}
+use Rattle.ss_code_instructions.proofs.Moving.{Every, did_only, did_any, fit_any, if_every, high, block, number, value, values, bearer, position, three, walk}
+use Rattle.ss_code_instructions.proofs.Acting.{act_says}
 use Rattle.ss_code_instructions.proofs.Joining.{Joined, assigned_joined, timed_joined, created_joined, created_all_joined, first_filed, last_filed, before_filed, after_filed, filed_joined, removed_joined, first_removed_joined, last_removed_joined, destroyed_joined}
 
 -- where each member of a set lives in the one store, it does in the other
@@ -268,8 +268,7 @@ leaving (f ∷ fs) c = fit_any (Staying c.store) (yielded f.first f.count c.stor
 
 next_remains : (back : ℕ) (item limit step : ℤ) (below : List Value) (c : Core) → Remains c.store (next_item back item limit step below c)
 next_remains back item limit step below c =
-    if_every (Staying c.store) (int_lt step (pos 1)) Stuck _ tt
-    (if_every (Staying c.store) (has_item (item +ℤ step) limit) (back_if back true (Whole step ∷ Whole limit ∷ Whole (item +ℤ step) ∷ below) c) (back_if back false (Whole step ∷ Whole limit ∷ Whole item ∷ below) c) (λ j. j) (λ j. j))
+    if_every (Staying c.store) (has_next item limit step) (back_if back true (Whole step ∷ Whole limit ∷ Whole (item +ℤ unsigned step) ∷ below) c) (back_if back false (Whole step ∷ Whole limit ∷ Whole item ∷ below) c) (λ j. j) (λ j. j)
 
 further_remains : (back : ℕ) (old new : Walk) (below : List Value) (c : Core) → Remains c.store (walk_further back old new below c)
 further_remains back old new below c = if_every (Staying c.store) (is_none new.member) (back_if back false (walk_cells old below) c) (back_if back true (walk_cells new below) c) (λ j. j) (λ j. j)
@@ -282,6 +281,10 @@ taking code h n c p =
     weaken : (r : Result Beginning Trouble) → Only (BeginningStays n.store) r → Only (BeginningStays c.store) r
     weaken (Ok b) q = λ j. q (p j)
     weaken (Err t) q = tt
+
+taking_next : (code : Code) (h : ℕ) (o : Option Coming) (c : Core) → Where (ComingStays c.store) o → Remains c.store (take_next code h o c)
+taking_next code h None c p = λ j. j
+taking_next code h (Some n) c p = taking code h n c p
 
 pub act_remains : (code : Code) (l : Line) (x : Instruction) (c : Core) → Remains c.store (act code l x c)
 act_remains code l (i.Move from to) c = value (Staying c.store) from c.store c.cells _ (λ v below. computes l to (Ok v) below c)
@@ -348,7 +351,7 @@ act_remains code l (i.Reschedule class x h given) c =
     changes l (rescheduled class x vs time c.store) below c (again_stays class x vs time c.store))))
 act_remains code l (i.Cancel class x) c = value (Staying c.store) x c.store c.cells _ (λ x below. changes l (unscheduled class x c.store) below c (cancelled_stays class x c.store))
 act_remains code l (i.Await skip) c = λ j. j
-act_remains code l (i.TakeEvent h) c = fit_where (Staying c.store) (ComingStays c.store) (next_event c.store) _ (event_stays c.store) (λ n p. taking code h n c p)
+act_remains code l (i.TakeEvent h) c = taking_next code h (next_event c.store) c (event_stays c.store)
 act_remains code l (i.NextEvent back) c = λ j. j
 act_remains code l (i.Read mode to) c = delivers c.store l to (read_value mode c.store) c.cells c (read_stays mode c.store)
 act_remains code l (i.Print lines h) c =
@@ -358,7 +361,7 @@ act_remains code l (i.Skip count) c = value (Staying c.store) count c.store c.ce
 -- ## Both at once: what the program says, and that each member of a set lives
 
 abbrev pub Lasts : Store → Store → Type 0
-Lasts s t = Same s t × Stays s t
+Lasts s t = Says s t × Stays s t
 
 abbrev pub Lasting : Store → Core → Type 0
 Lasting s c = Lasts s c.store
@@ -373,7 +376,7 @@ every_both P Q (Rest f) p q = tt
 every_both P Q Stuck p q = tt
 
 pub act_lasts : (code : Code) (l : Line) (x : Instruction) (c : Core) → Endures c.store (act code l x c)
-act_lasts code l x c = every_both (Saying c.store) (Staying c.store) (act code l x c) (act_keeps code l x c) (act_remains code l x c)
+act_lasts code l x c = every_both (λ (d : Core). Says c.store d.store) (Staying c.store) (act code l x c) (act_says code l x c) (act_remains code l x c)
 
 pub lasts_then : (s t u : Store) → Lasts s t → Lasts t u → Lasts s u
 lasts_then s t u p q = (q.0 ∙ p.0, λ j. q.1 (p.1 j))

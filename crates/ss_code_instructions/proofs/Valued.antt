@@ -1,5 +1,5 @@
 -- Values have the modes that shape says, and where the machine goes a state suits its place.
-use Rattle.std.proofs.Common.{◌≡◌, ℕ, ◌+◌, ◌-◌, Bool, true, false, List, [], ◌∷◌, length, Option, Some, None, Ok, Err, ℤ, refl, sym, ap, ◌∙◌, subst}
+use Rattle.std.proofs.Common.{◌≡◌, ℕ, ◌+◌, ◌-◌, Bool, true, false, List, [], ◌∷◌, length, Option, Some, None, Ok, Err, ℤ, refl, sym, ◌∙◌, subst}
 use Rattle.std.proofs.lemmas.Bool.{eq-eqb}
 use Rattle.std.specs.Prelude.{◌==◌, Result as OkOr, if◌then◌else◌}
 use Rattle.ss_base.specs.declared.line.Line.{Line}
@@ -29,21 +29,19 @@ use Rattle.ss_code_instructions.proofs.Stacked.{block_takes}
 
 -- ## Cells
 
--- a cell that is there holds a value of its mode
-pub cell_mode : (h : ℕ) (cells : List Value) (ms : List Mode) (m : Mode) (v : Value) → Hold cells ms → cell_at h ms ≡ Some m → cell_at h cells ≡ Some v → mode_of v ≡ m
-cell_mode h [] ms m v q e f = absurd cc
-cell_mode h (u ∷ cells) [] m v q e f = absurd cc
-cell_mode h (u ∷ cells) (n ∷ ms) m v q e f =
+-- where there is a mode there is a cell, which holds a value of it
+pub cell_there : (h : ℕ) (cells : List Value) (ms : List Mode) (m : Mode) → Hold cells ms → cell_at h ms ≡ Some m → There (λ (v : Value). mode_of v ≡ m) (cell_at h cells)
+cell_there h [] [] m q e = absurd cc
+cell_there h [] (n ∷ ms) m q e = absurd cc
+cell_there h (u ∷ cells) [] m q e = absurd cc
+cell_there h (u ∷ cells) (n ∷ ms) m q e =
     let rest : Hold cells ms = cc in
     let here : mode_of u ≡ n = cc in
-    by (length cells == h) here (subst (λ k. (if k == h then Some n else cell_at h ms) ≡ Some m) (sym (held_length cells ms rest)) e) f (cell_mode h cells ms m v rest)
+    by (length cells == h) here (subst (λ k. (if k == h then Some n else cell_at h ms) ≡ Some m) (sym (held_length cells ms rest)) e) (cell_there h cells ms m rest)
   where
-    by : (b : Bool) → mode_of u ≡ n → (if b then Some n else cell_at h ms) ≡ Some m → (if b then Some u else cell_at h cells) ≡ Some v → (cell_at h ms ≡ Some m → cell_at h cells ≡ Some v → mode_of v ≡ m) → mode_of v ≡ m
-    by true here e f again =
-        let a : n ≡ m = cc in
-        let c : u ≡ v = cc in
-        ap mode_of (sym c) ∙ here ∙ a
-    by false here e f again = again e f
+    by : (b : Bool) → mode_of u ≡ n → (if b then Some n else cell_at h ms) ≡ Some m → (cell_at h ms ≡ Some m → There (λ (v : Value). mode_of v ≡ m) (cell_at h cells)) → There (λ (v : Value). mode_of v ≡ m) (if b then Some u else cell_at h cells)
+    by true here e again = let a : n ≡ m = cc in here ∙ a
+    by false here e again = again e
 
 -- values off the cells, by their modes
 record Split (ws ms : List Mode) (cells : List Value) : Type 0 where
@@ -87,39 +85,38 @@ asked p typed ls j (Some x) None g h = absurd h
 asked p typed ls j (Some x) (Some v) g h = asked_of p typed ls true j v g h
 
 module _ (p : Program) (typed : WellTyped p) (code : Code) where
-  -- where an instruction leads a state suits its place; where it is stuck nothing is said
+  -- where an instruction leads a state suits its place, and it is not stuck
   abbrev pub GoesWell : Moved → Type 0
   GoesWell (To c) = FitsCode p code c
   GoesWell (Sends bytes c) = FitsCode p code c
   GoesWell (Rest f) = Unit {0}
-  GoesWell Stuck = Unit {0}
+  GoesWell Stuck = ⊥
 
-  pub fit_well : {A : Type 0} (o : Option A) (go : A → Moved) → ((a : A) → o ≡ Some a → GoesWell (go a)) → GoesWell (fit o go)
-  fit_well (Some a) go f = f a refl
-  fit_well None go f = tt
+  pub fit_well : {A : Type 0} (P : A → Type 0) (o : Option A) (go : A → Moved) → There P o → ((a : A) → P a → GoesWell (go a)) → GoesWell (fit o go)
+  fit_well P (Some a) go h f = f a h
+  fit_well P None go h f = absurd h
 
   pub did_well : {A : Type 0} (P : A → Type 0) (l : Line) (r : OkOr A Trouble) (go : A → Moved) → Fine P r → ((a : A) → P a → GoesWell (go a)) → GoesWell (did l r go)
   did_well P l (Ok a) go h f = f a h
   did_well P l (Err (Fails kind)) go h f = tt
-  did_well P l (Err Misfit) go h f = tt
+  did_well P l (Err Misfit) go h f = absurd h
 
-  -- where nothing need be known of the answer
-  pub looked_well : {A : Type 0} (l : Line) (r : OkOr A Trouble) (go : A → Moved) → ((a : A) → GoesWell (go a)) → GoesWell (did l r go)
-  looked_well l (Ok a) go f = f a
-  looked_well l (Err (Fails kind)) go f = tt
-  looked_well l (Err Misfit) go f = tt
+  if_well : (b : Bool) (m : Moved) → b ≡ true → GoesWell m → GoesWell (if b then m else Stuck)
+  if_well true m e h = h
+  if_well false m e h = absurd cc
 
-  if_well : (b : Bool) (m : Moved) → GoesWell m → GoesWell (if b then m else Stuck)
-  if_well true m h = h
-  if_well false m h = tt
-
-  pub height_well : (h : ℕ) (cells : List Value) (m : Moved) → GoesWell m → GoesWell (at_height h cells m)
-  height_well h cells m g = if_well (length cells == h) m g
+  pub height_well : (h : ℕ) (cells : List Value) (m : Moved) → length cells ≡ h → GoesWell m → GoesWell (at_height h cells m)
+  height_well h cells m e g = if_well (length cells == h) m (eq-eqb (length cells) h e) g
 
   -- a number in the topmost cell
   pub number_well : (ms above : List Mode) (cells : List Value) (go : ℤ → List Value → Moved) → ms ≡ Integer ∷ above → Hold cells ms → ((z : ℤ) (below : List Value) → Hold below above → GoesWell (go z below)) → GoesWell (with_number cells go)
-  number_well ms above [] go e q f = tt
-  number_well ms above (Text t ∷ below) go e q f = tt
+  number_well ms above [] go e q f =
+      let none : Hold [] (Integer ∷ above) = q ∙ e in
+      absurd cc
+  number_well ms above (Text t ∷ below) go e q f =
+      let all : Hold (Text t ∷ below) (Integer ∷ above) = q ∙ e in
+      let here : mode_of (Text t) ≡ Integer = cc in
+      absurd cc
   number_well ms above (Whole z ∷ below) go e q f =
       let all : Hold (Whole z ∷ below) (Integer ∷ above) = q ∙ e in
       let rest : Hold below above = cc in
@@ -139,13 +136,13 @@ module _ (p : Program) (typed : WellTyped p) (code : Code) where
       number_well ms (Integer ∷ Integer ∷ rest) cells (λ step above. with_number above (λ limit over. with_number over (λ item below. at_height h below (go item limit step below)))) block.is q (λ step above ha.
       number_well (Integer ∷ Integer ∷ rest) (Integer ∷ rest) above (λ limit over. with_number over (λ item below. at_height h below (go item limit step below))) refl ha (λ limit over ho.
       number_well (Integer ∷ rest) rest over (λ item below. at_height h below (go item limit step below)) refl ho (λ item below hb.
-      height_well h below (go item limit step below) (f item limit step below hb))))
+      height_well h below (go item limit step below) (held_length below rest hb ∙ block.height) (f item limit step below hb))))
 
   pub walk_well : (h : ℕ) (ms rest : List Mode) (cells : List Value) (go : Walk → List Value → Moved) → Block h walk_modes ms rest → Hold cells ms → ((k : Walk) (below : List Value) → Hold below rest → GoesWell (go k below)) → GoesWell (with_walk h cells go)
   walk_well h ms rest cells go block q f =
       number_well ms (Integer ∷ rest) cells (λ next over. with_number over (λ member below. at_height h below (go (record { member = member; next = next }) below))) block.is q (λ next over ho.
       number_well (Integer ∷ rest) rest over (λ member below. at_height h below (go (record { member = member; next = next }) below)) refl ho (λ member below hb.
-      height_well h below (go (record { member = member; next = next }) below) (f (record { member = member; next = next }) below hb)))
+      height_well h below (go (record { member = member; next = next }) below) (held_length below rest hb ∙ block.height) (f (record { member = member; next = next }) below hb)))
 
   module _ (ls : List Mode) where
     abbrev view : Scope
@@ -157,21 +154,23 @@ module _ (p : Program) (typed : WellTyped p) (code : Code) where
     held_mode (Some v) m h = h
     held_mode None m h = absurd h
 
-    topmost_well : (h : ℕ) (m : Mode) (ms rest : List Mode) (cells : List Value) (go : Value → List Value → Moved) → ms ≡ m ∷ rest → Hold cells ms → ((v : Value) (below : List Value) → mode_of v ≡ m → Hold below rest → GoesWell (go v below)) → GoesWell (with_topmost h cells go)
-    topmost_well h m ms rest [] go e q f = tt
-    topmost_well h m ms rest (v ∷ below) go e q f =
+    topmost_well : (h : ℕ) (m : Mode) (ms rest : List Mode) (cells : List Value) (go : Value → List Value → Moved) → ms ≡ m ∷ rest → length rest ≡ h → Hold cells ms → ((v : Value) (below : List Value) → mode_of v ≡ m → Hold below rest → GoesWell (go v below)) → GoesWell (with_topmost h cells go)
+    topmost_well h m ms rest [] go e high q f =
+        let none : Hold [] (m ∷ rest) = q ∙ e in
+        absurd cc
+    topmost_well h m ms rest (v ∷ below) go e high q f =
         let all : Hold (v ∷ below) (m ∷ rest) = q ∙ e in
         let here : mode_of v ≡ m = cc in
         let under : Hold below rest = cc in
-        height_well h below (go v below) (f v below here under)
+        height_well h below (go v below) (held_length below rest under ∙ high) (f v below here under)
 
     pub value_well : (x : Operand) (m : Mode) (ms rest : List Mode) (s : Store) (cells : List Value) (go : Value → List Value → Moved) → Gives view x m ms rest → Fits p ls s → Hold cells ms → ((v : Value) (below : List Value) → mode_of v ≡ m → Hold below rest → GoesWell (go v below)) → GoesWell (with_value x s cells go)
     value_well (Constant v) m ms rest s cells go g fits q f = f v cells g.0 (q ∙ sym g.1)
     value_well (Held x) m ms rest s cells go g fits q f =
         f (or_zero (fetched x s)) cells (held_mode (fetched x s) m (fetched_there p typed ls true x m s g.0 fits)) (q ∙ sym g.1)
-    value_well (Taken h) m ms rest s cells go g fits q f = topmost_well h m ms rest cells go g.0 q f
+    value_well (Taken h) m ms rest s cells go g fits q f = topmost_well h m ms rest cells go g.0 g.1 q f
     value_well (Stays h) m ms rest s cells go g fits q f =
-        fit_well (cell_at h cells) (λ v. go v cells) (λ v e. f v cells (cell_mode h cells ms m v q g.0 e) (q ∙ sym g.1))
+        fit_well (λ (v : Value). mode_of v ≡ m) (cell_at h cells) (λ v. go v cells) (cell_there h cells ms m q g.0) (λ v e. f v cells e (q ∙ sym g.1))
 
     pub both_well : (x y : Operand) (m n : Mode) (ms rest : List Mode) (s : Store) (cells : List Value) (go : Value → Value → List Value → Moved) → GivesBoth view x y m n ms rest → Fits p ls s → Hold cells ms → ((v w : Value) (below : List Value) → mode_of v ≡ m → mode_of w ≡ n → Hold below rest → GoesWell (go v w below)) → GoesWell (with_values x y s cells go)
     both_well x y m n ms rest s cells go g fits q f = by (lies_above x y) g
@@ -233,7 +232,7 @@ module _ (p : Program) (typed : WellTyped p) (code : Code) where
     delivered_well l to m ms rest (Ok b) cells c fine a at q k =
         did_well (λ (w : Written). Fits p ls w.store × Hold w.cells rest) l (put_to to b.0 cells b.1) _ (put_fine to m ms rest b.0 cells b.1 a fine.0 fine.1 q) (λ w h. goes_to (c.place + 1) rest w.cells c.frames w.store at h.0 h.1 k)
     delivered_well l to m ms rest (Err (Fails kind)) cells c fine a at q k = tt
-    delivered_well l to m ms rest (Err Misfit) cells c fine a at q k = tt
+    delivered_well l to m ms rest (Err Misfit) cells c fine a at q k = absurd fine
 
     -- a result goes to a target, in the store as it is
     pub deliver_well : (l : Line) (to : Target) (m : Mode) (ms rest : List Mode) (r : OkOr Value Trouble) (cells : List Value) (c : Core) → Fine (λ v. mode_of v ≡ m) r → Accepts view to m ms rest → At p code (c.place + 1) ls rest → Fits p ls c.store → Hold cells ms → FramesFit p code ls c.frames → GoesWell (deliver l to r cells c)

@@ -11,7 +11,7 @@ use Rattle.ss_program.specs.declared.head.PhraseKind.TheVariants as kinds
 use Rattle.ss_program.specs.declared.sections.Subject.TheVariants.{OfVariable, OfCount}
 use Rattle.ss_program.specs.declared.sections.Weighting.TheVariants.{Tally}
 use Rattle.ss_program.specs.declared.statement.End.TheVariants as ends
-use Rattle.ss_program.specs.Program.{Constant, Attribute, Calculate, Compare, Numbers, Members, AtEnd, From, TheSystem, Entity, ToVariable, ToAttribute, ToCount, ByDiscipline, At, Let, Change, Call, Return, Stop, If, Loop, For, Find, File, RemoveEnd, ScheduleNew, Simulate, Read, Program}
+use Rattle.ss_program.specs.Program.{Attribute, Calculate, Compare, Numbers, Members, AtEnd, From, TheSystem, Entity, ToVariable, ToAttribute, ToCount, ByDiscipline, At, Let, Change, Call, Return, Stop, If, Loop, For, Find, File, RemoveEnd, ScheduleNew, Simulate, Read, Program}
 use Rattle.ss_meaning.specs.Building.{line, num, global, local, to_local, block, only, print_line, program_of_main, workshop, machine, machines, job, queue, pool, bell}
 use Rattle.ss_code_instructions.specs.Instructions.{Instruction, Placed, Held, Taken, Stays, Into, Onto, Last}
 use Rattle.ss_code_instructions.specs.Instructions as i

@@ -42,7 +42,8 @@ pub fn laws_of_pieces()
     ensures one_tick_fewer { OneTickFewer }
 {}
 
-/// What holds of states that are reached, whatever input is handed to the machine on the way. (`reached_goes` and `input_stays` are not proved yet.)
+/// Whatever input is handed to a machine as it goes on, it finds at each place what the place says, and is never stuck. A READ
+/// takes the next word from the input, and nothing else takes anything. Each step leaves less to do.
 pub fn laws_of_reached()
     ensures reached_fits { ReachedFits }
     ensures reached_goes { ReachedGoes }
@@ -56,8 +57,8 @@ pub fn laws_of_reached()
 /// more of them. What a run has written on its way is a beginning of its report, and, once all ticks are taken, goes on from the
 /// report of a tick fewer. A run pauses where its program means so.
 ///
-/// Whatever input is handed to a machine as it goes on, it finds at each place what the place says, and is never stuck. (Not all
-/// of this is proved yet.)
+/// Whatever input is handed to a machine as it goes on, it finds at each place what the place says, and is never stuck. A READ
+/// takes the next word from the input, and nothing else takes anything. Each step leaves less to do.
 #[inline(always)]
 pub fn laws()
     ensures code_behaves { CodeBehaves }
