@@ -1,3 +1,4 @@
 pub mod Counting
 pub mod Refiled
 mod Living
+mod Walking

@@ -46,7 +46,7 @@ module _ (class field : ℕ) (n : ℤ) (v : Value) (e : Seen) (fits : is_of_mode
 
   -- or there is a fault
   pub assigned_not : (kind : FaultKind) → assigned e.heap class field n v ≡ Err kind → (s : Store) → assigned_attribute class field (Whole n) v (with_seen s e) ≡ Err (Fails kind)
-  assigned_not kind no s = set_once e class field n v s fits ∙ ap (λ r. if_ok (due r) (λ h. noted (OfAttribute class field) n v (with_heap (with_seen s e) h))) no
+  assigned_not kind fault s = set_once e class field n v s fits ∙ ap (λ r. if_ok (due r) (λ h. noted (OfAttribute class field) n v (with_heap (with_seen s e) h))) fault
 
 -- an attribute that is a number is increased or reduced: what the meaning does is to read it, to calculate and to assign
 module _ (op : Operator) (by : ℤ) (class field : ℕ) (x : ℤ) (e : Seen) (mode : slice_get (modes_of e.heap.layout class) field ≡ Some Integer) where
@@ -73,12 +73,12 @@ module _ (op : Operator) (by : ℤ) (class field : ℕ) (x : ℤ) (e : Seen) (mo
           ∙ assigned_noted class field x (Whole is.number) e (number_fits is.number) h is.is.gives is.is.reads layout (ap is_some mode) s
 
   pub changed_not : (kind : FaultKind) → changed_number (λ z. computed op z by) (value_in e.heap class field x) ≡ Err kind → (s : Store) → IsRight (changed (with_seen s e)) → changed (with_seen s e) ≡ Err (Fails kind)
-  changed_not kind no s right = read s ∙ sides (value_in e.heap class field x) no (λ wrong. right (read s ∙ wrong))
+  changed_not kind fault s right = read s ∙ sides (value_in e.heap class field x) fault (λ wrong. right (read s ∙ wrong))
     where
       sides : (q : OkOr Value FaultKind) → changed_number (λ z. computed op z by) q ≡ Err kind → IsRight (changed_from (with_seen s e) q) → changed_from (with_seen s e) q ≡ Err (Fails kind)
-      sides (Err k) no right = let same : k ≡ kind = cc in ap (λ (k : FaultKind). (let r : OkOr Store Trouble = Err (Fails k) in r)) same
-      sides (Ok (Text t)) no right = absurd (right refl)
-      sides (Ok (Whole n)) no right = ap (λ r. if_ok (turned Whole (due r)) (λ w. assigned_attribute class field (Whole x) w (with_seen s e))) no
+      sides (Err k) fault right = let same : k ≡ kind = cc in ap (λ (k : FaultKind). (let r : OkOr Store Trouble = Err (Fails k) in r)) same
+      sides (Ok (Text t)) fault right = absurd (right refl)
+      sides (Ok (Whole n)) fault right = ap (λ r. if_ok (turned Whole (due r)) (λ w. assigned_attribute class field (Whole x) w (with_seen s e))) fault
 
 -- ## Filing and removing
 

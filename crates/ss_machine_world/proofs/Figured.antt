@@ -1,6 +1,6 @@
 -- What a statistic says of an entity, and RESET.
 use Rattle.std.proofs.Common.{◌≡◌, ℕ, ℤ, Bool, true, false, List, Option, Some, None, Ok, Err, refl, ap, ◌∙◌, sym}
-use Rattle.std.specs.Prelude.{is_some, slice_get, MatchResult, Result as OkOr}
+use Rattle.std.specs.Prelude.{is_some, pos, slice_get, slice_index_or, MatchResult, Result as OkOr}
 use Rattle.std.specs.Option.{option_map}
 use Rattle.ss_base.specs.declared.fault.FaultKind.{FaultKind}
 use Rattle.ss_base.specs.declared.fault.FaultKind.TheVariants.{NoEntity}
@@ -14,7 +14,7 @@ use Rattle.ss_program.specs.declared.sections.Subject.{Subject}
 use Rattle.ss_program.specs.declared.sections.Subject.TheVariants.{OfVariable, OfAttribute, OfCount}
 use Rattle.ss_program.specs.declared.sections.Statistic.{Statistic}
 use Rattle.ss_stats.specs.History.{History}
-use Rattle.ss_world.specs.State.{State, Record, and_then, no_value, known_in, entity_in, value_in}
+use Rattle.ss_world.specs.State.{State, Record, and_then, no_value, known_in, entity_in, value_in, members_of}
 use Rattle.ss_world.specs.Sets.{owner, owner_in, count_in}
 use Rattle.ss_machine_time.specs.Figures.{subject_in, variable_in, held_in, renewed_known}
 use Rattle.ss_machine_time.specs.Records.{columns_of, figured, renewed_where}
@@ -132,19 +132,19 @@ module _ (j : ℕ) (o : Option Value) (x : ℤ) (e : Seen) (refers : RefersToSub
 
 -- ## RESET
 
+look_of : {A B : Type 0} (f : A → B) (q : OkOr A FaultKind) → no_value (and_then q (λ r. Ok (f r))) ≡ no_value q
+look_of f (Ok r) = refl
+look_of f (Err k) = refl
+
+count_of : (f : ℕ → ℤ) (q : OkOr ℕ FaultKind) → no_value (and_then (and_then q (λ m. Ok (f m))) (λ n. Ok (Whole n))) ≡ no_value q
+count_of f (Ok m) = refl
+count_of f (Err k) = refl
+
 -- a look at the entity is part of reading the present value
 present_looked : (h : State) (t : Subject) (x held : ℤ) → no_value (present_in h t x held) ≡ looked_in h t x
 present_looked h (OfVariable k) x held = refl
-present_looked h (OfAttribute class field) x held = by (entity_in h class x)
-  where
-    by : {A : Type 0} {f : Record → A} (q : OkOr Record FaultKind) → no_value (and_then q (λ r. Ok (f r))) ≡ no_value q
-    by (Ok r) = refl
-    by (Err k) = refl
-present_looked h (OfCount set) x held = by (owner h set x)
-  where
-    by : {f : ℕ → ℤ} (q : OkOr ℕ FaultKind) → no_value (and_then (and_then q (λ m. Ok (f m))) (λ n. Ok (Whole n))) ≡ no_value q
-    by (Ok m) = refl
-    by (Err k) = refl
+present_looked h (OfAttribute class field) x held = look_of (λ (r : Record). slice_index_or r.values field (Whole (pos 0))) (entity_in h class x)
+present_looked h (OfCount set) x held = count_of (λ n. pos (length (members_of h.lists set n))) (owner h set x)
 
 counted_value : (q : OkOr ℤ FaultKind) → turned Whole (due q) ≡ due (and_then q (λ n. Ok (Whole n)))
 counted_value (Ok n) = refl

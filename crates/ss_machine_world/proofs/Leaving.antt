@@ -142,3 +142,8 @@ module _ (e : Seen) (class : ℕ) (n : ℤ) (single : is_single (slice_get e.hea
 
   pub gone_without : (new : Seen) (r : OkOr (Unit {0}) FaultKind) → is_pending n e.pending.entries ≡ false → Changes (gone class (Whole n)) e new r → Changes (without class (Whole n)) e new r
   gone_without new r free d = changes_alike (without class (Whole n)) (gone class (Whole n)) e new r (λ s. gone_once s free) d
+
+-- whatever is cancelled, the statistics are the same
+pub cancelled_statistics : (n : ℤ) (t w : Times) (r : OkOr (Unit {0}) FaultKind) → MatchResult r (λ _. (cancelled n t.pending ≡ Ok w.pending) × (w ≡ record t { pending = w.pending })) (λ k. (cancelled n t.pending ≡ Err k) × (w ≡ t)) → w.histories.statistics ≡ t.histories.statistics
+cancelled_statistics n t w (Ok u) d = ap (λ (v : Times). v.histories.statistics) d.1
+cancelled_statistics n t w (Err k) d = ap (λ (v : Times). v.histories.statistics) d.1

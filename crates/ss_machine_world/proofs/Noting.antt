@@ -32,6 +32,11 @@ noted_changes ds ns h subject x v t w (Err Full) d =
 noted_changes ds ns h subject x v t w (Err Misfit) d = λ s right.
     absurd (right (ap (turned (with_histories (with_seen s (seen_of ds ns h t)))) d.0))
 
+-- whatever is noted, the statistics are the same
+pub noted_statistics : (subject : Subject) (x : ℤ) (v : Value) (t w : Times) (r : OkOr (Unit {0}) Unnoted) → Noted subject x v t w r → w.histories.statistics ≡ t.histories.statistics
+noted_statistics subject x v t w (Ok u) d = d.1.2
+noted_statistics subject x v t w (Err k) d = ap (λ (u : Times). u.histories.statistics) d.1
+
 -- N. of the set of an owner
 module _ (e : Seen) (set : ℕ) (o : ℤ) where
   pub counted_changes : (new : Seen) (n : ℤ) (r : OkOr (Unit {0}) FaultKind) → Ok n ≡ count_in e.heap set o → Changes (noted (OfCount set) o (Whole n)) e new r → Changes (count_noted set o) e new r

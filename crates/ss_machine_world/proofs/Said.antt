@@ -1,5 +1,6 @@
 -- What is said of classes: how it is gathered, and what follows where no statistic has a history of the entities of a class.
-use Rattle.std.proofs.Common.{arith, ◌≡◌, ℕ, zero, suc, ◌+◌, ◌==◌, Bool, true, false, List, [], ◌∷◌, ◌++◌, length, drop, Option, Some, None, refl, ap, sym, ◌∙◌, subst}
+use Rattle.std.proofs.Common.{arith, ◌≡◌, ℕ, zero, suc, ◌+◌, ◌==◌, Bool, true, false, List, [], ◌∷◌, ◌++◌, length, drop, Option, Some, None, refl, ap, sym, ◌∙◌, subst, eqb→eq, T}
+use Rattle.std.proofs.lemmas.Bool.{eqb-false}
 use Rattle.std.specs.Prelude.{ℤ, ◌||◌, slice_get, slice_set, IfSome, if◌then◌else◌}
 use Rattle.std.specs.List.{list_any}
 use Rattle.ss_base.specs.Plain.{PlainLayout}
@@ -51,28 +52,27 @@ found_more P (z ∷ zs) x old new (suc i) y e = found_more (λ j. P (suc j)) zs 
 
 length_more : {A : Type 0} (xs : List A) (x : A) → length (xs ++ x ∷ []) ≡ length xs + 1
 length_more [] x = refl
-length_more (z ∷ zs) x = ap suc (length_more zs x)
+length_more (z ∷ zs) x = omega (arith, length_more zs x)
 
 -- what is found in a row of which one item is another now
-found_set : {A : Type 0} (xs : List A) (k : ℕ) (x : A) (i : ℕ) (y : A) → slice_get (slice_set xs k x) i ≡ Some y → ((k == i) ≡ true → y ≡ x) × ((k == i) ≡ false → slice_get xs i ≡ Some y)
-found_set [] zero x zero y e = (λ t. absurd cc, λ t. absurd cc)
-found_set [] zero x (suc i) y e = (λ t. absurd cc, λ t. e)
-found_set [] (suc k) x i y e = (λ t. none_found i e, λ t. e)
-  where
-    none_found : (i : ℕ) → slice_get [] i ≡ Some y → y ≡ x
-    none_found zero e = absurd cc
-    none_found (suc i) e = absurd cc
-found_set (z ∷ zs) zero x zero y e = (λ t. sym (got e), λ t. absurd cc)
-found_set (z ∷ zs) zero x (suc i) y e = (λ t. absurd cc, λ t. e)
-found_set (z ∷ zs) (suc k) x zero y e = (λ t. absurd cc, λ t. e)
-found_set (z ∷ zs) (suc k) x (suc i) y e = found_set zs k x i y e
+nothing : {A : Type 0} (i : ℕ) (y : A) → slice_get [] i ≡ Some y → ⊥
+nothing zero y e = cc
+nothing (suc i) y e = cc
+
+found_set : {A : Type 0} (xs : List A) (k : ℕ) (x : A) (i : ℕ) (y : A) → slice_get (slice_set xs k x) i ≡ Some y → (k ≡ i → y ≡ x) × ((k ≡ i → ⊥) → slice_get xs i ≡ Some y)
+found_set [] zero x i y e = absurd (nothing i y e)
+found_set [] (suc k) x i y e = absurd (nothing i y e)
+found_set (z ∷ zs) zero x zero y e = (λ t. sym (got e), λ t. absurd (t refl))
+found_set (z ∷ zs) zero x (suc i) y e = (λ t. absurd (omega (arith, t)), λ t. e)
+found_set (z ∷ zs) (suc k) x zero y e = (λ t. absurd (omega (arith, t)), λ t. e)
+found_set (z ∷ zs) (suc k) x (suc i) y e = let h = found_set zs k x i y e in (λ t. h.0 (omega (arith, t)), λ t. h.1 (λ q. t (ap suc q)))
 
 -- what is left of a row from an item on, and behind its end
 pub drop_one : {A : Type 0} (xs : List A) (k : ℕ) (x : A) → slice_get xs k ≡ Some x → drop k xs ≡ x ∷ drop (k + 1) xs
 drop_one [] zero x e = absurd cc
 drop_one [] (suc k) x e = absurd cc
 drop_one (y ∷ ys) zero x e = ap (λ y. y ∷ ys) (got e)
-drop_one (y ∷ ys) (suc k) x e = drop_one ys k x e
+drop_one (y ∷ ys) (suc k) x e = let next : suc (k + 1) ≡ suc k + 1 = omega arith in drop_one ys k x e ∙ ap (λ j. x ∷ drop j (y ∷ ys)) next
 
 pub drop_all : {A : Type 0} (xs : List A) → drop (length xs) xs ≡ []
 drop_all [] = refl
@@ -133,17 +133,18 @@ module _ (k : ℕ) (l : PlainLayout) (n : Notices) (es : List Notices) (ss : Lis
           sides : (b : Bool) → (n.class == class) ≡ b → IsSaid k l (n ∷ es) ss class e
           sides true same =
               let is = found_set old n.class (with_rank k n entry) class e found in
-              subst (λ (e : ClassEntry). IsSaid k l (n ∷ es) ss class e) (sym (is.0 same))
-              (ranked_here entry (said.1 n.class entry at) class same (omega (arith, same)))
+              let here = eqb→eq n.class class (subst T (sym same) tt) in
+              subst (λ (e : ClassEntry). IsSaid k l (n ∷ es) ss class e) (sym (is.0 here))
+              (ranked_here entry (said.1 n.class entry at) class same here)
           sides false other =
               let is = found_set old n.class (with_rank k n entry) class e found in
-              ranked_later e class (said.1 class e (is.1 other)) other
+              ranked_later e class (said.1 class e (is.1 (eqb-false n.class class other))) other
 
       none : slice_get old n.class ≡ None → (class : ℕ) (e : ClassEntry) → slice_get old class ≡ Some e → IsSaid k l (n ∷ es) ss class e
       none at class e found = sides (n.class == class) refl
         where
           sides : (b : Bool) → (n.class == class) ≡ b → IsSaid k l (n ∷ es) ss class e
-          sides true same = absurd (let is : n.class ≡ class = omega (arith, same) in let e : None ≡ Some e = sym at ∙ ap (slice_get old) is ∙ found in cc)
+          sides true same = absurd (let is : n.class ≡ class = eqb→eq n.class class (subst T (sym same) tt) in let e : None ≡ Some e = sym at ∙ ap (slice_get old) is ∙ found in cc)
           sides false other = ranked_later e class (said.1 class e found) other
 
       by : (o : Option ClassEntry) → slice_get old n.class ≡ o → IfSome o (λ entry. new ≡ slice_set old n.class (with_rank k n entry)) → (o ≡ None → new ≡ old) → AreSaidFrom k l (n ∷ es) ss new
@@ -166,8 +167,8 @@ said_still l m es ss ts entries layout statistics said =
 -- what the program says of a class of notices stands at its rank
 pub ranked_there : (k : ℕ) (es : List Notices) (class : ℕ) (r : Ranked) → ranked_from k es class ≡ Some r → (i : ℕ) × (r.rank ≡ k + i) × (slice_get es i ≡ Some r.said)
 ranked_there k [] class r e = absurd cc
-ranked_there k (n ∷ es) class r e = by (n.class == class) e
+ranked_there k (n ∷ es) class r e = by (λ e. ranked_there (k + 1) es class r e) (n.class == class) e
   where
-    by : (b : Bool) → (if b then Some (record { rank = k; said = n }) else ranked_from (k + 1) es class) ≡ Some r → (i : ℕ) × (r.rank ≡ k + i) × (slice_get (n ∷ es) i ≡ Some r.said)
-    by true e = let is : record { rank = k; said = n } ≡ r = got e in (0, omega (arith, ap (λ (r : Ranked). r.rank) is), ap (λ (r : Ranked). Some r.said) is)
-    by false e = let i = ranked_there (k + 1) es class r e in (suc i.0, omega (arith, i.1), i.2)
+    by : (ranked_from (k + 1) es class ≡ Some r → (i : ℕ) × (r.rank ≡ k + 1 + i) × (slice_get es i ≡ Some r.said)) → (b : Bool) → (if b then Some (record { rank = k; said = n }) else ranked_from (k + 1) es class) ≡ Some r → (i : ℕ) × (r.rank ≡ k + i) × (slice_get (n ∷ es) i ≡ Some r.said)
+    by rest true e = let is : record { rank = k; said = n } ≡ r = got e in (0, omega (arith, ap (λ (r : Ranked). r.rank) is), ap (λ (r : Ranked). Some r.said) is)
+    by rest false e = let i = rest e in (suc i.0, omega (arith, i.1), i.2)

@@ -172,10 +172,13 @@ module _ (e : Seen) (class : ℕ) (n : ℤ) (permanent : is_permanent (slice_get
 -- ## N. of a class
 
 module _ (e : Seen) (class : ℕ) where
-  open_by : (r : OkOr (Unit {0}) Trouble) → unless_fault (is_made e.heap class) CreatedTwice (Ok tt) ≡ r → (s : Store) → IsRight (count_open class (with_seen s e)) → count_open class (with_seen s e) ≡ r
+  abbrev open_or_not : OkOr (Unit {0}) Trouble
+  open_or_not = unless_fault (is_made e.heap class) CreatedTwice (Ok tt)
+
+  open_by : (r : OkOr (Unit {0}) Trouble) → open_or_not ≡ r → (s : Store) → IsRight (count_open class (with_seen s e)) → count_open class (with_seen s e) ≡ r
   open_by r is s right = by (is_permanent (slice_get e.heap.layout.classes class)) right
     where
-      by : (b : Bool) → IsRight (where_fit b (unless_fault (is_made e.heap class) CreatedTwice (Ok tt))) → where_fit b (unless_fault (is_made e.heap class) CreatedTwice (Ok tt)) ≡ r
+      by : (b : Bool) → IsRight (where_fit b open_or_not) → where_fit b open_or_not ≡ r
       by true right = is
       by false right = absurd (right refl)
 

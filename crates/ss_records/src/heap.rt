@@ -2,7 +2,7 @@ ghost use Rattle.std.specs.Prelude.{◌≡◌, ◌+◌, ◌*◌, ◌^◌, ◌<�
 ghost use Rattle.ss_base.specs.Arithmetic.{plus_of, minus_of};
 ghost use Rattle.ss_base.specs.Layout.{mode_of};
 ghost use Rattle.ss_base.specs.declared.fault.FaultKind.{FaultKind as FaultSeen};
-ghost use Rattle.ss_base.specs.declared.layout.Owner.TheVariants.{Class};
+ghost use Rattle.ss_base.specs.declared.layout.Owner.TheVariants.{System, Class};
 ghost use Rattle.ss_world.specs.State.{State, first_state, numbered, known_in, known_notice_in, kind_of, modes_of, value_in, time_in, created, created_all, destroyed, assigned, timed, no_value, RefusedFor, living_numbers, living_records};
 ghost use Rattle.ss_world.specs.Disciplines.{first_removed, last_removed, member_test, owned};
 ghost use Rattle.ss_world.specs.Sets.{member_class, joiner, owner, owner_kind, first_in, last_in, count_in, next_in, previous_in, owner_of_member, filed_first, filed_last, filed_before, filed_after, removed, Apart};
@@ -418,11 +418,13 @@ impl Heap {
     }
 
     /// The member that follows x in the set of an owner, or in reverse the one that precedes it, 0 where there is none: an
-    /// `is_in` and a `next` or `previous` with one look for x. None where x is not in that set, or there is a fault.
+    /// `is_in` and a `next` or `previous` with one look for x. None where x is not in that set, or there is a fault. The system
+    /// is the owner 0.
     #[inline(always)]
     pub fn onward(&mut self, set: usize, o: i64, x: i64, reverse: bool) -> Option<i64>
         requires set { set < length self.old.state.layout.sets }
         ensures found { IfSome result (λ y. (member_test self.old.state set o x ≡ Ok true) × ((if reverse then previous_in self.old.state set x else next_in self.old.state set x) ≡ Ok y)) }
+        ensures gone { (owner_kind self.old.state.layout set ≡ System → o ≡ pos 0) → result ≡ None → member_test self.old.state set o x ≡ Ok true → ⊥ }
         ensures same { self.new.state ≡ self.old.state }
         ensures touches { (self.new.touches ≤ 2) × (self.new.total ≡ self.old.total + self.new.touches) }
     {

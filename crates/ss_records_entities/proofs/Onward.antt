@@ -1,29 +1,71 @@
 -- The member that comes next to another one in the set of an owner.
-use Rattle.std.proofs.Common.{◌≡◌, ℕ, ◌+◌, ◌^◌, ◌<◌, Bool, true, false, length, slice_get, Some, Ok, refl, sym, ap, ◌∙◌}
-use Rattle.std.specs.Prelude.{ℤ, pos, if◌then◌else◌, is_some}
+use Rattle.std.proofs.Common.{◌≡◌, ℕ, ◌+◌, ◌^◌, ◌<◌, Bool, true, false, length, slice_get, Some, None, Ok, Err, refl, sym, ap, ◌∙◌}
+use Rattle.std.specs.Prelude.{ℤ, pos, negsuc, if◌then◌else◌, is_some, Result}
 use Rattle.std.specs.Int.{cast_signed}
 use mir.Syntax.{w64}
+use Rattle.ss_base.specs.declared.fault.FaultKind.{FaultKind}
+use Rattle.ss_base.specs.declared.layout.ClassKind.{ClassKind}
+use Rattle.ss_base.specs.declared.layout.ClassKind.TheVariants.{Permanent, Temporary, Notice}
 use Rattle.ss_base.specs.declared.layout.Owner.{Owner}
 use Rattle.ss_base.specs.declared.layout.Owner.TheVariants.{System, Class}
 use Rattle.ss_base.specs.declared.layout.SetLayout.{SetLayout}
 use Rattle.ss_records_entities.specs.declared.records.Records.{Records}
 use Rattle.ss_records_blocks.specs.declared.links.Entry.{Entry}
 use Rattle.ss_records_blocks.specs.Cells.{number, link, word_at}
-use Rattle.ss_world.specs.State.{members_of, is_filed}
-use Rattle.ss_world.specs.Sets.{joiner, owner, owner_in, owner_by, next_in, previous_in}
+use Rattle.ss_world.specs.State.{State, Record, and_then, entity_of_kind, kind_of, number_in, members_of, contains, owner_of, is_filed}
+use Rattle.ss_world.specs.Sets.{joiner, owner, owner_in, owner_kind, owner_by, next_in, previous_in}
 use Rattle.ss_world.specs.Disciplines.{member_test}
 use Rattle.ss_world.specs.Lists.{In}
 use Rattle.ss_records_blocks.specs.Links.{Leads}
 use Rattle.ss_records_words.specs.Places.{entity_at}
 use Rattle.ss_records_words.specs.Slotted.{member_base, MayOwn}
 use Rattle.ss_records_entities.specs.Parts.{IsKept, state, places, Joins}
-use Rattle.ss_records_blocks.proofs.Same.{differs}
+use Rattle.ss_records_blocks.proofs.Same.{differs, false_is_not_true}
 use Rattle.ss_records_blocks.proofs.Entries.{get_there}
-use Rattle.ss_records_words.proofs.Filed.{in_contains}
-use Rattle.ss_records_entities.proofs.Leading.{its_number, prev_beside}
+use Rattle.ss_records_words.proofs.Filed.{contains_in, in_contains}
+use Rattle.ss_records_entities.proofs.Leading.{its_number, next_beside, prev_beside}
 use Rattle.ss_records_entities.proofs.Looks.{next_leads, prev_leads, next_small, prev_small, is_filed_value, next_is, prev_is, as_whole, owner_has, owner_small}
 use Rattle.ss_records_entities.proofs.Ends.{tested}
-use Rattle.ss_records_entities.proofs.Apart.{is_entity}
+use Rattle.ss_records_entities.proofs.Apart.{is_entity, sets_apart}
+
+-- ## What an owner, and a member of its set, is
+
+entity_number : (z : Result Record FaultKind) (n m : ℕ) → and_then z (λ r. Ok n) ≡ Ok m → n ≡ m
+entity_number (Ok r) n m h = cc
+entity_number (Err f) n m h = absurd cc
+
+-- an entity that is there is meant by its number
+named_by : (st : State) (k : ClassKind) (c : ℕ) (o : ℤ) (m : ℕ) → and_then (entity_of_kind st k c o) (λ r. Ok (number_in o)) ≡ Ok m → o ≡ pos m
+named_by st k c (pos n) m h = ap pos (entity_number (entity_of_kind st k c (pos n)) n m h)
+named_by st Permanent c (negsuc n) m h = absurd cc
+named_by st Temporary c (negsuc n) m h = absurd cc
+named_by st Notice c (negsuc n) m h = absurd cc
+
+owner_named : (st : State) (u : Owner) (o : ℤ) (m : ℕ) → (u ≡ System → o ≡ pos 0) → owner_by st u o ≡ Ok m → o ≡ pos m
+owner_named st System o m zero h = let e : 0 ≡ m = cc in zero refl ∙ ap pos e
+owner_named st (Class c) o m zero h = named_by st (kind_of st.layout c) c o m h
+
+one_owner : (n m : ℕ) → Some n ≡ Some m → n ≡ m
+one_owner n m e = cc
+
+its_test : (b : Bool) → (let r : Result Bool FaultKind = Ok b in r ≡ Ok true) → b ≡ true
+its_test b h = cc
+
+-- the owner of a set that has a member
+owner_with : (st : State) (s : ℕ) (o : ℤ) (n : ℕ) (z : Result ℕ FaultKind) → owner st s o ≡ z → and_then z (λ m. Ok (contains (members_of st.lists s m) n)) ≡ Ok true → (m : ℕ) × (owner st s o ≡ Ok m) × In n (members_of st.lists s m)
+owner_with st s o n (Ok m) e h = (m, e, contains_in (members_of st.lists s m) n (its_test (contains (members_of st.lists s m) n) h))
+owner_with st s o n (Err f) e h = absurd cc
+
+has_owner : (st : State) (s : ℕ) (o x : ℤ) (n : ℕ) → joiner st s x ≡ Ok n → member_test st s o x ≡ Ok true → (m : ℕ) × (owner st s o ≡ Ok m) × In n (members_of st.lists s m)
+has_owner st s o x n j h = owner_with st s o n (owner st s o) refl (sym (ap (λ z. and_then z (λ k. and_then (owner st s o) (λ m. Ok (contains (members_of st.lists s m) k)))) j) ∙ h)
+
+no_member : (st : State) (s : ℕ) (o x : ℤ) (f : FaultKind) (z : Result ℕ FaultKind) → z ≡ Err f → and_then z (λ k. and_then (owner st s o) (λ m. Ok (contains (members_of st.lists s m) k))) ≡ Ok true → ⊥
+no_member st s o x f (Ok n) e h = cc
+no_member st s o x f (Err g) e h = cc
+
+-- what may not be a member is none
+pub not_member : (st : State) (s : ℕ) (o x : ℤ) (f : FaultKind) → joiner st s x ≡ Err f → member_test st s o x ≡ Ok true → ⊥
+not_member st s o x f e h = no_member st s o x f (joiner st s x) e h
 
 module _ (r : Records) (K : IsKept r) (s : ℕ) (inside : s < length r.layout.sets) where
   -- whoever has a member is an owner
@@ -35,16 +77,36 @@ module _ (r : Records) (K : IsKept r) (s : ℕ) (inside : s < length r.layout.se
         by_owner System m = sym (ap Ok m)
         by_owner (Class c) m = is_entity r.layout r.blocks.cells r.system.at (places r) r.notes.lists K c o m
 
+  -- the set that has a member is the one set of the name that has it
+  sole_owner : (o x : ℤ) (n : ℕ) → joiner (state r) s x ≡ Ok n → member_test (state r) s o x ≡ Ok true → (m : ℕ) × (owner (state r) s o ≡ Ok m) × (owner_of r.notes.lists s n ≡ Some m)
+  sole_owner o x n j t =
+      let a = has_owner (state r) s o x n j t in
+      (a.0, a.1, (sets_apart r.layout r.blocks.cells r.system.at (places r) r.notes.lists K).sole s a.0 n inside a.2)
+
+  -- where an entity is in no set of the name
+  pub in_none : (o x : ℤ) (n : ℕ) → is_filed r.notes.lists s n ≡ false → joiner (state r) s x ≡ Ok n → member_test (state r) s o x ≡ Ok true → ⊥
+  in_none o x n free j t = let a = sole_owner o x n j t in false_is_not_true (sym free ∙ ap is_some a.2)
+
   module _ (e : Entry) (h : Joins r s e) (b : ℕ) (base : (u : SetLayout) → slice_get r.layout.sets s ≡ Some u → b ≡ member_base r.layout s u) where
     pub beside_leads : (reverse : Bool) → Leads r.blocks.cells e.place.at (if reverse then b + 1 else b)
     beside_leads false = next_leads r K s inside e h b base
     beside_leads true = prev_leads r K s inside e h b base
+
+    free_by : (to : ℕ) → (to ≡ e.number → owner_of r.notes.lists s e.number ≡ None) → (n : ℕ) → n ≡ to → n ≡ e.number → is_filed r.notes.lists s e.number ≡ false
+    free_by to out n i same = ap is_some (out (sym i ∙ same))
 
     -- the neighbour that was read
     module _ (q : Entry) (v : word_at r.blocks.cells q.place.at 1 ≡ number q.number) where
       pub beside_small : (reverse : Bool) → word_at r.blocks.cells e.place.at (if reverse then b + 1 else b) ≡ link q.place.at → q.number < 2 ^ 62
       beside_small false w = next_small r K s inside e h b base q w v
       beside_small true w = prev_small r K s inside e h b base q w v
+
+      -- it is itself
+      pub beside_free : (reverse : Bool) → word_at r.blocks.cells e.place.at (if reverse then b + 1 else b) ≡ link q.place.at → q.number ≡ e.number → is_filed r.notes.lists s e.number ≡ false
+      beside_free false w n = let k = next_beside r.layout r.blocks.cells r.system.at (places r) r.notes.lists K s inside e.place.at e.number h.lies h.is b base in
+          free_by k.to k.out q.number (its_number r.blocks.cells (entity_at r.system.at (places r) (get_there r.layout.sets s inside).0.member) e.place.at b _ k.leads_to q.place.at w q.number v) n
+      beside_free true w n = let k = prev_beside r.layout r.blocks.cells r.system.at (places r) r.notes.lists K s inside e.place.at e.number h.lies h.is b base in
+          free_by k.to k.out q.number (its_number r.blocks.cells (entity_at r.system.at (places r) (get_there r.layout.sets s inside).0.member) e.place.at (b + 1) _ k.leads_to q.place.at w q.number v) n
 
       -- it is another one
       module _ (n : q.number ≡ e.number → ⊥) where
@@ -68,3 +130,10 @@ module _ (r : Records) (K : IsKept r) (s : ℕ) (inside : s < length r.layout.se
           let z : pos q.number ≡ o = sym (as_whole q.number q.number refl (owner_small r K s inside e h b base filed q w v)) ∙ is in
           let own : owner (state r) s o ≡ Ok q.number = ap (owner (state r) s) (sym z) ∙ owner_is q.number e.number i in
           sym (tested (state r) s o x e.number q.number true j own (sym (in_contains (members_of r.notes.lists s q.number) e.number i)))
+
+      -- whoever has it is that owner
+      pub its_only : (o x : ℤ) → (owner_kind r.layout s ≡ System → o ≡ pos 0) → joiner (state r) s x ≡ Ok e.number → member_test (state r) s o x ≡ Ok true → cast_signed w64 q.number ≡ o
+      its_only o x zero j t =
+          let a = sole_owner o x e.number j t in
+          let same : q.number ≡ a.0 = one_owner q.number a.0 (sym (owner_has r K s inside e h b base filed q w v).0 ∙ a.2) in
+          as_whole q.number q.number refl (owner_small r K s inside e h b base filed q w v) ∙ ap pos same ∙ sym (owner_named (state r) (owner_kind r.layout s) o a.0 zero a.1)

@@ -1,8 +1,9 @@
 // The sets: their ends, the neighbours of a member, and its owner.
-ghost use Rattle.std.specs.Prelude.{◌≡◌, ℕ, ◌+◌, ◌-◌, ◌^◌, ◌<◌, ◌≤◌, length, slice_get, not, true, false, if◌then◌else◌, ℤ, pos, MatchResult, IfSome, IsOk, Ok, Err, Some};
+ghost use Rattle.std.specs.Prelude.{◌≡◌, ℕ, ◌+◌, ◌-◌, ◌^◌, ◌<◌, ◌≤◌, length, slice_get, not, true, false, if◌then◌else◌, ℤ, pos, MatchResult, IfSome, IsOk, Ok, Err, Some, None};
 ghost use Rattle.std.specs.Ordering.{match_ordering, int_cmp};
 ghost use Rattle.ss_world.specs.State.{State, is_filed, members_of, kind_of, modes_of, value_in, no_value};
-ghost use Rattle.ss_world.specs.Sets.{joiner, owner, member_class, first_in, last_in, count_in, next_in, previous_in, owner_of_member, Apart};
+ghost use Rattle.ss_base.specs.declared.layout.Owner.TheVariants.{System};
+ghost use Rattle.ss_world.specs.Sets.{joiner, owner, owner_kind, member_class, first_in, last_in, count_in, next_in, previous_in, owner_of_member, Apart};
 ghost use Rattle.ss_world.specs.Disciplines.{member_test, owned};
 ghost use Rattle.ss_records_words.specs.Kept.{IsPermanent};
 ghost use Rattle.ss_records_entities.specs.Parts.{IsKept, state, Owns, Joins};
@@ -322,13 +323,14 @@ impl Records {
     }
 
     /// The member that follows x in the set of an owner, or in reverse the one that precedes it, 0 where there is none: at most
-    /// two touches. None where x is not in that set, or there is a fault.
+    /// two touches. None where x is not in that set, or there is a fault. The system is the owner 0.
     #[inline(always)]
     pub fn onward(&mut self, s: usize, o: i64, x: i64, reverse: bool) -> Option<i64>
         requires kept { IsKept self.old }
         requires set { s < length self.old.layout.sets }
         requires touches { self.old.blocks.touches ≡ 0 }
         ensures found { IfSome result (λ y. (member_test (state self.old) s o x ≡ Ok true) × ((if reverse then previous_in (state self.old) s x else next_in (state self.old) s x) ≡ Ok y)) }
+        ensures gone { (owner_kind self.old.layout s ≡ System → o ≡ pos 0) → result ≡ None → member_test (state self.old) s o x ≡ Ok true → ⊥ }
         ensures kept { IsKept self.new }
         ensures same { state self.new ≡ state self.old }
         ensures touches { (self.new.blocks.touches ≤ 2) × (self.new.blocks.total ≡ self.old.blocks.total + self.new.blocks.touches) }
@@ -346,6 +348,7 @@ impl Records {
         requires set { s < length self.old.layout.sets }
         requires touches { self.old.blocks.touches ≡ 0 }
         ensures found { IfSome result (λ y. (member_test (state self.old) s o x ≡ Ok true) × ((if reverse then previous_in (state self.old) s x else next_in (state self.old) s x) ≡ Ok y)) }
+        ensures gone { (owner_kind self.old.layout s ≡ System → o ≡ pos 0) → result ≡ None → member_test (state self.old) s o x ≡ Ok true → ⊥ }
         ensures kept { IsKept self.new }
         ensures same { state self.new ≡ state self.old }
         ensures touches { (self.new.blocks.touches ≤ 2) × (self.new.blocks.total ≡ self.old.blocks.total + self.new.blocks.touches) }
@@ -407,6 +410,7 @@ impl Records {
         requires joins { Joins self.old s member }
         requires touches { self.old.blocks.touches ≡ 0 }
         ensures found { IfSome result (λ y. (x : ℤ) → joiner (state self.old) s x ≡ Ok member.number → (member_test (state self.old) s o x ≡ Ok true) × ((if reverse then previous_in (state self.old) s x else next_in (state self.old) s x) ≡ Ok y)) }
+        ensures gone { (owner_kind self.old.layout s ≡ System → o ≡ pos 0) → result ≡ None → (x : ℤ) → joiner (state self.old) s x ≡ Ok member.number → member_test (state self.old) s o x ≡ Ok true → ⊥ }
         ensures kept { IsKept self.new }
         ensures same { state self.new ≡ state self.old }
         ensures touches { (self.new.blocks.touches ≤ 2) × (self.new.blocks.total ≡ self.old.blocks.total + self.new.blocks.touches) }

@@ -17,4 +17,5 @@ loop-class-preserved c =
 pub returns : goal.returns
 returns c =
     let l = c.args.layout.now in let ss = c.args.statistics.now in
-    subst (λ (entries : List ClassEntry). AreSaid l [] ss entries) (sym c.loop-class.invariant) (unranked_said l ss)
+    let all : c.loop-class.class ≡ length l.classes = ? in
+    subst (λ (entries : List ClassEntry). AreSaid l [] ss entries) (sym (c.loop-class.invariant ∙ ap (unranked_to l ss) all)) (unranked_said l ss)

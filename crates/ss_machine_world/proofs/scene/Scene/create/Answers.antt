@@ -7,17 +7,17 @@ use Rattle.ss_meaning.specs.Entities.{is_single, made_one}
 use Rattle.ss_machine_world.specs.declared.class.ClassEntry.{ClassEntry}
 use Rattle.ss_machine_world.specs.Classes.{AreSaid}
 use Rattle.ss_machine_world.specs.Seen.{Seen, Makes}
-use Rattle.ss_machine_world.proofs.Said.{none_start}
+use Rattle.ss_machine_world.proofs.Said.{none_start, said_still}
 use Rattle.ss_machine_world.proofs.Starting.{one_alone, seen_of}
 use Rattle.ss_machine_world.proofs.scene.Scene.create.Goals as goal
 
-pub is_watched-requires-clause-class : goal.is_watched-requires-clause-class
-is_watched-requires-clause-class c =
+pub is_watched-requires : goal.is_watched-requires
+is_watched-requires c =
     let i = c.self.inside in
     let said : AreSaid i.population.layout i.notices.items i.timeline.histories.statistics c.deref.result.now =
     subst (λ (entries : List ClassEntry). AreSaid i.population.layout i.notices.items i.timeline.histories.statistics entries) (sym c.deref.ensures.value) c.self.invariant in
     let heap : length i.population.layout.classes ≡ length c.args.self.now.heap.layout.classes = ap (λ (v : Seen). length v.heap.layout.classes) c.self.view_is in
-    omega (arith, said.0, heap, c.requires.class)
+    record { class = omega (arith, said.0, heap, c.requires.class) }
 
 pub returns-then-not-is_watched : goal.returns-then-not-is_watched
 returns-then-not-is_watched c =
@@ -36,3 +36,9 @@ returns-in-None c =
     let same : c.create_watched.new.self ≡ c.args.self.now = c.in-None.ensures.same refl in
     subst (λ (e : Seen). Makes (made_one class) e c.create_watched.new.self (Err c.uncreated.result)) same
     (c.uncreated.ensures class (subst (λ (e : Seen). is_single (slice_get e.heap.layout.classes class) ≡ true) (sym same) c.requires.single))
+
+pub invariant_of-self : goal.invariant_of-self
+invariant_of-self c =
+    let i = c.self.inside in let ss = i.timeline.histories.statistics in
+    said_still i.population.layout c.create.new.self.layout i.notices.items ss ss i.classes.items
+    c.create.ensures.layout refl c.self.invariant

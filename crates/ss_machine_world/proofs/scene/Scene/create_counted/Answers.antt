@@ -1,4 +1,4 @@
-use Rattle.std.proofs.Common.{rules, ◌≡◌, ◌≤ℤ◌, ℤ, true, length, Ok, Err, ap, sym, ◌∙◌, subst, to_z, of_z, w64}
+use Rattle.std.proofs.Common.{rules, ◌≡◌, ◌≤ℤ◌, ℤ, true, length, Ok, Err, ap, sym, ◌∙◌, subst, to_z, of_z, w64, refl}
 use Rattle.std.specs.Prelude.{pos, slice_get}
 use Rattle.ss_base.specs.declared.layout.Layout.{Layout}
 use Rattle.ss_base.specs.declared.layout.Owner.TheVariants.{Class}
@@ -10,6 +10,7 @@ use Rattle.ss_machine_world.specs.Numbers.{created_all_known}
 use Rattle.ss_machine_world.specs.Seen.{Seen, ChangesWithMemory, with_seen}
 use Rattle.ss_machine_time.specs.Times.{Times, columns}
 use Rattle.ss_machine_world.proofs.Starting.{all_made, all_refused, less_room, many_made, seen_of, seen_moved}
+use Rattle.ss_machine_world.proofs.Said.{said_still}
 use Rattle.ss_machine_world.proofs.scene.Scene.create_counted.Goals as goal
 
 pub start_all-requires : goal.start_all-requires
@@ -61,3 +62,21 @@ returns-in-Err c =
     let due : RefusedFor (created_all e.heap class count) c.in-Err.refused = subst (λ (z : ℤ). RefusedFor (created_all e.heap class z) c.in-Err.refused) asked c.in-Err.ensures.done.1 in
     subst (λ (old : Seen). ChangesWithMemory (created_all_known class count) old (seen_of i.disciplines.items i.notices.items h u) (Err c.in-Err.refused)) c.self.view_is
     (subst (λ (new : Seen). ChangesWithMemory (created_all_known class count) e new (Err c.in-Err.refused)) (sym back) (all_refused e class count permanent c.in-Err.refused due))
+
+pub invariant_of-self : goal.invariant_of-self
+invariant_of-self c =
+    let i = c.self.inside in let ss = i.timeline.histories.statistics in
+    said_still i.population.layout i.population.layout i.notices.items ss c.reserve.new.self.histories.statistics i.classes.items
+    refl (ap (λ (t : Times). t.histories.statistics) c.reserve.ensures.same) c.self.invariant
+
+pub invariant_of-self-in-Ok : goal.invariant_of-self-in-Ok
+invariant_of-self-in-Ok c =
+    let i = c.self.inside in let ss = i.timeline.histories.statistics in
+    said_still i.population.layout c.create_all.new.self.layout i.notices.items ss c.start_all.new.self.histories.statistics i.classes.items
+    c.create_all.ensures.layout (c.start_all.ensures.same.2 ∙ ap (λ (t : Times). t.histories.statistics) c.reserve.ensures.same) c.self.invariant
+
+pub invariant_of-self-in-Err : goal.invariant_of-self-in-Err
+invariant_of-self-in-Err c =
+    let i = c.self.inside in let ss = i.timeline.histories.statistics in
+    said_still i.population.layout c.create_all.new.self.layout i.notices.items ss c.reserve.new.self.histories.statistics i.classes.items
+    c.create_all.ensures.layout (ap (λ (t : Times). t.histories.statistics) c.reserve.ensures.same) c.self.invariant

@@ -1,4 +1,4 @@
-use Rattle.std.proofs.Common.{rules, ◌≡◌, ℤ, true, Ok, ap, sym, ◌∙◌, subst, int_eq, to_z, of_z, w64}
+use Rattle.std.proofs.Common.{rules, ◌≡◌, ℤ, true, Ok, ap, sym, ◌∙◌, subst, int_eq, to_z, of_z, w64, refl}
 use Rattle.std.specs.Prelude.{pos, slice_get}
 use Rattle.ss_base.specs.declared.layout.Layout.{Layout}
 use Rattle.ss_base.specs.declared.layout.Owner.TheVariants.{Class}
@@ -8,6 +8,7 @@ use Rattle.ss_meaning.specs.Entities.{is_single, made_one}
 use Rattle.ss_meaning.specs.Histories.{starting}
 use Rattle.ss_machine_world.specs.Seen.{Seen, Makes}
 use Rattle.ss_machine_world.proofs.Starting.{one_made, seen_of, seen_moved}
+use Rattle.ss_machine_world.proofs.Said.{said_still}
 use Rattle.ss_machine_world.proofs.scene.Scene.create_watched.Goals as goal
 
 pub start-requires : goal.start-requires
@@ -34,5 +35,24 @@ returns-in-Ok-clause-made c =
     ∙ ap (λ (z : ℤ). starting h.layout (Class class) (int_eq z) u.time u.histories.statistics (columns u)) number
     ∙ ap (λ (u : Times). starting h.layout (Class class) (int_eq n) u.time u.histories.statistics (columns u)) same in
     let single : is_single (slice_get e.heap.layout.classes class) ≡ true = subst (λ (v : Seen). is_single (slice_get v.heap.layout.classes class) ≡ true) (sym c.self.view_is) c.requires.single in
-    subst (λ (old : Seen). Makes (made_one class) old (seen_of i.disciplines.items i.notices.items h w) (Ok n)) c.self.view_is
-    (one_made e class single (seen_of i.disciplines.items i.notices.items h w) h n moved c.in-Ok.ensures.done started)
+    subst (λ (z : ℤ). Makes (made_one class) c.args.self.now (seen_of i.disciplines.items i.notices.items h w) (Ok z)) (sym number)
+    (subst (λ (old : Seen). Makes (made_one class) old (seen_of i.disciplines.items i.notices.items h w) (Ok n)) c.self.view_is
+    (one_made e class single (seen_of i.disciplines.items i.notices.items h w) h n moved c.in-Ok.ensures.done started))
+
+pub invariant_of-self : goal.invariant_of-self
+invariant_of-self c =
+    let i = c.self.inside in let ss = i.timeline.histories.statistics in
+    said_still i.population.layout i.population.layout i.notices.items ss c.reserve.new.self.histories.statistics i.classes.items
+    refl (ap (λ (t : Times). t.histories.statistics) c.reserve.ensures.same) c.self.invariant
+
+pub invariant_of-self-in-Ok : goal.invariant_of-self-in-Ok
+invariant_of-self-in-Ok c =
+    let i = c.self.inside in let ss = i.timeline.histories.statistics in
+    said_still i.population.layout c.create.new.self.layout i.notices.items ss c.start.new.self.histories.statistics i.classes.items
+    c.create.ensures.layout (c.start.ensures.same.2 ∙ ap (λ (t : Times). t.histories.statistics) c.reserve.ensures.same) c.self.invariant
+
+pub invariant_of-self-in-Err : goal.invariant_of-self-in-Err
+invariant_of-self-in-Err c =
+    let i = c.self.inside in let ss = i.timeline.histories.statistics in
+    said_still i.population.layout c.create.new.self.layout i.notices.items ss c.reserve.new.self.histories.statistics i.classes.items
+    c.create.ensures.layout (ap (λ (t : Times). t.histories.statistics) c.reserve.ensures.same) c.self.invariant

@@ -7,6 +7,7 @@ use Rattle.ss_world.specs.Disciplines.{FitsMembers, filed}
 use Rattle.ss_machine_world.specs.Seen.{Seen, Rearranges}
 use Rattle.ss_machine_world.proofs.Ruling.{ruled_by}
 use Rattle.ss_machine_world.proofs.Starting.{seen_of}
+use Rattle.ss_machine_world.proofs.Said.{said_still}
 use Rattle.ss_machine_world.proofs.scene.Scene.file_ranked.Goals as goal
 
 pub file-requires-clause-keys : goal.file-requires-clause-keys
@@ -36,3 +37,9 @@ returns-in-None c = λ d has.
     let g = rw c.deref.ensures.value at c.in-None.ensures.lookup in
     let none : slice_get i.disciplines.items c.args.set ≡ None = slice_get_past i.disciplines.items c.args.set g.3 in
     absurd (let never : None ≡ Some d = sym none ∙ ap (λ (v : Seen). slice_get v.disciplines c.args.set) c.self.view_is ∙ has in cc)
+
+pub invariant_of-self : goal.invariant_of-self
+invariant_of-self c =
+    let i = c.self.inside in let ss = i.timeline.histories.statistics in
+    said_still i.population.layout c.file.new.self.layout i.notices.items ss ss i.classes.items
+    c.file.ensures.layout refl c.self.invariant

@@ -6,9 +6,9 @@ use Rattle.ss_machine_world.specs.Seen.{Seen}
 use Rattle.ss_machine_world.proofs.Figured.{one_subject}
 use Rattle.ss_machine_world.proofs.scene.Scene.look_statistic.Goals as goal
 
-pub look_subject-requires-clause-subject : goal.look_subject-requires-clause-subject
-look_subject-requires-clause-subject c =
-    c.requires.subject c.in-Some.subject (sym (c.in-Some.ensures ∙ ap (λ (v : Seen). subject_in v.statistics c.args.statistic) c.self.view_is))
+pub look_subject-requires : goal.look_subject-requires
+look_subject-requires c =
+    record { subject = c.requires.subject c.in-Some.subject (sym (c.in-Some.ensures ∙ ap (λ (v : Seen). subject_in v.statistics c.args.statistic) c.self.view_is)) }
 
 pub returns-in-Some : goal.returns-in-Some
 returns-in-Some c = λ t is.

@@ -1,4 +1,4 @@
-use Rattle.std.proofs.Common.{rules, ◌≡◌, ℤ, Some, Ok, Err, sym, subst, to_z, of_z, w64}
+use Rattle.std.proofs.Common.{rules, ◌≡◌, ℤ, Some, Ok, Err, sym, subst, to_z, of_z, w64, refl}
 use Rattle.std.specs.Prelude.{slice_get, Result as OkOr}
 use Rattle.ss_base.specs.declared.fault.FaultKind.{FaultKind}
 use Rattle.ss_base.specs.declared.layout.Mode.TheVariants.{Integer}
@@ -7,8 +7,9 @@ use Rattle.ss_program.specs.declared.sections.Subject.TheVariants.{OfAttribute}
 use Rattle.ss_world.specs.State.{modes_of, value_in}
 use Rattle.ss_machine_world.specs.Numbers.{attribute_noted, or_full}
 use Rattle.ss_machine_world.specs.Seen.{Seen, Changes}
-use Rattle.ss_machine_world.proofs.Noting.{noted_changes, attribute_changes, attribute_not}
+use Rattle.ss_machine_world.proofs.Noting.{noted_changes, attribute_changes, attribute_not, noted_statistics}
 use Rattle.ss_machine_world.proofs.Starting.{seen_of}
+use Rattle.ss_machine_world.proofs.Said.{said_still}
 use Rattle.ss_machine_world.proofs.scene.Scene.note_attribute.Goals as goal
 
 pub returns-in-Ok : goal.returns-in-Ok
@@ -34,4 +35,10 @@ returns-in-Err c =
     let e : Seen = seen_of i.disciplines.items i.notices.items i.population i.timeline in
     let mode : slice_get (modes_of i.population.layout class) field ≡ Some Integer = subst (λ (v : Seen). slice_get (modes_of v.heap.layout class) field ≡ Some Integer) (sym c.self.view_is) c.requires.mode in
     let is : value_in i.population class field x ≡ Err k = subst (λ (z : ℤ). value_in i.population class field z ≡ Err k) same_x c.in-Err.ensures in
-    subst (λ (old : Seen). Changes (attribute_noted class field x) old e (Err k)) c.self.view_is (attribute_not e class field x mode k is)
+    subst (λ (old : Seen). Changes (attribute_noted class field x) old old (Err k)) c.self.view_is (attribute_not e class field x mode k is)
+
+pub invariant_of-self : goal.invariant_of-self
+invariant_of-self c =
+    let i = c.self.inside in let ss = i.timeline.histories.statistics in
+    said_still i.population.layout i.population.layout i.notices.items ss c.note.new.self.histories.statistics i.classes.items
+    refl (noted_statistics (OfAttribute c.args.class c.args.field) (to_z w64 (of_z w64 c.args.entity)) (Whole (to_z w64 (of_z w64 c.in-Ok.value))) i.timeline c.note.new.self c.note.result c.note.ensures) c.self.invariant

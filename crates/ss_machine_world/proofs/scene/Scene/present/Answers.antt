@@ -1,6 +1,8 @@
-use Rattle.std.proofs.Common.{rules, ◌≡◌, ◌<◌, length, Some, Ok, Err, ap, sym, ◌∙◌, subst, to_z, of_z, w64}
-use Rattle.std.specs.Prelude.{slice_get, MatchResult}
+use Rattle.std.proofs.Common.{rules, ◌≡◌, ◌<◌, ℤ, length, Some, Ok, Err, ap, sym, ◌∙◌, subst, to_z, of_z, w64, refl}
+use Rattle.std.specs.Prelude.{slice_get, MatchResult, Result as OkOr}
+use Rattle.ss_base.specs.declared.fault.FaultKind.{FaultKind}
 use Rattle.ss_base.specs.declared.layout.Mode.TheVariants.{Integer}
+use Rattle.ss_base.specs.declared.value.Value.{Value}
 use Rattle.ss_base.specs.declared.value.Value.TheVariants.{Whole}
 use Rattle.ss_program.specs.declared.sections.Subject.{Subject}
 use Rattle.ss_world.specs.State.{State, modes_of, value_in}
@@ -8,6 +10,7 @@ use Rattle.ss_world.specs.Sets.{count_in}
 use Rattle.ss_machine_world.specs.Numbers.{IsSubject, present_in}
 use Rattle.ss_machine_world.specs.Seen.{Seen}
 use Rattle.ss_machine_world.proofs.Figured.{whole_value, number_value}
+use Rattle.ss_machine_world.proofs.Said.{said_still}
 use Rattle.ss_machine_world.proofs.scene.Scene.present.Goals as goal
 
 pub whole-requires : goal.whole-requires
@@ -24,7 +27,9 @@ member_count-requires c =
     record { set = subst (λ (v : Seen). c.in-OfCount.set < length v.heap.layout.sets) (sym c.self.view_is) has }
 
 pub returns-in-OfVariable-clause-value : goal.returns-in-OfVariable-clause-value
-returns-in-OfVariable-clause-value c = sym (ap (λ (t : Subject). present_in c.args.self.now.heap t c.args.entity c.args.held) c.in-OfVariable.is)
+returns-in-OfVariable-clause-value c =
+    let same : to_z w64 (of_z w64 c.args.held) ≡ c.args.held = search rules in
+    ap (λ (z : ℤ). let r : OkOr Value FaultKind = Ok (Whole z) in r) same ∙ sym (ap (λ (t : Subject). present_in c.args.self.now.heap t c.args.entity c.args.held) c.in-OfVariable.is)
 
 pub returns-in-OfAttribute-clause-value : goal.returns-in-OfAttribute-clause-value
 returns-in-OfAttribute-clause-value c =
@@ -41,3 +46,9 @@ returns-in-OfCount-clause-value c =
     number_value c.member_count.result (count_in c.args.self.now.heap set x)
     (subst (λ (h : State). c.member_count.result ≡ count_in h set x) (ap (λ (v : Seen). v.heap) c.self.view_is) (simp same at c.member_count.ensures.value))
     ∙ sym (ap (λ (t : Subject). present_in c.args.self.now.heap t x c.args.held) c.in-OfCount.is)
+
+pub invariant_of-self : goal.invariant_of-self
+invariant_of-self c =
+    let i = c.self.inside in let ss = i.timeline.histories.statistics in
+    said_still i.population.layout c.member_count.new.self.layout i.notices.items ss ss i.classes.items
+    (ap (λ (h : State). h.layout) c.member_count.ensures.same) refl c.self.invariant

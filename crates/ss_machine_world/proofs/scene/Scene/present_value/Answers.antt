@@ -6,9 +6,9 @@ use Rattle.ss_machine_world.specs.Seen.{Seen, as_value}
 use Rattle.ss_machine_world.proofs.Figured.{one_subject}
 use Rattle.ss_machine_world.proofs.scene.Scene.present_value.Goals as goal
 
-pub present-requires-clause-subject : goal.present-requires-clause-subject
-present-requires-clause-subject c =
-    c.requires.subject c.in-Some.subject (sym (c.in-Some.ensures ∙ ap (λ (v : Seen). subject_in v.statistics c.args.statistic) c.self.view_is))
+pub present-requires : goal.present-requires
+present-requires c =
+    record { subject = c.requires.subject c.in-Some.subject (sym (c.in-Some.ensures ∙ ap (λ (v : Seen). subject_in v.statistics c.args.statistic) c.self.view_is)) }
 
 pub returns-in-Some-clause-value : goal.returns-in-Some-clause-value
 returns-in-Some-clause-value c = λ t is.

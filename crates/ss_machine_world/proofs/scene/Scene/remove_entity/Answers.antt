@@ -1,4 +1,4 @@
-use Rattle.std.proofs.Common.{arith, rules, ◌≡◌, ℤ, List, length, true, Ok, Err, ap, sym, ◌∙◌, subst, to_z, of_z, w64}
+use Rattle.std.proofs.Common.{arith, rules, ◌≡◌, ℤ, List, length, true, Ok, Err, ap, sym, ◌∙◌, subst, to_z, of_z, w64, refl}
 use Rattle.std.specs.Prelude.{slice_get}
 use Rattle.ss_base.specs.declared.layout.Layout.{Layout}
 use Rattle.ss_base.specs.declared.value.Value.TheVariants.{Whole}
@@ -11,6 +11,7 @@ use Rattle.ss_machine_world.specs.Classes.{AreSaid}
 use Rattle.ss_machine_world.specs.Seen.{Seen, Changes}
 use Rattle.ss_machine_world.proofs.Leaving.{gone_ended, gone_not}
 use Rattle.ss_machine_world.proofs.Starting.{seen_of, seen_moved}
+use Rattle.ss_machine_world.proofs.Said.{said_still}
 use Rattle.ss_machine_world.proofs.scene.Scene.remove_entity.Goals as goal
 
 pub end_histories-requires : goal.end_histories-requires
@@ -53,3 +54,15 @@ returns-in-Err c =
     let single : is_single (slice_get e.heap.layout.classes class) ≡ true = subst (λ (v : Seen). is_single (slice_get v.heap.layout.classes class) ≡ true) (sym c.self.view_is) c.requires.single in
     let no : destroyed e.heap class n ≡ Err k = subst (λ (z : ℤ). destroyed e.heap class z ≡ Err k) same c.in-Err.ensures.done.0 in
     subst (λ (old : Seen). Changes (gone class (Whole n)) old (record e { heap = h }) (Err k)) c.self.view_is (gone_not e class n single h k no c.in-Err.ensures.done.1)
+
+pub invariant_of-self : goal.invariant_of-self
+invariant_of-self c =
+    let i = c.self.inside in let ss = i.timeline.histories.statistics in
+    said_still i.population.layout c.destroy.new.self.layout i.notices.items ss c.end_histories.new.timeline.histories.statistics i.classes.items
+    c.destroy.ensures.layout c.end_histories.ensures.same.2 c.self.invariant
+
+pub invariant_of-self-in-Err : goal.invariant_of-self-in-Err
+invariant_of-self-in-Err c =
+    let i = c.self.inside in let ss = i.timeline.histories.statistics in
+    said_still i.population.layout c.destroy.new.self.layout i.notices.items ss ss i.classes.items
+    c.destroy.ensures.layout refl c.self.invariant

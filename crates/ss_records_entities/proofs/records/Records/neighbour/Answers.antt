@@ -1,9 +1,10 @@
-use Rattle.std.proofs.Common.{rules, ◌≡◌, ◌+◌, ◌≤◌, w64, to_z, of_z, refl, sym, ap, subst, ◌∙◌, arith}
-use Rattle.std.proofs.lemmas.Int.{ints}
+use Rattle.std.proofs.Common.{rules, ◌≡◌, ◌+◌, ◌≤◌, ◌<◌, ◌^◌, w64, to_z, of_z, refl, sym, ap, subst, ◌∙◌, arith}
+use Rattle.std.proofs.lemmas.Int.{ints, of_z-to_z}
+use Rattle.std.proofs.lemmas.Option.{none-some}
 use Rattle.ss_records_blocks.specs.Cells.{link, number, word_at}
 use Rattle.ss_records_blocks.specs.Links.{Leads}
 use Rattle.ss_records_entities.proofs.Looks.{owner_leads, owner_small, owner_has}
-use Rattle.ss_records_entities.proofs.Onward.{beside_leads, beside_small, beside_filed, beside_value, in_its}
+use Rattle.ss_records_entities.proofs.Onward.{beside_leads, beside_small, beside_free, beside_filed, beside_value, in_its, in_none, its_only}
 use Rattle.ss_records_entities.specs.declared.records.Records.{Records}
 use Rattle.ss_records_words.specs.Kept.{state_of}
 use Rattle.ss_records_entities.specs.Parts.{IsKept, state, places, uncounted}
@@ -31,8 +32,12 @@ pub returns-then-neighbour-member : goal.returns-then-neighbour-member
 returns-then-neighbour-member c =
     let r = c.args.self.now in let b = c.follow-neighbour.new.self in let f = c.follow-neighbour.ensures in
     let h = as_before r (record r { blocks = b }) refl f.cells in
+    let e = c.args.member in let base = c.member_base-base in let q = c.follow-neighbour.result in
+    let w = subst (λ k. word_at r.blocks.cells e.place.at k ≡ link q.place.at) c.beside.ensures f.word in
+    let free = beside_free r c.requires.kept c.args.s c.requires.set e c.requires.joins base.result base.ensures.at q f.there c.args.reverse w c.if-neighbour-member.true in
     record {
       found = tt;
+      gone = λ zero none x j t. in_none r c.requires.kept c.args.s c.requires.set c.args.o x e.number free j t;
       kept = kept_still r (record r { blocks = b }) h c.requires.kept;
       same = ap state h;
       touches = one_counted r.blocks.touches r.blocks.total b.touches b.total c.requires.touches f.touches;
@@ -70,8 +75,19 @@ pub returns-then-owner-o : goal.returns-then-owner-o
 returns-then-owner-o c =
     let r = c.args.self.now in let b = c.follow-neighbour.new.self in let d = c.follow-owner.new.self in let f = c.follow-owner.ensures in
     let h = as_before r (record r { blocks = d }) refl (f.cells ∙ c.follow-neighbour.ensures.cells) in
+    let e = c.args.member in let base = c.member_base-base in let q = c.follow-neighbour.result in
+    let w = subst (λ k. word_at r.blocks.cells e.place.at k ≡ link q.place.at) c.beside.ensures c.follow-neighbour.ensures.word in
+    let filed = beside_filed r c.requires.kept c.args.s c.requires.set e c.requires.joins base.result base.ensures.at q c.follow-neighbour.ensures.there c.if-neighbour-member.false c.args.reverse w in
+    let cells = c.follow-neighbour.ensures.cells in let p = c.follow-owner.result in
+    let u : word_at r.blocks.cells e.place.at (base.result + 2) ≡ link p.place.at = (λ i. word_at (sym cells i) e.place.at (base.result + 2)) ∙ f.word in
+    let v : word_at r.blocks.cells p.place.at 1 ≡ number p.number = (λ i. word_at (sym cells i) p.place.at 1) ∙ f.there in
+    let small = owner_small r c.requires.kept c.args.s c.requires.set e c.requires.joins base.result base.ensures.at filed p u v in
+    let fits : p.number < 2 ^ 64 = omega (arith, small) in
     record {
       found = tt;
+      gone = λ zero none x j t.
+          let is = its_only r c.requires.kept c.args.s c.requires.set e c.requires.joins base.result base.ensures.at filed p u v c.args.o x zero j t in
+          c.if-owner-o.true (sym (of_z-to_z w64 p.number fits) ∙ ap (of_z w64) is);
       kept = kept_still r (record r { blocks = d }) h c.requires.kept;
       same = ap state h;
       touches = two_counted r.blocks.touches r.blocks.total b.touches b.total c.requires.touches c.follow-neighbour.ensures.touches d.touches d.total f.touches;
@@ -141,3 +157,6 @@ returns-clause-touches c =
     let a = c.args.self.now.blocks in let b = c.follow-neighbour.new.self in let d = c.follow-owner.new.self in
     subst (λ (z : Records). (z.blocks.touches ≤ 2) × (z.blocks.total ≡ a.total + z.blocks.touches)) (sym c.pass.ensures)
     (two_counted a.touches a.total b.touches b.total c.requires.touches c.follow-neighbour.ensures.touches d.touches d.total c.follow-owner.ensures.touches)
+
+pub returns-clause-gone : goal.returns-clause-gone
+returns-clause-gone c = λ zero none. absurd (none-some _ (sym none))
