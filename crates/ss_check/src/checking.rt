@@ -8,6 +8,7 @@ ghost use Rattle.ss_names.specs.Table.{table};
 ghost use Rattle.ss_check_scopes.specs.WholeOf.{whole_in, whole_of};
 ghost use Rattle.ss_check_scopes.specs.Whole.{locals_of};
 ghost use Rattle.ss_check_rules.specs.Refusal.{refusal_of_uses};
+ghost use Rattle.ss_program.specs.Checking.{program_in};
 ghost use Rattle.ss_program.specs.Nodes.{nodes};
 ghost use Rattle.ss_program.specs.View.{view_program as program_seen};
 ghost use Rattle.ss_tables.specs.Tables.{AreTablesOf};
@@ -47,8 +48,8 @@ fn judged(alloc: Global, program: &Program, globals: &ProgramGlobals) -> Result<
     requires names { globals.now.names ≡ table (view_program program.now) }
     requires whole { whole_in globals.now.names globals.now.signatures.items ≡ whole_of (view_program program.now) }
     requires declared { declared_refusal (view_program program.now) ≡ None }
-    ensures checked { IfOk result (λ c. Becomes (view_program program.now) c) }
-    ensures nodes { IfOk result (λ c. nodes (program_seen c) ≤ tree_nodes (view_program program.now)) }
+    ensures checked { IfOk result (λ c. Becomes (view_program program.now) (program_in c)) }
+    ensures nodes { IfOk result (λ c. nodes (program_seen (program_in c)) ≤ tree_nodes (view_program program.now)) }
     ensures refused { IfErr result (λ e. ReportsCheckError e (refusal_of (view_program program.now))) }
 {
     kept_programs_resolve();
@@ -63,8 +64,8 @@ fn judged(alloc: Global, program: &Program, globals: &ProgramGlobals) -> Result<
 // The resolved program, by its tables, where it breaks no rule.
 fn checked(alloc: Global, program: &Program, tables: Tables) -> Result<Checked, CheckError>
     requires tables { AreTablesOf (view_program program.now) tables }
-    ensures checked { IfOk result (λ c. Becomes (view_program program.now) c) }
-    ensures nodes { IfOk result (λ c. nodes (program_seen c) ≤ tree_nodes (view_program program.now)) }
+    ensures checked { IfOk result (λ c. Becomes (view_program program.now) (program_in c)) }
+    ensures nodes { IfOk result (λ c. nodes (program_seen (program_in c)) ≤ tree_nodes (view_program program.now)) }
     ensures refused { IfErr result (λ e. ReportsCheckError e (refusal_of (view_program program.now))) }
 {
     let globals = ProgramGlobals::of(alloc, program, tables.into_names())?;
@@ -83,8 +84,8 @@ fn checked(alloc: Global, program: &Program, tables: Tables) -> Result<Checked, 
 /// the first place where it does, 0 for `NoMain`; `Memory` where memory is refused.
 pub fn check(alloc: Global, program: Program, tables: Tables) -> Result<Checked, CheckError>
     requires tables { AreTablesOf (view_program program) tables }
-    ensures checked { IfOk result (λ c. Becomes (view_program program) c) }
-    ensures nodes { IfOk result (λ c. nodes (program_seen c) ≤ tree_nodes (view_program program)) }
+    ensures checked { IfOk result (λ c. Becomes (view_program program) (program_in c)) }
+    ensures nodes { IfOk result (λ c. nodes (program_seen (program_in c)) ≤ tree_nodes (view_program program)) }
     ensures refused { IfErr result (λ e. ReportsCheckError e (refusal_of (view_program program))) }
 {
     let result = checked(alloc, &program, tables);

@@ -1,6 +1,7 @@
 //! From a resolved program to its code.
 
 ghost use Rattle.std.specs.Prelude.{◌≡◌, ◌+◌, ◌<◌, ◌≤◌, ◌^◌, ◌++◌, ◌∷◌, [], length, map, Err, IfOk, OnOk};
+ghost use Rattle.ss_program.specs.Checking.{program_in};
 ghost use Rattle.ss_program.specs.Nodes.{nodes};
 ghost use Rattle.ss_program.specs.View.{view_routine, view_event, view_program, view_body};
 ghost use Rattle.ss_program.specs.WellTyped.{WellTyped};
@@ -205,8 +206,8 @@ fn sections_of(
 
 // The code of a program that is well typed.
 fn made(alloc: Global, program: &Program) -> Result<Code, CodeError>
-    requires typed { WellTyped (view_program program.now) }
-    ensures code { IfOk result (λ code. IsFor (view_program program.now) code) }
+    requires typed { ∥ WellTyped (view_program program.now) ∥₁ }
+    ensures code { IfOk result (λ code. ∥ IsFor (view_program program.now) code ∥₁) }
     ensures behaves { IfOk result (λ code. Behaves (view_program program.now) (code_of (view_program program.now))) }
     ensures lands { IfOk result (λ code. Lands (code_of (view_program program.now))) }
     ensures limit { IfOk result (λ code. length code.run.instructions ≤ most_instructions) }
@@ -249,12 +250,12 @@ fn made(alloc: Global, program: &Program) -> Result<Code, CodeError>
 /// for a program of at most 16,384 nodes; `Memory` where memory was refused, also where a program has so many variables or constants that
 /// no memory holds their values.
 pub fn generate(alloc: Global, checked: &Checked) -> Result<Code, CodeError>
-    ensures code { IfOk result (λ code. IsFor (view_program checked.now) code) }
-    ensures behaves { IfOk result (λ code. Behaves (view_program checked.now) (code_of (view_program checked.now))) }
-    ensures lands { IfOk result (λ code. Lands (code_of (view_program checked.now))) }
+    ensures code { IfOk result (λ code. ∥ IsFor (view_program (program_in checked.now)) code ∥₁) }
+    ensures behaves { IfOk result (λ code. Behaves (view_program (program_in checked.now)) (code_of (view_program (program_in checked.now)))) }
+    ensures lands { IfOk result (λ code. Lands (code_of (view_program (program_in checked.now)))) }
     ensures limit { IfOk result (λ code. length code.run.instructions ≤ most_instructions) }
-    ensures too_long { result ≡ Err CodeError.CodeTooLong → most_instructions < length (code_of (view_program checked.now)).places }
-    ensures small { nodes (view_program checked.now) ≤ small_program → result ≡ Err CodeError.CodeTooLong → ⊥ }
+    ensures too_long { result ≡ Err CodeError.CodeTooLong → most_instructions < length (code_of (view_program (program_in checked.now))).places }
+    ensures small { nodes (view_program (program_in checked.now)) ≤ small_program → result ≡ Err CodeError.CodeTooLong → ⊥ }
 {
     made(alloc, checked.program())
 }

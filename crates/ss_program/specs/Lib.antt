@@ -5,3 +5,4 @@ pub mod Views
 pub mod WellTyped
 pub mod Nodes
 pub mod Examples
+pub mod Checking

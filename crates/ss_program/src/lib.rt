@@ -4,6 +4,7 @@
 #![tactic(auto)]
 
 pub mod checked;
+pub mod checking;
 pub mod condition;
 pub mod expression;
 pub mod head;

@@ -1,0 +1,27 @@
+//! Making and reading programs that are well typed.
+
+ghost use Rattle.std.specs.Prelude.{◌≡◌};
+ghost use Rattle.ss_program.specs.View.{view_program};
+ghost use Rattle.ss_program.specs.WellTyped.{WellTyped};
+ghost use Rattle.ss_program.specs.Checking.{program_in};
+
+use crate::checked::Checked;
+use crate::sections::Program;
+
+impl Checked {
+    /// A program, where it is shown that it is well typed.
+    pub fn new(program: Program) -> Checked
+        requires { WellTyped (view_program program) }
+        ensures { program_in result ≡ program }
+    {
+        Checked { program }
+    }
+
+    /// The program, which is well typed.
+    pub fn program(&self) -> &Program
+        ensures same { result.now ≡ program_in self.now }
+        ensures typed { ∥ WellTyped (view_program result.now) ∥₁ }
+    {
+        &self.program
+    }
+}
