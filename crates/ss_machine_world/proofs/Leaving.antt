@@ -71,8 +71,8 @@ module _ (ds : List Discipline) (ns : List Notices) (h : State) (t : Times) (cla
       ∙ ap (λ (v : Times). Ok (with_seen s (seen_of ds ns h v))) (sym d.1)
   cancelled_changes u is w (Err k) d = (
     λ s right.
-    looked_by before class n there (λ n. turned (with_pending (with_seen s before)) (due (cancelled n t.pending))) (Ok u) is s
-    ∙ ap (λ q. turned (with_pending (with_seen s before)) (due q)) d.0,
+        looked_by before class n there (λ n. turned (with_pending (with_seen s before)) (due (cancelled n t.pending))) (Ok u) is s
+        ∙ ap (λ q. turned (with_pending (with_seen s before)) (due q)) d.0,
     ap (λ (v : Times). seen_of ds ns h v) d.1,
   )
 

@@ -113,8 +113,8 @@ module _ (k : ℕ) (l : PlainLayout) (n : Notices) (es : List Notices) (ss : Lis
   ranked_here entry said class same is = record {
     watched = said.watched ∙ ap (λ c. list_any (is_home l (Class c)) ss) is;
     ranked = λ r e.
-    let here : record { rank = k; said = n } ≡ r = got (sym (ap (λ b. if b then Some (record { rank = k; said = n }) else ranked_from (k + 1) es class) same) ∙ e) in
-    (ap (λ (r : Ranked). r.rank) here, ap (λ (r : Ranked). has_keys r.said.ties) here);
+        let here : record { rank = k; said = n } ≡ r = got (sym (ap (λ b. if b then Some (record { rank = k; said = n }) else ranked_from (k + 1) es class) same) ∙ e) in
+        (ap (λ (r : Ranked). r.rank) here, ap (λ (r : Ranked). has_keys r.said.ties) here);
   }
 
   -- or another one

@@ -53,8 +53,7 @@ impl Scene {
         }
         match self.population.create(class) {
             Ok(number) => {
-                self.timeline
-                    .start(self.population.layout(), class, number);
+                self.timeline.start(self.population.layout(), class, number);
                 Some(number)
             }
             Err(_) => None,

@@ -148,12 +148,7 @@ impl Scene {
     }
 
     // The same by the statistic.
-    fn present_value(
-        &mut self,
-        statistic: usize,
-        entity: i64,
-        held: i64,
-    ) -> Result<i64, FaultKind>
+    fn present_value(&mut self, statistic: usize, entity: i64, held: i64) -> Result<i64, FaultKind>
         requires subject { HasSubject self.old statistic }
         ensures value { (t : SubjectSeen) → subject_in self.old.statistics statistic ≡ Some t → as_value result ≡ present_in self.old.heap t entity held }
         ensures same { self.new ≡ self.old }

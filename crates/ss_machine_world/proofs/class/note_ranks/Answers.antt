@@ -10,7 +10,7 @@ pub loop-rank-init : goal.loop-rank-init
 loop-rank-init c = record {
   within = omega arith;
   said = λ l ss said.
-  subst (λ (es : List Notices). AreSaidFrom (length c.args.notices.now) l es ss c.args.classes.now) (sym (drop_all c.args.notices.now)) (unranked (length c.args.notices.now) l ss c.args.classes.now said);
+      subst (λ (es : List Notices). AreSaidFrom (length c.args.notices.now) l es ss c.args.classes.now) (sym (drop_all c.args.notices.now)) (unranked (length c.args.notices.now) l ss c.args.classes.now said);
 }
 
 pub loop-rank-preserved : goal.loop-rank-preserved
@@ -21,9 +21,9 @@ loop-rank-preserved c =
     record {
       within = omega (arith, c.loop-rank.invariant.within);
       said = λ l ss said.
-      subst (λ (rest : List Notices). AreSaidFrom k l rest ss c.note_rank.new.classes) (sym (drop_one es k n has))
-      (one_ranked k l n (drop (k + 1) es) ss c.loop-rank.classes c.note_rank.new.classes c.note_rank.ensures.known c.note_rank.ensures.unknown
-      (subst (λ j. AreSaidFrom j l (drop j es) ss c.loop-rank.classes) (sym next) (c.loop-rank.invariant.said l ss said)));
+          subst (λ (rest : List Notices). AreSaidFrom k l rest ss c.note_rank.new.classes) (sym (drop_one es k n has))
+          (one_ranked k l n (drop (k + 1) es) ss c.loop-rank.classes c.note_rank.new.classes c.note_rank.ensures.known c.note_rank.ensures.unknown
+          (subst (λ j. AreSaidFrom j l (drop j es) ss c.loop-rank.classes) (sym next) (c.loop-rank.invariant.said l ss said)));
     }
 
 pub returns : goal.returns

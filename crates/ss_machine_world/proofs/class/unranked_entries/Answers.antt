@@ -1,4 +1,4 @@
-use Rattle.std.proofs.Common.{arith, rules, ◌≡◌, ◌+◌, ◌++◌, suc, Bool, false, List, [], ◌∷◌, ap, sym, ◌∙◌, subst}
+use Rattle.std.proofs.Common.{arith, rules, ◌≡◌, ◌+◌, ◌++◌, suc, Bool, false, List, [], ◌∷◌, length, ap, sym, ◌∙◌, subst}
 use Rattle.ss_machine_world.specs.declared.class.ClassEntry.{ClassEntry}
 use Rattle.ss_machine_world.specs.Classes.{AreSaid}
 use Rattle.ss_machine_world.proofs.Said.{unranked_to, unranked_said}
@@ -17,5 +17,6 @@ loop-class-preserved c =
 pub returns : goal.returns
 returns c =
     let l = c.args.layout.now in let ss = c.args.statistics.now in
-    let all : c.loop-class.class ≡ length l.classes = ? in
+    let many : c.len-class-end.result ≡ length l.classes = search rules in
+    let all : c.loop-class.class ≡ length l.classes = omega (arith, many, c.loop-class-test.false, c.loop-class.auto.class-end) in
     subst (λ (entries : List ClassEntry). AreSaid l [] ss entries) (sym (c.loop-class.invariant ∙ ap (unranked_to l ss) all)) (unranked_said l ss)

@@ -1,4 +1,4 @@
-use Rattle.std.proofs.Common.{◌≡◌, List, sym, subst}
+use Rattle.std.proofs.Common.{List, sym, subst}
 use Rattle.ss_meaning.specs.Store.{Notices}
 use Rattle.ss_machine_world.specs.Classes.{AreSaid}
 use Rattle.ss_machine_world.proofs.Said.{said_still}

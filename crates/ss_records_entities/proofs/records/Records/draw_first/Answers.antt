@@ -30,8 +30,8 @@ returns-then-first-eq0-clause-done c =
     let r = c.args.self.now in let k = c.requires.kept in let e = c.args.home in let own = c.requires.owns in let set = c.owner_base-set in let q = c.look-first.result in
     let is = as_whole q.number q.number refl (first_small r k c.args.s c.requires.set e own set.result set.ensures.at q c.look-first.ensures.word c.look-first.ensures.there) in (
       λ o om.
-      let found = sym (first_value r k c.args.s c.requires.set e own set.result set.ensures.at q c.look-first.ensures.word c.look-first.ensures.there o om) in
-      none_taken (state r) c.args.s q.number o (cast_signed w64 q.number) (first_in (state r) c.args.s o) found is c.if-first-eq0.true,
+          let found = sym (first_value r k c.args.s c.requires.set e own set.result set.ensures.at q c.look-first.ensures.word c.look-first.ensures.there o om) in
+          none_taken (state r) c.args.s q.number o (cast_signed w64 q.number) (first_in (state r) c.args.s o) found is c.if-first-eq0.true,
       ap state (as_before r (record r { blocks = c.start_at.new.self }) refl (c.start_at.ensures.cells ∙ c.look-first.ensures.cells)),
     )
 
