@@ -31,16 +31,72 @@ pub(crate) struct Detail {
 
 // What works on nothing.
 fn none(name: &'static str) -> Detail {
-    with(name, &[])
+    Detail {
+        name,
+        parts: [Part::Nothing; 6],
+    }
 }
 
-// What works on these.
-fn with(name: &'static str, all: &[Part]) -> Detail {
-    let mut parts = [Part::Nothing; 6];
-    for (place, part) in parts.iter_mut().zip(all) {
-        *place = *part;
+// What works on one thing.
+fn one(name: &'static str, a: Part) -> Detail {
+    Detail {
+        name,
+        parts: [
+            a,
+            Part::Nothing,
+            Part::Nothing,
+            Part::Nothing,
+            Part::Nothing,
+            Part::Nothing,
+        ],
     }
-    Detail { name, parts }
+}
+
+// What works on two.
+fn two(name: &'static str, a: Part, b: Part) -> Detail {
+    Detail {
+        name,
+        parts: [
+            a,
+            b,
+            Part::Nothing,
+            Part::Nothing,
+            Part::Nothing,
+            Part::Nothing,
+        ],
+    }
+}
+
+// What works on three.
+fn three(name: &'static str, a: Part, b: Part, c: Part) -> Detail {
+    Detail {
+        name,
+        parts: [a, b, c, Part::Nothing, Part::Nothing, Part::Nothing],
+    }
+}
+
+// What works on four.
+fn four(name: &'static str, a: Part, b: Part, c: Part, d: Part) -> Detail {
+    Detail {
+        name,
+        parts: [a, b, c, d, Part::Nothing, Part::Nothing],
+    }
+}
+
+// What works on five.
+fn five(name: &'static str, a: Part, b: Part, c: Part, d: Part, e: Part) -> Detail {
+    Detail {
+        name,
+        parts: [a, b, c, d, e, Part::Nothing],
+    }
+}
+
+// What works on six.
+fn six(name: &'static str, a: Part, b: Part, c: Part, d: Part, e: Part, f: Part) -> Detail {
+    Detail {
+        name,
+        parts: [a, b, c, d, e, f],
+    }
 }
 
 // A word where something is so.
@@ -77,154 +133,171 @@ fn fold_word(fold: Fold) -> &'static str {
 /// What an instruction is called, and what it works on.
 pub(crate) fn detail_of(instruction: &I) -> Detail {
     match instruction {
-        I::Move { from, to } => with("move", &[Part::From(*from), Part::To(*to)]),
-        I::MoveText { from, to } => with("move text", &[Part::From(*from), Part::To(*to)]),
-        I::Keep { from, variable } => with(
+        I::Move { from, to } => two("move", Part::From(*from), Part::To(*to)),
+        I::MoveText { from, to } => two("move text", Part::From(*from), Part::To(*to)),
+        I::Keep { from, variable } => two(
             "keep",
-            &[Part::From(*from), Part::To(Address::fixed(*variable))],
+            Part::From(*from),
+            Part::To(Address::fixed(*variable)),
         ),
-        I::Add { left, right, to } => with(
+        I::Add { left, right, to } => three(
             "add",
-            &[Part::From(*left), Part::From(*right), Part::To(*to)],
+            Part::From(*left),
+            Part::From(*right),
+            Part::To(*to),
         ),
-        I::Subtract { left, right, to } => with(
+        I::Subtract { left, right, to } => three(
             "subtract",
-            &[Part::From(*left), Part::From(*right), Part::To(*to)],
+            Part::From(*left),
+            Part::From(*right),
+            Part::To(*to),
         ),
-        I::Multiply { left, right, to } => with(
+        I::Multiply { left, right, to } => three(
             "multiply",
-            &[Part::From(*left), Part::From(*right), Part::To(*to)],
+            Part::From(*left),
+            Part::From(*right),
+            Part::To(*to),
         ),
-        I::Quotient { left, right, to } => with(
+        I::Quotient { left, right, to } => three(
             "quotient",
-            &[Part::From(*left), Part::From(*right), Part::To(*to)],
+            Part::From(*left),
+            Part::From(*right),
+            Part::To(*to),
         ),
-        I::Remainder { left, right, to } => with(
+        I::Remainder { left, right, to } => three(
             "remainder",
-            &[Part::From(*left), Part::From(*right), Part::To(*to)],
+            Part::From(*left),
+            Part::From(*right),
+            Part::To(*to),
         ),
-        I::Least { left, right, to } => with(
+        I::Least { left, right, to } => three(
             "least",
-            &[Part::From(*left), Part::From(*right), Part::To(*to)],
+            Part::From(*left),
+            Part::From(*right),
+            Part::To(*to),
         ),
-        I::Greatest { left, right, to } => with(
+        I::Greatest { left, right, to } => three(
             "greatest",
-            &[Part::From(*left), Part::From(*right), Part::To(*to)],
+            Part::From(*left),
+            Part::From(*right),
+            Part::To(*to),
         ),
-        I::Absolute { of, to } => with("absolute", &[Part::From(*of), Part::To(*to)]),
-        I::Clock { to } => with("clock", &[Part::To(*to)]),
-        I::TimeOf { notice, to } => with("time of", &[Part::From(*notice), Part::To(*to)]),
+        I::Absolute { of, to } => two("absolute", Part::From(*of), Part::To(*to)),
+        I::Clock { to } => one("clock", Part::To(*to)),
+        I::TimeOf { notice, to } => two("time of", Part::From(*notice), Part::To(*to)),
         I::Attribute {
             class,
             field,
             entity,
             to,
-        } => with(
+        } => four(
             "attribute",
-            &[
-                Part::Of("class", *class),
-                Part::Of("field", *field),
-                Part::From(*entity),
-                Part::To(*to),
-            ],
+            Part::Of("class", *class),
+            Part::Of("field", *field),
+            Part::From(*entity),
+            Part::To(*to),
         ),
         I::TextAttribute {
             class,
             field,
             entity,
             to,
-        } => with(
+        } => four(
             "text attribute",
-            &[
-                Part::Of("class", *class),
-                Part::Of("field", *field),
-                Part::From(*entity),
-                Part::To(*to),
-            ],
+            Part::Of("class", *class),
+            Part::Of("field", *field),
+            Part::From(*entity),
+            Part::To(*to),
         ),
-        I::FirstMember { set, owner, to } => with(
+        I::FirstMember { set, owner, to } => three(
             "first member",
-            &[Part::Of("set", *set), Part::From(*owner), Part::To(*to)],
+            Part::Of("set", *set),
+            Part::From(*owner),
+            Part::To(*to),
         ),
-        I::LastMember { set, owner, to } => with(
+        I::LastMember { set, owner, to } => three(
             "last member",
-            &[Part::Of("set", *set), Part::From(*owner), Part::To(*to)],
+            Part::Of("set", *set),
+            Part::From(*owner),
+            Part::To(*to),
         ),
-        I::MemberCount { set, owner, to } => with(
+        I::MemberCount { set, owner, to } => three(
             "member count",
-            &[Part::Of("set", *set), Part::From(*owner), Part::To(*to)],
+            Part::Of("set", *set),
+            Part::From(*owner),
+            Part::To(*to),
         ),
-        I::Predecessor { set, member, to } => with(
+        I::Predecessor { set, member, to } => three(
             "predecessor",
-            &[Part::Of("set", *set), Part::From(*member), Part::To(*to)],
+            Part::Of("set", *set),
+            Part::From(*member),
+            Part::To(*to),
         ),
-        I::Successor { set, member, to } => with(
+        I::Successor { set, member, to } => three(
             "successor",
-            &[Part::Of("set", *set), Part::From(*member), Part::To(*to)],
+            Part::Of("set", *set),
+            Part::From(*member),
+            Part::To(*to),
         ),
-        I::Membership { set, member, to } => with(
+        I::Membership { set, member, to } => three(
             "membership",
-            &[Part::Of("set", *set), Part::From(*member), Part::To(*to)],
+            Part::Of("set", *set),
+            Part::From(*member),
+            Part::To(*to),
         ),
         I::Figure {
             statistic,
             entity,
             to,
             fold,
-        } => with(
+        } => four(
             "figure",
-            &[
-                Part::Of("statistic", *statistic),
-                Part::From(*entity),
-                Part::To(*to),
-                Part::Word(fold_word(*fold)),
-            ],
+            Part::Of("statistic", *statistic),
+            Part::From(*entity),
+            Part::To(*to),
+            Part::Word(fold_word(*fold)),
         ),
-        I::LookEntity { class, entity } => with(
+        I::LookEntity { class, entity } => two(
             "look entity",
-            &[Part::Of("class", *class), Part::From(*entity)],
+            Part::Of("class", *class),
+            Part::From(*entity),
         ),
-        I::LookMember { set, member } => with(
+        I::LookMember { set, member } => two(
             "look member",
-            &[Part::Of("set", *set), Part::From(*member)],
+            Part::Of("set", *set),
+            Part::From(*member),
         ),
-        I::LookOwner { set, owner } => with(
-            "look owner",
-            &[Part::Of("set", *set), Part::From(*owner)],
-        ),
-        I::LookMean { statistic, entity } => with(
+        I::LookOwner { set, owner } => two("look owner", Part::Of("set", *set), Part::From(*owner)),
+        I::LookMean { statistic, entity } => two(
             "look mean",
-            &[Part::Of("statistic", *statistic), Part::From(*entity)],
+            Part::Of("statistic", *statistic),
+            Part::From(*entity),
         ),
-        I::LookCount { class } => with("look count", &[Part::Of("class", *class)]),
+        I::LookCount { class } => one("look count", Part::Of("class", *class)),
         I::SetAttribute {
             class,
             field,
             entity,
             from,
             ..
-        } => with(
+        } => four(
             "set attribute",
-            &[
-                Part::Of("class", *class),
-                Part::Of("field", *field),
-                Part::From(*entity),
-                Part::From(*from),
-            ],
+            Part::Of("class", *class),
+            Part::Of("field", *field),
+            Part::From(*entity),
+            Part::From(*from),
         ),
         I::SetTextAttribute {
             class,
             field,
             entity,
             from,
-        } => with(
+        } => four(
             "set text attribute",
-            &[
-                Part::Of("class", *class),
-                Part::Of("field", *field),
-                Part::From(*entity),
-                Part::From(*from),
-            ],
+            Part::Of("class", *class),
+            Part::Of("field", *field),
+            Part::From(*entity),
+            Part::From(*from),
         ),
         I::ChangeAttribute {
             class,
@@ -233,74 +306,81 @@ pub(crate) fn detail_of(instruction: &I) -> Detail {
             by,
             sign,
             ..
-        } => with(
+        } => four(
             match sign {
                 Sign::Plus => "add to attribute",
                 Sign::Minus => "subtract from attribute",
             },
-            &[
-                Part::Of("class", *class),
-                Part::Of("field", *field),
-                Part::From(*entity),
-                Part::From(*by),
-            ],
+            Part::Of("class", *class),
+            Part::Of("field", *field),
+            Part::From(*entity),
+            Part::From(*by),
         ),
-        I::Jump { skip } => with("jump", &[Part::Else(*skip)]),
-        I::UnlessEqual { left, right, skip } => with(
+        I::Jump { skip } => one("jump", Part::Else(*skip)),
+        I::UnlessEqual { left, right, skip } => three(
             "unless equal",
-            &[Part::From(*left), Part::From(*right), Part::Else(*skip)],
+            Part::From(*left),
+            Part::From(*right),
+            Part::Else(*skip),
         ),
-        I::UnlessNotEqual { left, right, skip } => with(
+        I::UnlessNotEqual { left, right, skip } => three(
             "unless not equal",
-            &[Part::From(*left), Part::From(*right), Part::Else(*skip)],
+            Part::From(*left),
+            Part::From(*right),
+            Part::Else(*skip),
         ),
-        I::UnlessLess { left, right, skip } => with(
+        I::UnlessLess { left, right, skip } => three(
             "unless less",
-            &[Part::From(*left), Part::From(*right), Part::Else(*skip)],
+            Part::From(*left),
+            Part::From(*right),
+            Part::Else(*skip),
         ),
-        I::UnlessGreater { left, right, skip } => with(
+        I::UnlessGreater { left, right, skip } => three(
             "unless greater",
-            &[Part::From(*left), Part::From(*right), Part::Else(*skip)],
+            Part::From(*left),
+            Part::From(*right),
+            Part::Else(*skip),
         ),
-        I::UnlessLessOrEqual { left, right, skip } => with(
+        I::UnlessLessOrEqual { left, right, skip } => three(
             "unless less or equal",
-            &[Part::From(*left), Part::From(*right), Part::Else(*skip)],
+            Part::From(*left),
+            Part::From(*right),
+            Part::Else(*skip),
         ),
-        I::UnlessGreaterOrEqual { left, right, skip } => with(
+        I::UnlessGreaterOrEqual { left, right, skip } => three(
             "unless greater or equal",
-            &[Part::From(*left), Part::From(*right), Part::Else(*skip)],
+            Part::From(*left),
+            Part::From(*right),
+            Part::Else(*skip),
         ),
         I::UnlessTexts {
             left,
             right,
             skip,
             relation,
-        } => with(
+        } => four(
             "unless texts",
-            &[
-                Part::From(*left),
-                Part::From(*right),
-                Part::Else(*skip),
-                Part::Word(relation_word(*relation)),
-            ],
+            Part::From(*left),
+            Part::From(*right),
+            Part::Else(*skip),
+            Part::Word(relation_word(*relation)),
         ),
-        I::UnlessEnded { skip, negated } => with(
+        I::UnlessEnded { skip, negated } => two(
             "unless ended",
-            &[Part::Else(*skip), word_if(*negated, "negated")],
+            Part::Else(*skip),
+            word_if(*negated, "negated"),
         ),
         I::UnlessEmpty {
             set,
             owner,
             skip,
             negated,
-        } => with(
+        } => four(
             "unless empty",
-            &[
-                Part::Of("set", *set),
-                Part::From(*owner),
-                Part::Else(*skip),
-                word_if(*negated, "negated"),
-            ],
+            Part::Of("set", *set),
+            Part::From(*owner),
+            Part::Else(*skip),
+            word_if(*negated, "negated"),
         ),
         I::UnlessMember {
             set,
@@ -308,44 +388,46 @@ pub(crate) fn detail_of(instruction: &I) -> Detail {
             owner,
             skip,
             negated,
-        } => with(
+        } => five(
             "unless member",
-            &[
-                Part::Of("set", *set),
-                Part::From(*member),
-                Part::From(*owner),
-                Part::Else(*skip),
-                word_if(*negated, "negated"),
-            ],
+            Part::Of("set", *set),
+            Part::From(*member),
+            Part::From(*owner),
+            Part::Else(*skip),
+            word_if(*negated, "negated"),
         ),
         I::Turn => none("turn"),
-        I::Repeat { back } => with("repeat", &[Part::Back(*back)]),
-        I::Begin { cell, skip } => with("begin", &[Part::From(Address::in_frame(*cell)), Part::Else(*skip)]),
-        I::BeginClass { class, cell, skip } => with(
-            "begin class",
-            &[
-                Part::Of("class", *class),
-                Part::From(Address::in_frame(*cell)),
-                Part::Else(*skip),
-            ],
+        I::Repeat { back } => one("repeat", Part::Back(*back)),
+        I::Begin { cell, skip } => two(
+            "begin",
+            Part::From(Address::in_frame(*cell)),
+            Part::Else(*skip),
         ),
-        I::Take { cell, to } => with("take", &[Part::From(Address::in_frame(*cell)), Part::To(*to)]),
-        I::Next { cell, back } => with("next", &[Part::From(Address::in_frame(*cell)), Part::Back(*back)]),
+        I::BeginClass { class, cell, skip } => three(
+            "begin class",
+            Part::Of("class", *class),
+            Part::From(Address::in_frame(*cell)),
+            Part::Else(*skip),
+        ),
+        I::Take { cell, to } => two("take", Part::From(Address::in_frame(*cell)), Part::To(*to)),
+        I::Next { cell, back } => two(
+            "next",
+            Part::From(Address::in_frame(*cell)),
+            Part::Back(*back),
+        ),
         I::BeginSet {
             set,
             owner,
             cell,
             skip,
             reverse,
-        } => with(
+        } => five(
             "begin set",
-            &[
-                Part::Of("set", *set),
-                Part::From(*owner),
-                Part::From(Address::in_frame(*cell)),
-                Part::Else(*skip),
-                word_if(*reverse, "reverse"),
-            ],
+            Part::Of("set", *set),
+            Part::From(*owner),
+            Part::From(Address::in_frame(*cell)),
+            Part::Else(*skip),
+            word_if(*reverse, "reverse"),
         ),
         I::BeginAt {
             set,
@@ -354,16 +436,14 @@ pub(crate) fn detail_of(instruction: &I) -> Detail {
             skip,
             reverse,
             after,
-        } => with(
+        } => six(
             "begin at",
-            &[
-                Part::Of("set", *set),
-                Part::From(*owner),
-                Part::From(Address::in_frame(*cell)),
-                Part::Else(*skip),
-                word_if(*reverse, "reverse"),
-                word_if(*after, "after"),
-            ],
+            Part::Of("set", *set),
+            Part::From(*owner),
+            Part::From(Address::in_frame(*cell)),
+            Part::Else(*skip),
+            word_if(*reverse, "reverse"),
+            word_if(*after, "after"),
         ),
         I::NextMember {
             set,
@@ -372,55 +452,65 @@ pub(crate) fn detail_of(instruction: &I) -> Detail {
             back,
             reverse,
             ..
-        } => with(
+        } => five(
             "next member",
-            &[
-                Part::Of("set", *set),
-                Part::From(*owner),
-                Part::From(Address::in_frame(*cell)),
-                Part::Back(*back),
-                word_if(*reverse, "reverse"),
-            ],
+            Part::Of("set", *set),
+            Part::From(*owner),
+            Part::From(Address::in_frame(*cell)),
+            Part::Back(*back),
+            word_if(*reverse, "reverse"),
         ),
-        I::Forget { count } => with("forget", &[Part::Of("count", *count)]),
-        I::Call { routine, cell } => with(
+        I::Forget { count } => one("forget", Part::Of("count", *count)),
+        I::Call { routine, cell } => two(
             "call",
-            &[Part::Of("routine", *routine), Part::From(Address::in_frame(*cell))],
+            Part::Of("routine", *routine),
+            Part::From(Address::in_frame(*cell)),
         ),
         I::Leave => none("leave"),
         I::Halt => none("halt"),
-        I::Create { class, to } => with("create", &[Part::Of("class", *class), Part::To(*to)]),
-        I::CreateAll { class, variable } => with(
+        I::Create { class, to } => two("create", Part::Of("class", *class), Part::To(*to)),
+        I::CreateAll { class, variable } => two(
             "create all",
-            &[Part::Of("class", *class), Part::Of("variable", *variable)],
+            Part::Of("class", *class),
+            Part::Of("variable", *variable),
         ),
-        I::Destroy { class, entity } => with(
+        I::Destroy { class, entity } => two(
             "destroy",
-            &[Part::Of("class", *class), Part::From(*entity)],
+            Part::Of("class", *class),
+            Part::From(*entity),
         ),
-        I::FileFirst { set, member, owner, .. } => with(
+        I::FileFirst {
+            set,
+            member,
+            owner,
+            ..
+        } => three(
             "file first",
-            &[
-                Part::Of("set", *set),
-                Part::From(*member),
-                Part::From(*owner),
-            ],
+            Part::Of("set", *set),
+            Part::From(*member),
+            Part::From(*owner),
         ),
-        I::FileLast { set, member, owner, .. } => with(
+        I::FileLast {
+            set,
+            member,
+            owner,
+            ..
+        } => three(
             "file last",
-            &[
-                Part::Of("set", *set),
-                Part::From(*member),
-                Part::From(*owner),
-            ],
+            Part::Of("set", *set),
+            Part::From(*member),
+            Part::From(*owner),
         ),
-        I::FileRanked { set, member, owner, .. } => with(
+        I::FileRanked {
+            set,
+            member,
+            owner,
+            ..
+        } => three(
             "file ranked",
-            &[
-                Part::Of("set", *set),
-                Part::From(*member),
-                Part::From(*owner),
-            ],
+            Part::Of("set", *set),
+            Part::From(*member),
+            Part::From(*owner),
         ),
         I::FileBeside {
             after,
@@ -429,59 +519,60 @@ pub(crate) fn detail_of(instruction: &I) -> Detail {
             beside,
             owner,
             ..
-        } => with(
+        } => four(
             if *after { "file after" } else { "file before" },
-            &[
-                Part::Of("set", *set),
-                Part::From(*member),
-                Part::From(*beside),
-                Part::From(*owner),
-            ],
+            Part::Of("set", *set),
+            Part::From(*member),
+            Part::From(*beside),
+            Part::From(*owner),
         ),
-        I::Remove { set, member, owner, .. } => with(
+        I::Remove {
+            set,
+            member,
+            owner,
+            ..
+        } => three(
             "remove",
-            &[
-                Part::Of("set", *set),
-                Part::From(*member),
-                Part::From(*owner),
-            ],
+            Part::Of("set", *set),
+            Part::From(*member),
+            Part::From(*owner),
         ),
-        I::RemoveFirst { set, owner, to, .. } => with(
+        I::RemoveFirst { set, owner, to, .. } => three(
             "remove first",
-            &[Part::Of("set", *set), Part::From(*owner), Part::To(*to)],
+            Part::Of("set", *set),
+            Part::From(*owner),
+            Part::To(*to),
         ),
-        I::RemoveLast { set, owner, to, .. } => with(
+        I::RemoveLast { set, owner, to, .. } => three(
             "remove last",
-            &[Part::Of("set", *set), Part::From(*owner), Part::To(*to)],
+            Part::Of("set", *set),
+            Part::From(*owner),
+            Part::To(*to),
         ),
-        I::At { time, to } => with("at", &[Part::From(*time), Part::To(*to)]),
-        I::In { units, to } => with("in", &[Part::From(*units), Part::To(*to)]),
+        I::At { time, to } => two("at", Part::From(*time), Part::To(*to)),
+        I::In { units, to } => two("in", Part::From(*units), Part::To(*to)),
         I::MakeNotice {
             class,
             cell,
             given,
             to,
             ..
-        } => with(
+        } => four(
             "make notice",
-            &[
-                Part::Of("class", *class),
-                Part::From(Address::in_frame(*cell)),
-                Part::Of("given", *given),
-                Part::To(*to),
-            ],
+            Part::Of("class", *class),
+            Part::From(Address::in_frame(*cell)),
+            Part::Of("given", *given),
+            Part::To(*to),
         ),
         I::FileNotice {
             class,
             notice,
             time,
-        } => with(
+        } => three(
             "file notice",
-            &[
-                Part::Of("class", *class),
-                Part::From(*notice),
-                Part::From(*time),
-            ],
+            Part::Of("class", *class),
+            Part::From(*notice),
+            Part::From(*time),
         ),
         I::Reschedule {
             class,
@@ -489,32 +580,33 @@ pub(crate) fn detail_of(instruction: &I) -> Detail {
             cell,
             given,
             ..
-        } => with(
+        } => four(
             "reschedule",
-            &[
-                Part::Of("class", *class),
-                Part::From(*notice),
-                Part::From(Address::in_frame(*cell)),
-                Part::Of("given", *given),
-            ],
+            Part::Of("class", *class),
+            Part::From(*notice),
+            Part::From(Address::in_frame(*cell)),
+            Part::Of("given", *given),
         ),
-        I::Cancel { class, notice } => with(
+        I::Cancel { class, notice } => two(
             "cancel",
-            &[Part::Of("class", *class), Part::From(*notice)],
+            Part::Of("class", *class),
+            Part::From(*notice),
         ),
-        I::Await { skip } => with("await", &[Part::Else(*skip)]),
-        I::TakeEvent { cell } => with("take event", &[Part::From(Address::in_frame(*cell))]),
-        I::NextEvent { back } => with("next event", &[Part::Back(*back)]),
-        I::Reset { statistic, entity } => with(
+        I::Await { skip } => one("await", Part::Else(*skip)),
+        I::TakeEvent { cell } => one("take event", Part::From(Address::in_frame(*cell))),
+        I::NextEvent { back } => one("next event", Part::Back(*back)),
+        I::Reset { statistic, entity } => two(
             "reset",
-            &[Part::Of("statistic", *statistic), Part::From(*entity)],
+            Part::Of("statistic", *statistic),
+            Part::From(*entity),
         ),
-        I::Read { to } => with("read", &[Part::To(*to)]),
-        I::ReadText { to } => with("read text", &[Part::To(*to)]),
-        I::Print { lines, cell } => with(
+        I::Read { to } => one("read", Part::To(*to)),
+        I::ReadText { to } => one("read text", Part::To(*to)),
+        I::Print { lines, cell } => two(
             "print",
-            &[Part::Of("lines", *lines), Part::From(Address::in_frame(*cell))],
+            Part::Of("lines", *lines),
+            Part::From(Address::in_frame(*cell)),
         ),
-        I::Skip { count } => with("skip", &[Part::From(*count)]),
+        I::Skip { count } => one("skip", Part::From(*count)),
     }
 }
