@@ -200,8 +200,8 @@ module _ (code : Code) where
   at_falls lands (Some y) s x q e =
       let within = slice_get_within code.places s.core.place y q in
       let h = falls (is_due y.instruction) s.core s.report s.ticks (act code y.line y.instruction s.core) x e
-          (λ calm. every_so (Way (goes_back y.instruction) s.core) (Less s.core) (λ d w. less lands s.core d y q within w) (act code y.line y.instruction s.core) (act_way code y.line y.instruction s.core calm))
-          (λ due. every_so (Calls true s.core) (Little s.core) (λ d w. little s.core d w) (act code y.line y.instruction s.core) (subst (λ b. Every (Calls b s.core) (act code y.line y.instruction s.core)) due (act_calls code y.line y.instruction s.core))) in
+      (λ calm. every_so (Way (goes_back y.instruction) s.core) (Less s.core) (λ d w. less lands s.core d y q within w) (act code y.line y.instruction s.core) (act_way code y.line y.instruction s.core calm))
+      (λ due. every_so (Calls true s.core) (Little s.core) (λ d w. little s.core d w) (act code y.line y.instruction s.core) (subst (λ b. Every (Calls b s.core) (act code y.line y.instruction s.core)) due (act_calls code y.line y.instruction s.core))) in
       subst (λ b. left_to_do code x < s.ticks * (2 * length code.places + 1) + left_from b (length code.places - s.core.place) (left_in (length code.places) s.core.frames)) (sym (ap is_due_at q)) h
 
   -- each step leaves less to do

@@ -288,7 +288,7 @@ module _ (code : Code) (n : ℕ) (t : Site) (x : Variable) (turn : List Placed) 
       let rest : List Placed = turns ++ forget_to t (number_loop t) in
       let front : List Placed = ca ++ (cb ++ (cc_ ++ begin ∷ [])) in
       let shape : (ca ++ (cb ++ cc_)) ++ (begin ∷ rest) ≡ front ++ rest =
-          append_assoc ca (cb ++ cc_) (begin ∷ rest) ∙ ap (λ k. ca ++ k) (append_assoc cb cc_ (begin ∷ rest) ∙ ap (λ k. cb ++ k) (sym (append_assoc cc_ (begin ∷ []) rest)) ∙ sym (append_assoc cb (cc_ ++ begin ∷ []) rest)) ∙ sym (append_assoc ca (cb ++ (cc_ ++ begin ∷ [])) rest) in
+      append_assoc ca (cb ++ cc_) (begin ∷ rest) ∙ ap (λ k. ca ++ k) (append_assoc cb cc_ (begin ∷ rest) ∙ ap (λ k. cb ++ k) (sym (append_assoc cc_ (begin ∷ []) rest)) ∙ sym (append_assoc cb (cc_ ++ begin ∷ []) rest)) ∙ sym (append_assoc ca (cb ++ (cc_ ++ begin ∷ [])) rest) in
       let h = subst (HasAt code.places p) shape has in
       let long : length (for_code t (Numbers x a b c) turn) ≡ length front + length rest = ap length shape ∙ length-append front rest in
       let size : p + length front + length turns ≡ end + 1 = omega (arith, len, long, length-append turns (forget_to t (number_loop t)), one) in

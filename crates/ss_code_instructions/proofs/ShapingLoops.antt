@@ -79,10 +79,10 @@ module _ (p : Program) (typed : WellTyped p) (code : Code) (ls : List Mode) (b :
       let skip : ℕ = length body + length again + 2 in
       let long : back ≡ length turns = omega (arith, length-append body (again ++ (last ∷ [])), length-append again (last ∷ [])) in
       let repeats : Shapes p code (Ways 1 ms) (last ∷ []) (Backed (Comes ms) back ms) =
-          lead p code (Comes ms) (Ways 1 ms) (Backed (Comes ms) back ms) (last ∷ []) (λ q at end. (at, end.0))
-          (one p code (Backed (Comes ms) back ms) last (λ q end. one_back back q ms end.1)) in
+      lead p code (Comes ms) (Ways 1 ms) (Backed (Comes ms) back ms) (last ∷ []) (λ q at end. (at, end.0))
+      (one p code (Backed (Comes ms) back ms) last (λ q end. one_back back q ms end.1)) in
       let whole : Shapes p code (Comes ms) (turn ∷ turns) (Comes ms) =
-          looped p code (Comes ms) (Comes ms) turn turns back long refl (λ q at. at) (seq r (seq (guards_shapes p code ls b l ms 1 gs g) repeats)) in
+      looped p code (Comes ms) (Comes ms) turn turns back long refl (λ q at. at) (seq r (seq (guards_shapes p code ls b l ms 1 gs g) repeats)) in
       seq (guards_shapes p code ls b l ms skip gs g)
       (lead p code (Comes ms) (Ways skip ms) (Comes ms) (turn ∷ turns) (λ q at end.
       let e : q + length (turn ∷ turns) ≡ q + skip = omega (arith, long) in (at, moved p code e end)) whole)

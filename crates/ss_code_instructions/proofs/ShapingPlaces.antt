@@ -117,7 +117,6 @@ module _ (p : Program) (typed : WellTyped p) (code : Code) (ls : List Mode) (b :
       by : (k : Bool) → is_watched p.statistics x ≡ k → Shapes p code (Comes ms) (if k then with_operand (at_site l ms) e (λ y. i.Keep y x) else expression_code (at_site l ms) (i.Into x) e) (Comes ms)
       by true q = kept (watched_number p typed ls x m (plain_mode x m h) q)
       by false q = expression_shapes p code ls b l e m ms ms (i.Into x) g ((plain_mode x m h, q), refl)
-
   let_shapes l (ToAttribute class field r) e m ms h g =
       let mid : List Mode = operand_cells (at_site l ms) r in
       seq (entity_shapes p code ls b l (must_look class r e) class r ms (class_known p class field m h.0) h.1)

@@ -213,10 +213,16 @@ module _ (p : Program) (typed : WellTyped p) (code : Code) (ls : List Mode) (b :
       let top : List Mode = Integer ∷ Integer ∷ mid in
       seq (made (i.Onto (suc (length mid))) top (refl, refl))
       (seq
-      (one p code (Comes top) (place (at_site l top) (i.SetAttribute c field (stay (operand (at_site l ms) r)) (i.Stays (suc (length mid))))) (λ q end.
-      (Integer, h.0, (top,
-      second_first p code ls b (stay (operand (at_site l ms) r)) (i.Stays (suc (length mid))) Integer Integer top top top (stay_low (operand (at_site l ms) r) (i.Stays (suc (length mid))))
-      (under_cell [] (suc (length mid)) Integer (Integer ∷ mid) refl, refl) (stays p code ls b l r Integer (Integer ∷ Integer ∷ []) ms h.1), end))))
+      (one p code (Comes top) (place (at_site l top) (i.SetAttribute c field (stay (operand (at_site l ms) r)) (i.Stays (suc (length mid))))) (λ q end. (
+        Integer,
+        h.0,
+        (
+          top,
+          second_first p code ls b (stay (operand (at_site l ms) r)) (i.Stays (suc (length mid))) Integer Integer top top top (stay_low (operand (at_site l ms) r) (i.Stays (suc (length mid))))
+              (under_cell [] (suc (length mid)) Integer (Integer ∷ mid) refl, refl) (stays p code ls b l r Integer (Integer ∷ Integer ∷ []) ms h.1),
+          end,
+        ),
+      )))
       (seq
       (one p code (Comes mid) (place (at_site l top) (i.FileNotice class (i.Taken (suc (length mid))) (i.Taken (length mid)))) (λ q end.
       (k, (mid, first_first p code ls b (i.Taken (suc (length mid))) (i.Taken (length mid)) Integer Integer top (Integer ∷ mid) mid (next_above (length mid)) (refl, refl) (refl, refl), end))))

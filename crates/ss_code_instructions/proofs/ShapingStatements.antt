@@ -56,7 +56,7 @@ module _ (p : Program) (typed : WellTyped p) (code : Code) (linked : Linked code
       let e : EntryPoint = routine_entry at.begins r in
       let block : CellBlock (length ms) r.given (values_cells section_scope given ms) ms = record { is = values_so section_scope given r.given ms h; height = refl } in
       let left : results_cells (at_site l ms) yielding ≡ take (length r.yielding) (r.yielding ++ r.others) ++ ms =
-          results_so p typed code ls b l yielding r.yielding ms g ∙ ap (λ ws. ws ++ ms) (sym (front_of r.yielding r.others)) in
+      results_so p typed code ls b l yielding r.yielding ms g ∙ ap (λ ws. ws ++ ms) (sym (front_of r.yielding r.others)) in
       (e, at.there, (ms, block, subst (λ cells. At p code (q + 1) ls cells) left end))
 
   call_shapes : (l : Line) (k : ℕ) (given : List Expression) (yielding : List Place) (ms : List Mode) → GoodCall section_scope k given yielding → Shapes p code (Comes ms) (values_code (at_site l ms) given ++ (place (at_site l (values_cells section_scope given ms)) (i.Call k (length ms)) ∷ gives_code (at_site l ms) yielding)) (Comes ms)

@@ -387,16 +387,31 @@ schedule_new_length s class p given when =
     let s2 : Site = t.after_values s1 given in
     let make : To → Placed = λ to. place (t.above s2 Integer) (i.MakeNotice class (height s1) (length given) to) in
     let last : List Placed = t.notice_code s (t.above s1 Integer) class p make in
-    omega (arith, length-append (t.place_code s p) (t.values_code s1 given ++ (t.when_code s2 when ++ last)), length-append (t.values_code s1 given) (t.when_code s2 when ++ last), length-append (t.when_code s2 when) last,
-    place_length s p, values_length s1 given, when_length s2 when, notice_length s (t.above s1 Integer) class p make refl)
+    omega (
+      arith,
+      length-append (t.place_code s p) (t.values_code s1 given ++ (t.when_code s2 when ++ last)),
+      length-append (t.values_code s1 given) (t.when_code s2 when ++ last),
+      length-append (t.when_code s2 when) last,
+      place_length s p,
+      values_length s1 given,
+      when_length s2 when,
+      notice_length s (t.above s1 Integer) class p make refl,
+    )
 
 schedule_length : (s : Site) (class : ℕ) (e : Expression) (given : List Expression) (when : When) → length (t.schedule_code s class e given when) ≡ z.schedule_size s.scope.program e given when
 schedule_length s class e given when =
     let s1 : Site = after s e in
     let s2 : Site = t.after_values s1 given in
     let last : List Placed = place (t.above s2 Integer) (i.Reschedule class (operand s e) (height s1) (length given)) ∷ [] in
-    omega (arith, length-append (t.entity_code s true class e) (t.values_code s1 given ++ (t.when_code s2 when ++ last)), length-append (t.values_code s1 given) (t.when_code s2 when ++ last), length-append (t.when_code s2 when) last,
-    looked_length s true e (i.LookEntity class), values_length s1 given, when_length s2 when)
+    omega (
+      arith,
+      length-append (t.entity_code s true class e) (t.values_code s1 given ++ (t.when_code s2 when ++ last)),
+      length-append (t.values_code s1 given) (t.when_code s2 when ++ last),
+      length-append (t.when_code s2 when) last,
+      looked_length s true e (i.LookEntity class),
+      values_length s1 given,
+      when_length s2 when,
+    )
 
 restarts_length : (s : Site) (rs : List Restart) → length (t.restarts_code s rs) ≡ z.restarts_size s.scope.program rs
 restarts_length s [] = refl

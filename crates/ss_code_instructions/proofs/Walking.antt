@@ -151,14 +151,16 @@ before_end (x ∷ xs) (suc k) a q = let h : k < length xs = before_end xs k a q 
 
 -- what may be a member has one that comes after it, or 0
 known_follows : (reverse : Bool) (set n : ℕ) (t : SetLayout) (x : ℤ) (s : Store) → set_at set s ≡ Some t → joiner s.scene.heap set x ≡ Ok n → Follows reverse set s x
-known_follows false set n t x s q j =
-    (pos (follower n (companions s.scene.heap.lists set n)),
-    ap (λ (o : Option SetLayout). where_fit (is_some o) (due (next_in s.scene.heap set x))) q
-    ∙ ap (λ (r : OkOr ℕ FaultKind). due (and_then r (λ k. Ok (pos (follower k (companions s.scene.heap.lists set k)))))) j)
-known_follows true set n t x s q j =
-    (pos (precursor 0 n (companions s.scene.heap.lists set n)),
-    ap (λ (o : Option SetLayout). where_fit (is_some o) (due (previous_in s.scene.heap set x))) q
-    ∙ ap (λ (r : OkOr ℕ FaultKind). due (and_then r (λ k. Ok (pos (precursor 0 k (companions s.scene.heap.lists set k)))))) j)
+known_follows false set n t x s q j = (
+  pos (follower n (companions s.scene.heap.lists set n)),
+  ap (λ (o : Option SetLayout). where_fit (is_some o) (due (next_in s.scene.heap set x))) q
+      ∙ ap (λ (r : OkOr ℕ FaultKind). due (and_then r (λ k. Ok (pos (follower k (companions s.scene.heap.lists set k)))))) j,
+)
+known_follows true set n t x s q j = (
+  pos (precursor 0 n (companions s.scene.heap.lists set n)),
+  ap (λ (o : Option SetLayout). where_fit (is_some o) (due (previous_in s.scene.heap set x))) q
+      ∙ ap (λ (r : OkOr ℕ FaultKind). due (and_then r (λ k. Ok (pos (precursor 0 k (companions s.scene.heap.lists set k)))))) j,
+)
 
 member_follows : (reverse : Bool) (set : ℕ) (t : SetLayout) (x : ℤ) (s : Store) → Joined s.scene.heap → set_at set s ≡ Some t → IsMember s.scene.heap set x → Follows reverse set s x
 member_follows reverse set t x s joined q m =

@@ -134,8 +134,8 @@ code_of_a_look = refl
 abbrev a_call : Program
 a_call = record (workshop 2 (Call (line 3) 0 (local 0 ∷ Calculate operators.Multiply (local 0) (num (pos 2)) ∷ [])
     (to_local 1 ∷ ToAttribute job 0 (global job) ∷ []) ∷ [])) {
-  routines = record { given = Integer ∷ Integer ∷ []; yielding = Integer ∷ Integer ∷ []; others = []; body = block (Let (line 7) (to_local 2) (local 1) ∷ []) } ∷ [];
-}
+      routines = record { given = Integer ∷ Integer ∷ []; yielding = Integer ∷ Integer ∷ []; others = []; body = block (Let (line 7) (to_local 2) (local 1) ∷ []) } ∷ [];
+    }
 
 pub code_of_a_call : instructions a_call ≡
     i.Move (Held (Local 0)) (Onto 0) ∷ i.Calculate operators.Multiply (Held (Local 0)) (number (pos 2)) (Onto 1)
@@ -185,8 +185,8 @@ watched = record (workshop 1
     ∷ File (line 5) queue (global job) ByDiscipline (Entity (local 0))
     ∷ RemoveEnd (line 6) ends.First queue (ToVariable (Global 0)) (Entity (Attribute job 0 (global job)))
     ∷ ScheduleNew (line 7) bell (ToVariable (Global 0)) [] (At (num (pos 5))) ∷ [])) {
-  statistics = record { subject = OfVariable 0; weighting = Tally } ∷ record { subject = OfCount queue; weighting = Tally } ∷ [];
-}
+      statistics = record { subject = OfVariable 0; weighting = Tally } ∷ record { subject = OfCount queue; weighting = Tally } ∷ [];
+    }
 
 pub code_of_watched : instructions watched ≡
     i.Read Integer (Onto 0) ∷ i.Keep (Taken 0) (Global 0)
