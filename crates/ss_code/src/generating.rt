@@ -206,8 +206,8 @@ fn sections_of(
 
 // The code of a program that is well typed.
 fn made(alloc: Global, program: &Program) -> Result<Code, CodeError>
-    requires typed { ∥ WellTyped (view_program program.now) ∥₁ }
-    ensures code { IfOk result (λ code. ∥ IsFor (view_program program.now) code ∥₁) }
+    requires typed { WellTyped (view_program program.now) }
+    ensures code { IfOk result (λ code. IsFor (view_program program.now) code) }
     ensures behaves { IfOk result (λ code. Behaves (view_program program.now) (code_of (view_program program.now))) }
     ensures lands { IfOk result (λ code. Lands (code_of (view_program program.now))) }
     ensures limit { IfOk result (λ code. length code.run.instructions ≤ most_instructions) }
@@ -250,7 +250,7 @@ fn made(alloc: Global, program: &Program) -> Result<Code, CodeError>
 /// for a program of at most 16,384 nodes; `Memory` where memory was refused, also where a program has so many variables or constants that
 /// no memory holds their values.
 pub fn generate(alloc: Global, checked: &Checked) -> Result<Code, CodeError>
-    ensures code { IfOk result (λ code. ∥ IsFor (view_program (program_in checked.now)) code ∥₁) }
+    ensures code { IfOk result (λ code. IsFor (view_program (program_in checked.now)) code) }
     ensures behaves { IfOk result (λ code. Behaves (view_program (program_in checked.now)) (code_of (view_program (program_in checked.now)))) }
     ensures lands { IfOk result (λ code. Lands (code_of (view_program (program_in checked.now)))) }
     ensures limit { IfOk result (λ code. length code.run.instructions ≤ most_instructions) }

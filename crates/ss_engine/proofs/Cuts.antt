@@ -22,9 +22,9 @@ use Rattle.ss_engine.proofs.Pieces.{Saying, EachSays, EachLed, finishing, cuttin
 use Rattle.ss_engine.proofs.Headline.{compiled_of, at_first}
 
 module _ {R W : Type 0} (remaining : R → Option (List ℕ)) (contents : W → Option (List ℕ)) (reader last_reader : R) (writer last_writer : W) (text : List ℕ) (p : Program) (is_program : IsProgramOf text p) (code : Generated) (first new : Situation) (source last : Source R) (used made : ℕ)
-    (of : ∥ IsOf code (compiled_of p code) ∥₁) (starts : IsAtStart code first) (fresh : IsFresh reader source) (at_last : source_reader last ≡ last_reader) (knows : KnowsEnd remaining (source_block last)) where
+    (of : IsOf code (compiled_of p code)) (starts : IsAtStart code first) (fresh : IsFresh reader source) (at_last : source_reader last ≡ last_reader) (knows : KnowsEnd remaining (source_block last)) where
   -- a run after which no more is read
-  took_last : (stop : Stop) (Q : Saying) → ((bytes input : List ℕ) → ((more : ℕ) → ∥ Q (code_of p) made (start (code_of p) input (used + more)) bytes more ∥₁) → CutBy stop (code_of p) used made bytes input)
+  took_last : (stop : Stop) (Q : Saying) → ((bytes input : List ℕ) → ((more : ℕ) → Q (code_of p) made (start (code_of p) input (used + more)) bytes more) → CutBy stop (code_of p) used made bytes input)
       → TookLast remaining source last (contents writer) (contents last_writer) (EachSays Q code first used made) → WasCut remaining contents text stop used reader last_reader writer last_writer
   took_last stop Q to h = record {
     program = p;
@@ -71,6 +71,6 @@ nothing_cut remaining contents text p is_program reader writer = record {
     ended = false;
     gave = Consumes-nil (remaining reader);
     at_end = λ e. absurd cc;
-    says = λ more e ticks. ∣ record { state = start (code_of p) more (0 + ticks); passed = refl; left = omega arith; cut = record { part = []; begins = refl; within = inl refl } } ∣₁;
+    says = λ more e ticks. record { state = start (code_of p) more (0 + ticks); passed = refl; left = omega arith; cut = record { part = []; begins = refl; within = inl refl } };
   };
 }

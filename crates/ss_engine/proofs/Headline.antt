@@ -1,9 +1,6 @@
 -- A run of the machine is what the text of its code means.
 use Rattle.std.proofs.Common.{◌≡◌, ◌≢◌, ℕ, suc, ◌+◌, ◌-◌, ◌<◌, false, List, [], ◌++◌, ◌⊎◌, inl, inr, Option, refl, sym, ap, ◌∙◌, subst, append_assoc, append-nil, arith}
 use Rattle.std.proofs.KnownBytes.{Appends-nil, Consumes-nil}
-use Rattle.std.proofs.Math.Logic.{∥∥₁_elim, ∥∥₁_map}
-use Rattle.std.proofs.Props.{props}
-use Rattle.std.proofs.lemmas.List.{append_cancel_left}
 use Rattle.ss_input.specs.Blocks.{KnowsEnd}
 use Rattle.ss_input.specs.declared.source.Source.{Source}
 use Rattle.ss_input.specs.Inputs.{IsFresh, Finds, source_block, source_reader}
@@ -17,7 +14,7 @@ use Rattle.ss_code_instructions.specs.Running.{Underway, Ends, Behaves, start, s
 use Rattle.ss_code_instructions.specs.Translation.{code_of}
 use Rattle.ss_code_instructions.specs.Laws.{EndingsStay, Grows, HasShape, OnTheWay, OneTickFewer, Pauses, Prefixes, StepsGoOn}
 use Rattle.ss_machine_instructions.specs.Doing.{Compiled}
-use Rattle.ss_machine.specs.Situations.{Situation, IsOf}
+use Rattle.ss_machine.specs.Situations.{Situation, IsOf, ForEach}
 use Rattle.ss_machine.specs.Stop.{Stop}
 use Rattle.ss_machine.specs.Stop.TheVariants.{Ended, Fault, Paused, Memory, Output, Input, Failed}
 use Rattle.ss_machine.specs.Start.{IsAtStart}
@@ -35,27 +32,18 @@ use Rattle.ss_engine.proofs.Ticks.{pauses_with_fewer}
 abbrev pub compiled_of : Program → Generated → Compiled
 compiled_of p code = record { program = p; code = code_of p; run = code.run }
 
-pub is_of : HasShape → (p : Program) (code : Generated) → WellTyped p → ∥ IsFor p code ∥₁ → ∥ IsOf code (compiled_of p code) ∥₁
-is_of shape p code typed is_for = ∥∥₁_map is_for (λ f. record { compiled = record { typed = typed; code = refl; shaped = shape p typed; run = f.code }; run = refl; said = f.said; globals = f.globals })
+pub is_of : HasShape → (p : Program) (code : Generated) → WellTyped p → IsFor p code → IsOf code (compiled_of p code)
+is_of shape p code typed f = record { compiled = record { typed = typed; code = refl; shaped = shape p typed; run = f.code }; run = refl; said = f.said; globals = f.globals }
 
 -- what is said of each state that a machine at its start may hold is said of the first state
-pub at_first : (Q : Saying) (p : Program) (code : Generated) (first : Situation) → ∥ IsOf code (compiled_of p code) ∥₁ → IsAtStart code first → (used made : ℕ) (bytes input : List ℕ) →
-    EachSays Q code first used made bytes input → (ticks : ℕ) → ∥ Q (code_of p) made (start (code_of p) input (used + ticks)) bytes ticks ∥₁
-at_first Q p code first of starts used made bytes input s ticks = ∥∥₁_map of (λ o. s (compiled_of p code) o (start (code_of p) input 0).core refl (starts (compiled_of p code) o input) [] ticks)
+pub at_first : (Q : Saying) (p : Program) (code : Generated) (first : Situation) → IsOf code (compiled_of p code) → IsAtStart code first → (used made : ℕ) (bytes input : List ℕ) →
+    EachSays Q code first used made bytes input → (ticks : ℕ) → Q (code_of p) made (start (code_of p) input (used + ticks)) bytes ticks
+at_first Q p code first of starts used made bytes input s ticks = s (compiled_of p code) of (start (code_of p) input 0).core refl (starts (compiled_of p code) of input) [] ticks
 
 -- ## Numbers and reports
 
 no_more : (n : ℕ) → n + 0 ≡ n
 no_more n = omega arith
-
-equal_once : (a b : List ℕ) → IsProp (a ≡ b)
-equal_once a b = hlevel props
-
--- a text grows to another in one way at most
-grows_once : (a b : List ℕ) → IsProp (Grows a b)
-grows_once a b x y =
-    subst (λ (u : List ℕ). (q : b ≡ a ++ u) → x ≡ record { by = (u, q) }) (append_cancel_left a x.by.0 y.by.0 (sym x.by.1 ∙ y.by.1))
-    (λ q. ap (λ (r : b ≡ a ++ x.by.0). record { by = (x.by.0, r) }) (equal_once b (a ++ x.by.0) x.by.1 q)) y.by.1
 
 grows_first : (a b c : List ℕ) (part : List ℕ) → b ≡ a ++ part → Grows b c → Grows a c
 grows_first a b c part e g = record { by = (part ++ g.by.0, g.by.1 ∙ ap (λ l. l ++ g.by.0) e ∙ append_assoc a part g.by.0) }
@@ -88,21 +76,32 @@ module _ (on_the_way : OnTheWay) (fewer_ticks : OneTickFewer) (pauses : Pauses) 
       ap (λ l. Ends (record { report = l; ending = ending; ticks = ticks })) f.written
 
   -- and that is what the text means
-  finished : (input : List ℕ) (n m : ℕ) (bytes : List ℕ) (ending : Ending) (ticks : ℕ) → ∥ Finishes code (start code input n) m bytes ending ticks ∥₁ → IsMeaning text input n (record { report = bytes; ending = ending; ticks = ticks })
+  finished : (input : List ℕ) (n m : ℕ) (bytes : List ℕ) (ending : Ending) (ticks : ℕ) → Finishes code (start code input n) m bytes ending ticks → IsMeaning text input n (record { report = bytes; ending = ending; ticks = ticks })
   finished input n m bytes ending ticks f =
       let r : Run = record { report = bytes; ending = ending; ticks = ticks } in
-      means_so input n r (∥∥₁_elim f (hlevel props) (λ f. sym (behaves.only input n m r (right input n) (ends m (start code input n) bytes ending ticks f))))
+      means_so input n r (sym (behaves.only input n m r (right input n) (ends m (start code input n) bytes ending ticks f)))
 
   -- the state after a step
   one_step : (m : ℕ) (s x next : MachineState) → steps code m s ≡ Underway x → step code x ≡ Goes next → steps code (m + 1) s ≡ Underway next
   one_step m s x next e f = go_on code m 1 s x e ∙ ap (λ r. goes_on r x (steps code 0)) f
 
   -- a run that is cut wrote a beginning of the report for its ticks, which goes on from the report for fewer
-  module _ (input : List ℕ) (n m : ℕ) (bytes : List ℕ) (c : IsCut code (start code input n) m bytes 0) where
+  cut_between : (input : List ℕ) (n m : ℕ) (bytes : List ℕ) → IsCut code (start code input n) m bytes 0 → IsCutShort text input n bytes
+  cut_between input n m bytes c = record {
+    run = meaning p input n;
+    is_meaning = means_so input n (meaning p input n) refl;
+    within = by-part c.cut.within;
+    beyond = λ fewer earlier lt h.
+        let e = meant_so input fewer earlier h in
+        (ap (λ (r : Run). r.ending) (sym e) ∙ pauses_with_fewer stay p right code behaves input n m c.state passed c.left fewer lt, subst (λ (r : Run). Grows r.report bytes) e (begun fewer lt));
+  } where
+    passed : steps code m (start code input n) ≡ Underway c.state
+    passed = c.passed
+
     begun : (fewer : ℕ) → fewer < n → Grows (meaning p input fewer).report bytes
     begun fewer lt =
         let k = n - 1 in
-        let g = fewer_ticks p code behaves input k m c.state (right input k) (right input (suc k)) (subst (λ j. steps code m (start code input j) ≡ Underway c.state) (one_fewer fewer n lt) c.passed) c.left in
+        let g = fewer_ticks p code behaves input k m c.state (right input k) (right input (suc k)) (subst (λ j. steps code m (start code input j) ≡ Underway c.state) (one_fewer fewer n lt) passed) c.left in
         let last : Grows (meaning p input k).report bytes = record { by = (g.by.0 ++ c.cut.part, c.cut.begins ∙ ap (λ l. l ++ c.cut.part) g.by.1 ∙ append_assoc (meaning p input k).report g.by.0 c.cut.part) } in
         let first = subst (λ j. Grows (meaning p input fewer).report (meaning p input j).report) (up_to fewer n lt) (prefixes p input fewer (k - fewer) (right input fewer) (right input (fewer + (k - fewer)))) in
         grows_first (meaning p input fewer).report (meaning p input k).report bytes first.by.0 first.by.1 last
@@ -110,35 +109,19 @@ module _ (on_the_way : OnTheWay) (fewer_ticks : OneTickFewer) (pauses : Pauses) 
     by-part : (c.cut.part ≡ []) ⊎ ((next : MachineState) × (rest : List ℕ) × (step code c.state ≡ Goes next) × (next.report ≡ bytes ++ rest)) → Grows bytes (meaning p input n).report
     by-part (inl e) =
         let whole : bytes ≡ c.state.report = c.cut.begins ∙ ap (λ l. c.state.report ++ l) e ∙ append-nil c.state.report in
-        subst (λ l. Grows l (meaning p input n).report) (sym whole) (on_the_way p code behaves input n m c.state (right input n) c.passed)
+        subst (λ l. Grows l (meaning p input n).report) (sym whole) (on_the_way p code behaves input n m c.state (right input n) passed)
     by-part (inr f) =
-        let next = one_step m (start code input n) c.state f.0 c.passed f.2 in
+        let next = one_step m (start code input n) c.state f.0 passed f.2 in
         grows_first bytes f.0.report (meaning p input n).report f.1 f.3 (on_the_way p code behaves input n (m + 1) f.0 (right input n) next)
 
-    pauses_fewer : (fewer : ℕ) → fewer < n → (meaning p input fewer).ending ≡ PausedThere
-    pauses_fewer fewer lt = pauses_with_fewer stay p right code behaves input n m c.state c.passed c.left fewer lt
-
-  cut_between : (input : List ℕ) (n m : ℕ) (bytes : List ℕ) → ∥ IsCut code (start code input n) m bytes 0 ∥₁ → IsCutShort text input n bytes
-  cut_between input n m bytes cut = record {
-    run = meaning p input n;
-    is_meaning = means_so input n (meaning p input n) refl;
-    within = ∥∥₁_elim cut (grows_once bytes (meaning p input n).report) (λ c. by-part input n m bytes c c.cut.within);
-    beyond = λ fewer earlier lt h.
-        let e = meant_so input fewer earlier h in
-        (
-          ∥∥₁_elim cut (hlevel props) (λ c. ap (λ (r : Run). r.ending) (sym e) ∙ pauses_fewer input n m bytes c fewer lt),
-          ∥∥₁_elim cut (grows_once earlier.report bytes) (λ c. subst (λ (r : Run). Grows r.report bytes) e (begun input n m bytes c fewer lt)),
-        );
-  }
-
   module _ {R W : Type 0} (remaining : R → Option (List ℕ)) (contents : W → Option (List ℕ)) (reader last_reader : R) (writer last_writer : W) (run : Generated) (first new : Situation) (source last : Source R) (used made : ℕ)
-      (of : ∥ IsOf run (compiled_of p run) ∥₁) (starts : IsAtStart run first) (fresh : IsFresh reader source) (at_last : source_reader last ≡ last_reader) (knows : KnowsEnd remaining (source_block last)) where
+      (of : IsOf run (compiled_of p run)) (starts : IsAtStart run first) (fresh : IsFresh reader source) (at_last : source_reader last ≡ last_reader) (knows : KnowsEnd remaining (source_block last)) where
     -- what holds of the input before a run holds of what the reader gave
     gave : (Says Means : List ℕ → Type 0) → ((input : List ℕ) → Says input → Means input) → Finds remaining source last Says → Gave remaining reader last_reader Means
     gave = fresh_gave remaining source last reader last_reader fresh at_last knows
 
     -- a run after which no more is read
-    took_last : (stop : Stop) (Q : Saying) → ((bytes input : List ℕ) → ((more : ℕ) → ∥ Q code made (start code input (used + more)) bytes more ∥₁) → Means stop text used bytes input)
+    took_last : (stop : Stop) (Q : Saying) → ((bytes input : List ℕ) → ((more : ℕ) → Q code made (start code input (used + more)) bytes more) → Means stop text used bytes input)
         → TookLast remaining source last (contents writer) (contents last_writer) (EachSays Q run first used made) → Simulated remaining contents text stop used reader last_reader writer last_writer
     took_last stop Q to h = record {
       bytes = h.bytes;
@@ -146,10 +129,10 @@ module _ (on_the_way : OnTheWay) (fewer_ticks : OneTickFewer) (pauses : Pauses) 
       means = gave (EachSays Q run first used made h.bytes) (Means stop text used h.bytes) (λ input s. to h.bytes input (at_first Q p run first of starts used made h.bytes input s)) h.says;
     }
 
-    over : (ending : Ending) (bytes input : List ℕ) → ((more : ℕ) → ∥ Finishes code (start code input (used + more)) made bytes ending more ∥₁) → (more : ℕ) → IsMeaning text input (used + more) (record { report = bytes; ending = ending; ticks = more })
+    over : (ending : Ending) (bytes input : List ℕ) → ((more : ℕ) → Finishes code (start code input (used + more)) made bytes ending more) → (more : ℕ) → IsMeaning text input (used + more) (record { report = bytes; ending = ending; ticks = more })
     over ending bytes input s more = finished input (used + more) made bytes ending more (s more)
 
-    cut : (bytes input : List ℕ) → ((more : ℕ) → ∥ IsCut code (start code input (used + more)) made bytes more ∥₁) → IsCutShort text input used bytes
+    cut : (bytes input : List ℕ) → ((more : ℕ) → IsCut code (start code input (used + more)) made bytes more) → IsCutShort text input used bytes
     cut bytes input s = subst (λ n. IsCutShort text input n bytes) (no_more used) (cut_between input (used + 0) made bytes (s 0))
 
     paused : Comes remaining run first new source last (contents writer) (contents last_writer) used made → IsPausing run new → Simulated remaining contents text Paused used reader last_reader writer last_writer
@@ -157,11 +140,11 @@ module _ (on_the_way : OnTheWay) (fewer_ticks : OneTickFewer) (pauses : Pauses) 
       bytes = h.bytes;
       took = h.took;
       means = gave (λ input. (rest : List ℕ) × EachLed run first new used made h.bytes input rest) (Means Paused text used h.bytes)
-          (λ input s. means_so input used (record { report = h.bytes; ending = PausedThere; ticks = 0 }) (∥∥₁_elim of (hlevel props) (λ o.
-          let l = s.1 (compiled_of p run) o (start code input 0).core refl (starts (compiled_of p run) o input) in
+          (λ input s.
+          let l = s.1 (compiled_of p run) of (start code input 0).core refl (starts (compiled_of p run) of input) in
           let x : MachineState = record { core = l.core; report = h.bytes; ticks = 0 } in
           let passed = subst (λ n. steps code made (start code input n) ≡ Underway x) (no_more used) (l.gets [] 0) in
-          pauses p code behaves input used made 0 x (right input used) passed (due (compiled_of p run) o l.core l.stands h.bytes))))
+          means_so input used (record { report = h.bytes; ending = PausedThere; ticks = 0 }) (pauses p code behaves input used made 0 x (right input used) passed (due (compiled_of p run) of l.core l.stands h.bytes)))
           (reads_find remaining source last (EachLed run first new used made h.bytes) h.says);
     }
 
@@ -171,8 +154,8 @@ module _ (on_the_way : OnTheWay) (fewer_ticks : OneTickFewer) (pauses : Pauses) 
     ran_simulated (Fault kind line) h = took_last (Fault kind line) (finishing (FaultThere kind line)) (over (FaultThere kind line)) h
     ran_simulated Paused h = paused h.0 h.1
     ran_simulated Memory h = took_last Memory cutting cut h
-    ran_simulated Output h = took_last Output (cutting_at does_write) (λ bytes input s. cut bytes input (λ more. ∥∥₁_map (s more) (λ c. c.cut))) h
-    ran_simulated Input h = took_last Input (cutting_at does_read) (λ bytes input s. cut bytes input (λ more. ∥∥₁_map (s more) (λ c. c.cut))) h
+    ran_simulated Output h = took_last Output (cutting_at does_write) (λ bytes input s. cut bytes input (λ more. (s more).cut)) h
+    ran_simulated Input h = took_last Input (cutting_at does_read) (λ bytes input s. cut bytes input (λ more. (s more).cut)) h
     ran_simulated Failed h = absurd h
 
 none_fewer : (fewer : ℕ) → fewer < 0 → ⊥

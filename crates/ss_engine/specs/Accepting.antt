@@ -54,7 +54,7 @@ IsWellFormed text = (tree : ProgramTree) × IsKeptBy text tree
 pub record Compiles (text : List ℕ) (code : Generated) : Type 0 where
   pub program : Program
   pub meant : IsProgramOf text program
-  pub code_is : ∥ IsFor program code ∥₁
+  pub code_is : IsFor program code
   pub behaves : Behaves program (code_of program)
 
 -- the text has tokens, and they spell no program: for syntax none of any depth; where it is too deep, none within the

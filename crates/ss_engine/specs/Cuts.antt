@@ -21,9 +21,9 @@ abbrev pub CutBy : Stop → Code → (used made : ℕ) → (bytes input : List �
 CutBy Ended code used made bytes input = Unit {0}
 CutBy (Fault kind line) code used made bytes input = Unit {0}
 CutBy Paused code used made bytes input = Unit {0}
-CutBy Memory code used made bytes input = (more : ℕ) → ∥ IsCut code (start code input (used + more)) made bytes more ∥₁
-CutBy Output code used made bytes input = (more : ℕ) → ∥ IsCutAt does_write code (start code input (used + more)) made bytes more ∥₁
-CutBy Input code used made bytes input = (more : ℕ) → ∥ IsCutAt does_read code (start code input (used + more)) made bytes more ∥₁
+CutBy Memory code used made bytes input = (more : ℕ) → IsCut code (start code input (used + more)) made bytes more
+CutBy Output code used made bytes input = (more : ℕ) → IsCutAt does_write code (start code input (used + more)) made bytes more
+CutBy Input code used made bytes input = (more : ℕ) → IsCutAt does_read code (start code input (used + more)) made bytes more
 CutBy Failed code used made bytes input = Unit {0}
 
 -- The run of a text that used so many ticks was cut so, while the reader gave its input and the writer took these bytes: so many steps bring

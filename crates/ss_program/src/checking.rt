@@ -20,7 +20,7 @@ impl Checked {
     /// The program, which is well typed.
     pub fn program(&self) -> &Program
         ensures same { result.now ≡ program_in self.now }
-        ensures typed { ∥ WellTyped (view_program result.now) ∥₁ }
+        ensures typed { WellTyped (view_program result.now) }
     {
         &self.program
     }

@@ -20,7 +20,7 @@ returns-in-Err-check-clause-refused c =
 pub returns-in-Ok-generate-clause-accepted : goal.returns-in-Ok-generate-clause-accepted
 returns-in-Ok-generate-clause-accepted c =
     let tree = tree_seen c.in-Ok-parse.program in
-    let p = view_program c.in-Ok-check.resolved.program in
+    let p = view_program c.in-Ok-check.resolved in
     let read : IsTreeOf c.args.text.now tree = record { tokens = c.in-Ok.tokens.list; are = c.in-Ok.ensures.found; spelled = c.in-Ok-parse.ensures.found } in
     let becomes = c.in-Ok-check.ensures.checked in
     let keeps : IsKeptBy c.args.text.now tree = record { read = read; declared = c.in-Ok-of.ensures.made.kept; kept = becomes.kept } in
@@ -30,7 +30,7 @@ returns-in-Ok-generate-clause-accepted c =
 pub returns-clause-refused : goal.returns-clause-refused
 returns-clause-refused c =
     let tree = tree_seen c.in-Ok-parse.program in
-    let p = view_program c.in-Ok-check.resolved.program in
+    let p = view_program c.in-Ok-check.resolved in
     let read : IsTreeOf c.args.text.now tree = record { tokens = c.in-Ok.tokens.list; are = c.in-Ok.ensures.found; spelled = c.in-Ok-parse.ensures.found } in
     let becomes = c.in-Ok-check.ensures.checked in
     let keeps : IsKeptBy c.args.text.now tree = record { read = read; declared = c.in-Ok-of.ensures.made.kept; kept = becomes.kept } in
