@@ -11,7 +11,7 @@ ghost use Rattle.ss_machine.specs.Held.{IsFirst, answer_again, kept_after};
 
 use ss_base::{FaultyRead, FaultyWrite};
 use ss_code::code::Code;
-use ss_code_instructions::laws::laws;
+use ss_code_instructions::laws::{laws_of_code, laws_of_pieces};
 use ss_input::Source;
 use ss_machine_instructions::flow::Here;
 use ss_machine_instructions::state::State;
@@ -87,7 +87,7 @@ impl Machine {
     pub fn new(alloc: Global, code: Code) -> Result<Machine, AllocError>
         ensures { IfOk result (λ machine. IsFirst code machine) }
     {
-        laws();
+        laws_of_code();
         let _made = code.len();
         let first = first_state(alloc, &code);
         let (code, state) = beside(code, first)?;
@@ -152,7 +152,7 @@ impl Machine {
         if let Some(stop) = self.stopped {
             return again(stop);
         }
-        laws();
+        laws_of_pieces();
         let last = self.used.saturating_add(ticks);
         let from = Here {
             place: self.place,

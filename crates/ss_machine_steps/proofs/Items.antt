@@ -8,7 +8,7 @@ use Rattle.ss_base.specs.declared.value.Value.{Value}
 use Rattle.ss_base.specs.declared.value.Value.TheVariants.{Whole, Text}
 use Rattle.ss_picture.specs.declared.items.FieldValue.{FieldValue}
 use Rattle.ss_picture.specs.declared.items.FieldValue.TheVariants.{Is, Mean}
-use Rattle.ss_meaning.specs.Values.{Trouble, due}
+use Rattle.ss_meaning.specs.Values.{Trouble, Fails, Misfit, due}
 use Rattle.ss_meaning.specs.Store.{Store}
 use Rattle.ss_meaning.specs.Statistics.{mean}
 use Rattle.ss_meaning.specs.Fitting.{Hold}
@@ -70,7 +70,7 @@ module _ (e : Seen) (r : TwoRows) (at : ℕ) where
       let q : Some z ≡ Some n = sym lie.0 ∙ has in
       let same : z ≡ n = cc in
       let b = before_item item (mean_item (mean j (Some (Whole z)) (with_seen s e))) (values_shown (map kind_of_item ks) vs (with_seen s e)) given
-          (λ y p. h s y (ap (λ k. mean_item (mean j (Some (Whole k)) (with_seen s e))) (sym same) ∙ p)) shown in
+      (λ y p. h s y (ap (λ k. mean_item (mean j (Some (Whole k)) (with_seen s e))) (sym same) ∙ p)) shown in
       record { later = b.later; rest = vs; is = b.is; lie = lie.1; modes = cc; shown = b.there }
   mean_of_first j n item has h s ks (Text t ∷ vs) given lie modes shown = absurd cc
 
@@ -87,7 +87,16 @@ mean_is (Ok a) (Ok m) h x e =
     let is : Mean m.0 m.1 ≡ x = cc in
     sym is ∙ ap (λ (p : ℤ × ℤ). Mean p.0 p.1) same
 mean_is (Err kind) (Ok m) h x e = let q : Ok m ≡ due (Err kind) = h (λ q. cc) in absurd cc
-mean_is answer (Err t) h x e = absurd cc
+mean_is (Ok a) (Err (Fails kind)) h x e = let q : Err (Fails kind) ≡ due (Ok a) = h (λ q. cc) in absurd cc
+mean_is (Err found) (Err (Fails kind)) h x e = let is : Mean (pos 0) (pos 0) ≡ x = cc in sym is
+mean_is answer (Err Misfit) h x e = absurd cc
+
+-- the place after the cells of an item is one
+pub place_small : (e : Seen) (r : TwoRows) (at : ℕ) (k : ItemKind) → CanShowOne e r at k → length r.numbers < 2 ^ 32 → at < 2 ^ 64 → at + cells_of k < 2 ^ 64
+place_small e r at shows.Number h few low = omega (arith, h, few)
+place_small e r at shows.Text h few low = omega (arith, h, few)
+place_small e r at (shows.Mean j) h few low = omega (arith, low)
+place_small e r at (shows.MeanOf j) h few low = omega (arith, h.0, few)
 
 -- ## The items so far
 
@@ -109,20 +118,26 @@ module _ (e : Seen) (r : TwoRows) (from : ℕ) (all : List ItemKind) where
   pub none_yet : AreSoFar e r from from all all []
   none_yet s vs given lie modes shown = record { later = given; rest = vs; is = refl; lie = lie; modes = modes; shown = shown }
 
-  module _ (at i : ℕ) (k : ItemKind) (lt : i < length all) (is : k ≡ get_or all i k) (xs : List FieldValue) where
-    left : drop i all ≡ k ∷ drop (i + 1) all
-    left = drop_more all i k lt ∙ ap (λ x. x ∷ drop (i + 1) all) (sym is)
+  module _ (at i : ℕ) (d : ItemKind) (lt : i < length all) where
+    -- the next kind
+    abbrev pub kind : ItemKind
+    kind = get_or all i d
 
-    -- the next kind can be shown
-    pub can_now : CanShow e r at (drop i all) → CanShowOne e r at k × CanShow e r (at + cells_of k) (drop (i + 1) all)
-    can_now h = subst (CanShow e r at) left h
+    left : drop i all ≡ kind ∷ drop (i + 1) all
+    left = drop_more all i d lt
 
-    -- one more
-    pub one_more : AreSoFar e r from at all (drop i all) xs → (item : FieldValue) → IsShown e r at k item → AreSoFar e r from (at + cells_of k) all (drop (i + 1) all) (xs ++ item ∷ [])
-    one_more h item first s vs given lie modes shown =
+    can_both : CanShow e r at (drop i all) → CanShowOne e r at kind × CanShow e r (at + cells_of kind) (drop (i + 1) all)
+    can_both h = subst (CanShow e r at) left h
+
+    -- it can be shown
+    pub can_now : CanShow e r at (drop i all) → CanShowOne e r at kind
+    can_now h = (can_both h).0
+
+    more : (xs : List FieldValue) (item : FieldValue) → AreSoFar e r from at all (drop i all) xs → IsShown e r at kind item → AreSoFar e r from (at + cells_of kind) all (drop (i + 1) all) (xs ++ item ∷ [])
+    more xs item h first s vs given lie modes shown =
         let f = h s vs given lie modes shown in
-        let ms : Hold f.rest (item_modes (k ∷ drop (i + 1) all)) = subst (λ ks. Hold f.rest (item_modes ks)) left f.modes in
-        let sh : values_shown (map kind_of_item (k ∷ drop (i + 1) all)) f.rest (with_seen s e) ≡ Some f.later = subst (λ ks. values_shown (map kind_of_item ks) f.rest (with_seen s e) ≡ Some f.later) left f.shown in
+        let ms : Hold f.rest (item_modes (kind ∷ drop (i + 1) all)) = subst (λ ks. Hold f.rest (item_modes ks)) left f.modes in
+        let sh : values_shown (map kind_of_item (kind ∷ drop (i + 1) all)) f.rest (with_seen s e) ≡ Some f.later = subst (λ ks. values_shown (map kind_of_item ks) f.rest (with_seen s e) ≡ Some f.later) left f.shown in
         let n = first s (drop (i + 1) all) f.rest f.later f.lie ms sh in
         record {
           later = n.later;
@@ -132,6 +147,21 @@ module _ (e : Seen) (r : TwoRows) (from : ℕ) (all : List ItemKind) where
           modes = n.modes;
           shown = n.shown;
         }
+
+    module _ (n : ℕ) (cells : n ≡ cells_of kind) where
+      -- and so can those after it
+      pub can_then : CanShow e r at (drop i all) → CanShow e r (at + n) (drop (i + 1) all)
+      can_then h = subst (λ n. CanShow e r (at + n) (drop (i + 1) all)) (sym cells) (can_both h).1
+
+      -- the place after its cells is one
+      pub small_then : CanShow e r at (drop i all) → length r.numbers < 2 ^ 32 → at < 2 ^ 64 → at + n < 2 ^ 64
+      small_then h few low = subst (λ n. at + n < 2 ^ 64) (sym cells) (place_small e r at kind (can_both h).0 few low)
+
+      -- one more
+      pub one_more : (xs ys : List FieldValue) (item : FieldValue) → AreSoFar e r from at all (drop i all) xs → IsShown e r at kind item → ys ≡ xs ++ item ∷ [] → AreSoFar e r from (at + n) all (drop (i + 1) all) ys
+      one_more xs ys item h first same =
+          subst (λ n. AreSoFar e r from (at + n) all (drop (i + 1) all) ys) (sym cells)
+          (subst (λ ys. AreSoFar e r from (at + cells_of kind) all (drop (i + 1) all) ys) (sym same) (more xs item h first))
 
   -- all of them
   pub all_shown : (at i : ℕ) (xs : List FieldValue) → length all < i + 1 → AreSoFar e r from at all (drop i all) xs → AreShown e r from all xs
@@ -144,13 +174,6 @@ module _ (e : Seen) (r : TwoRows) (from : ℕ) (all : List ItemKind) where
       nothing : (rest : List Value) (later : List FieldValue) → values_shown [] rest (with_seen s e) ≡ Some later → later ≡ []
       nothing [] later e = let q : [] ≡ later = cc in sym q
       nothing (v ∷ rest) later e = absurd cc
-
--- the place after the cells of an item is one
-pub place_small : (e : Seen) (r : TwoRows) (at : ℕ) (k : ItemKind) → CanShowOne e r at k → length r.numbers < 2 ^ 32 → at < 2 ^ 64 → at + cells_of k < 2 ^ 64
-place_small e r at shows.Number h few low = omega (arith, h, few)
-place_small e r at shows.Text h few low = omega (arith, h, few)
-place_small e r at (shows.Mean j) h few low = omega (arith, low)
-place_small e r at (shows.MeanOf j) h few low = omega (arith, h.0, few)
 
 -- one more that can be printed
 pub printable_more : (xs : List FieldValue) (x : FieldValue) → AllByRecursion IsPrintable xs → IsPrintable x → AllByRecursion IsPrintable (xs ++ x ∷ [])

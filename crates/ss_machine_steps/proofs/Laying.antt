@@ -1,6 +1,6 @@
 -- Values that are laid in the rows one after the other.
 use Rattle.std.proofs.Common.{◌≡◌, ℕ, zero, suc, ◌+◌, ◌<◌, List, [], ◌∷◌, ◌++◌, length, get_or, drop, refl, sym, ap, ◌∙◌, subst, arith, length-append}
-use Rattle.std.specs.Prelude.{slice_get, Some}
+use Rattle.std.specs.Prelude.{slice_get, Some, pos}
 use Rattle.std.proofs.lemmas.List.{drop_more, drop_all}
 use Rattle.ss_base.specs.declared.layout.Mode.{Mode}
 use Rattle.ss_base.specs.declared.value.Value.{Value}
@@ -22,10 +22,8 @@ laid_more vs i v lt is r s e h =
 pub laid_all : (vs : List Value) (i : ℕ) → length vs < i + 1 → (r : TwoRows) → {all : TwoRows} → values_laid r (drop i vs) ≡ all → r ≡ all
 laid_all vs i le r h = sym (ap (values_laid r) (drop_all i vs (omega (arith, le)))) ∙ h
 
-pub firsts_more : (ms : List Mode) (i : ℕ) (m : Mode) → i < length ms → m ≡ get_or ms i m → (r s : TwoRows) → s ≡ with_last r (first_value m) → {all : TwoRows} → firsts_laid r (drop i ms) ≡ all → firsts_laid s (drop (i + 1) ms) ≡ all
-firsts_more ms i m lt is r s e h =
-    let next : drop i ms ≡ m ∷ drop (i + 1) ms = drop_more ms i m lt ∙ ap (λ x. x ∷ drop (i + 1) ms) (sym is) in
-    ap (λ t. firsts_laid t (drop (i + 1) ms)) e ∙ sym (ap (firsts_laid r) next) ∙ h
+pub firsts_more : (ms : List Mode) (i : ℕ) (d : Mode) → i < length ms → (r s : TwoRows) → s ≡ with_last r (first_value (get_or ms i d)) → {all : TwoRows} → firsts_laid r (drop i ms) ≡ all → firsts_laid s (drop (i + 1) ms) ≡ all
+firsts_more ms i d lt r s e h = ap (λ t. firsts_laid t (drop (i + 1) ms)) e ∙ sym (ap (firsts_laid r) (drop_more ms i d lt)) ∙ h
 
 pub firsts_all : (ms : List Mode) (i : ℕ) → length ms < i + 1 → (r : TwoRows) → {all : TwoRows} → firsts_laid r (drop i ms) ≡ all → r ≡ all
 firsts_all ms i le r h = sym (ap (firsts_laid r) (drop_all i ms (omega (arith, le)))) ∙ h
@@ -41,8 +39,8 @@ laid_long r [] = omega arith
 laid_long r (v ∷ vs) = omega (arith, laid_long (with_last r v) vs, last_long r v)
 
 last_even : (r : TwoRows) (v : Value) → length r.texts ≡ length r.numbers → length (with_last r v).texts ≡ length (with_last r v).numbers
-last_even r (Whole z) e = omega (arith, length-append r.texts _, length-append r.numbers (z ∷ []), e)
-last_even r (Text t) e = omega (arith, length-append r.texts (t ∷ []), length-append r.numbers _, e)
+last_even r (Whole z) e = omega (arith, length-append r.texts ([] ∷ []), length-append r.numbers (z ∷ []), e)
+last_even r (Text t) e = omega (arith, length-append r.texts (t ∷ []), length-append r.numbers (pos 0 ∷ []), e)
 
 pub laid_even : (r : TwoRows) (vs : List Value) → length r.texts ≡ length r.numbers → length (values_laid r vs).texts ≡ length (values_laid r vs).numbers
 laid_even r [] e = e
@@ -77,8 +75,7 @@ laid_agrees r (v ∷ vs) e =
 pub laid_at : (r : TwoRows) (vs : List Value) → length r.texts ≡ length r.numbers → AllAt (values_laid r vs) (length r.numbers) vs
 laid_at r [] e = tt
 laid_at r (v ∷ vs) e =
-    let s = with_last r v in
-    (
+    let s = with_last r v in (
       value_agrees s (values_laid s vs) (length r.numbers) 0 (length s.numbers) v (omega arith) (omega (arith, last_long r v)) (laid_agrees s vs (last_even r v e)) (last_at r v e),
       subst (λ n. AllAt (values_laid s vs) n vs) (last_long r v) (laid_at s vs (last_even r v e)),
     )

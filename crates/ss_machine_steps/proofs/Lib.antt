@@ -1,9 +1,9 @@
 mod Known
 mod Fields
 mod Items
-mod Inputs
-mod Kinds
-mod Reaching
+pub mod Inputs
+mod Likeness
+pub mod Reaching
 mod Stepping
 mod Worded
 mod Written
@@ -18,4 +18,4 @@ mod Turning
 mod Resting
 mod Rising
 mod Laying
-mod Starting
+pub mod Starting

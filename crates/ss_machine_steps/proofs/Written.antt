@@ -1,8 +1,8 @@
 -- Instructions that write.
-use Rattle.std.proofs.Common.{◌≡◌, ℕ, zero, suc, ◌+◌, ◌<◌, ◌≤◌, Bool, true, false, List, [], ◌∷◌, length, map, replicate, Option, Some, None, Ok, Err, ℤ, pos, negsuc, refl, sym, ap, ◌∙◌, subst, ltb-false, arith}
+use Rattle.std.proofs.Common.{◌≡◌, ℕ, zero, suc, ◌+◌, ◌<◌, ◌≤◌, Bool, true, false, List, [], ◌∷◌, length, map, replicate, Option, Some, None, Ok, Err, ℤ, pos, negsuc, refl, sym, ap, ◌∙◌, subst, arith}
 use Rattle.std.specs.Prelude.{slice_get, if◌then◌else◌, nat_lt, int_lt, ◌==◌, ◌||◌}
 use Rattle.std.specs.List.{flat_map}
-use Rattle.std.proofs.lemmas.Bool.{eqb-true}
+use Rattle.std.proofs.lemmas.Bool.{eqb-true, le-ltb}
 use Rattle.ss_base.specs.declared.fault.FaultKind.TheVariants.{BadCount}
 use Rattle.ss_base.specs.declared.layout.Mode.{Mode}
 use Rattle.ss_base.specs.declared.layout.Mode.TheVariants.{Integer}
@@ -71,10 +71,10 @@ module _ (w : Compiled) (c : Core) (here : Here) (s : State) (number cell : ℕ)
   abbrev z : At w.code w.run.constants ready.placed cell (λ h. Is w.code w.run.constants ready.placed (d.Print number h))
   z = ready.runs.carries
 
-  shown_by : (rest : List Mode) × (ready.placed.cells ≡ onto modes rest)
+  pub shown_by : (rest : List Mode) × (ready.placed.cells ≡ onto modes rest)
   shown_by = ready.runs.shows number z.0 l z.2 there
 
-  block : Blocked modes shown_by.0 c.cells
+  pub block : Blocked modes shown_by.0 c.cells
   block = blocked modes shown_by.0 c.cells (ready.fits.cells ∙ shown_by.1 ∙ onto_is modes shown_by.0)
 
   abbrev values : List Value
@@ -152,6 +152,7 @@ module _ (w : Compiled) (c : Core) (here : Here) (s : State) (number cell : ℕ)
   }
 
   pub goes_on : (items : List FieldValue) (shown : AreShown s.scene s.rows (here.frame + cell) l.items items) → SendingOn here s (r.Print number cell) w c ready (lines_with l.pictures items) s (record { place = here.place + 1; frame = here.frame })
+  unfolding sends_shown
   goes_on items shown = record {
     sending = sends_shown items shown;
     holds = subst (λ p. Holds w (core_at (c.place + 1) below c.frames c.store) (record { place = p; frame = here.frame }) s) (ap (λ p. p + 1) (sym ready.holds.place))
@@ -222,6 +223,7 @@ module _ (w : Compiled) (c : Core) (here : Here) (s : State) (count : Address) (
     }
 
     pub skip_on : (bytes : List ℕ) → empty_lines (Whole n) ≡ Ok bytes → SendingOn here s (r.Skip count) w c ready bytes s (record { place = here.place + 1; frame = here.frame })
+    unfolding skip_sends
     skip_on bytes e = record {
       sending = skip_sends bytes e;
       holds = subst (λ p. Holds w (core_at (c.place + 1) one.below c.frames c.store) (record { place = p; frame = here.frame }) s) (ap (λ p. p + 1) (sym ready.holds.place))
@@ -232,12 +234,13 @@ module _ (w : Compiled) (c : Core) (here : Here) (s : State) (count : Address) (
 -- how many empty lines a number asks for
 pub few_lines : (n : ℤ) (k : ℕ) → n ≡ pos k → k ≤ 1000 → empty_lines (Whole n) ≡ Ok (replicate k line_end)
 few_lines n k e le =
-    let not : nat_lt 1000 k ≡ false = ltb-false 1000 k (omega (arith, le)) in
+    let not : nat_lt 1000 k ≡ false = le-ltb 1000 k le in
     ap (λ m. empty_lines (Whole m)) e ∙ ap (λ b. unless_fault b BadCount (Ok (replicate k line_end))) not
 
 pub bad_lines : (n : ℤ) → (int_lt n (pos 0) || int_lt (pos 1000) n) ≡ true → empty_lines (Whole n) ≡ Err (Fails BadCount)
 bad_lines (pos k) e =
-    let many : nat_lt 1000 k ≡ true = e in
+    let none : nat_lt k 0 ≡ false = le-ltb k 0 (omega arith) in
+    let many : nat_lt 1000 k ≡ true = sym (ap (λ b. b || nat_lt 1000 k) none) ∙ e in
     ap (λ b. unless_fault b BadCount (Ok (replicate k line_end))) many
 bad_lines (negsuc k) e = refl
 

@@ -8,7 +8,6 @@ ghost use Rattle.ss_machine_steps.specs.Situations.{situated};
 use ss_base::{FaultKind, Mode, Value, copied_disciplines};
 use ss_code::code::Code;
 use ss_code_instructions::copied_notices;
-use ss_code_instructions::laws::laws;
 use ss_machine_frames::frames::Frames;
 use ss_machine_frames::rows::Rows;
 use ss_machine_instructions::flow::Ending;
@@ -102,9 +101,7 @@ pub fn first_place(code: &Code) -> (usize, u32)
 pub fn stands_first(code: &Code, state: &State)
     requires { IsFirstState code.now state.now }
     ensures { IsAtStart code.now (situated (first_here code.now) state.now) }
-{
-    laws();
-}
+{}
 
 /// Gives the memory of what a machine works on back.
 pub fn release_state(state: State) {

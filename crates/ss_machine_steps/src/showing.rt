@@ -86,6 +86,8 @@ pub(crate) fn show(
     ensures shown { OnOk result (AreShown state.now.scene state.now.rows from kinds.now items.new.items) }
     ensures printable { OnOk result (AllByRecursion IsPrintable items.new.items) }
 {
+    // The checker needs to see the type of what an item holds.
+    let _value = Value::Whole(0);
     items.clear();
     let mut at = from;
     for kind in kinds {

@@ -5,7 +5,7 @@ use Rattle.ss_machine_steps.proofs.first.put_constants.Goals as goal
 pub loop-constant-preserved : goal.loop-constant-preserved
 loop-constant-preserved c =
     let l = c.loop-constant in
-    laid_more c.args.constants.now l.constant-index c.constant-item.result c.loop-constant-test.true c.constant-item.is l.rows c.in_ok-push.new.self c.in_ok-push.ensures.ok l.invariant
+    laid_more c.args.constants.now l.constant-index c.constant-item.result c.loop-constant-test.true c.constant-item.is l.rows c.push.new.self c.in_ok-push.ensures.ok l.invariant
 
 pub returns : goal.returns
 returns c =

@@ -1,5 +1,4 @@
-use Rattle.std.proofs.Common.{rules, ◌≡◌, arith}
-use Rattle.ss_base.specs.Layout.{first_value}
+use Rattle.std.proofs.Common.{ap, ◌∙◌, arith}
 use Rattle.ss_machine_frames.specs.Rows.{with_last}
 use Rattle.ss_machine_steps.proofs.Laying.{firsts_more, firsts_all}
 use Rattle.ss_machine_steps.proofs.first.put_firsts.Goals as goal
@@ -7,8 +6,7 @@ use Rattle.ss_machine_steps.proofs.first.put_firsts.Goals as goal
 pub loop-mode-preserved : goal.loop-mode-preserved
 loop-mode-preserved c =
     let l = c.loop-mode in
-    let pushed : c.in_ok-push.new.self ≡ with_last l.rows (first_value c.mode-item.result) = search rules in
-    firsts_more c.args.modes.now l.mode-index c.mode-item.result c.loop-mode-test.true c.mode-item.is l.rows c.in_ok-push.new.self pushed l.invariant
+    firsts_more c.args.modes.now l.mode-index _ c.loop-mode-test.true l.rows c.push.new.self (c.in_ok-push.ensures.ok ∙ ap (with_last l.rows) c.first_value.ensures) l.invariant
 
 pub returns : goal.returns
 returns c =

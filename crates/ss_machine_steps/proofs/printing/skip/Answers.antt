@@ -1,8 +1,8 @@
-use Rattle.std.proofs.Common.{rules, ◌≡◌, replicate, inr, sym, ap, ◌∙◌, subst, arith}
+use Rattle.std.proofs.Common.{rules, ◌≡◌, true, replicate, inr, sym, ap, ◌∙◌, subst, arith, w64, of_z, to_z, pos}
+use Rattle.std.specs.Prelude.{int_lt, ◌||◌}
 use Rattle.std.specs.Io.KnownBytes.{Appends}
 use Rattle.ss_base.specs.declared.fault.FaultKind.TheVariants.{BadCount}
-use Rattle.ss_base.specs.declared.value.Value.TheVariants.{Whole}
-use Rattle.ss_meaning.specs.Values.{line_end, empty_lines}
+use Rattle.ss_meaning.specs.Values.{line_end}
 use Rattle.ss_code_instructions.specs.declared.instruction.Instruction.TheVariants.{Skip as Runs}
 use Rattle.ss_code_instructions.specs.States.{Rest, Breaks}
 use Rattle.ss_machine_instructions.specs.declared.flow.Ending.TheVariants.{NoOutput}
@@ -31,7 +31,9 @@ returns-then-is_bad-clause-written g c =
     let s = c.args.state.now in
     let n = c.number-count.result in
     let known = g.W.FaultyWrite.contents c.args.sink.now.writer in
-    let bad : empty_lines (Whole n) ≡ _ = bad_lines n (sym c.is_bad.ensures ∙ c.if-is_bad.true) in
+    let same : to_z w64 (of_z w64 n) ≡ n = search rules in
+    let test : (int_lt (to_z w64 (of_z w64 n)) (pos 0) || int_lt (pos 1000) (to_z w64 (of_z w64 n))) ≡ true = sym c.is_bad.ensures ∙ c.if-is_bad.true in
+    let bad = bad_lines n (subst (λ m. (int_lt m (pos 0) || int_lt (pos 1000) m) ≡ true) same test) in
     subst (λ o. DidWrite None_handed c.args.here s (Runs c.args.count.now) known known c.fault.new.self o) (sym c.fault.ensures.none)
     (rw c.fault.ensures.faulted (
       keeps_same known,
@@ -45,7 +47,8 @@ returns-in-Ok-clause-written g c =
     let k = c.lines_in.result in
     let before = g.W.FaultyWrite.contents c.args.sink.now.writer in
     let after = g.W.FaultyWrite.contents c.send_empty.new.sink.writer in
-    let good = few_lines n k c.lines_in.ensures.number c.lines_in.ensures.few in
+    let same : to_z w64 (of_z w64 n) ≡ n = search rules in
+    let good = few_lines n k (sym same ∙ c.lines_in.ensures.number) c.lines_in.ensures.few in
     let took : Appends before after (replicate k line_end) = search rules in
     subst (λ o. DidWrite None_handed c.args.here s (Runs c.args.count.now) before after s o) (sym c.on.ensures)
     (record {
@@ -61,7 +64,8 @@ returns-in-Err-clause-written g c =
     let k = c.lines_in.result in
     let before = g.W.FaultyWrite.contents c.args.sink.now.writer in
     let after = g.W.FaultyWrite.contents c.send_empty.new.sink.writer in
-    let good = few_lines n k c.lines_in.ensures.number c.lines_in.ensures.few in
+    let same : to_z w64 (of_z w64 n) ≡ n = search rules in
+    let good = few_lines n k (sym same ∙ c.lines_in.ensures.number) c.lines_in.ensures.few in
     let part : TookPart before after (replicate k line_end) = search rules in
     let failed : c.in-Err.ending ≡ NoOutput = c.send_empty.ensures.reason c.in-Err.ending c.in-Err.is in
     unsent None_handed c.args.here s (Runs c.args.count.now) before after c.in-Err.ending c.stop.new.self c.stop.result

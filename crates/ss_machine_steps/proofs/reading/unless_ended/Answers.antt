@@ -1,4 +1,4 @@
-use Rattle.std.proofs.Common.{rules, ◌≡◌, ◌+◌, Ok, Err, sym, ap, ◌∙◌, subst}
+use Rattle.std.proofs.Common.{rules, ◌≡◌, ◌+◌, ◌<◌, ◌^◌, Ok, Err, sym, ap, ◌∙◌, subst}
 use Rattle.ss_meaning.specs.Words.{is_ended}
 use Rattle.ss_meaning.specs.Expressions.{unless}
 use Rattle.ss_code_instructions.specs.declared.instruction.Instruction.TheVariants.{UnlessEnded as Runs}
@@ -12,7 +12,10 @@ use Rattle.ss_machine_steps.proofs.Worded.{test_on, test_fails, missed_did, move
 use Rattle.ss_machine_steps.proofs.reading.unless_ended.Goals as goal
 
 pub on_if-requires : goal.on_if-requires
-on_if-requires g c = let z = c.requires.can in jump_small z.0 z.1 c.args.here c.args.state.now (Runs c.args.skip c.args.negated) z.2 c.args.skip c.type_inv.skip
+on_if-requires g c =
+    let z = c.requires.can in
+    let small : c.args.skip < 2 ^ 32 = search rules in
+    jump_small z.0 z.1 c.args.here c.args.state.now (Runs c.args.skip c.args.negated) z.2 c.args.skip small
 
 pub returns-in-Err-clause-read : goal.returns-in-Err-clause-read
 returns-in-Err-clause-read g c =

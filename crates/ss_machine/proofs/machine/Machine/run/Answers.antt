@@ -113,7 +113,7 @@ returns g c =
           let gone = e.paused p in
           let ends : last - new.ticks ≡ last = omega (arith, gone) in
           ends ∙ c.saturating_add-last.ensures ∙ ap (λ used. min (used + c.args.ticks) (2 ^ 64 - 1)) same;
-      continues = λ q h p. inr (read_on m.code rem c.laws.ensures.steps_go_on start rest first final before after ((last - new.ticks) - m.used) (new.steps - m.state.steps)
+      continues = λ q h p. inr (read_on m.code rem c.laws_of_pieces.ensures.steps_go_on start rest first final before after ((last - new.ticks) - m.used) (new.steps - m.state.steps)
           (subst (λ (v : Held). Continues v.code v.at first) (sym view) h)
           (subst (λ s. Ran rem s m.code start rest first final before after ((last - new.ticks) - m.used) (new.steps - m.state.steps)) p ran).0);
       never_failed = λ q p. never rem stop m.code start rest first final before after ((last - new.ticks) - m.used) (new.steps - m.state.steps) ran p;
