@@ -25,13 +25,13 @@ one e = cc
 -- a class has its rank as its place in the list
 ranked_at : (es : List Notices) (class from : ℕ) (r : Ranked) → ranked_from from es class ≡ Some r → (i : ℕ) × (r.rank ≡ from + i) × (slice_get es i ≡ Some r.said)
 ranked_at [] class from r h = absurd cc
-ranked_at (e ∷ es) class from r h = by (e.class == class) h
+ranked_at (e ∷ es) class from r h = by (e.class == class) h (λ h. ranked_at es class (from + 1) r h)
   where
-    by : (b : Bool) → (if b then Some (record { rank = from; said = e }) else ranked_from (from + 1) es class) ≡ Some r → (i : ℕ) × (r.rank ≡ from + i) × (slice_get (e ∷ es) i ≡ Some r.said)
-    by true h =
+    by : (b : Bool) → (if b then Some (record { rank = from; said = e }) else ranked_from (from + 1) es class) ≡ Some r → (ranked_from (from + 1) es class ≡ Some r → (i : ℕ) × (r.rank ≡ (from + 1) + i) × (slice_get es i ≡ Some r.said)) → (i : ℕ) × (r.rank ≡ from + i) × (slice_get (e ∷ es) i ≡ Some r.said)
+    by true h rest =
         let it : record { rank = from; said = e } ≡ r = cc in
         (0, ap (λ (r : Ranked). r.rank) (sym it) ∙ omega arith, ap (λ (r : Ranked). Some r.said) it)
-    by false h = let at = ranked_at es class (from + 1) r h in (suc at.0, at.1 ∙ omega arith, at.2)
+    by false h rest = let at = rest h in (suc at.0, at.1 ∙ omega arith, at.2)
 
 pub said_there : (es : List Notices) (class : ℕ) (r : Ranked) → ranked_from 0 es class ≡ Some r → slice_get es r.rank ≡ Some r.said
 said_there es class r h =
@@ -78,13 +78,13 @@ module _ (e : Seen) (class : ℕ) (n t : ℤ) (c : IsNoticeClass e class) where
     pub not_filed : (u : Refused) → IsUnfiled t n e u → ChangesWithMemory (filed_notice class (Whole n) t) e e (Err u)
     not_filed (Fault kind) h = (
       λ s.
-      let ties = ties_there e class n s c.within known c.ranked.said.ties c.fields in
-      filed_by s ties.0 ties.1 ∙ h (key ties.0) refl s,
+          let ties = ties_there e class n s c.within known c.ranked.said.ties c.fields in
+          filed_by s ties.0 ties.1 ∙ h (key ties.0) refl s,
       refl,
     )
     not_filed Memory h = (
       λ s.
-      let ties = ties_there e class n s c.within known c.ranked.said.ties c.fields in
-      subst (λ (r : OkOr Store Trouble). IsOk r) (sym (filed_by s ties.0 ties.1)) (h (key ties.0) refl s),
+          let ties = ties_there e class n s c.within known c.ranked.said.ties c.fields in
+          subst (λ (r : OkOr Store Trouble). IsOk r) (sym (filed_by s ties.0 ties.1)) (h (key ties.0) refl s),
       refl,
     )

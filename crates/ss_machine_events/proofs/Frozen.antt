@@ -54,11 +54,10 @@ module _ (e : Seen) (class : ℕ) (n : ℤ) (s : Store) (within : class < length
     ties_there (key ∷ keys) all =
         let v = known_value e.heap class key.field n known in
         let rest = ties_there keys (All-tail (HasField e.heap.layout class) key keys all) in
-        let first : attribute class key.field (Whole n) (with_seen s e) ≡ Ok v.0 = attribute_is key.field (All-head (HasField e.heap.layout class) key keys all) ∙ ap due v.1 in
-        (
+        let first : attribute class key.field (Whole n) (with_seen s e) ≡ Ok v.0 = attribute_is key.field (All-head (HasField e.heap.layout class) key keys all) ∙ ap due v.1 in (
           record { value = v.0; high = key.high } ∷ rest.0,
           ap (λ (r : OkOr Value Trouble). if_ok {B = List Tie} r (λ v. turned (λ ts. record { value = v; high = key.high } ∷ ts) (ties_of class (Whole n) (with_seen s e) keys))) first
-          ∙ ap (λ (r : OkOr (List Tie) Trouble). turned (λ ts. record { value = v.0; high = key.high } ∷ ts) r) rest.1,
+              ∙ ap (λ (r : OkOr (List Tie) Trouble). turned (λ ts. record { value = v.0; high = key.high } ∷ ts) r) rest.1,
         )
 
 -- ## One tie after the other

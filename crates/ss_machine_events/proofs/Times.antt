@@ -1,5 +1,5 @@
 -- What passes in time, as a scene has it, and as the meaning has it.
-use Rattle.std.proofs.Common.{◌≡◌, ℤ, Bool, true, false, List, Ok, Err, refl, ap, sym, ◌∙◌}
+use Rattle.std.proofs.Common.{◌≡◌, ℤ, Bool, true, false, List, Option, Some, None, Ok, Err, refl, ap, sym, ◌∙◌}
 use Rattle.std.specs.Prelude.{int_lt, IsOk, Result as OkOr, if◌then◌else◌}
 use Rattle.ss_base.specs.declared.fault.FaultKind.{FaultKind}
 use Rattle.ss_base.specs.declared.fault.FaultKind.TheVariants.{PastTime}
@@ -12,7 +12,7 @@ use Rattle.ss_world.specs.State.{State}
 use Rattle.ss_meaning.specs.Values.{Fails, turned, due, unless_fault}
 use Rattle.ss_meaning.specs.Store.{Notices, Store, with_pending}
 use Rattle.ss_meaning.specs.Events.{not_past}
-use Rattle.ss_machine_time.specs.Times.{Times, Schedules}
+use Rattle.ss_machine_time.specs.Times.{Times, Schedules, TakesNext}
 use Rattle.ss_machine_world.specs.Seen.{Seen, IsRight, with_seen}
 use Rattle.ss_machine_events.specs.Scheduled.{scheduled_known}
 
@@ -27,6 +27,10 @@ timed_as ds ns h t = record {
   pending = t.pending;
   histories = t.histories.rows;
 }
+
+-- a notice comes at a time
+abbrev pub came : (t n : ℤ) → Option (ℤ × ℤ)
+came t n = Some (t, n)
 
 -- whether a time is past is never without an answer
 pub not_past_right : (t : ℤ) (s : Store) → IsRight (not_past t s)
@@ -72,7 +76,12 @@ settles ds ns h t u key n e s =
     known_ok (int_lt key.time t.time) (scheduled key n t.pending) (with_seen s (timed_as ds ns h t)) u.pending e.0
     ∙ ap (λ (w : Times). Ok (with_seen s (timed_as ds ns h w))) (sym e.1)
 
--- or it isn't, and nothing changes
-pub same_times : (t u : Times) (key : SortKey) (n : ℤ) (r : Refused) → Schedules key n t u (Err r) → u ≡ t
-same_times t u key n (Fault kind) e = e.1
-same_times t u key n Memory e = e.1
+-- no statistic changes
+pub scheduled_statistics : (t u : Times) (key : SortKey) (n : ℤ) (r : OkOr (Unit {0}) Refused) → Schedules key n t u r → u.histories.statistics ≡ t.histories.statistics
+scheduled_statistics t u key n (Ok done) e = ap (λ (w : Times). w.histories.statistics) e.1
+scheduled_statistics t u key n (Err (Fault kind)) e = ap (λ (w : Times). w.histories.statistics) e.1
+scheduled_statistics t u key n (Err Memory) e = ap (λ (w : Times). w.histories.statistics) e.1
+
+pub next_statistics : (t u : Times) (r : Option ℤ) → TakesNext t u r → u.histories.statistics ≡ t.histories.statistics
+next_statistics t u None e = ap (λ (w : Times). w.histories.statistics) e.1
+next_statistics t u (Some n) e = ap (λ (w : Times). w.histories.statistics) e.1

@@ -1,9 +1,10 @@
-use Rattle.std.proofs.Common.{ap, sym, ◌∙◌}
+use Rattle.std.proofs.Common.{rules, ◌≡◌, refl, ap, sym, ◌∙◌, to_z, of_z, w64}
 use Rattle.ss_world.specs.PendingList.{next, after_next}
 use Rattle.ss_world.specs.State.{State}
 use Rattle.ss_machine_time.specs.Times.{Times}
 use Rattle.ss_machine_world.specs.Seen.{Seen}
-use Rattle.ss_machine_events.proofs.Times.{timed_as}
+use Rattle.ss_machine_world.proofs.Said.{said_still}
+use Rattle.ss_machine_events.proofs.Times.{timed_as, came, next_statistics}
 use Rattle.ss_machine_events.proofs.coming.next_event.Goals as goal
 
 pub returns-in-None : goal.returns-in-None
@@ -14,9 +15,21 @@ returns-in-None c =
 pub returns-in-Some : goal.returns-in-Some
 returns-in-Some c =
     let i = c.scene.inside in let u : Times = c.next.new.self in
-    (
-      ap (λ (e : Seen). next e.pending) (sym c.scene.view_is) ∙ c.in-Some.ensures.0,
+    let number : to_z w64 (of_z w64 c.in-Some.notice) ≡ c.in-Some.notice = search rules in (
+      ap (λ (e : Seen). next e.pending) (sym c.scene.view_is) ∙ c.in-Some.ensures.0 ∙ ap (came u.time) (sym number),
       ap (λ (h : State). timed_as i.disciplines.items i.notices.items h u) c.meet.ensures
-      ∙ ap (timed_as i.disciplines.items i.notices.items i.population) c.in-Some.ensures.1
-      ∙ ap (λ (e : Seen). record e { time = u.time; pending = after_next e.pending }) c.scene.view_is,
+          ∙ ap (timed_as i.disciplines.items i.notices.items i.population) c.in-Some.ensures.1
+          ∙ ap (λ (e : Seen). record e { time = u.time; pending = after_next e.pending }) c.scene.view_is,
     )
+
+pub invariant_of-scene : goal.invariant_of-scene
+invariant_of-scene c =
+    let i = c.scene.inside in let u : Times = c.next.new.self in
+    said_still i.population.layout i.population.layout i.notices.items i.timeline.histories.statistics u.histories.statistics i.classes.items
+    refl (next_statistics i.timeline u c.next.result c.next.ensures) c.scene.invariant
+
+pub invariant_of-scene-in-Some : goal.invariant_of-scene-in-Some
+invariant_of-scene-in-Some c =
+    let i = c.scene.inside in let u : Times = c.next.new.self in
+    said_still i.population.layout c.meet.new.self.layout i.notices.items i.timeline.histories.statistics u.histories.statistics i.classes.items
+    (ap (λ (h : State). h.layout) c.meet.ensures) (next_statistics i.timeline u c.next.result c.next.ensures) c.scene.invariant

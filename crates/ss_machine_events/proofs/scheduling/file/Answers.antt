@@ -5,8 +5,8 @@ use Rattle.ss_machine_events.specs.Scheduled.{Does}
 use Rattle.ss_machine_events.proofs.Filing.{no_keys}
 use Rattle.ss_machine_events.proofs.scheduling.file.Goals as goal
 
-pub has_ties-requires-clause-class : goal.has_ties-requires-clause-class
-has_ties-requires-clause-class c = c.requires.notices.within
+pub has_ties-requires : goal.has_ties-requires
+has_ties-requires c = record { class = c.requires.notices.within }
 
 pub schedule_untied-requires-clause-untied : goal.schedule_untied-requires-clause-untied
 schedule_untied-requires-clause-untied c = λ r is. no_keys r.said.ties (sym (c.has_ties.ensures r is) ∙ c.if-has_ties.false)

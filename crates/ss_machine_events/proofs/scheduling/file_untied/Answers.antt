@@ -1,9 +1,10 @@
-use Rattle.std.proofs.Common.{rules, ◌≡◌, ◌∙◌, ℤ, [], Ok, ap, subst, to_z, of_z, w64}
+use Rattle.std.proofs.Common.{rules, ◌≡◌, ◌∙◌, ℤ, [], Ok, refl, ap, subst, to_z, of_z, w64}
 use Rattle.ss_world.specs.SortKey.{SortKey}
 use Rattle.ss_machine_time.specs.Times.{Times, Schedules}
 use Rattle.ss_machine_world.specs.Seen.{Seen, with_seen}
+use Rattle.ss_machine_world.proofs.Said.{said_still}
 use Rattle.ss_machine_events.specs.Scheduled.{scheduled_known}
-use Rattle.ss_machine_events.proofs.Times.{timed_as, settles}
+use Rattle.ss_machine_events.proofs.Times.{timed_as, settles, scheduled_statistics}
 use Rattle.ss_machine_events.proofs.scheduling.file_untied.Goals as goal
 
 pub returns-then-schedule_untied : goal.returns-then-schedule_untied
@@ -24,3 +25,18 @@ pub returns : goal.returns
 returns c =
     let i = c.scene.inside in
     ap (timed_as i.disciplines.items i.notices.items i.population) (c.schedule_untied.ensures.kept c.if-schedule_untied.false) ∙ c.scene.view_is
+
+pub invariant_of-scene : goal.invariant_of-scene
+invariant_of-scene c =
+    let i = c.scene.inside in let ss = i.timeline.histories.statistics in
+    let t : Times = i.timeline in let u : Times = c.schedule_untied.new.self in
+    let key : SortKey = record { time = to_z w64 (of_z w64 c.args.time); rank = c.args.rank; ties = [] } in
+    said_still i.population.layout i.population.layout i.notices.items ss u.histories.statistics i.classes.items
+    refl (scheduled_statistics t u key (to_z w64 (of_z w64 c.args.notice)) (Ok tt) (c.schedule_untied.ensures.done c.if-schedule_untied.true)) c.scene.invariant
+
+pub invariant_of-scene-2 : goal.invariant_of-scene-2
+invariant_of-scene-2 c =
+    let i = c.scene.inside in let ss = i.timeline.histories.statistics in
+    let u : Times = c.schedule_untied.new.self in
+    said_still i.population.layout i.population.layout i.notices.items ss u.histories.statistics i.classes.items
+    refl (ap (λ (w : Times). w.histories.statistics) (c.schedule_untied.ensures.kept c.if-schedule_untied.false)) c.scene.invariant

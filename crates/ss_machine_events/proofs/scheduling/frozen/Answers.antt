@@ -1,5 +1,4 @@
-use Rattle.std.proofs.Common.{◌++◌, ◌+◌, List, drop, Ok, ap, sym, ◌∙◌, append-nil, arith}
-use Rattle.std.proofs.lemmas.Int.{to_z-of_z}
+use Rattle.std.proofs.Common.{rules, ◌≡◌, ◌++◌, ◌+◌, ℤ, List, drop, Ok, ap, sym, ◌∙◌, append-nil, arith, to_z, of_z, w64}
 use Rattle.std.proofs.lemmas.List.{drop_more, drop_all}
 use Rattle.ss_base.specs.declared.layout.RankKey.{RankKey}
 use Rattle.ss_base.specs.declared.value.Value.TheVariants.{Whole}
@@ -12,7 +11,7 @@ use Rattle.ss_machine_events.proofs.scheduling.frozen.Goals as goal
 
 pub loop-key-init : goal.loop-key-init
 loop-key-init c = λ s.
-    let class = c.args.class in let x = Whole c.args.notice in let e = c.args.scene.now in let keys = c.args.keys.now in
+    let class = c.args.class in let x = Whole (to_z w64 (of_z w64 c.args.notice)) in let e = c.args.scene.now in let keys = c.args.keys.now in
     none_frozen class x (with_seen s e) keys
     ∙ ap (λ (us : List Tie). turned (λ ts. us ++ ts) (ties_of class x (with_seen s e) keys)) (sym c.new-ties.ensures.items)
 
@@ -21,15 +20,18 @@ freeze_one-requires-clause-field c = c.requires.fields c.loop-key.key-index _ c.
 
 pub loop-key-preserved : goal.loop-key-preserved
 loop-key-preserved c = λ s.
-    let class = c.args.class in let n = c.args.notice in let e = c.args.scene.now in let keys = c.args.keys.now in let at = c.loop-key.key-index in
-    let fits = c.ranges.notice in let d = simp to_z-of_z at c.in-Ok.ensures in
+    let class = c.args.class in let n = to_z w64 (of_z w64 c.args.notice) in let e = c.args.scene.now in let keys = c.args.keys.now in let at = c.loop-key.key-index in
+    let d = c.in-Ok.ensures in
     c.loop-key.invariant s
     ∙ frozen_on class (Whole n) (with_seen s e) c.loop-key.ties.items (drop at keys) (drop_more keys at _ c.loop-key-test.true) d.0 (d.2 s)
     ∙ ap (λ (us : List Tie). turned (λ ts. us ++ ts) (ties_of class (Whole n) (with_seen s e) (drop (at + 1) keys))) (sym d.1)
 
 pub returns : goal.returns
 returns c = λ s.
-    let class = c.args.class in let x = Whole c.args.notice in let e = c.args.scene.now in let keys = c.args.keys.now in let at = c.loop-key.key-index in
-    c.loop-key.invariant s
+    let class = c.args.class in let n = c.args.notice in let e = c.args.scene.now in let keys = c.args.keys.now in let at = c.loop-key.key-index in
+    let number : to_z w64 (of_z w64 n) ≡ n = search rules in
+    let x = Whole (to_z w64 (of_z w64 n)) in
+    ap (λ (m : ℤ). ties_of class (Whole m) (with_seen s e) keys) (sym number)
+    ∙ c.loop-key.invariant s
     ∙ ap (λ (ks : List RankKey). turned (λ ts. c.loop-key.ties.items ++ ts) (ties_of class x (with_seen s e) ks)) (drop_all at keys (omega (arith, c.loop-key-test.false)))
     ∙ ap (λ (us : List Tie). Ok us) (append-nil c.loop-key.ties.items)

@@ -8,8 +8,8 @@ use Rattle.ss_machine_events.specs.Scheduled.{Does, IsUnfiled}
 use Rattle.ss_machine_events.proofs.Filing.{none_filed, not_filed}
 use Rattle.ss_machine_events.proofs.scheduling.schedule.Goals as goal
 
-pub known-requires-clause-class : goal.known-requires-clause-class
-known-requires-clause-class c = subst (λ (e : Seen). c.args.class < length e.heap.layout.classes) (sym c.scene.view_is) c.requires.notices.within
+pub known-requires : goal.known-requires
+known-requires c = record { class = subst (λ (e : Seen). c.args.class < length e.heap.layout.classes) (sym c.scene.view_is) c.requires.notices.within }
 
 pub returns-in-Err : goal.returns-in-Err
 returns-in-Err c =

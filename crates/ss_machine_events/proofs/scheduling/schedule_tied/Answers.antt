@@ -11,8 +11,8 @@ use Rattle.ss_machine_events.specs.Scheduled.{HasField, Does, scheduled_known}
 use Rattle.ss_machine_events.proofs.Filing.{said_there, files}
 use Rattle.ss_machine_events.proofs.scheduling.schedule_tied.Goals as goal
 
-pub rank-rank-requires-clause-class : goal.rank-rank-requires-clause-class
-rank-rank-requires-clause-class c = c.requires.notices.within
+pub rank-rank-requires : goal.rank-rank-requires
+rank-rank-requires c = record { class = c.requires.notices.within }
 
 pub keys_of-keys-requires : goal.keys_of-keys-requires
 keys_of-keys-requires c =

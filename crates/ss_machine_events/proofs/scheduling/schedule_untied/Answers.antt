@@ -4,8 +4,8 @@ use Rattle.ss_machine_events.specs.Scheduled.{Does, scheduled_known}
 use Rattle.ss_machine_events.proofs.Filing.{files_untied}
 use Rattle.ss_machine_events.proofs.scheduling.schedule_untied.Goals as goal
 
-pub rank-rank-requires-clause-class : goal.rank-rank-requires-clause-class
-rank-rank-requires-clause-class c = c.requires.notices.within
+pub rank-rank-requires : goal.rank-rank-requires
+rank-rank-requires c = record { class = c.requires.notices.within }
 
 pub returns : goal.returns
 returns c =
