@@ -7,11 +7,9 @@ use std::test::Fail;
 
 static ANSWER: &[u8] = b"MAIN\nPRINT 1 LINE WITH 6*7 THUS\nANSWER ***\nEND";
 
-static ANSWER_LISTING: &[u8] = b"0       push         6\n\
-1       push         7\n\
-2       calculate    times, line 2\n\
-3       print        pictures 0, values 1\n\
-4       leave\n";
+static ANSWER_LISTING: &[u8] = b"0       multiply                6, 7, to local 0\n\
+1       print                   lines 0, local 0\n\
+2       leave\n";
 
 // The model that the manual lists, and its listing there.
 static BELL: &[u8] = b"PREAMBLE\n\
