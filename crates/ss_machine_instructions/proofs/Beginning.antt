@@ -1,25 +1,30 @@
 -- An event begins: the notice that comes next is taken out, and let go.
-use Rattle.std.proofs.Common.{◌≡◌, ℕ, zero, suc, ◌+◌, ◌<◌, ◌≤◌, ℤ, Bool, true, false, List, [], ◌∷◌, Option, Some, None, Ok, Err, refl, sym, ap, ◌∙◌, arith}
+use Rattle.std.proofs.Common.{◌≡◌, ℕ, zero, suc, ◌+◌, ◌<◌, ◌≤◌, ◌^◌, ℤ, Bool, true, false, List, [], ◌∷◌, Option, Some, None, Ok, Err, refl, sym, ap, ◌∙◌, subst, arith}
 use Rattle.std.proofs.lemmas.Bool.{eqb-true}
-use Rattle.std.specs.Prelude.{◌==◌, if◌then◌else◌, pos, negsuc, IfSome, slice_get, Result as OkOr}
+use Rattle.std.specs.Prelude.{◌==◌, if◌then◌else◌, pos, negsuc, IfSome, is_some, slice_get, Result as OkOr}
 use Rattle.ss_base.specs.declared.fault.FaultKind.{FaultKind}
 use Rattle.ss_base.specs.declared.fault.FaultKind.TheVariants.{WrongClass}
 use Rattle.ss_world.specs.PendingList.{next}
 use Rattle.ss_world.specs.State.{Record, State as Heap, and_then, issued_record, is_notice, kind_of, of_notice, notice}
-use Rattle.ss_meaning.specs.Events.{Ranked, ranked_from, ranked, Coming, at_event, ranked_as, coming_as, coming_with, next_event}
+use Rattle.ss_meaning.specs.Events.{Ranked, ranked_from, ranked, Coming, at_event, ranked_as, coming_as, coming_with, is_awaited, next_event}
 use Rattle.ss_meaning.specs.Fitting.{class_of_record, living}
 use Rattle.ss_meaning.specs.Store.{Notices, Scene, Store}
+use Rattle.ss_meaning.proofs.Events.{ComingAs, next_event_there}
+use Rattle.ss_meaning.proofs.Fine.{There}
 use Rattle.ss_base.specs.declared.layout.Mode.{Mode}
 use Rattle.ss_base.specs.declared.value.Value.TheVariants.{Whole}
 use Rattle.ss_code_instructions.specs.declared.instruction.Instruction.TheVariants.{TakeEvent}
-use Rattle.ss_code_instructions.specs.States.{Core, fit}
-use Rattle.ss_code_instructions.specs.Machine.{act, take_event}
+use Rattle.ss_code_instructions.specs.States.{Core, To, core_at}
+use Rattle.ss_code_instructions.specs.Machine.{act, take_next}
 use Rattle.ss_machine_events.specs.Events.{IsNextNotice}
 use Rattle.ss_machine_world.specs.Seen.{Seen, with_seen}
 use Rattle.ss_machine_instructions.specs.declared.flow.Here.{Here}
 use Rattle.ss_machine_instructions.specs.declared.state.State.{State}
-use Rattle.ss_machine_instructions.specs.Doing.{Compiled, Ready}
+use Rattle.ss_machine_frames.proofs.Writing.{cells_held}
+use Rattle.ss_machine_instructions.specs.Doing.{Compiled, Holds, Ready, OneTick}
+use Rattle.ss_machine_instructions.specs.Ways.{at_place, on_at}
 use Rattle.ss_machine_instructions.specs.Beginning.{LetsGo, ThenLetsGo, Receives, ComesNext}
+use Rattle.ss_machine_instructions.proofs.Placing.{site, stands, goes_with}
 use Rattle.ss_machine_instructions.proofs.Settling.{store_is, notices_seen}
 
 -- ## Letting a notice go
@@ -52,18 +57,24 @@ saved_within None from long le lt = lt
 
 -- ## The notice that comes next
 
--- what comes next in the definition
-record NextIs (s : Store) (coming : Coming) : Type 0 where
-  time : ℤ
-  number : ℤ
-  entry : Record
-  first : next s.scene.pending ≡ Some (time, number)
-  there : notice s.scene.heap number ≡ Ok entry
-  place : ranked entry.class s ≡ Some coming.ranked
-  names : coming.notice ≡ Whole number
-  store : coming.store ≡ at_event time s
+pub got : {A : Type 0} {x y : A} → Some x ≡ Some y → x ≡ y
+got e = cc
 
-next_is : (s : Store) (coming : Coming) → next_event s ≡ Some coming → NextIs s coming
+some_none : {A : Type 0} (x : A) → Some x ≡ None → ⊥
+some_none x e = cc
+
+-- what comes next in the definition
+pub record NextIs (s : Store) (coming : Coming) : Type 0 where
+  pub time : ℤ
+  pub number : ℤ
+  pub entry : Record
+  pub first : next s.scene.pending ≡ Some (time, number)
+  pub there : notice s.scene.heap number ≡ Ok entry
+  pub place : ranked entry.class s ≡ Some coming.ranked
+  pub names : coming.notice ≡ Whole number
+  pub store : coming.store ≡ at_event time s
+
+pub next_is : (s : Store) (coming : Coming) → next_event s ≡ Some coming → NextIs s coming
 next_is s coming e = by (next s.scene.pending) refl e
   where
     with_rank : (t x : ℤ) (r : Record) → next s.scene.pending ≡ Some (t, x) → notice s.scene.heap x ≡ Ok r → (o : Option Ranked) → ranked r.class s ≡ o → coming_as o t x s ≡ Some coming → NextIs s coming
@@ -91,7 +102,7 @@ next_is s coming e = by (next s.scene.pending) refl e
     by (Some n) q e = with_notice n.0 n.1 q (notice s.scene.heap n.1) refl e
 
 -- a class has its own entry among those of notices
-ranked_class : (k : ℕ) (es : List Notices) (class : ℕ) (r : Ranked) → ranked_from k es class ≡ Some r → r.said.class ≡ class
+pub ranked_class : (k : ℕ) (es : List Notices) (class : ℕ) (r : Ranked) → ranked_from k es class ≡ Some r → r.said.class ≡ class
 ranked_class k [] class r e = absurd cc
 ranked_class k (n ∷ es) class r e = by (n.class == class) refl e (ranked_class (k + 1) es class r)
   where
@@ -103,7 +114,7 @@ ranked_class k (n ∷ es) class r e = by (n.class == class) refl e (ranked_class
     by false q e later = later e
 
 -- a record that a notice has says its class
-record_living : (h : Heap) (x : ℤ) (r : Record) → notice h x ≡ Ok r → living h x ≡ Some r.class
+pub record_living : (h : Heap) (x : ℤ) (r : Record) → notice h x ≡ Ok r → living h x ≡ Some r.class
 record_living h (pos zero) r e = absurd cc
 record_living h (negsuc k) r e = absurd cc
 record_living h (pos (suc i)) r e = by (slice_get h.records i) e
@@ -118,55 +129,66 @@ record_living h (pos (suc i)) r e = by (slice_get h.records i) e
     by (Some (Some q)) e = ap (λ (q : Record). Some q.class) (kind_test (is_notice (kind_of h.layout q.class)) q e)
 
 module _ (w : Compiled) (c : Core) (here : Here) (s : State) (cell : ℕ) (r : Ready w c here s (TakeEvent cell)) where
-  -- what the definition does, as it is not stuck
-  pub comes_next : (coming : Coming) × (next_event c.store ≡ Some coming)
-  comes_next = by (next_event c.store) refl
+  -- what the definition does, where a notice is pending
+  pub comes_next : is_awaited c.store ≡ true → (coming : Coming) × (next_event c.store ≡ Some coming)
+  comes_next there = by (next_event c.store) refl (next_event_there w.program r.compiled.typed r.placed.locals c.store there r.fits.store)
     where
-      by : (o : Option Coming) → next_event c.store ≡ o → (coming : Coming) × (next_event c.store ≡ Some coming)
-      by (Some coming) q = (coming, q)
-      by None q = absurd (r.goes (ap (λ x. act w.code r.placed.line x c) r.runs.carries.2 ∙ ap (λ o. fit o (λ n. take_event w.code r.runs.carries.0 n c)) q))
+      by : (o : Option Coming) → next_event c.store ≡ o → There (ComingAs w.program r.compiled.typed r.placed.locals) o → (coming : Coming) × (next_event c.store ≡ Some coming)
+      by (Some coming) q h = (coming, q)
+      by None q h = absurd h
 
-  -- so a notice is pending
-  pub never_none : next s.scene.pending ≡ None → ⊥
-  never_none none =
-      let n = next_is c.store comes_next.0 comes_next.1 in
-      let both : Some (n.time, n.number) ≡ None = sym n.first ∙ ap (λ (x : Scene). next x.pending) r.holds.scene ∙ none in
-      absurd cc
+  pub awaits : (e : Seen) (x : ℤ) → IsNextNotice s.scene e (Some x) → is_awaited c.store ≡ true
+  awaits e x d = ap (λ (y : Scene). is_some (next y.pending)) r.holds.scene ∙ ap is_some d.0
+
+  -- where none is pending it goes on
+  pub goes_past : (t : ℕ) (new : State) (result : Option Here) → next s.scene.pending ≡ None → new ≡ record s { ticks = t } → result ≡ on_at here → OneTick t w r.placed.line (act w.code r.placed.line r.placed.instruction c) s new result
+  goes_past t new result none same way =
+      let m = act w.code r.placed.line r.placed.instruction c in
+      let l = r.placed.line in
+      let s' : State = record s { ticks = t } in
+      let there : Here = record { place = c.place + 1; frame = here.frame } in
+      let c' = core_at (c.place + 1) c.cells c.frames c.store in
+      let nothing : next_event c.store ≡ None = ap (λ o. coming_with o c.store) (ap (λ (x : Scene). next x.pending) r.holds.scene ∙ none) in
+      let acts : m ≡ To c' = ap (λ x. act w.code l x c) r.runs.carries.2 ∙ ap (λ o. take_next w.code r.runs.carries.0 o c) nothing in
+      let h = goes_with w c here s (TakeEvent cell) r (c.place + 1) c.cells (cells_held (site w c here s (TakeEvent cell) r) (stands w c here s (TakeEvent cell) r) (c.place + 1) c.cells r.holds.held.cells) in
+      let holds : Holds w c' there s' = record { place = h.place; held = h.held; scene = h.scene; even = h.even; line = h.line } in
+      let plain : OneTick t w l m s s' (Some there) = record { leads = (c', acts, holds); ticks = refl; steps = refl } in
+      let on : result ≡ Some there = way ∙ ap (λ p. at_place here (p + 1)) r.holds.place in
+      subst (λ o. OneTick t w l m s new o) (sym on) (subst (λ (u : State). OneTick t w l m s u (Some there)) (sym same) plain)
 
   -- which lives
   pub lives_as : (e : Seen) (x : ℤ) → IsNextNotice s.scene e (Some x) → living e.heap x ≡ None → ⊥
   lives_as e x d none =
-      let n = next_is c.store comes_next.0 comes_next.1 in
+      let a = comes_next (awaits e x d) in
+      let n = next_is c.store a.0 a.1 in
       let first : Some (n.time, n.number) ≡ Some (e.time, x) = sym n.first ∙ ap (λ (y : Scene). next y.pending) r.holds.scene ∙ d.0 in
-      let number : n.number ≡ x = ap_second (n.time, n.number) (e.time, x) first in
+      let number : n.number ≡ x = ap (λ (p : ℤ × ℤ). p.1) (got first) in
       let there = record_living c.store.scene.heap n.number n.entry n.there in
       let heap : c.store.scene.heap ≡ e.heap = ap (λ (y : Scene). y.heap) r.holds.scene ∙ sym (ap (λ (t : Seen). t.heap) d.1) in
-      let both : Some n.entry.class ≡ None = sym there ∙ ap (λ h. living h n.number) heap ∙ ap (living e.heap) number ∙ none in
-      absurd cc
-    where
-      ap_second : (a b : ℤ × ℤ) → Some a ≡ Some b → a.1 ≡ b.1
-      ap_second a b q = let same : a ≡ b = cc in ap (λ (p : ℤ × ℤ). p.1) same
+      some_none n.entry.class (sym there ∙ ap (λ h. living h n.number) heap ∙ ap (living e.heap) number ∙ none)
 
   -- the machine took it out
-  abbrev pub next_taken : (t : ℕ) (e : Seen) (x : ℤ) (class : ℕ) → s.ticks ≡ suc t → IsNextNotice s.scene e (Some x) → living e.heap x ≡ Some class → ComesNext w c here (record s { ticks = t; scene = e }) cell x class
-  next_taken t e x class some d lives =
-      let n = next_is c.store comes_next.0 comes_next.1 in
+  abbrev pub next_taken : (t : ℕ) (e : Seen) (x : ℤ) (class : ℕ) → s.ticks ≡ suc t → s.ticks < 2 ^ 64 → IsNextNotice s.scene e (Some x) → living e.heap x ≡ Some class → ComesNext w c here (record s { ticks = t; scene = e }) cell x class
+  next_taken t e x class some few d lives =
+      let a = comes_next (awaits e x d) in
+      let n = next_is c.store a.0 a.1 in
       let first : Some (n.time, n.number) ≡ Some (e.time, x) = sym n.first ∙ ap (λ (y : Scene). next y.pending) r.holds.scene ∙ d.0 in
-      let pair : (n.time, n.number) ≡ (e.time, x) = cc in
+      let pair : (n.time, n.number) ≡ (e.time, x) = got first in
       let number : n.number ≡ x = ap (λ (p : ℤ × ℤ). p.1) pair in
       let time : n.time ≡ e.time = ap (λ (p : ℤ × ℤ). p.0) pair in
       let heap : c.store.scene.heap ≡ e.heap = ap (λ (y : Scene). y.heap) r.holds.scene ∙ sym (ap (λ (t : Seen). t.heap) d.1) in
       let there : Some n.entry.class ≡ Some class = sym (record_living c.store.scene.heap n.number n.entry n.there) ∙ ap (λ h. living h n.number) heap ∙ ap (living e.heap) number ∙ lives in
-      let of : n.entry.class ≡ class = cc in
+      let of : n.entry.class ≡ class = got there in
       record {
         before = s;
         ready = r;
         left = some;
+        few = few;
         is = refl;
-        coming = comes_next.0;
-        next = comes_next.1;
+        coming = a.0;
+        next = a.1;
         number = n.names ∙ ap Whole number;
-        of = ranked_class 0 c.store.scene.setting.notices n.entry.class comes_next.0.ranked n.place ∙ of;
+        of = ranked_class 0 c.store.scene.setting.notices n.entry.class a.0.ranked n.place ∙ of;
         store =
             n.store
             ∙ ap (λ z. at_event z c.store) time

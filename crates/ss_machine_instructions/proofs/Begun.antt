@@ -37,7 +37,7 @@ use Rattle.ss_machine_instructions.proofs.Calling.{HasEntry, has_entry}
 use Rattle.ss_machine_instructions.proofs.Placing.{site, stands}
 
 -- an event has its entry
-event_entered : (p : Program) (at first : ℕ) (es : List Event) (r : ℕ) (e : Event) → slice_get es r ≡ Some e → (place : ℕ) × (slice_get (event_entries p at first es) r ≡ Some (event_entry place e))
+pub event_entered : (p : Program) (at first : ℕ) (es : List Event) (r : ℕ) (e : Event) → slice_get es r ≡ Some e → (place : ℕ) × (slice_get (event_entries p at first es) r ≡ Some (event_entry place e))
 event_entered p at first [] r e q = absurd cc
 event_entered p at first (x ∷ es) zero e q = let same : x ≡ e = cc in (at, ap (λ e. Some (event_entry at e)) same)
 event_entered p at first (x ∷ es) (suc r) e q = event_entered p (at + length (event_code p first x)) (first + length (block_prints x.body)) es r e q
@@ -59,7 +59,7 @@ module _ (w : Compiled) (c : Core) (here : Here) (s : State) (cell : ℕ) (x : �
   pub good : GoodEvent w.program event
   good = every_get (GoodEvent w.program) w.program.events n.coming.ranked.rank event n.ready.compiled.typed.events known.ranked.there
 
-  said_is : n.coming.ranked.said ≡ said_of event
+  pub said_is : n.coming.ranked.said ≡ said_of event
   said_is = known.ranked.said
 
   class_is : event.class ≡ class

@@ -1,5 +1,5 @@
 -- Entities that come and go.
-use Rattle.std.proofs.Common.{◌≡◌, ℕ, ◌<◌, true, length, Option, Some, None, Ok, Err, refl, ap, ◌∙◌, subst}
+use Rattle.std.proofs.Common.{◌≡◌, ℕ, ◌+◌, ◌<◌, true, length, Option, Some, None, Ok, Err, refl, ap, ◌∙◌, subst}
 use Rattle.std.proofs.lemmas.Option.{slice_get_within}
 use Rattle.std.specs.Prelude.{ℤ, not, slice_get, Result as OkOr}
 use Rattle.ss_base.specs.declared.fault.FaultKind.{FaultKind}
@@ -118,7 +118,7 @@ module _ (w : Compiled) (c : Core) (here : Here) (s : State) (run : Running) (r 
   creates_not class to e refused new result z made same none =
       calm w c here s run r new result (ap is_due z.2)
       (refuses w c here s run r (made_one class) e refused new result
-      (λ kind no. ap (λ x. act w.code r.placed.line x c) z.2 ∙ ap (λ q. deliver_with r.placed.line z.0 q c.cells c) no)
+      (λ kind not_so. ap (λ x. act w.code r.placed.line x c) z.2 ∙ ap (λ q. deliver_with r.placed.line z.0 q c.cells c) not_so)
       (makes_not (made_one class) s.scene e refused made) same none)
 
   -- ## CreateAll
@@ -164,7 +164,7 @@ module _ (w : Compiled) (c : Core) (here : Here) (s : State) (run : Running) (r 
   creates_all_not class variable n e refused new result is at made same none =
       calm w c here s run r new result (ap is_due is)
       (refuses w c here s run r (created_all_known class n) e refused new result
-      (λ kind no. all_is class variable n is at ∙ ap (λ q. did r.placed.line q (λ t. onward c.cells c t)) no)
+      (λ kind not_so. all_is class variable n is at ∙ ap (λ q. did r.placed.line q (λ t. onward c.cells c t)) not_so)
       (changes_not (created_all_known class n) s.scene e refused made) same none)
 
   -- ## Destroy

@@ -196,9 +196,9 @@ module _ (w : Compiled) (c : Core) (here : Here) (s : State) (run : Running) (r 
       let b = reads_bearer (site w c here s run r) (stands w c here s run r) z.0 r.placed.cells y.1.0 entity c.cells n y.1.1 z.1 r.holds.held.cells r.fits.cells e in
       let m = onward b.below c c.store in
       let acts : does ≡ did {A = Unit {0}} r.placed.line (without_value (mean j b.value) c.store) (λ _. m) =
-        ap (λ x. act w.code r.placed.line x c) is
-        ∙ b.is (λ x below. did r.placed.line (mean j x c.store) (λ _. onward below c c.store))
-        ∙ did_quiet r.placed.line (mean j b.value c.store) m in
+      ap (λ x. act w.code r.placed.line x c) is
+      ∙ b.is (λ x below. did r.placed.line (mean j x c.store) (λ _. onward below c c.store))
+      ∙ did_quiet r.placed.line (mean j b.value c.store) m in
       let found = asked w c here s run r (without_value (mean j b.value)) answer (λ wrong. acts ∙ ap (λ t. did r.placed.line t (λ _. m)) wrong) (looks b.value (refers_to j z.0 b.value n y.0 b.refers)) in
       looked w c here s run r answer b.below new result (ap is_due is) (acts ∙ ap (λ t. did r.placed.line t (λ _. m)) found) b.cells same q
 
@@ -247,8 +247,8 @@ module _ (w : Compiled) (c : Core) (here : Here) (s : State) (run : Running) (r 
       let y = subst SuitsHere is (suits w c here s run r) in
       let b = reads_bearer (site w c here s run r) (stands w c here s run r) z.0 r.placed.cells y.1.0 entity c.cells n y.1.1 z.1 r.holds.held.cells r.fits.cells at_entity in
       let acts : does ≡ did r.placed.line (reset j b.value c.store) (λ t. onward b.below c t) =
-        ap (λ x. act w.code r.placed.line x c) is
-        ∙ b.is (λ x below. did r.placed.line (reset j x c.store) (λ t. onward below c t)) in
+      ap (λ x. act w.code r.placed.line x c) is
+      ∙ b.is (λ x below. did r.placed.line (reset j x c.store) (λ t. onward below c t)) in
       let right = right_where w c here s run r (reset j b.value) (λ wrong. acts ∙ ap (λ t. did r.placed.line t (λ t. onward b.below c t)) wrong) in
       changes_where w c here s run r (λ t. IsRight (reset j b.value t) × VariableHolds j held t) (reset j b.value) b.below e answer new result (ap is_due is) acts b.cells
       (right, variable_holds j held at_held)
@@ -310,10 +310,10 @@ module _ (w : Compiled) (c : Core) (here : Here) (s : State) (run : Running) (r 
       let put_there = put_is (Global k) (Whole n) v.value c.store v.there (sym v.mode) in
       let seen_then : kept_in k n ≡ with_seen (kept_in k n) s.scene = ap (λ x. with_variable (Global k) (Whole n) x) (seen_is w c here s run r) in
       let acts : does ≡ did r.placed.line (noted (OfVariable k) (pos 0) (Whole n) (with_seen (kept_in k n) s.scene)) (λ t. onward one.below c t) =
-        ap (λ x. act w.code r.placed.line x c) is
-        ∙ one.is (λ v below. did r.placed.line (assigned_variable (Global k) v c.store) (λ t. onward below c t))
-        ∙ ap (λ q. did r.placed.line q (λ t. onward one.below c t)) (note_after k (Whole n) c.store (kept_in k n) put_there)
-        ∙ ap (λ u. did r.placed.line (noted (OfVariable k) (pos 0) (Whole n) u) (λ t. onward one.below c t)) seen_then in
+      ap (λ x. act w.code r.placed.line x c) is
+      ∙ one.is (λ v below. did r.placed.line (assigned_variable (Global k) v c.store) (λ t. onward below c t))
+      ∙ ap (λ q. did r.placed.line q (λ t. onward one.below c t)) (note_after k (Whole n) c.store (kept_in k n) put_there)
+      ∙ ap (λ u. did r.placed.line (noted (OfVariable k) (pos 0) (Whole n) u) (λ t. onward one.below c t)) seen_then in
       let elsewhere : Elsewhere s.rows rows k = elsewhere_value s.rows k (Whole n) in
       let there = value_same s.rows k (Whole n) r.holds.even (global_within k y.0) in
       let held = variable_held t st (Global k) (global_at k) v.value (Whole n) rows (c.place + 1) one.below (refl, refl) v.there (subst (Elsewhere s.rows rows) (sym place) elsewhere) (subst (λ j. ValueAt rows j (Whole n)) (sym place) there) one.cells in
@@ -333,7 +333,7 @@ pub after_fault : (change : OkOr (Unit {0}) FaultKind) (kind : FaultKind) (noted
 after_fault change kind noted note e is = subst (λ q. NotedAfter q noted note e e (Err kind)) (sym is) (refl, refl)
 
 pub after_unnoted : (change : OkOr (Unit {0}) FaultKind) (u : Unit {0}) (noted : Bool) (note : Store → OkOr Store Trouble) (e : Seen) → change ≡ Ok u → noted ≡ false → NotedAfter change noted note e e (Ok tt)
-after_unnoted change u noted note e is no = subst (λ q. NotedAfter q noted note e e (Ok tt)) (sym is) (subst (λ b. NotedIf b note e e (Ok tt)) (sym no) (refl, refl))
+after_unnoted change u noted note e is not_so = subst (λ q. NotedAfter q noted note e e (Ok tt)) (sym is) (subst (λ b. NotedIf b note e e (Ok tt)) (sym not_so) (refl, refl))
 
 pub after_noted : (change : OkOr (Unit {0}) FaultKind) (u : Unit {0}) (noted : Bool) (note : Store → OkOr Store Trouble) (old new : Seen) (said : OkOr (Unit {0}) FaultKind) → change ≡ Ok u → noted ≡ true → Changes note old new said → NotedAfter change noted note old new said
-after_noted change u noted note old new said is yes h = subst (λ q. NotedAfter q noted note old new said) (sym is) (subst (λ b. NotedIf b note old new said) (sym yes) h)
+after_noted change u noted note old new said is so h = subst (λ q. NotedAfter q noted note old new said) (sym is) (subst (λ b. NotedIf b note old new said) (sym so) h)

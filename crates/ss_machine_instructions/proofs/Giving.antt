@@ -1,5 +1,5 @@
 -- A notice gets its first attributes and its time.
-use Rattle.std.proofs.Common.{◌≡◌, inl, inr, ℕ, zero, suc, ◌+◌, ◌<◌, ◌≤◌, ℤ, Bool, true, false, List, [], ◌∷◌, length, map, drop, Some, Ok, Err, refl, sym, ap, ◌∙◌, subst, arith}
+use Rattle.std.proofs.Common.{◌≡◌, inl, inr, ℕ, zero, suc, ◌+◌, ◌<◌, ℤ, Bool, true, false, List, [], ◌∷◌, length, map, drop, Some, Ok, Err, refl, sym, ap, ◌∙◌, subst, arith}
 use Rattle.std.proofs.lemmas.Bool.{eqb-true}
 use Rattle.std.proofs.lemmas.Option.{slice_get_within}
 use Rattle.std.specs.Prelude.{◌&&◌, ◌==◌, IsOk, is_some, slice_get, MatchResult, Result as OkOr, if◌then◌else◌}
@@ -14,7 +14,7 @@ use Rattle.ss_base.specs.declared.layout.Mode.TheVariants.{Integer, Alpha}
 use Rattle.ss_base.specs.declared.value.Value.{Value}
 use Rattle.ss_base.specs.declared.value.Value.TheVariants.{Whole}
 use Rattle.ss_base.specs.Layout.{mode_of}
-use Rattle.ss_world.specs.State.{State, modes_of, and_then, assigned, value_in, timed, known_in}
+use Rattle.ss_world.specs.State.{State, modes_of, and_then, assigned, timed, known_in}
 use Rattle.ss_world.specs.PendingList.{is_pending}
 use Rattle.ss_records.specs.Attributes.{IsAssigned}
 use Rattle.ss_program.specs.declared.sections.Statistic.{Statistic}
@@ -189,7 +189,7 @@ got_at [] i lt = absurd (omega (arith, lt))
 got_at (x ∷ xs) zero lt = (x, refl)
 got_at (x ∷ xs) (suc i) lt = got_at xs i (omega (arith, lt))
 
-mode_got : (vs : List Value) (i : ℕ) (v : Value) → slice_get vs i ≡ Some v → slice_get (map mode_of vs) i ≡ Some (mode_of v)
+pub mode_got : (vs : List Value) (i : ℕ) (v : Value) → slice_get vs i ≡ Some v → slice_get (map mode_of vs) i ≡ Some (mode_of v)
 mode_got [] i v e = absurd cc
 mode_got (u ∷ vs) zero v e = let same : u ≡ v = cc in ap (λ x. Some (mode_of x)) same
 mode_got (u ∷ vs) (suc i) v e = mode_got vs i v e
@@ -209,10 +209,10 @@ module _ (class : ℕ) (n : ℤ) (notes : Bool) (from given : ℕ) (rows : TwoRo
   none_endowed g = record { same = refl; fits = g.fits }
 
   module _ (i : ℕ) (now : Seen) (g : Gives class notes from given rows old) (d : Endowed i now g) (lt : i < given) where
-    next_value : (v : Value) × (slice_get g.values i ≡ Some v)
+    pub next_value : (v : Value) × (slice_get g.values i ≡ Some v)
     next_value = got_at g.values i (omega (arith, lt, g.many))
 
-    statistics_same : now.statistics ≡ old.statistics
+    pub statistics_same : now.statistics ≡ old.statistics
     statistics_same = ap (λ (x : Setting). x.statistics) (d.fits.sound.scene.setting ∙ sym g.fits.sound.scene.setting)
 
     -- what the next one is given
@@ -232,6 +232,7 @@ module _ (class : ℕ) (n : ℤ) (notes : Bool) (from given : ℕ) (rows : TwoRo
       };
       lies = all_get rows from i g.values next_value.0 g.lie next_value.1;
       within = omega (arith, lt, g.within);
+      small = omega (arith, lt, g.small);
     }
 
     step_is : endowed class 0 (Whole n) g.values (with_seen g.store old) ≡ if_ok (assigned_attribute class i (Whole n) next_value.0 (with_seen g.store now)) (endowed class (i + 1) (Whole n) (drop (suc i) g.values))
@@ -315,14 +316,17 @@ module _ (class : ℕ) (n : ℤ) (notes : Bool) (from given : ℕ) (rows : TwoRo
         ap (λ b. if_ok (where_fit b (turned (λ _. n) (due (known_in old.heap class n)))) then_again) (within_there old.heap.layout.classes class class_here)
         ∙ by (known_in old.heap class n)
       where
+        not_twice : Bool → OkOr (Unit {0}) FaultKind
+        not_twice b = if b then Err AlreadyScheduled else Ok tt
+
         then_again : ℤ → OkOr Store Trouble
         then_again m = unless_fault (is_pending m old.pending.entries) AlreadyScheduled (refiled class (Whole n) g.values t (with_seen g.store old))
 
-        pending : (b : Bool) → unless_fault b AlreadyScheduled (refiled class (Whole n) g.values t (with_seen g.store old)) ≡ if_ok {A = Unit {0}} (due (if b then Err AlreadyScheduled else Ok tt)) (λ u. refiled class (Whole n) g.values t (with_seen g.store old))
+        pending : (b : Bool) → unless_fault b AlreadyScheduled (refiled class (Whole n) g.values t (with_seen g.store old)) ≡ if_ok (due (not_twice b)) (λ u. refiled class (Whole n) g.values t (with_seen g.store old))
         pending true = refl
         pending false = refl
 
-        by : (k : OkOr (Unit {0}) FaultKind) → if_ok (turned (λ _. n) (due k)) then_again ≡ if_ok (due (and_then k (λ u. if is_pending n old.pending.entries then Err AlreadyScheduled else Ok tt))) (λ u. refiled class (Whole n) g.values t (with_seen g.store old))
+        by : (k : OkOr (Unit {0}) FaultKind) → if_ok (turned (λ _. n) (due k)) then_again ≡ if_ok (due (and_then k (λ u. not_twice (is_pending n old.pending.entries)))) (λ u. refiled class (Whole n) g.values t (with_seen g.store old))
         by (Ok u) = pending (is_pending n old.pending.entries)
         by (Err kind) = refl
 
@@ -357,7 +361,7 @@ module _ (class : ℕ) (notes : Bool) (from given : ℕ) (rows : TwoRows) (old :
   abbrev IsFitting : Value × Store → Type 0
   IsFitting b = (mode_of b.0 ≡ Integer) × Fits g.program g.modes b.1
 
-  created_fits : (n : ℤ) (mid : Seen) → made_one class (with_seen g.store old) ≡ Ok (Whole n, with_seen g.store mid) → Fits g.program g.modes (with_seen g.store mid)
+  pub created_fits : (n : ℤ) (mid : Seen) → made_one class (with_seen g.store old) ≡ Ok (Whole n, with_seen g.store mid) → Fits g.program g.modes (with_seen g.store mid)
   created_fits n mid e =
       (fine_is IsFitting (made_one class (with_seen g.store old)) (Whole n, with_seen g.store mid) (made_one_fine g.program g.typed g.modes class (with_seen g.store old) (ap is_created_singly g.notice) g.fits) e).1
 
@@ -377,6 +381,7 @@ module _ (class : ℕ) (notes : Bool) (from given : ℕ) (rows : TwoRows) (old :
     many = g.many;
     lie = g.lie;
     within = g.within;
+    small = g.small;
     told = λ none field lt. ap (λ (x : Setting). watch x.statistics (OfAttribute class field)) ((created_fits n mid e).sound.scene.setting ∙ sym g.fits.sound.scene.setting) ∙ g.told none field lt;
   }
 

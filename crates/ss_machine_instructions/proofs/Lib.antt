@@ -3,6 +3,7 @@ pub mod Delivering
 pub mod Calculating
 pub mod Comparing
 pub mod Ticking
+pub mod Items
 pub mod Looping
 pub mod Calling
 pub mod Stepping

@@ -92,22 +92,22 @@ module _ (w : Compiled) (c : Core) (here : Here) (s : State) (run : Running) (r 
   -- ## What lies in the cells
 
   -- so many values from a cell on, and the time above them
-  record Spread (h cell given : ℕ) (modes rest : List Mode) : Type 0 where
-    time : ℤ
-    over : List Value
-    taken : TakenOff
-    cells : c.cells ≡ Whole time ∷ over
-    off : take_off given over [] ≡ Some taken
-    kinds : Hold taken.values modes
-    below : Hold taken.below rest
-    high : length taken.below ≡ h
-    many : length taken.values ≡ given
-    place : here.frame + cell ≡ Low + length taken.below
-    top : here.frame + cell + given ≡ Low + length over
-    lie : AllAt s.rows (here.frame + cell) taken.values
-    under : CellsAt s.rows Low taken.below
-    room : here.frame + cell + given < length s.rows.numbers
-    time_at : slice_get s.rows.numbers (here.frame + cell + given) ≡ Some time
+  pub record Spread (h cell given : ℕ) (modes rest : List Mode) : Type 0 where
+    pub time : ℤ
+    pub over : List Value
+    pub taken : TakenOff
+    pub cells : c.cells ≡ Whole time ∷ over
+    pub off : take_off given over [] ≡ Some taken
+    pub kinds : Hold taken.values modes
+    pub below : Hold taken.below rest
+    pub high : length taken.below ≡ h
+    pub many : length taken.values ≡ given
+    pub place : here.frame + cell ≡ Low + length taken.below
+    pub top : here.frame + cell + given ≡ Low + length over
+    pub lie : AllAt s.rows (here.frame + cell) taken.values
+    pub under : CellsAt s.rows Low taken.below
+    pub room : here.frame + cell + given < length s.rows.numbers
+    pub time_at : slice_get s.rows.numbers (here.frame + cell + given) ≡ Some time
 
   spread : (h cell given : ℕ) (above modes rest : List Mode) → cell ≡ length r.placed.locals + h → r.placed.cells ≡ Integer ∷ above → length modes ≡ given → Block h modes above rest → Spread h cell given modes rest
   spread h cell given above modes rest at e n block =
@@ -156,6 +156,7 @@ module _ (w : Compiled) (c : Core) (here : Here) (s : State) (run : Running) (r 
     many = z.many;
     lie = z.lie;
     within = omega (arith, z.room);
+    small = let few = r.holds.held.small in omega (arith, z.room, few);
     told = λ none field lt. ap (λ ss. watch ss (OfAttribute class field)) (statistics_seen w c here s run r) ∙ told none field lt;
   }
 
@@ -179,7 +180,7 @@ module _ (w : Compiled) (c : Core) (here : Here) (s : State) (run : Running) (r 
   MakesNotice class cell given to = At w.code w.run.constants r.placed cell (λ h. To w.code w.run.constants r.placed to (λ t. Is w.code w.run.constants r.placed (i.MakeNotice class h given t)))
 
   -- the cells of the instruction
-  make_spread : (class cell given : ℕ) (to : Address) (z : MakesNotice class cell given to) → let y = subst SuitsHere z.2.2 (suits w c here s run r) in Spread z.0 cell given y.1 y.5.0
+  pub make_spread : (class cell given : ℕ) (to : Address) (z : MakesNotice class cell given to) → let y = subst SuitsHere z.2.2 (suits w c here s run r) in Spread z.0 cell given y.1 y.5.0
   make_spread class cell given to z =
       let y = subst SuitsHere z.2.2 (suits w c here s run r) in
       spread z.0 cell given y.0 y.1 y.5.0 z.1 y.2 y.3 y.5.1
@@ -293,7 +294,7 @@ module _ (w : Compiled) (c : Core) (here : Here) (s : State) (run : Running) (r 
   abbrev pub Reschedules : (class : ℕ) → (notice : Address) → (cell given : ℕ) → Type 0
   Reschedules class notice cell given = From w.code w.run.constants r.placed notice (λ y. At w.code w.run.constants r.placed cell (λ h. Is w.code w.run.constants r.placed (i.Reschedule class y h given)))
 
-  again_spread : (class : ℕ) (notice : Address) (cell given : ℕ) (z : Reschedules class notice cell given) → let y = subst SuitsHere z.2.2 (suits w c here s run r) in Spread z.2.0 cell given y.1 y.5.0
+  pub again_spread : (class : ℕ) (notice : Address) (cell given : ℕ) (z : Reschedules class notice cell given) → let y = subst SuitsHere z.2.2 (suits w c here s run r) in Spread z.2.0 cell given y.1 y.5.0
   again_spread class notice cell given z =
       let y = subst SuitsHere z.2.2 (suits w c here s run r) in
       spread z.2.0 cell given y.0 y.1 y.5.0 z.2.1 y.2 y.3 y.5.1

@@ -1,5 +1,5 @@
 -- An event begins in the definition as it does in the machine.
-use Rattle.std.proofs.Common.{◌≡◌, ℕ, zero, suc, ◌+◌, ◌<◌, ◌≤◌, ℤ, Bool, true, false, List, [], ◌∷◌, length, Option, Some, None, Ok, Err, refl, sym, ap, ◌∙◌, subst, arith, if◌then◌else◌}
+use Rattle.std.proofs.Common.{◌≡◌, ℕ, zero, suc, ◌+◌, ◌<◌, ℤ, Bool, true, false, List, [], ◌∷◌, length, Option, Some, None, Ok, Err, refl, sym, ap, ◌∙◌, subst, arith, if◌then◌else◌}
 use Rattle.std.proofs.lemmas.Bool.{eq-eqb}
 use Rattle.std.specs.Prelude.{◌==◌, pos, negsuc, IfSome, is_some, slice_get, slice_set, slice_index_or, Result as OkOr}
 use Rattle.ss_base.specs.declared.fault.FaultKind.{FaultKind}
@@ -20,7 +20,7 @@ use Rattle.ss_meaning.specs.Events.{Beginning, attributes_given, saved_or_gone, 
 use Rattle.ss_meaning.specs.Fitting.{class_of_record, living}
 use Rattle.ss_meaning.proofs.Events.{BegunAs, begun_fine}
 use Rattle.ss_code_instructions.specs.States.{AnEvent, Core, Rest, Breaks, did, fit, at_height}
-use Rattle.ss_code_instructions.specs.Machine.{act, enter, take_event}
+use Rattle.ss_code_instructions.specs.Machine.{act, enter, take_event, take_next}
 use Rattle.ss_machine_world.specs.Seen.{Seen, IsRight, Changes, with_seen}
 use Rattle.ss_machine_world.proofs.Reading.{value_once}
 use Rattle.ss_machine_instructions.specs.declared.flow.Here.{Here}
@@ -37,7 +37,7 @@ entity_lives h class x lives kind = by (kind_of h.layout class) kind
   where
     same_class : (r : Record) → r.class ≡ class → (b : Bool) → (r.class == class) ≡ b → (if b then Ok r else Err WrongClass) ≡ Ok r
     same_class r e true q = refl
-    same_class r e false q = let on : (r.class == class) ≡ true = eq-eqb r.class class e in absurd (let no : true ≡ false = sym on ∙ q in cc)
+    same_class r e false q = let on : (r.class == class) ≡ true = eq-eqb r.class class e in absurd (let wrong : true ≡ false = sym on ∙ q in cc)
 
     from_record : (o : Option (Option Record)) → class_of_record o ≡ Some class → (r : Record) × (and_then (issued_record o) (of_class class) ≡ Ok r)
     from_record None e = absurd cc
@@ -143,7 +143,7 @@ module _ (w : Compiled) (c : Core) (here : Here) (s : State) (cell : ℕ) (x : �
 
     -- what TakeEvent does then
     pub take_is : act w.code n.ready.placed.line n.ready.placed.instruction c ≡ take_event w.code n.ready.runs.carries.0 n.coming c
-    take_is = ap (λ i. act w.code n.ready.placed.line i c) n.ready.runs.carries.2 ∙ ap (λ o. fit o (λ n'. take_event w.code n.ready.runs.carries.0 n' c)) n.next
+    take_is = ap (λ i. act w.code n.ready.placed.line i c) n.ready.runs.carries.2 ∙ ap (λ o. take_next w.code n.ready.runs.carries.0 o c) n.next
 
     -- a fault as the notice is let go has the line of the routine
     pub begins_not : (e : Seen) (kind : FaultKind) → GoesAs n.coming.ranked.said.saved e (Err kind) → act w.code n.ready.placed.line n.ready.placed.instruction c ≡ Rest (Breaks kind n.coming.ranked.said.line)

@@ -53,13 +53,13 @@ use Rattle.ss_machine_instructions.proofs.Settling.{fine_right, fine_is, store_i
 module _ (set : ℕ) (n : ℤ) (s : Store) (t : SetLayout) (there : set_at set s ≡ Some t) where
   -- an operation that has the fault of its member itself
   looked : (go : ℤ → OkOr Value Trouble) → ((kind : FaultKind) → joiner s.scene.heap set n ≡ Err kind → go n ≡ Err (Fails kind)) → if_ok (member set (Whole n) s) go ≡ go n
-  looked go no =
+  looked go fails =
       ap (λ so. if_ok (where_fit (is_some so) (turned (λ _. n) (due (joiner s.scene.heap set n)))) go) there
       ∙ by (joiner s.scene.heap set n) refl
     where
       by : (j : OkOr ℕ FaultKind) → joiner s.scene.heap set n ≡ j → if_ok (turned (λ _. n) (due j)) go ≡ go n
       by (Ok k) q = refl
-      by (Err kind) q = sym (no kind q)
+      by (Err kind) q = sym (fails kind q)
 
   ones : (r : OkOr (Option ℤ) FaultKind) → turned (λ o. Whole (is_one o)) (due r) ≡ turned Whole (due (one_of r))
   ones (Ok o) = refl
@@ -263,10 +263,10 @@ module _ (w : Compiled) (c : Core) (here : Here) (s : State) (run : Running) (r 
       let op : Store → OkOr Store Trouble = filed_in at set (Whole n) b.value in
       let right : IsRight (op c.store) = fine_right (Fits w.program r.placed.locals) (op c.store) (filed_in_fine w.program r.compiled.typed r.placed.locals at set (Whole n) b.value c.store good refl (owner_ok w.program r.compiled.typed r.placed.locals set o b.value m z.0 b.refers) r.fits.store) in
       let acts : act w.code l r.placed.instruction c ≡ did l (op c.store) (λ t. onward x.below c t) =
-          ap (λ v. act w.code l v c) is
-          ∙ b.is (λ o over. with_position filing c.store over (λ f above. with_value y c.store above (λ x below. did l (filed_in f set x o c.store) (λ t. onward below c t))))
-          ∙ f.is (λ f above. with_value y c.store above (λ x below. did l (filed_in f set x b.value c.store) (λ t. onward below c t)))
-          ∙ x.is (λ x below. did l (filed_in at set x b.value c.store) (λ t. onward below c t)) in
+      ap (λ v. act w.code l v c) is
+      ∙ b.is (λ o over. with_position filing c.store over (λ f above. with_value y c.store above (λ x below. did l (filed_in f set x o c.store) (λ t. onward below c t))))
+      ∙ f.is (λ f above. with_value y c.store above (λ x below. did l (filed_in f set x b.value c.store) (λ t. onward below c t)))
+      ∙ x.is (λ x below. did l (filed_in at set x b.value c.store) (λ t. onward below c t)) in
       let left : Settles c l (act w.code l r.placed.instruction c) here s op = record { below = x.below; acts = acts; right = right; at = x.cells } in
       settles w c here s run r op e answer new result (ap is_due is) left
       (filed b.value (is_owner set o b.value m z.0 b.refers) (is_told w c here s run r notes (OfCount set) told)) same way
@@ -362,9 +362,9 @@ module _ (w : Compiled) (c : Core) (here : Here) (s : State) (run : Running) (r 
       let op : Store → OkOr Store Trouble = removed_from set (Whole n) b.value in
       let right : IsRight (op c.store) = fine_right (Fits w.program r.placed.locals) (op c.store) (removed_from_fine w.program r.compiled.typed r.placed.locals set (Whole n) b.value c.store refl (owner_ok w.program r.compiled.typed r.placed.locals set z.2.0 b.value m y.0 b.refers) r.fits.store) in
       let acts : act w.code l r.placed.instruction c ≡ did l (op c.store) (λ t. onward x.below c t) =
-          ap (λ v. act w.code l v c) is
-          ∙ b.is (λ o above. with_value z.0 c.store above (λ x below. did l (removed_from set x o c.store) (λ t. onward below c t)))
-          ∙ x.is (λ x below. did l (removed_from set x b.value c.store) (λ t. onward below c t)) in
+      ap (λ v. act w.code l v c) is
+      ∙ b.is (λ o above. with_value z.0 c.store above (λ x below. did l (removed_from set x o c.store) (λ t. onward below c t)))
+      ∙ x.is (λ x below. did l (removed_from set x b.value c.store) (λ t. onward below c t)) in
       let left : Settles c l (act w.code l r.placed.instruction c) here s op = record { below = x.below; acts = acts; right = right; at = x.cells } in
       settles w c here s run r op e answer new result (ap is_due is) left
       (removed b.value (is_owner set z.2.0 b.value m y.0 b.refers) (is_told w c here s run r notes (OfCount set) told)) done.0 done.1

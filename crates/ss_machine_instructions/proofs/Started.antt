@@ -101,8 +101,8 @@ module _ (w : Compiled) (c : Core) (here : Here) (s : State) (cell : ℕ) (x : �
             leads = (
               c',
               acts seen goes
-              ∙ ap (λ o. enter e (AnEvent n.coming.ranked.rank) h.values c.cells c (left_store w c here s cell x class n o seen)) none
-              ∙ ap (λ o. fit o (λ vs. To (begun_from vs seen))) (opened_is e.given e.others h.values hold_given),
+                  ∙ ap (λ o. enter e (AnEvent n.coming.ranked.rank) h.values c.cells c (left_store w c here s cell x class n o seen)) none
+                  ∙ ap (λ o. fit o (λ vs. To (begun_from vs seen))) (opened_is e.given e.others h.values hold_given),
               record {
                 place = entry_is.place;
                 held = held_gone w c here s cell x class n e run entry_is s1 frame enters high n.coming.ranked.rank rows h seen;
@@ -115,7 +115,7 @@ module _ (w : Compiled) (c : Core) (here : Here) (s : State) (cell : ℕ) (x : �
             steps = steps_same;
           }
         where
-          abbrev begun_from : List Value → Seen → Core
+          begun_from : List Value → Seen → Core
           begun_from vs seen = record {
             place = (entry_point w c here s cell x class n).place;
             cells = [];
@@ -131,8 +131,8 @@ module _ (w : Compiled) (c : Core) (here : Here) (s : State) (cell : ℕ) (x : �
             leads = (
               c',
               acts seen goes
-              ∙ ap (λ o. enter e (AnEvent n.coming.ranked.rank) h.values c.cells c (left_store w c here s cell x class n o seen)) some
-              ∙ ap (λ o. fit o (λ vs. To (begun_from vs))) (opened_is e.given e.others h.values hold_given),
+                  ∙ ap (λ o. enter e (AnEvent n.coming.ranked.rank) h.values c.cells c (left_store w c here s cell x class n o seen)) some
+                  ∙ ap (λ o. fit o (λ vs. To (begun_from vs))) (opened_is e.given e.others h.values hold_given),
               record {
                 place = entry_is.place;
                 held = held_saved w c here s cell x class n e run entry_is s1 frame enters high n.coming.ranked.rank rows h seen k lt low;
@@ -145,7 +145,7 @@ module _ (w : Compiled) (c : Core) (here : Here) (s : State) (cell : ℕ) (x : �
             steps = steps_same;
           }
         where
-          abbrev begun_from : List Value → Core
+          begun_from : List Value → Core
           begun_from vs = record {
             place = (entry_point w c here s cell x class n).place;
             cells = [];

@@ -1,5 +1,5 @@
 -- What a notice is given: its first attributes, from cells, and its time.
-use Rattle.std.specs.Prelude.{◌≡◌, ℕ, ◌+◌, ◌<◌, ◌≤◌, Bool, false, List, length, ℤ, Some, Result, Ok, Err, slice_get, if◌then◌else◌}
+use Rattle.std.specs.Prelude.{◌≡◌, ℕ, ◌+◌, ◌<◌, ◌≤◌, ◌^◌, Bool, false, List, length, ℤ, Some, Result, Ok, Err, slice_get, if◌then◌else◌}
 use Rattle.ss_base.specs.declared.fault.FaultKind.{FaultKind}
 use Rattle.ss_base.specs.declared.fault.FaultKind.TheVariants.{AlreadyScheduled}
 use Rattle.ss_base.specs.declared.fault.Refused.{Refused}
@@ -85,6 +85,7 @@ pub record GivesOne (class field : ℕ) (noted : Bool) (place : ℕ) (rows : Two
   pub suits : Suiting class field noted value e
   pub lies : ValueAt rows place value
   pub within : place < length rows.numbers
+  pub small : place < 2 ^ 64
 
 -- ## All of them
 
@@ -103,4 +104,5 @@ pub record Gives (class : ℕ) (noted : Bool) (from given : ℕ) (rows : TwoRows
   pub many : length values ≡ given
   pub lie : AllAt rows from values
   pub within : from + given ≤ length rows.numbers
+  pub small : from + given ≤ 2 ^ 64
   pub told : noted ≡ false → (field : ℕ) → field < given → watch e.statistics (OfAttribute class field) ≡ false

@@ -1,18 +1,20 @@
 //! Attributes of entities, and times.
 
-ghost use Rattle.std.specs.Prelude.{◌≡◌, ◌<◌, length, slice_get, Some, Err, MatchResult};
-ghost use Rattle.ss_base.specs.declared.layout.Mode.TheVariants.{Integer};
+ghost use Rattle.std.specs.Prelude.{◌≡◌, ◌<◌, length, slice_get, Some, Ok, Err, MatchResult};
+ghost use Rattle.ss_base.specs.declared.layout.Mode.TheVariants.{Integer, Alpha as AlphaMode};
+ghost use Rattle.ss_base.specs.declared.value.Value.TheVariants.{Whole, Text};
 ghost use Rattle.ss_meaning.specs.Values.{computed, operator_of};
-ghost use Rattle.ss_records.specs.Attributes.{changed_number, IsChanged};
-ghost use Rattle.ss_world.specs.State.{modes_of, value_in};
+ghost use Rattle.ss_records.specs.Attributes.{changed_number, IsAssigned, IsChanged};
+ghost use Rattle.ss_world.specs.State.{modes_of, value_in, assigned};
 ghost use Rattle.ss_machine_instructions.specs.Doing.{Can, Does};
 
 use crate::flow::Here;
 use crate::state::State;
-use ss_base::FaultKind;
+use ss_base::{Alpha, FaultKind};
 use ss_code_instructions::address::Address;
 use ss_code_instructions::instruction::Instruction;
 use ss_machine_entities::population::Population;
+use ss_machine_world::scene::Scene;
 use ss_program::expression::Sign;
 
 // An attribute is increased or reduced by a number. Faults: 1 to 5, then 14.
@@ -34,6 +36,60 @@ fn change_whole(
         Sign::Plus => population.add_whole(class, field, entity, by),
         Sign::Minus => population.subtract_whole(class, field, entity, by),
     }
+}
+
+// The same of an attribute of the scene.
+#[inline(always)]
+fn change(
+    scene: &mut Scene,
+    sign: Sign,
+    class: usize,
+    field: usize,
+    entity: i64,
+    by: i64,
+) -> Result<(), FaultKind>
+    requires class { class < length scene.old.heap.layout.classes }
+    requires mode { slice_get (modes_of scene.old.heap.layout class) field ≡ Some Integer }
+    ensures done { MatchResult result (λ _. IsChanged (λ z. computed (operator_of sign) z by) scene.old.heap class field entity scene.new.heap) (λ kind. (changed_number (λ z. computed (operator_of sign) z by) (value_in scene.old.heap class field entity) ≡ Err kind) × (scene.new.heap ≡ scene.old.heap)) }
+    ensures layout { scene.new.heap.layout ≡ scene.old.heap.layout }
+    ensures same { scene.new ≡ record scene.old { heap = scene.new.heap } }
+{
+    change_whole(&mut scene.population, sign, class, field, entity, by)
+}
+
+// A number goes to an attribute of an entity. Faults: 1 to 5.
+#[inline(always)]
+fn assign_number(
+    scene: &mut Scene,
+    class: usize,
+    field: usize,
+    entity: i64,
+    number: i64,
+) -> Result<(), FaultKind>
+    requires class { class < length scene.old.heap.layout.classes }
+    requires mode { slice_get (modes_of scene.old.heap.layout class) field ≡ Some Integer }
+    ensures done { MatchResult result (λ _. IsAssigned scene.old.heap class field entity number scene.new.heap) (λ kind. (assigned scene.old.heap class field entity (Whole number) ≡ Err kind) × (scene.new.heap ≡ scene.old.heap)) }
+    ensures layout { scene.new.heap.layout ≡ scene.old.heap.layout }
+    ensures same { scene.new ≡ record scene.old { heap = scene.new.heap } }
+{
+    scene.population.set_whole(class, field, entity, number)
+}
+
+// The same of a text.
+#[inline(always)]
+fn assign_text(
+    scene: &mut Scene,
+    class: usize,
+    field: usize,
+    entity: i64,
+    text: Alpha,
+) -> Result<(), FaultKind>
+    requires class { class < length scene.old.heap.layout.classes }
+    requires mode { slice_get (modes_of scene.old.heap.layout class) field ≡ Some AlphaMode }
+    ensures done { MatchResult result (λ _. assigned scene.old.heap class field entity (Text text) ≡ Ok scene.new.heap) (λ kind. (assigned scene.old.heap class field entity (Text text) ≡ Err kind) × (scene.new.heap ≡ scene.old.heap)) }
+    ensures same { scene.new ≡ record scene.old { heap = scene.new.heap } }
+{
+    scene.population.set_text(class, field, entity, text)
 }
 
 impl State {
@@ -95,10 +151,7 @@ impl State {
     {
         let (entity, number) = (self.number(here, entity), self.number(here, from));
         let (class, field) = (class as usize, field as usize);
-        let answer = self
-            .scene
-            .population
-            .set_whole(class, field, entity, number);
+        let answer = assign_number(&mut self.scene, class, field, entity, number);
         self.assigned(here, answer, class, field, entity, noted)
     }
 
@@ -116,10 +169,13 @@ impl State {
         ensures { Does here self.old self.new result (Instruction.SetTextAttribute class field entity.now from.now) }
     {
         let (entity, text) = (self.number(here, entity), self.text(here, from));
-        let answer = self
-            .scene
-            .population
-            .set_text(class as usize, field as usize, entity, text);
+        let answer = assign_text(
+            &mut self.scene,
+            class as usize,
+            field as usize,
+            entity,
+            text,
+        );
         self.done(here, answer)
     }
 
@@ -139,14 +195,7 @@ impl State {
     {
         let (entity, number) = (self.number(here, entity), self.number(here, by));
         let (class, field) = (attribute.0 as usize, attribute.1 as usize);
-        let answer = change_whole(
-            &mut self.scene.population,
-            sign,
-            class,
-            field,
-            entity,
-            number,
-        );
+        let answer = change(&mut self.scene, sign, class, field, entity, number);
         self.assigned(here, answer, class, field, entity, noted)
     }
 

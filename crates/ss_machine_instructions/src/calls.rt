@@ -61,9 +61,10 @@ impl State {
         match self.frames.pop() {
             None => self.stop(Ending::Ended),
             Some(frame) => {
-                if frame.yielding > 0 {
-                    self.yield_values(here.frame as usize, frame);
+                if frame.yielding == 0 {
+                    return here.to(frame.back, frame.caller);
                 }
+                self.yield_values(here.frame, frame);
                 here.to(frame.back, frame.caller)
             }
         }
@@ -79,11 +80,12 @@ impl State {
 
     // What is yielded goes where the frame begins, the first on top.
     #[inline(never)]
-    fn yield_values(&mut self, to: usize, frame: Frame)
+    fn yield_values(&mut self, to: u32, frame: Frame)
         requires { to + frame.given + frame.yielding ≤ length self.old.rows.numbers }
         ensures rows { Yielded self.old.rows self.new.rows (to + frame.given) to frame.yielding }
         ensures same { self.new ≡ record self.old { rows = self.new.rows } }
     {
+        let to = to as usize;
         let from = to + frame.given as usize;
         self.rows.yield_down(from, to, frame.yielding as usize);
     }

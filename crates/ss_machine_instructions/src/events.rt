@@ -3,7 +3,7 @@
 ghost use Rattle.std.specs.Prelude.{◌≡◌, ℕ, ◌+◌, ◌<◌, ◌≤◌, ◌^◌, true, length, slice_get, Some, None, Ok, Err, IfSome, MatchResult};
 ghost use Rattle.ss_base.specs.declared.layout.Mode.{Mode as ModeSeen};
 ghost use Rattle.ss_base.specs.declared.value.Value.TheVariants.{Whole, Text};
-ghost use Rattle.ss_base.specs.declared.layout.Mode.TheVariants.{Integer, Alpha};
+ghost use Rattle.ss_base.specs.declared.layout.Mode.TheVariants.{Integer, Alpha as AlphaMode};
 ghost use Rattle.ss_world.specs.State.{modes_of, timed, value_in};
 ghost use Rattle.ss_meaning.specs.Entities.{is_single};
 ghost use Rattle.ss_meaning.specs.Fitting.{living};
@@ -78,7 +78,7 @@ fn set_text(
     text: Alpha,
 ) -> Result<(), FaultKind>
     requires class { class < length scene.old.heap.layout.classes }
-    requires mode { slice_get (modes_of scene.old.heap.layout class) field ≡ Some Alpha }
+    requires mode { slice_get (modes_of scene.old.heap.layout class) field ≡ Some AlphaMode }
     ensures { IsSet class field notice (Text text) scene.old scene.new result }
 {
     scene.population.set_text(class, field, notice, text)
@@ -106,12 +106,7 @@ fn note_if(
 
 // An attribute of a notice is assigned a number, and noted, where that is so.
 #[inline(always)]
-fn give_number(
-    scene: &mut Scene,
-    what: Giving,
-    field: usize,
-    number: i64,
-) -> Result<(), FaultKind>
+fn give_number(scene: &mut Scene, what: Giving, field: usize, number: i64) -> Result<(), FaultKind>
     requires { Suiting what.class field what.noted (Whole number) scene.old }
     ensures { (g : Suiting what.class field what.noted (Whole number) scene.old) → SettledIn g.store (assigned_attribute what.class field (Whole what.notice) (Whole number)) scene.old scene.new result }
 {
@@ -123,12 +118,7 @@ fn give_number(
 
 // .. or a text, which nothing notes.
 #[inline(always)]
-fn give_text(
-    scene: &mut Scene,
-    what: Giving,
-    field: usize,
-    text: Alpha,
-) -> Result<(), FaultKind>
+fn give_text(scene: &mut Scene, what: Giving, field: usize, text: Alpha) -> Result<(), FaultKind>
     requires { Suiting what.class field what.noted (Text text) scene.old }
     ensures { (g : Suiting what.class field what.noted (Text text) scene.old) → SettledIn g.store (assigned_attribute what.class field (Whole what.notice) (Text text)) scene.old scene.new result }
 {
@@ -137,12 +127,7 @@ fn give_text(
 
 // An attribute of a notice is assigned what lies at its place.
 #[inline(always)]
-fn give_one(
-    scene: &mut Scene,
-    rows: &Rows,
-    what: Giving,
-    field: usize,
-) -> Result<(), FaultKind>
+fn give_one(scene: &mut Scene, rows: &Rows, what: Giving, field: usize) -> Result<(), FaultKind>
     requires { GivesOne what.class field what.noted (what.from + field) rows.now scene.old }
     ensures { (g : GivesOne what.class field what.noted (what.from + field) rows.now scene.old) → SettledIn g.suits.store (assigned_attribute what.class field (Whole what.notice) g.value) scene.old scene.new result }
 {
@@ -205,7 +190,8 @@ fn number_or(number: i64, answer: Result<(), FaultKind>) -> Result<i64, Refused>
     }
 }
 
-// A new notice with its first attributes and its time: its number.
+// A new notice with its first attributes and its time: its number. Memory is wanted as it is created. No fault is due after that, as its
+// histories have just started and none is full; so none comes too late.
 #[inline(always)]
 fn new_notice(
     scene: &mut Scene,
@@ -331,7 +317,7 @@ fn number_of(scene: &Scene, class: usize, field: usize, notice: i64) -> Result<i
 #[inline(always)]
 fn text_of(scene: &Scene, class: usize, field: usize, notice: i64) -> Result<Alpha, FaultKind>
     requires class { class < length scene.now.heap.layout.classes }
-    requires mode { slice_get (modes_of scene.now.heap.layout class) field ≡ Some Alpha }
+    requires mode { slice_get (modes_of scene.now.heap.layout class) field ≡ Some AlphaMode }
     ensures { MatchResult result (λ text. value_in scene.now.heap class field notice ≡ Ok (Text text)) (λ kind. value_in scene.now.heap class field notice ≡ Err kind) }
 {
     scene.population.text(class, field, notice)
@@ -339,15 +325,11 @@ fn text_of(scene: &Scene, class: usize, field: usize, notice: i64) -> Result<Alp
 
 // An attribute of a notice that is a number goes to its place.
 #[inline(always)]
-fn read_number(
-    scene: &Scene,
-    rows: &mut Rows,
-    what: Giving,
-    field: usize,
-) -> Result<(), FaultKind>
+fn read_number(scene: &Scene, rows: &mut Rows, what: Giving, field: usize) -> Result<(), FaultKind>
     requires class { what.class < length scene.now.heap.layout.classes }
     requires mode { slice_get (modes_of scene.now.heap.layout what.class) field ≡ Some Integer }
     requires place { what.from + field < length rows.old.numbers }
+    requires small { what.from + field < 2 ^ 64 }
     ensures { IsReadTo scene.now.heap what.class field what.notice Integer (what.from + field) rows.old rows.new result }
 {
     match number_of(scene, what.class, field, what.notice) {
@@ -361,16 +343,12 @@ fn read_number(
 
 // One that is a text.
 #[inline(always)]
-fn read_text(
-    scene: &Scene,
-    rows: &mut Rows,
-    what: Giving,
-    field: usize,
-) -> Result<(), FaultKind>
+fn read_text(scene: &Scene, rows: &mut Rows, what: Giving, field: usize) -> Result<(), FaultKind>
     requires class { what.class < length scene.now.heap.layout.classes }
-    requires mode { slice_get (modes_of scene.now.heap.layout what.class) field ≡ Some Alpha }
+    requires mode { slice_get (modes_of scene.now.heap.layout what.class) field ≡ Some AlphaMode }
     requires place { what.from + field < length rows.old.numbers }
-    ensures { IsReadTo scene.now.heap what.class field what.notice Alpha (what.from + field) rows.old rows.new result }
+    requires small { what.from + field < 2 ^ 64 }
+    ensures { IsReadTo scene.now.heap what.class field what.notice AlphaMode (what.from + field) rows.old rows.new result }
 {
     match text_of(scene, what.class, field, what.notice) {
         Err(kind) => Err(kind),
@@ -393,6 +371,7 @@ fn read_one(
     requires class { what.class < length scene.now.heap.layout.classes }
     requires mode { slice_get (modes_of scene.now.heap.layout what.class) field ≡ Some mode }
     requires place { what.from + field < length rows.old.numbers }
+    requires small { what.from + field < 2 ^ 64 }
     ensures { IsReadTo scene.now.heap what.class field what.notice mode (what.from + field) rows.old rows.new result }
 {
     match mode {
@@ -401,22 +380,27 @@ fn read_one(
     }
 }
 
+// The mode of one that is given.
+#[inline(always)]
+fn given_mode(modes: &[Mode], field: usize) -> Mode
+    requires { field < length modes.now }
+    ensures { slice_get modes.now field ≡ Some result }
+{
+    modes[field]
+}
+
 // The first attributes of a notice, of these modes, go to their places.
 #[inline(always)]
-fn read_given(
-    scene: &Scene,
-    rows: &mut Rows,
-    what: Giving,
-    modes: &[Mode],
-) -> Result<(), FaultKind>
+fn read_given(scene: &Scene, rows: &mut Rows, what: Giving, modes: &[Mode]) -> Result<(), FaultKind>
     requires class { what.class < length scene.now.heap.layout.classes }
     requires modes { (i : ℕ) (m : ModeSeen) → slice_get modes.now i ≡ Some m → slice_get (modes_of scene.now.heap.layout what.class) i ≡ Some m }
     requires places { what.from + length modes.now ≤ length rows.old.numbers }
+    requires small { what.from + length modes.now ≤ 2 ^ 64 }
     ensures received { length rows.old.texts ≡ length rows.old.numbers → ReceivedIf scene.now.heap what.class what.notice modes.now what.from rows.old rows.new result }
     ensures long { length rows.new.numbers ≡ length rows.old.numbers }
 {
     for field in 0..modes.len() {
-        match read_one(scene, rows, what, field, modes[field]) {
+        match read_one(scene, rows, what, field, given_mode(modes, field)) {
             Err(kind) => return Err(kind),
             Ok(()) => {}
         }
@@ -505,8 +489,13 @@ impl State {
     {
         let notice = self.number(here, notice);
         let time = self.number(here, time);
-        let answer =
-            scheduling::schedule(&mut self.scene, self.alloc, class as usize, notice, time);
+        let answer = scheduling::schedule(
+            &mut self.scene,
+            self.alloc,
+            class as usize,
+            notice,
+            time,
+        );
         self.settled(here, answer)
     }
 
@@ -604,18 +593,14 @@ impl State {
 
     // The attributes of a notice are read, and the notice is let go.
     #[inline(always)]
-    fn receive(
-        &mut self,
-        what: Giving,
-        rank: usize,
-        modes: &[Mode],
-    ) -> Result<(), FaultKind>
+    fn receive(&mut self, what: Giving, rank: usize, modes: &[Mode]) -> Result<(), FaultKind>
         requires rank { rank < length self.old.scene.notices }
         requires class { what.class < length self.old.scene.heap.layout.classes }
         requires single { is_single (slice_get self.old.scene.heap.layout.classes what.class) ≡ true }
         requires saved { (said : Notices) → slice_get self.old.scene.notices rank ≡ Some said → IfSome said.saved (λ k. k < what.from) }
         requires modes { (i : ℕ) (m : ModeSeen) → slice_get modes.now i ≡ Some m → slice_get (modes_of self.old.scene.heap.layout what.class) i ≡ Some m }
         requires places { what.from + length modes.now ≤ length self.old.rows.numbers }
+        requires small { what.from + length modes.now ≤ 2 ^ 64 }
         ensures { (said : Notices) → slice_get self.old.scene.notices rank ≡ Some said → Receives said what.class what.notice modes.now what.from self.old self.new result }
     {
         match read_given(&self.scene, &mut self.rows, what, modes) {

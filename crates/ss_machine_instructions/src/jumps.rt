@@ -1,7 +1,10 @@
 //! Tests and jumps.
 
-ghost use Rattle.std.specs.Prelude.{◌≡◌, Some};
+ghost use Rattle.std.specs.Prelude.{◌≡◌, ◌<◌, length, Some, is_some};
 ghost use Rattle.ss_base.specs.declared.value.Value.TheVariants.{Whole, Text};
+ghost use Rattle.ss_world.specs.PendingList.{next};
+ghost use Rattle.ss_world.specs.Sets.{count_in};
+ghost use Rattle.ss_world.specs.Disciplines.{member_test};
 ghost use Rattle.ss_meaning.specs.Values.{allows, related};
 ghost use Rattle.ss_meaning.specs.Sets.{is_none};
 ghost use Rattle.ss_machine_instructions.specs.Doing.{Can, Does};
@@ -12,6 +15,7 @@ use crate::state::State;
 use ss_base::{Alpha, FaultKind};
 use ss_code_instructions::address::Address;
 use ss_code_instructions::instruction::Instruction;
+use ss_machine_world::scene::Scene;
 use ss_program::condition::Relation;
 use std::cmp::Ordering;
 
@@ -54,6 +58,35 @@ fn are_none(count: Result<i64, FaultKind>) -> Result<bool, FaultKind>
         Ok(count) => Ok(is_none(count)),
         Err(kind) => Err(kind),
     }
+}
+
+// How many members the set of an owner has.
+#[inline(always)]
+fn number_in(scene: &mut Scene, set: usize, owner: i64) -> Result<i64, FaultKind>
+    requires set { set < length scene.old.heap.layout.sets }
+    ensures value { result ≡ count_in scene.old.heap set owner }
+    ensures same { scene.new ≡ scene.old }
+{
+    scene.population.member_count(set, owner)
+}
+
+// Whether a notice is pending.
+#[inline(always)]
+fn is_awaited(scene: &mut Scene) -> bool
+    ensures value { result ≡ is_some (next scene.old.pending) }
+    ensures same { scene.new ≡ scene.old }
+{
+    scene.timeline.is_awaited()
+}
+
+// Whether a number is in the set of an owner.
+#[inline(always)]
+fn is_member(scene: &mut Scene, set: usize, owner: i64, member: i64) -> Result<bool, FaultKind>
+    requires set { set < length scene.old.heap.layout.sets }
+    ensures value { result ≡ member_test scene.old.heap set owner member }
+    ensures same { scene.new ≡ scene.old }
+{
+    scene.population.is_in(set, owner, member)
 }
 
 // Whether two numbers are equal.
@@ -232,7 +265,7 @@ impl State {
         ensures { Does here self.old self.new result (Instruction.UnlessEmpty set owner.now skip negated) }
     {
         let owner = self.number(here, owner);
-        let answer = are_none(self.scene.population.member_count(set as usize, owner));
+        let answer = are_none(number_in(&mut self.scene, set as usize, owner));
         self.branch(here, answer, negated, skip)
     }
 
@@ -250,7 +283,7 @@ impl State {
         ensures { Does here self.old self.new result (Instruction.UnlessMember set both.entry.0.now both.entry.1.now skip negated) }
     {
         let (member, owner) = (self.number(here, both.0), self.number(here, both.1));
-        let answer = self.scene.population.is_in(set as usize, owner, member);
+        let answer = is_member(&mut self.scene, set as usize, owner, member);
         self.branch(here, answer, negated, skip)
     }
 
@@ -260,7 +293,7 @@ impl State {
         requires { Can here self.old (Instruction.Await skip) }
         ensures { Does here self.old self.new result (Instruction.Await skip) }
     {
-        let holds = self.scene.timeline.is_awaited();
+        let holds = is_awaited(&mut self.scene);
         here.on_if(holds, skip)
     }
 
@@ -270,10 +303,9 @@ impl State {
         requires { Can here self.old (Instruction.NextEvent back) }
         ensures { Does here self.old self.new result (Instruction.NextEvent back) }
     {
-        if self.scene.timeline.is_awaited() {
-            here.back(back)
-        } else {
-            here.on()
+        if is_awaited(&mut self.scene) {
+            return here.back(back);
         }
+        here.on()
     }
 }

@@ -1,6 +1,6 @@
 //! FOR over numbers.
 
-ghost use Rattle.std.specs.Prelude.{◌≡◌, false, not, pos, int_lt};
+ghost use Rattle.std.specs.Prelude.{◌≡◌, not, pos, int_lt};
 ghost use Rattle.ss_code_instructions.specs.Machine.{has_item};
 ghost use Rattle.ss_machine_instructions.specs.Doing.{Can, Does};
 ghost use Rattle.ss_machine_instructions.specs.Ways.{next_in};
@@ -16,11 +16,10 @@ const LIMIT: usize = 1;
 
 const STEP: usize = 2;
 
-// The next item of a loop, where it is within the limit. A step is at least 1, so that an item that is not below the limit has none.
-// How far it is below is then a number without a sign.
+// The next item of a loop, where there is one. None has an item that is not below the limit. How far it is below is then a number without
+// a sign, and so the step is read without one.
 #[inline(always)]
 fn next_item(item: i64, step: i64, limit: i64) -> Option<i64>
-    requires { int_lt step (pos 1) ≡ false }
     ensures { result ≡ next_in item step limit }
 {
     if item >= limit {

@@ -24,12 +24,7 @@ fn distance(number: i64) -> Result<i64, FaultKind>
 impl State {
     /// A number that was found goes to an address, unless there was a fault.
     #[inline(always)]
-    pub fn put(
-        &mut self,
-        here: Here,
-        to: &Address,
-        answer: Result<i64, FaultKind>,
-    ) -> Option<Here>
+    pub fn put(&mut self, here: Here, to: &Address, answer: Result<i64, FaultKind>) -> Option<Here>
         requires { CanDeliver here self.old to.now (as_value answer) }
         ensures { IsDelivered here self.old self.new result to.now (as_value answer) }
     {
@@ -84,13 +79,7 @@ impl State {
 
     /// Add.
     #[inline(always)]
-    pub fn add(
-        &mut self,
-        here: Here,
-        left: &Address,
-        right: &Address,
-        to: &Address,
-    ) -> Option<Here>
+    pub fn add(&mut self, here: Here, left: &Address, right: &Address, to: &Address) -> Option<Here>
         requires { Can here self.old (Instruction.Add left.now right.now to.now) }
         ensures { Does here self.old self.new result (Instruction.Add left.now right.now to.now) }
     {

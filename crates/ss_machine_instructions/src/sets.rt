@@ -251,12 +251,7 @@ fn take_out(
 
 // The first member is, which is the answer.
 #[inline(always)]
-fn take_first(
-    scene: &mut Scene,
-    set: usize,
-    owner: i64,
-    noted: bool,
-) -> Result<i64, FaultKind>
+fn take_first(scene: &mut Scene, set: usize, owner: i64, noted: bool) -> Result<i64, FaultKind>
     requires set { set < length scene.old.heap.layout.sets }
     ensures { Takes ends.First set noted scene.old scene.new result owner }
 {
@@ -266,12 +261,7 @@ fn take_first(
 
 // .. or the last.
 #[inline(always)]
-fn take_last(
-    scene: &mut Scene,
-    set: usize,
-    owner: i64,
-    noted: bool,
-) -> Result<i64, FaultKind>
+fn take_last(scene: &mut Scene, set: usize, owner: i64, noted: bool) -> Result<i64, FaultKind>
     requires set { set < length scene.old.heap.layout.sets }
     ensures { Takes ends.Last set noted scene.old scene.new result owner }
 {

@@ -143,6 +143,7 @@ impl State {
     pub fn has_taken_tick(&mut self) -> bool
         ensures none { result ≡ false → (self.old.ticks ≡ 0) × (self.new ≡ self.old) }
         ensures taken { result ≡ true → (t : ℕ) × (self.old.ticks ≡ suc t) × (self.new ≡ record self.old { ticks = t }) }
+        ensures few { result ≡ true → self.old.ticks < 2 ^ 64 }
     {
         if self.ticks == 0 {
             return false;

@@ -4,7 +4,7 @@ ghost use Rattle.std.specs.Prelude.{◌≡◌, ◌+◌, ◌<◌, ◌^◌, ℕ, l
 ghost use Rattle.ss_base.specs.declared.layout.Mode.TheVariants.{Integer};
 ghost use Rattle.ss_world.specs.State.{modes_of};
 ghost use Rattle.ss_machine_time.specs.Figures.{variable_of};
-ghost use Rattle.ss_machine_world.specs.Numbers.{attribute_noted, count_noted};
+ghost use Rattle.ss_machine_world.specs.Numbers.{attribute_noted};
 ghost use Rattle.ss_machine_instructions.specs.Doing.{Can, Does};
 ghost use Rattle.ss_machine_instructions.specs.Noted.{Notes};
 
@@ -68,33 +68,6 @@ impl State {
             Ok(()) => {
                 if noted {
                     let answer = self.scene.note_attribute(class, field, entity);
-                    self.done(here, answer)
-                } else {
-                    here.on()
-                }
-            }
-        }
-    }
-
-    /// The same where a set of an owner has a member more or less.
-    #[inline(always)]
-    pub(crate) fn counted(
-        &mut self,
-        here: Here,
-        answer: Result<(), FaultKind>,
-        set: u32,
-        owner: i64,
-        noted: bool,
-    ) -> Option<Here>
-        requires place { here.place + 1 < 2 ^ 64 }
-        requires set { set < length self.old.scene.heap.layout.sets }
-        ensures { Notes noted (count_noted set owner) here answer self.old self.new result }
-    {
-        match answer {
-            Err(kind) => self.fault(kind),
-            Ok(()) => {
-                if noted {
-                    let answer = self.scene.note_count(set as usize, owner);
                     self.done(here, answer)
                 } else {
                     here.on()

@@ -1,4 +1,4 @@
-use Rattle.std.proofs.Common.{rules, ◌≡◌, ◌+◌, ℤ, sym, ◌∙◌, subst, to_z, of_z, w64}
+use Rattle.std.proofs.Common.{arith, rules, ◌≡◌, ◌+◌, ℤ, sym, ◌∙◌, subst, to_z, of_z, w64}
 use Rattle.ss_base.specs.declared.layout.Mode.TheVariants.{Integer, Alpha}
 use Rattle.ss_base.specs.declared.value.Value.{Value}
 use Rattle.ss_base.specs.declared.value.Value.TheVariants.{Whole, Text}
@@ -54,3 +54,6 @@ returns-in-Alpha c = λ g.
     let mode : g.suits.mode ≡ Alpha = one (sym (suits_mode class field n g.value notes e g.suits) ∙ c.mode_at.ensures) ∙ c.in-Alpha.is in
     let value : g.value ≡ Text x = text_is c.args.rows.now (c.args.what.from + field) g.value x (g.suits.right ∙ mode) g.lies c.text_at.ensures in
     subst (λ (v : Value). SettledIn g.suits.store (assigned_attribute class field (Whole n) v) e new q) (sym value) (c.give_text.ensures (suiting_as class field notes g.value (Text x) e g.suits (sym mode)))
+
+pub overflow_add-at : goal.overflow_add-at
+overflow_add-at c = omega (arith, c.requires.small)

@@ -13,10 +13,10 @@ returns-in-Err c = λ g.
     let same : to_z w64 (of_z w64 t) ≡ t = search rules in
     not_prepared c.args.what.class c.args.what.notice c.args.what.noted c.args.what.from c.args.given c.args.rows.now c.args.scene.now g t c.in-Err.kind (subst (λ (y : ℤ). prepared c.args.what.class (Whole c.args.what.notice) g.values y (with_seen g.store c.args.scene.now) ≡ Err (Fails c.in-Err.kind)) same (c.in-Err.ensures g))
 
-pub schedule-requires-clause-notices : goal.schedule-requires-clause-notices
-schedule-requires-clause-notices c =
+pub schedule-requires : goal.schedule-requires
+schedule-requires c =
     let g = c.requires in
-    noticed_then c.args.what.class c.args.what.notice c.args.what.noted c.args.what.from c.args.given c.args.rows.now c.args.scene.now g (to_z w64 (of_z w64 c.args.time)) c.prepare.new.scene (c.in-Ok.ensures g)
+    record { notices = noticed_then c.args.what.class c.args.what.notice c.args.what.noted c.args.what.from c.args.given c.args.rows.now c.args.scene.now g (to_z w64 (of_z w64 c.args.time)) c.prepare.new.scene (c.in-Ok.ensures g) }
 
 pub returns-in-Ok : goal.returns-in-Ok
 returns-in-Ok c = λ g.

@@ -1,4 +1,4 @@
-use Rattle.std.proofs.Common.{◌≡◌, ◌+◌, Some, ap, sym, ◌∙◌, subst}
+use Rattle.std.proofs.Common.{◌+◌, Some, ap, sym, ◌∙◌, subst}
 use Rattle.ss_base.specs.declared.layout.Mode.{Mode}
 use Rattle.ss_machine_instructions.specs.Beginning.{IsReadTo}
 use Rattle.ss_machine_instructions.proofs.events.read_one.Goals as goal

@@ -4,8 +4,8 @@ use Rattle.ss_machine_instructions.specs.Giving.{SettledInWithMemory, refiled, u
 use Rattle.ss_machine_instructions.proofs.Giving.{create_class, again_not, again}
 use Rattle.ss_machine_instructions.proofs.events.schedule_again.Goals as goal
 
-pub look_unpended-requires-clause-class : goal.look_unpended-requires-clause-class
-look_unpended-requires-clause-class c = create_class c.args.what.class c.args.what.noted c.args.what.from c.args.given c.args.rows.now c.args.scene.now c.requires c.args.time
+pub look_unpended-requires : goal.look_unpended-requires
+look_unpended-requires c = record { class = create_class c.args.what.class c.args.what.noted c.args.what.from c.args.given c.args.rows.now c.args.scene.now c.requires c.args.time }
 
 pub returns-in-Err : goal.returns-in-Err
 returns-in-Err c = λ g.

@@ -1,4 +1,4 @@
-use Rattle.std.proofs.Common.{rules, ◌≡◌, ℤ, refl, subst, to_z, of_z, w64}
+use Rattle.std.proofs.Common.{rules, ◌≡◌, refl, subst, to_z, of_z, w64}
 use Rattle.ss_world.specs.State.{State, timed}
 use Rattle.ss_machine_world.specs.Seen.{Seen, Rearranges}
 use Rattle.ss_machine_world.proofs.Said.{said_still}

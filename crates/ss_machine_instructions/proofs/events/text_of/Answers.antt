@@ -1,4 +1,4 @@
-use Rattle.std.proofs.Common.{rules, ◌≡◌, ℤ, Ok, Err, subst, to_z, of_z, w64}
+use Rattle.std.proofs.Common.{rules, ◌≡◌, Ok, Err, subst, to_z, of_z, w64}
 use Rattle.std.specs.Prelude.{MatchResult}
 use Rattle.ss_base.specs.declared.value.Value.TheVariants.{Text}
 use Rattle.ss_world.specs.State.{value_in}

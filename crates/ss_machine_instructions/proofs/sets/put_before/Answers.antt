@@ -17,10 +17,10 @@ invariant_of-scene c =
     let ss = i.timeline.histories.statistics in
     said_still i.population.layout c.file_before-changed.new.self.layout i.notices.items ss ss i.classes.items c.file_before-changed.ensures.layout refl c.scene.invariant
 
-pub counted-requires-clause-set : goal.counted-requires-clause-set
-counted-requires-clause-set c =
+pub counted-requires : goal.counted-requires
+counted-requires c =
     let layout = c.file_before-changed.ensures.layout ∙ ap (λ (v : Seen). v.heap.layout) c.scene.view_is in
-    subst (λ (l : Layout). c.args.set < length l.sets) (sym layout) c.requires.set
+    record { set = subst (λ (l : Layout). c.args.set < length l.sets) (sym layout) c.requires.set }
 
 pub returns : goal.returns
 returns c =

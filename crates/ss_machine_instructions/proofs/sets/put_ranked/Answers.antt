@@ -12,11 +12,11 @@ file_ranked-changed-requires-clause-keys c = λ d has.
     let k = c.requires.ruled in
     subst (λ (d : Discipline). FitsMembers c.args.scene.now.heap.layout c.args.set d) (one (sym k.there ∙ has)) k.keys
 
-pub counted-requires-clause-set : goal.counted-requires-clause-set
-counted-requires-clause-set c =
+pub counted-requires : goal.counted-requires
+counted-requires c =
     let k = c.requires.ruled in
     let layout = ruled_layout c.args.scene.now c.file_ranked-changed.new.self k.discipline c.args.set (to_z w64 (of_z w64 c.args.owner)) (to_z w64 (of_z w64 c.args.member)) c.file_ranked-changed.result (c.file_ranked-changed.ensures k.discipline k.there) in
-    subst (λ (l : Layout). c.args.set < length l.sets) (sym layout) c.requires.set
+    record { set = subst (λ (l : Layout). c.args.set < length l.sets) (sym layout) c.requires.set }
 
 pub returns : goal.returns
 returns c =

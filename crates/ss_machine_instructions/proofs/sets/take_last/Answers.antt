@@ -14,10 +14,10 @@ invariant_of-scene c =
     let ss = i.timeline.histories.statistics in
     said_still i.population.layout c.remove_last-taken.new.self.layout i.notices.items ss ss i.classes.items c.remove_last-taken.ensures.layout refl c.scene.invariant
 
-pub counted_out-requires-clause-set : goal.counted_out-requires-clause-set
-counted_out-requires-clause-set c =
+pub counted_out-requires : goal.counted_out-requires
+counted_out-requires c =
     let layout = c.remove_last-taken.ensures.layout ∙ ap (λ (v : Seen). v.heap.layout) c.scene.view_is in
-    subst (λ (l : Layout). c.args.set < length l.sets) (sym layout) c.requires.set
+    record { set = subst (λ (l : Layout). c.args.set < length l.sets) (sym layout) c.requires.set }
 
 pub returns : goal.returns
 returns c =

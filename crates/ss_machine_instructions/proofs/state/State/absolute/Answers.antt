@@ -4,7 +4,7 @@ use Rattle.ss_code_instructions.specs.Machine.{is_due}
 use Rattle.ss_meaning.specs.Values.{distance}
 use Rattle.ss_machine_instructions.proofs.Placing.{calm}
 use Rattle.ss_machine_instructions.proofs.Calculating.{absolute_in, absolutes}
-use Rattle.ss_machine_instructions.proofs.numbers.State.absolute.Goals as goal
+use Rattle.ss_machine_instructions.proofs.state.State.absolute.Goals as goal
 
 pub number-requires : goal.number-requires
 number-requires c = let z = c.requires in absolute_in z.0 z.1 c.args.here c.args.self.now (Runs c.args.of.now c.args.to.now) z.2 c.args.of.now c.args.to.now z.2.runs.carries

@@ -2,7 +2,7 @@ use Rattle.std.proofs.Common.{rules, Ok, Err, refl}
 use Rattle.ss_machine_world.specs.Seen.{Changes}
 use Rattle.ss_machine_world.specs.Numbers.{attribute_noted}
 use Rattle.ss_machine_instructions.proofs.Figuring.{after_fault, after_unnoted, after_noted}
-use Rattle.ss_machine_instructions.proofs.statistics.State.assigned.Goals as goal
+use Rattle.ss_machine_instructions.proofs.state.State.assigned.Goals as goal
 
 pub returns-in-Err : goal.returns-in-Err
 returns-in-Err c =

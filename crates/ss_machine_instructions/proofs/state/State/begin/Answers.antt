@@ -1,11 +1,11 @@
-use Rattle.std.proofs.Common.{rules, ◌≡◌, ◌+◌, Some, true, false, subst}
+use Rattle.std.proofs.Common.{arith, rules, ◌≡◌, ◌+◌, Some, true, false, subst}
 use Rattle.std.specs.Prelude.{slice_get, int_lt, pos}
 use Rattle.ss_code_instructions.specs.declared.instruction.Instruction.TheVariants.{Begin as Runs}
 use Rattle.ss_code_instructions.specs.Shape.{Suits}
 use Rattle.ss_machine_instructions.proofs.Placing.{suits}
 use Rattle.ss_machine_instructions.proofs.Comparing.{jump_small}
 use Rattle.ss_machine_instructions.proofs.Looping.{loop_within, loop_at, begins_not, begins}
-use Rattle.ss_machine_instructions.proofs.loops.State.begin.Goals as goal
+use Rattle.ss_machine_instructions.proofs.state.State.begin.Goals as goal
 
 pub number_at-step-requires : goal.number_at-step-requires
 number_at-step-requires c =
@@ -32,10 +32,10 @@ number_at-item-requires c =
     search rules
 
 pub on_if-requires : goal.on_if-requires
-on_if-requires c = let z = c.requires in jump_small z.0 z.1 c.args.here c.args.self.now (Runs c.args.cell c.args.skip) z.2 c.args.skip c.type_inv.skip
+on_if-requires c = let z = c.requires in jump_small z.0 z.1 c.args.here c.args.self.now (Runs c.args.cell c.args.skip) z.2 c.args.skip (omega (arith, c.ranges.skip.fits))
 
-pub returns-then-rises : goal.returns-then-rises
-returns-then-rises c = λ w core r.
+pub returns-then-not-rises : goal.returns-then-not-rises
+returns-then-not-rises c = λ w core r.
     let y = subst (Suits w.program w.code core.place r.placed.locals r.placed.cells) r.runs.carries.2 (suits w core c.args.here c.args.self.now (Runs c.args.cell c.args.skip) r) in
     let item : slice_get c.args.self.now.rows.numbers (c.args.here.frame + c.args.cell) ≡ Some c.number_at-item.result = search rules in
     let limit : slice_get c.args.self.now.rows.numbers (c.args.here.frame + c.args.cell + 1) ≡ Some c.number_at-limit.result = search rules in

@@ -1,4 +1,4 @@
-use Rattle.std.proofs.Common.{rules, ◌≡◌, ◌∙◌, length, subst}
+use Rattle.std.proofs.Common.{arith, rules, ◌≡◌, ◌∙◌, length, subst}
 use Rattle.ss_code_instructions.specs.declared.instruction.Instruction.TheVariants.{BeginClass as Runs}
 use Rattle.std.specs.Prelude.{slice_get}
 use Rattle.ss_world.specs.State.{records_in}
@@ -7,7 +7,7 @@ use Rattle.ss_machine_frames.proofs.Reading.{hold_length}
 use Rattle.ss_machine_instructions.proofs.Placing.{suits}
 use Rattle.ss_machine_instructions.proofs.Comparing.{jump_small}
 use Rattle.ss_machine_instructions.proofs.Looping.{class_within, class_count, begins_class}
-use Rattle.ss_machine_instructions.proofs.loops.State.begin_class.Goals as goal
+use Rattle.ss_machine_instructions.proofs.state.State.begin_class.Goals as goal
 
 pub set_number_at-requires : goal.set_number_at-requires
 set_number_at-requires c =
@@ -16,22 +16,22 @@ set_number_at-requires c =
     let lt = class_within z.0 z.1 c.args.here c.args.self.now (Runs c.args.class c.args.cell c.args.skip) z.2 c.args.class c.args.cell z.2.runs.carries.0 c.args.skip z.2.runs.carries.1 y in
     search rules
 
-pub set_number_at-2-requires : goal.set_number_at-2-requires
-set_number_at-2-requires c =
+pub set_number_at-requires-2 : goal.set_number_at-requires-2
+set_number_at-requires-2 c =
     let z = c.requires in
     let y = subst (Suits z.0.program z.0.code z.1.place z.2.placed.locals z.2.placed.cells) z.2.runs.carries.2 (suits z.0 z.1 c.args.here c.args.self.now (Runs c.args.class c.args.cell c.args.skip) z.2) in
     let lt = class_within z.0 z.1 c.args.here c.args.self.now (Runs c.args.class c.args.cell c.args.skip) z.2 c.args.class c.args.cell z.2.runs.carries.0 c.args.skip z.2.runs.carries.1 y in
     search rules
 
-pub set_number_at-3-requires : goal.set_number_at-3-requires
-set_number_at-3-requires c =
+pub set_number_at-requires-3 : goal.set_number_at-requires-3
+set_number_at-requires-3 c =
     let z = c.requires in
     let y = subst (Suits z.0.program z.0.code z.1.place z.2.placed.locals z.2.placed.cells) z.2.runs.carries.2 (suits z.0 z.1 c.args.here c.args.self.now (Runs c.args.class c.args.cell c.args.skip) z.2) in
     let lt = class_within z.0 z.1 c.args.here c.args.self.now (Runs c.args.class c.args.cell c.args.skip) z.2 c.args.class c.args.cell z.2.runs.carries.0 c.args.skip z.2.runs.carries.1 y in
     search rules
 
 pub on_if-requires : goal.on_if-requires
-on_if-requires c = let z = c.requires in jump_small z.0 z.1 c.args.here c.args.self.now (Runs c.args.class c.args.cell c.args.skip) z.2 c.args.skip c.type_inv.skip
+on_if-requires c = let z = c.requires in jump_small z.0 z.1 c.args.here c.args.self.now (Runs c.args.class c.args.cell c.args.skip) z.2 c.args.skip (omega (arith, c.ranges.skip.fits))
 
 pub returns : goal.returns
 returns c = λ w core r.

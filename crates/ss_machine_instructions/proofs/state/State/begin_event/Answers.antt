@@ -1,4 +1,4 @@
-use Rattle.std.proofs.Common.{rules, ◌≡◌, ◌+◌, ◌<◌, ◌^◌, ℤ, List, Some, Ok, Err, length, refl, ap, sym, ◌∙◌, subst, to_z, of_z, w64, arith}
+use Rattle.std.proofs.Common.{rules, ◌≡◌, ◌+◌, ◌<◌, ℤ, List, Some, Ok, Err, length, refl, ap, sym, ◌∙◌, subst, to_z, of_z, w64, arith}
 use Rattle.std.specs.Prelude.{IfSome, slice_get}
 use Rattle.std.proofs.lemmas.Option.{slice_get_read}
 use Rattle.ss_base.specs.declared.layout.Mode.{Mode}
@@ -17,16 +17,23 @@ use Rattle.ss_machine_instructions.proofs.Filing.{one}
 use Rattle.ss_machine_instructions.proofs.Beginning.{saved_within, receives_not}
 use Rattle.ss_machine_instructions.proofs.Begun.{begun_class, begun_single, begun_rank, begun_said, begun_saved, begun_modes, begun_entry_within, held_small, frame_within}
 use Rattle.ss_machine_instructions.proofs.Started.{entry_is, begins, begins_fault, unbegun_as}
-use Rattle.ss_machine_instructions.proofs.events.State.begin_event.Goals as goal
+use Rattle.ss_machine_instructions.proofs.state.State.begin_event.Goals as goal
 
-pub rank-rank-requires-clause-class : goal.rank-rank-requires-clause-class
-rank-rank-requires-clause-class c = let z = c.requires in begun_class z.0 z.1 c.args.here c.args.self.now c.args.cell c.args.notice c.args.class z.3
+pub rank-rank-requires : goal.rank-rank-requires
+rank-rank-requires c = let z = c.requires in record { class = begun_class z.0 z.1 c.args.here c.args.self.now c.args.cell c.args.notice c.args.class z.3 }
 
 pub bounds-events-rank : goal.bounds-events-rank
 bounds-events-rank c =
     let z = c.requires in
     let rank : c.rank-rank.result ≡ z.3.coming.ranked.rank = c.rank-rank.ensures z.3.coming.ranked z.3.place in
     omega (arith, rank, begun_entry_within z.0 z.1 c.args.here c.args.self.now c.args.cell c.args.notice c.args.class z.3, ap length z.2)
+
+pub offset_bounds-events-rank : goal.offset_bounds-events-rank
+offset_bounds-events-rank c =
+    let z = c.requires in
+    let rank : c.rank-rank.result ≡ z.3.coming.ranked.rank = c.rank-rank.ensures z.3.coming.ranked z.3.place in
+    let within : c.rank-rank.result < length c.args.events.now = omega (arith, rank, begun_entry_within z.0 z.1 c.args.here c.args.self.now c.args.cell c.args.notice c.args.class z.3, ap length z.2) in
+    search rules
 
 pub enter-requires-clause-sized : goal.enter-requires-clause-sized
 enter-requires-clause-sized c =
@@ -74,8 +81,7 @@ pub unbegun-requires-clause-ticks : goal.unbegun-requires-clause-ticks
 unbegun-requires-clause-ticks c =
     let z = c.requires in
     let refused : IsRefused c.args.self.now c.enter.new.self = search rules in
-    let before : z.3.before.ticks < 2 ^ 64 = search rules in
-    omega (arith, z.3.left, refused.ticks, before)
+    omega (arith, z.3.left, refused.ticks, z.3.few)
 
 pub returns-in_default : goal.returns-in_default
 returns-in_default c = λ w core all n.
@@ -156,7 +162,10 @@ returns-in-Ok-receive c = λ w core all n.
     let within : k < length es = omega (arith, rank, begun_entry_within w core c.args.here s c.args.cell c.args.notice c.args.class n, ap length all) in
     let at : slice_get w.run.events n.coming.ranked.rank ≡ Some d = ap (slice_get w.run.events) (sym rank) ∙ ap (λ (l : List Entry). slice_get l k) (sym all) ∙ slice_get_read es (length es) k d refl within c.index-events-rank.is in
     let here : slice_get s1.scene.notices k ≡ Some n.coming.ranked.said = ap (slice_get s1.scene.notices) rank ∙ ap (λ (t : State). slice_get t.scene.notices n.coming.ranked.rank) enters.is ∙ begun_said w core c.args.here s c.args.cell c.args.notice c.args.class n in
-    let got = subst (λ (ms : List Mode). Receives n.coming.ranked.said class x ms frame s1 c.receive.new.self (Ok tt)) c.deref.ensures.value (c.in-Ok-receive.ensures n.coming.ranked.said here) in
+    let same : to_z w64 (of_z w64 x) ≡ x = search rules in
+    let got =
+    subst (λ (ms : List Mode). Receives n.coming.ranked.said class x ms frame s1 c.receive.new.self (Ok tt)) c.deref.ensures.value
+    (subst (λ (y : ℤ). Receives n.coming.ranked.said class y c.deref.result.now frame s1 c.receive.new.self (Ok tt)) same (c.in-Ok-receive.ensures n.coming.ranked.said here)) in
     begins w core c.args.here s c.args.cell c.args.notice c.args.class n d at s1 frame enters c.receive.new.self got c.to.result c.to.ensures (omega (arith, enters.begin))
 
 pub returns-in-Err : goal.returns-in-Err
@@ -168,7 +177,19 @@ returns-in-Err c = λ w core all n.
     let within : k < length es = omega (arith, rank, begun_entry_within w core c.args.here s c.args.cell c.args.notice c.args.class n, ap length all) in
     let at : slice_get w.run.events n.coming.ranked.rank ≡ Some d = ap (slice_get w.run.events) (sym rank) ∙ ap (λ (l : List Entry). slice_get l k) (sym all) ∙ slice_get_read es (length es) k d refl within c.index-events-rank.is in
     let here : slice_get s1.scene.notices k ≡ Some n.coming.ranked.said = ap (slice_get s1.scene.notices) rank ∙ ap (λ (t : State). slice_get t.scene.notices n.coming.ranked.rank) enters.is ∙ begun_said w core c.args.here s c.args.cell c.args.notice c.args.class n in
-    let got = subst (λ (ms : List Mode). Receives n.coming.ranked.said class x ms frame s1 c.receive.new.self (Err c.in-Err.kind)) c.deref.ensures.value (c.in-Err.ensures n.coming.ranked.said here) in
+    let same : to_z w64 (of_z w64 x) ≡ x = search rules in
+    let got =
+    subst (λ (ms : List Mode). Receives n.coming.ranked.said class x ms frame s1 c.receive.new.self (Err c.in-Err.kind)) c.deref.ensures.value
+    (subst (λ (y : ℤ). Receives n.coming.ranked.said class y c.deref.result.now frame s1 c.receive.new.self (Err c.in-Err.kind)) same (c.in-Err.ensures n.coming.ranked.said here)) in
     let kept = receives_not n.coming.ranked.said class x d.given.items frame s1 c.receive.new.self c.in-Err.kind got in
     let still : slice_get c.receive.new.self.scene.notices k ≡ Some n.coming.ranked.said = ap (λ (e : Seen). slice_get e.notices k) kept ∙ here in
     begins_fault w core c.args.here s c.args.cell c.args.notice c.args.class n d at s1 frame enters c.receive.new.self c.in-Err.kind got c.fault_of_event.new.self c.fault_of_event.result (c.fault_of_event.ensures.state n.coming.ranked.said still) c.fault_of_event.ensures.none
+
+pub receive-requires-clause-small : goal.receive-requires-clause-small
+receive-requires-clause-small c =
+    let z = c.requires in let es = c.args.events.now in let d = c.index-events-rank.result in let k = c.rank-rank.result in
+    let enters : Enters c.args.here c.args.self.now c.enter.new.self d c.args.cell c.in-Ok.frame = search rules in
+    let rank : k ≡ z.3.coming.ranked.rank = c.rank-rank.ensures z.3.coming.ranked z.3.place in
+    let within : k < length es = omega (arith, rank, begun_entry_within z.0 z.1 c.args.here c.args.self.now c.args.cell c.args.notice c.args.class z.3, ap length z.2) in
+    let at : slice_get z.0.run.events z.3.coming.ranked.rank ≡ Some d = ap (slice_get z.0.run.events) (sym rank) ∙ ap (λ (l : List Entry). slice_get l k) (sym z.2) ∙ slice_get_read es (length es) k d refl within c.index-events-rank.is in
+    omega (arith, enters.room, enters.small, (entry_is z.0 z.1 c.args.here c.args.self.now c.args.cell c.args.notice c.args.class z.3 d at).sized.variables, ap length c.deref.ensures.value)

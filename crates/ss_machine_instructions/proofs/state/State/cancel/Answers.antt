@@ -5,13 +5,13 @@ use Rattle.ss_code_instructions.specs.declared.instruction.Instruction.TheVarian
 use Rattle.ss_machine_world.specs.Seen.{Changes}
 use Rattle.ss_machine_instructions.proofs.Settling.{next_small}
 use Rattle.ss_machine_instructions.proofs.Scheduling.{cancels_in, cancels}
-use Rattle.ss_machine_instructions.proofs.events.State.cancel.Goals as goal
+use Rattle.ss_machine_instructions.proofs.state.State.cancel.Goals as goal
 
 pub number-notice-requires : goal.number-notice-requires
 number-notice-requires c = let z = c.requires in (cancels_in z.0 z.1 c.args.here c.args.self.now (Runs c.args.class c.args.notice.now) z.2 c.args.class c.args.notice.now z.2.runs.carries).0
 
-pub cancel-answer-requires-clause-class : goal.cancel-answer-requires-clause-class
-cancel-answer-requires-clause-class c = let z = c.requires in (cancels_in z.0 z.1 c.args.here c.args.self.now (Runs c.args.class c.args.notice.now) z.2 c.args.class c.args.notice.now z.2.runs.carries).1
+pub cancel-answer-requires : goal.cancel-answer-requires
+cancel-answer-requires c = let z = c.requires in record { class = (cancels_in z.0 z.1 c.args.here c.args.self.now (Runs c.args.class c.args.notice.now) z.2 c.args.class c.args.notice.now z.2.runs.carries).1 }
 
 pub done-requires : goal.done-requires
 done-requires c = let z = c.requires in next_small z.0 z.1 c.args.here c.args.self.now (Runs c.args.class c.args.notice.now) z.2

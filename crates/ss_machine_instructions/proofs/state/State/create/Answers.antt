@@ -1,9 +1,12 @@
-use Rattle.std.proofs.Common.{rules, Ok, Err}
+use Rattle.std.proofs.Common.{rules, Ok, Err, ◌≡◌, ℤ, sym, subst, to_z, of_z, w64}
 use Rattle.ss_code_instructions.specs.declared.instruction.Instruction.TheVariants.{Create as Runs}
 use Rattle.ss_meaning.specs.Entities.{made_one}
 use Rattle.ss_machine_world.specs.Seen.{Makes}
+use Rattle.ss_code_instructions.specs.Machine.{act}
+use Rattle.ss_base.specs.declared.value.Value.TheVariants.{Whole}
+use Rattle.ss_machine_instructions.specs.Doing.{Delivers, IsDelivered}
 use Rattle.ss_machine_instructions.proofs.Creating.{creates_within, creates_single, creates, created, creates_not}
-use Rattle.ss_machine_instructions.proofs.entities.State.create.Goals as goal
+use Rattle.ss_machine_instructions.proofs.state.State.create.Goals as goal
 
 pub create-requires-clause-class : goal.create-requires-clause-class
 create-requires-clause-class c =
@@ -21,12 +24,17 @@ pub put-requires : goal.put-requires
 put-requires c =
     let z = c.requires in
     let made : Makes (made_one c.args.class) c.args.self.now.scene c.create.new.self (Ok c.in-Ok.number) = search rules in
-    (z.0, z.1, z.2.placed.line, _, creates z.0 z.1 c.args.here c.args.self.now (Runs c.args.class c.args.to.now) z.2 c.args.class c.args.to.now c.in-Ok.number c.create.new.self z.2.runs.carries made)
+    let l = z.2.placed.line in
+    let m = act z.0.code l z.2.placed.instruction z.1 in
+    let same : to_z w64 (of_z w64 c.in-Ok.number) ≡ c.in-Ok.number = search rules in
+    (z.0, z.1, l, m, subst (λ (v : ℤ). Delivers z.0 z.1 l m c.args.here (record c.args.self.now { scene = c.create.new.self }) c.args.to.now (Ok (Whole v))) (sym same) (creates z.0 z.1 c.args.here c.args.self.now (Runs c.args.class c.args.to.now) z.2 c.args.class c.args.to.now c.in-Ok.number c.create.new.self z.2.runs.carries made))
 
 pub returns-in-Ok : goal.returns-in-Ok
 returns-in-Ok c = λ w core r.
     let made : Makes (made_one c.args.class) c.args.self.now.scene c.create.new.self (Ok c.in-Ok.number) = search rules in
-    created w core c.args.here c.args.self.now (Runs c.args.class c.args.to.now) r c.args.class c.args.to.now c.in-Ok.number c.create.new.self c.put.new.self c.put.result r.runs.carries made c.put.ensures
+    let same : to_z w64 (of_z w64 c.in-Ok.number) ≡ c.in-Ok.number = search rules in
+    let delivered = subst (λ (v : ℤ). IsDelivered c.args.here (record c.args.self.now { scene = c.create.new.self }) c.put.new.self c.put.result c.args.to.now (Ok (Whole v))) same c.put.ensures in
+    created w core c.args.here c.args.self.now (Runs c.args.class c.args.to.now) r c.args.class c.args.to.now c.in-Ok.number c.create.new.self c.put.new.self c.put.result r.runs.carries made delivered
 
 pub returns-in-Err : goal.returns-in-Err
 returns-in-Err c = λ w core r.

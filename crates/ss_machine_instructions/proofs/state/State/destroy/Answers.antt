@@ -1,11 +1,11 @@
-use Rattle.std.proofs.Common.{arith, rules}
+use Rattle.std.proofs.Common.{arith, rules, ◌≡◌, ℤ, subst, to_z, of_z, w64}
 use Rattle.ss_code_instructions.specs.declared.instruction.Instruction.TheVariants.{Destroy as Runs}
 use Rattle.ss_base.specs.declared.value.Value.TheVariants.{Whole}
 use Rattle.ss_meaning.specs.Entities.{without}
 use Rattle.ss_machine_world.specs.Seen.{Changes}
 use Rattle.ss_machine_instructions.proofs.Placing.{small}
 use Rattle.ss_machine_instructions.proofs.Creating.{destroys_in, destroys_within, destroys_single, destroys}
-use Rattle.ss_machine_instructions.proofs.entities.State.destroy.Goals as goal
+use Rattle.ss_machine_instructions.proofs.state.State.destroy.Goals as goal
 
 pub number-entity-requires : goal.number-entity-requires
 number-entity-requires c = let z = c.requires in destroys_in z.0 z.1 c.args.here c.args.self.now (Runs c.args.class c.args.entity.now) z.2 c.args.class c.args.entity.now z.2.runs.carries
@@ -27,5 +27,6 @@ done-requires c = let z = c.requires in let lt = small z.0 z.1 c.args.here c.arg
 
 pub returns : goal.returns
 returns c = λ w core r.
-    let changed : Changes (without c.args.class (Whole c.number-entity.result)) c.args.self.now.scene c.destroy-answer.new.self c.destroy-answer.result = search rules in
+    let same : to_z w64 (of_z w64 c.number-entity.result) ≡ c.number-entity.result = search rules in
+    let changed = subst (λ (x : ℤ). Changes (without c.args.class (Whole x)) c.args.self.now.scene c.destroy-answer.new.self c.destroy-answer.result) same c.destroy-answer.ensures in
     destroys w core c.args.here c.args.self.now (Runs c.args.class c.args.entity.now) r c.args.class c.args.entity.now c.number-entity.result c.destroy-answer.new.self c.destroy-answer.result c.done.new.self c.done.result r.runs.carries c.number-entity.ensures changed c.done.ensures.state c.done.ensures.way

@@ -1,7 +1,7 @@
 use Rattle.std.proofs.Common.{Some, ap, ◌∙◌}
 use Rattle.ss_base.specs.declared.line.Line.{Line}
 use Rattle.ss_machine_instructions.specs.Ways.{faulted}
-use Rattle.ss_machine_instructions.proofs.events.State.fault_of_event.Goals as goal
+use Rattle.ss_machine_instructions.proofs.state.State.fault_of_event.Goals as goal
 
 pub line_of-requires : goal.line_of-requires
 line_of-requires c = c.requires

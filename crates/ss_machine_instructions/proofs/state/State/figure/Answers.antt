@@ -8,16 +8,16 @@ use Rattle.ss_machine_world.specs.Numbers.{RefersToSubject, HasSubject}
 use Rattle.ss_machine_instructions.proofs.Placing.{calm}
 use Rattle.ss_machine_instructions.proofs.Figuring.{figures_in, figures, has_subject}
 use Rattle.ss_machine_world.specs.Seen as seen
-use Rattle.ss_machine_instructions.proofs.statistics.State.figure.Goals as goal
+use Rattle.ss_machine_instructions.proofs.state.State.figure.Goals as goal
 
 pub number-entity-requires : goal.number-entity-requires
 number-entity-requires c = let z = c.requires in figures_in z.0 z.1 c.args.here c.args.self.now (Runs c.args.statistic c.args.entity.now c.args.to.now c.args.fold) z.2 c.args.fold c.args.statistic c.args.entity.now c.args.to.now z.2.runs.carries
 
-pub figure-answer-requires-clause-subject : goal.figure-answer-requires-clause-subject
-figure-answer-requires-clause-subject c =
+pub figure-answer-requires : goal.figure-answer-requires
+figure-answer-requires c =
     let z = c.requires in
     let has : HasSubject c.args.self.now.scene c.args.statistic = has_subject z.0 z.1 c.args.here c.args.self.now (Runs c.args.statistic c.args.entity.now c.args.to.now c.args.fold) z.2 c.args.statistic in
-    search rules
+    record { subject = search rules }
 
 pub put-requires : goal.put-requires
 put-requires c =

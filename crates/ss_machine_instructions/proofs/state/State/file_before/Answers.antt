@@ -5,7 +5,7 @@ use Rattle.ss_meaning.specs.Sets.{JustBefore}
 use Rattle.ss_machine_instructions.specs.Worldly.{Files}
 use Rattle.ss_machine_instructions.proofs.Settling.{next_small}
 use Rattle.ss_machine_instructions.proofs.Setwork.{files_before_in, files_before}
-use Rattle.ss_machine_instructions.proofs.sets.State.file_before.Goals as goal
+use Rattle.ss_machine_instructions.proofs.state.State.file_before.Goals as goal
 
 pub number-member-requires : goal.number-member-requires
 number-member-requires c = let z = c.requires in (files_before_in z.0 z.1 c.args.here c.args.self.now (Runs c.args.noted false c.args.set c.args.member.now c.args.beside.now c.args.owner.now) z.2 c.args.set c.args.beside.now c.args.member.now c.args.owner.now z.2.runs.carries.1).1.member_place
@@ -16,8 +16,8 @@ number-beside-requires c = let z = c.requires in (files_before_in z.0 z.1 c.args
 pub number-owner-requires : goal.number-owner-requires
 number-owner-requires c = let z = c.requires in (files_before_in z.0 z.1 c.args.here c.args.self.now (Runs c.args.noted false c.args.set c.args.member.now c.args.beside.now c.args.owner.now) z.2 c.args.set c.args.beside.now c.args.member.now c.args.owner.now z.2.runs.carries.1).1.owner_place
 
-pub put_before-answer-requires-clause-set : goal.put_before-answer-requires-clause-set
-put_before-answer-requires-clause-set c = let z = c.requires in (files_before_in z.0 z.1 c.args.here c.args.self.now (Runs c.args.noted false c.args.set c.args.member.now c.args.beside.now c.args.owner.now) z.2 c.args.set c.args.beside.now c.args.member.now c.args.owner.now z.2.runs.carries.1).1.set_place
+pub put_before-answer-requires : goal.put_before-answer-requires
+put_before-answer-requires c = let z = c.requires in record { set = (files_before_in z.0 z.1 c.args.here c.args.self.now (Runs c.args.noted false c.args.set c.args.member.now c.args.beside.now c.args.owner.now) z.2 c.args.set c.args.beside.now c.args.member.now c.args.owner.now z.2.runs.carries.1).1.set_place }
 
 pub done-requires : goal.done-requires
 done-requires c = let z = c.requires in next_small z.0 z.1 c.args.here c.args.self.now (Runs c.args.noted false c.args.set c.args.member.now c.args.beside.now c.args.owner.now) z.2

@@ -4,7 +4,7 @@ use Rattle.ss_meaning.specs.Sets.{Foremost}
 use Rattle.ss_machine_instructions.specs.Worldly.{Files}
 use Rattle.ss_machine_instructions.proofs.Settling.{next_small}
 use Rattle.ss_machine_instructions.proofs.Setwork.{files_first_in, files_first}
-use Rattle.ss_machine_instructions.proofs.sets.State.file_first.Goals as goal
+use Rattle.ss_machine_instructions.proofs.state.State.file_first.Goals as goal
 
 pub number-member-requires : goal.number-member-requires
 number-member-requires c = let z = c.requires in (files_first_in z.0 z.1 c.args.here c.args.self.now (Runs c.args.set c.args.member.now c.args.owner.now c.args.noted) z.2 c.args.set c.args.member.now c.args.owner.now z.2.runs.carries.1).member_place
@@ -12,8 +12,8 @@ number-member-requires c = let z = c.requires in (files_first_in z.0 z.1 c.args.
 pub number-owner-requires : goal.number-owner-requires
 number-owner-requires c = let z = c.requires in (files_first_in z.0 z.1 c.args.here c.args.self.now (Runs c.args.set c.args.member.now c.args.owner.now c.args.noted) z.2 c.args.set c.args.member.now c.args.owner.now z.2.runs.carries.1).owner_place
 
-pub put_first-answer-requires-clause-set : goal.put_first-answer-requires-clause-set
-put_first-answer-requires-clause-set c = let z = c.requires in (files_first_in z.0 z.1 c.args.here c.args.self.now (Runs c.args.set c.args.member.now c.args.owner.now c.args.noted) z.2 c.args.set c.args.member.now c.args.owner.now z.2.runs.carries.1).set_place
+pub put_first-answer-requires : goal.put_first-answer-requires
+put_first-answer-requires c = let z = c.requires in record { set = (files_first_in z.0 z.1 c.args.here c.args.self.now (Runs c.args.set c.args.member.now c.args.owner.now c.args.noted) z.2 c.args.set c.args.member.now c.args.owner.now z.2.runs.carries.1).set_place }
 
 pub done-requires : goal.done-requires
 done-requires c = let z = c.requires in next_small z.0 z.1 c.args.here c.args.self.now (Runs c.args.set c.args.member.now c.args.owner.now c.args.noted) z.2

@@ -4,7 +4,7 @@ use Rattle.ss_meaning.specs.Sets.{Hindmost}
 use Rattle.ss_machine_instructions.specs.Worldly.{Files}
 use Rattle.ss_machine_instructions.proofs.Settling.{next_small}
 use Rattle.ss_machine_instructions.proofs.Setwork.{files_last_in, files_last}
-use Rattle.ss_machine_instructions.proofs.sets.State.file_last.Goals as goal
+use Rattle.ss_machine_instructions.proofs.state.State.file_last.Goals as goal
 
 pub number-member-requires : goal.number-member-requires
 number-member-requires c = let z = c.requires in (files_last_in z.0 z.1 c.args.here c.args.self.now (Runs c.args.set c.args.member.now c.args.owner.now c.args.noted) z.2 c.args.set c.args.member.now c.args.owner.now z.2.runs.carries.1).member_place
@@ -12,8 +12,8 @@ number-member-requires c = let z = c.requires in (files_last_in z.0 z.1 c.args.h
 pub number-owner-requires : goal.number-owner-requires
 number-owner-requires c = let z = c.requires in (files_last_in z.0 z.1 c.args.here c.args.self.now (Runs c.args.set c.args.member.now c.args.owner.now c.args.noted) z.2 c.args.set c.args.member.now c.args.owner.now z.2.runs.carries.1).owner_place
 
-pub put_last-answer-requires-clause-set : goal.put_last-answer-requires-clause-set
-put_last-answer-requires-clause-set c = let z = c.requires in (files_last_in z.0 z.1 c.args.here c.args.self.now (Runs c.args.set c.args.member.now c.args.owner.now c.args.noted) z.2 c.args.set c.args.member.now c.args.owner.now z.2.runs.carries.1).set_place
+pub put_last-answer-requires : goal.put_last-answer-requires
+put_last-answer-requires c = let z = c.requires in record { set = (files_last_in z.0 z.1 c.args.here c.args.self.now (Runs c.args.set c.args.member.now c.args.owner.now c.args.noted) z.2 c.args.set c.args.member.now c.args.owner.now z.2.runs.carries.1).set_place }
 
 pub done-requires : goal.done-requires
 done-requires c = let z = c.requires in next_small z.0 z.1 c.args.here c.args.self.now (Runs c.args.set c.args.member.now c.args.owner.now c.args.noted) z.2

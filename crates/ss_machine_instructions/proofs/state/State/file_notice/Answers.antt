@@ -5,7 +5,7 @@ use Rattle.ss_code_instructions.specs.declared.instruction.Instruction.TheVarian
 use Rattle.ss_machine_world.specs.Seen.{ChangesWithMemory}
 use Rattle.ss_machine_instructions.proofs.Settling.{next_small}
 use Rattle.ss_machine_instructions.proofs.Scheduling.{file_notice_in, file_notices}
-use Rattle.ss_machine_instructions.proofs.events.State.file_notice.Goals as goal
+use Rattle.ss_machine_instructions.proofs.state.State.file_notice.Goals as goal
 
 pub number-notice-requires : goal.number-notice-requires
 number-notice-requires c = let z = c.requires in (file_notice_in z.0 z.1 c.args.here c.args.self.now (Runs c.args.class c.args.notice.now c.args.time.now) z.2 c.args.class c.args.notice.now c.args.time.now z.2.runs.carries).0.left
@@ -13,8 +13,8 @@ number-notice-requires c = let z = c.requires in (file_notice_in z.0 z.1 c.args.
 pub number-time-requires : goal.number-time-requires
 number-time-requires c = let z = c.requires in (file_notice_in z.0 z.1 c.args.here c.args.self.now (Runs c.args.class c.args.notice.now c.args.time.now) z.2 c.args.class c.args.notice.now c.args.time.now z.2.runs.carries).0.right
 
-pub schedule-answer-requires-clause-notices : goal.schedule-answer-requires-clause-notices
-schedule-answer-requires-clause-notices c = let z = c.requires in (file_notice_in z.0 z.1 c.args.here c.args.self.now (Runs c.args.class c.args.notice.now c.args.time.now) z.2 c.args.class c.args.notice.now c.args.time.now z.2.runs.carries).1
+pub schedule-answer-requires : goal.schedule-answer-requires
+schedule-answer-requires c = let z = c.requires in record { notices = (file_notice_in z.0 z.1 c.args.here c.args.self.now (Runs c.args.class c.args.notice.now c.args.time.now) z.2 c.args.class c.args.notice.now c.args.time.now z.2.runs.carries).1 }
 
 pub settled-requires : goal.settled-requires
 settled-requires c = let z = c.requires in next_small z.0 z.1 c.args.here c.args.self.now (Runs c.args.class c.args.notice.now c.args.time.now) z.2

@@ -4,7 +4,7 @@ use Rattle.ss_meaning.specs.Sets.{ByRule}
 use Rattle.ss_machine_instructions.specs.Worldly.{Files}
 use Rattle.ss_machine_instructions.proofs.Settling.{next_small}
 use Rattle.ss_machine_instructions.proofs.Setwork.{files_ranked_in, files_ranked}
-use Rattle.ss_machine_instructions.proofs.sets.State.file_ranked.Goals as goal
+use Rattle.ss_machine_instructions.proofs.state.State.file_ranked.Goals as goal
 
 pub number-member-requires : goal.number-member-requires
 number-member-requires c = let z = c.requires in (files_ranked_in z.0 z.1 c.args.here c.args.self.now (Runs c.args.set c.args.member.now c.args.owner.now c.args.noted) z.2 c.args.set c.args.member.now c.args.owner.now z.2.runs.carries.1).member_place

@@ -6,13 +6,13 @@ use Rattle.ss_meaning.specs.Sets.{set_answer}
 use Rattle.ss_machine_world.specs.Seen.{Seen}
 use Rattle.ss_machine_instructions.specs.Doing.{Delivers, as_value}
 use Rattle.ss_machine_instructions.proofs.Setwork.{asks_set_in, asks_set, takes}
-use Rattle.ss_machine_instructions.proofs.sets.State.first_member.Goals as goal
+use Rattle.ss_machine_instructions.proofs.state.State.first_member.Goals as goal
 
 pub number-owner-requires : goal.number-owner-requires
 number-owner-requires c = let z = c.requires in (asks_set_in z.0 z.1 c.args.here c.args.self.now (Runs c.args.set c.args.owner.now c.args.to.now) z.2 queries.FirstMember c.args.set c.args.owner.now c.args.to.now z.2.runs.carries).0
 
-pub first_of-answer-requires-clause-set : goal.first_of-answer-requires-clause-set
-first_of-answer-requires-clause-set c = let z = c.requires in (asks_set_in z.0 z.1 c.args.here c.args.self.now (Runs c.args.set c.args.owner.now c.args.to.now) z.2 queries.FirstMember c.args.set c.args.owner.now c.args.to.now z.2.runs.carries).1
+pub first_of-answer-requires : goal.first_of-answer-requires
+first_of-answer-requires c = let z = c.requires in record { set = (asks_set_in z.0 z.1 c.args.here c.args.self.now (Runs c.args.set c.args.owner.now c.args.to.now) z.2 queries.FirstMember c.args.set c.args.owner.now c.args.to.now z.2.runs.carries).1 }
 
 pub put-requires : goal.put-requires
 put-requires c =

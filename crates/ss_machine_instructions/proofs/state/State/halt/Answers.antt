@@ -1,6 +1,6 @@
 use Rattle.ss_code_instructions.specs.declared.instruction.Instruction.TheVariants.{Halt as Runs}
 use Rattle.ss_machine_instructions.proofs.Calling.{halts}
-use Rattle.ss_machine_instructions.proofs.calls.State.halt.Goals as goal
+use Rattle.ss_machine_instructions.proofs.state.State.halt.Goals as goal
 
 pub returns : goal.returns
 returns c = λ here w core r. halts w core here c.args.self.now Runs r c.stop.new.self c.stop.result r.runs.carries c.stop.ensures.stopped c.stop.ensures.none

@@ -7,7 +7,7 @@ use Rattle.ss_meaning.specs.Histories.{noted}
 use Rattle.ss_machine_world.specs.Seen.{Changes}
 use Rattle.ss_machine_instructions.proofs.Placing.{small}
 use Rattle.ss_machine_instructions.proofs.Figuring.{keeps_in, kept_within, keeps}
-use Rattle.ss_machine_instructions.proofs.statistics.State.keep.Goals as goal
+use Rattle.ss_machine_instructions.proofs.state.State.keep.Goals as goal
 
 pub number-value-requires : goal.number-value-requires
 number-value-requires c = let z = c.requires in keeps_in z.0 z.1 c.args.here c.args.self.now (Runs c.args.from.now c.args.variable) z.2 c.args.variable c.args.from.now z.2.runs.carries

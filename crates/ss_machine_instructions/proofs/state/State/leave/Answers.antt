@@ -1,7 +1,7 @@
-use Rattle.std.proofs.Common.{rules, ◌≡◌, ◌∷◌, arith}
+use Rattle.std.proofs.Common.{rules, ◌≡◌, ◌∷◌}
 use Rattle.ss_code_instructions.specs.declared.instruction.Instruction.TheVariants.{Leave as Runs}
 use Rattle.ss_machine_instructions.proofs.Calling.{leaves_end, leaves, yields_within, leaves_with, leaves_without}
-use Rattle.ss_machine_instructions.proofs.calls.State.leave.Goals as goal
+use Rattle.ss_machine_instructions.proofs.state.State.leave.Goals as goal
 
 pub returns-in-None : goal.returns-in-None
 returns-in-None c = λ w core r.
@@ -14,12 +14,12 @@ yield_values-requires c =
     let v = leaves z.0 z.1 c.args.here c.args.self.now Runs z.2 c.in-Some.frame c.pop.new.self z.2.runs.carries e in
     yields_within z.0 z.1 c.args.here c.args.self.now Runs z.2 c.in-Some.frame c.pop.new.self v
 
-pub returns-in-Some-then : goal.returns-in-Some-then
-returns-in-Some-then c = λ w core r.
+pub returns-then-frame-eq0 : goal.returns-then-frame-eq0
+returns-then-frame-eq0 c = λ w core r.
     let e : c.args.self.now.frames ≡ c.in-Some.frame ∷ c.pop.new.self = search rules in
-    leaves_with w core c.args.here c.args.self.now Runs r c.in-Some.frame c.pop.new.self c.yield_values.new.self.rows c.yield_values.new.self c.to.result r.runs.carries e c.yield_values.ensures.rows (search rules) c.to.ensures
+    leaves_without w core c.args.here c.args.self.now Runs r c.in-Some.frame c.pop.new.self _ c.to.result r.runs.carries e (search rules) (search rules) c.to.ensures
 
-pub returns-in-Some : goal.returns-in-Some
-returns-in-Some c = λ w core r.
+pub returns-else-frame-eq0 : goal.returns-else-frame-eq0
+returns-else-frame-eq0 c = λ w core r.
     let e : c.args.self.now.frames ≡ c.in-Some.frame ∷ c.pop.new.self = search rules in
-    leaves_without w core c.args.here c.args.self.now Runs r c.in-Some.frame c.pop.new.self _ c.to.result r.runs.carries e (omega arith) (search rules) c.to.ensures
+    leaves_with w core c.args.here c.args.self.now Runs r c.in-Some.frame c.pop.new.self c.yield_values.new.self.rows c.yield_values.new.self c.to-in-Some.result r.runs.carries e c.yield_values.ensures.rows (search rules) c.to-in-Some.ensures

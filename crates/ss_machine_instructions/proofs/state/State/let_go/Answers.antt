@@ -8,7 +8,7 @@ use Rattle.ss_machine_frames.specs.Rows.{TwoRows, with_number}
 use Rattle.ss_machine_world.specs.Seen.{Changes}
 use Rattle.ss_machine_instructions.specs.Beginning.{LetsGo}
 use Rattle.ss_machine_instructions.proofs.Giving.{got_at}
-use Rattle.ss_machine_instructions.proofs.events.State.let_go.Goals as goal
+use Rattle.ss_machine_instructions.proofs.state.State.let_go.Goals as goal
 
 pub saved_of-requires : goal.saved_of-requires
 saved_of-requires c = c.requires.rank
@@ -39,8 +39,7 @@ returns-in-Some c = λ said here.
     let e = c.note_variable.new.self in let r = c.note_variable.result in
     let same : to_z w64 (of_z w64 n) ≡ n = search rules in
     let rows : c.set_number_at.new.self ≡ with_number s.rows k n = c.set_number_at.ensures ∙ ap (with_number s.rows k) same in
-    subst (λ o. LetsGo o class n s (record s { rows = c.set_number_at.new.self; scene = e }) r) (c.in-Some.ensures said here)
-    (
+    subst (λ o. LetsGo o class n s (record s { rows = c.set_number_at.new.self; scene = e }) r) (c.in-Some.ensures said here) (
       subst (λ (z : ℤ). Changes (noted (OfVariable k) (pos 0) (Whole z)) s.scene e r) same c.note_variable.ensures,
       ap (λ (x : TwoRows). record s { rows = x; scene = e }) rows,
     )

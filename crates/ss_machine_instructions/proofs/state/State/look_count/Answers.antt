@@ -4,7 +4,7 @@ use Rattle.ss_code_instructions.specs.Machine.{assignable_count}
 use Rattle.ss_machine_world.specs.Seen.{Looks}
 use Rattle.ss_machine_instructions.proofs.Placing.{small}
 use Rattle.ss_machine_instructions.proofs.Looking.{looks_at_count}
-use Rattle.ss_machine_instructions.proofs.looks.State.look_count.Goals as goal
+use Rattle.ss_machine_instructions.proofs.state.State.look_count.Goals as goal
 
 pub done-requires : goal.done-requires
 done-requires c = let z = c.requires in let lt = small z.0 z.1 c.args.here c.args.self.now (Runs c.args.class) z.2 in omega (arith, lt)

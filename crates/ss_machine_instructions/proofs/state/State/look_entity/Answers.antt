@@ -3,16 +3,16 @@ use Rattle.ss_code_instructions.specs.declared.instruction.Instruction.TheVarian
 use Rattle.ss_world.specs.State.{known_in}
 use Rattle.ss_machine_instructions.proofs.Placing.{small}
 use Rattle.ss_machine_instructions.proofs.Looking.{entity_in, class_in, looks_at_entity}
-use Rattle.ss_machine_instructions.proofs.looks.State.look_entity.Goals as goal
+use Rattle.ss_machine_instructions.proofs.state.State.look_entity.Goals as goal
 
 pub number-entity-requires : goal.number-entity-requires
 number-entity-requires c = let z = c.requires in entity_in z.0 z.1 c.args.here c.args.self.now (Runs c.args.class c.args.entity.now) z.2 c.args.class c.args.entity.now z.2.runs.carries
 
-pub known-answer-requires-clause-class : goal.known-answer-requires-clause-class
-known-answer-requires-clause-class c =
+pub known-answer-requires : goal.known-answer-requires
+known-answer-requires c =
     let z = c.requires in
     let lt = class_in z.0 z.1 c.args.here c.args.self.now (Runs c.args.class c.args.entity.now) z.2 c.args.class c.args.entity.now z.2.runs.carries in
-    search rules
+    record { class = search rules }
 
 pub done-requires : goal.done-requires
 done-requires c = let z = c.requires in let lt = small z.0 z.1 c.args.here c.args.self.now (Runs c.args.class c.args.entity.now) z.2 in omega (arith, lt)

@@ -6,16 +6,16 @@ use Rattle.ss_machine_world.specs.Seen.{Looks, without_value}
 use Rattle.ss_machine_world.specs.Numbers.{RefersToSubject, HasSubject}
 use Rattle.ss_machine_instructions.proofs.Placing.{small}
 use Rattle.ss_machine_instructions.proofs.Figuring.{looks_in_mean, looks_at_mean, has_subject}
-use Rattle.ss_machine_instructions.proofs.looks.State.look_mean.Goals as goal
+use Rattle.ss_machine_instructions.proofs.state.State.look_mean.Goals as goal
 
 pub number-entity-requires : goal.number-entity-requires
 number-entity-requires c = let z = c.requires in looks_in_mean z.0 z.1 c.args.here c.args.self.now (Runs c.args.statistic c.args.entity.now) z.2 c.args.statistic c.args.entity.now z.2.runs.carries
 
-pub look_mean-answer-requires-clause-subject : goal.look_mean-answer-requires-clause-subject
-look_mean-answer-requires-clause-subject c =
+pub look_mean-answer-requires : goal.look_mean-answer-requires
+look_mean-answer-requires c =
     let z = c.requires in
     let has : HasSubject c.args.self.now.scene c.args.statistic = has_subject z.0 z.1 c.args.here c.args.self.now (Runs c.args.statistic c.args.entity.now) z.2 c.args.statistic in
-    search rules
+    record { subject = search rules }
 
 pub done-requires : goal.done-requires
 done-requires c = let z = c.requires in let lt = small z.0 z.1 c.args.here c.args.self.now (Runs c.args.statistic c.args.entity.now) z.2 in omega (arith, lt)

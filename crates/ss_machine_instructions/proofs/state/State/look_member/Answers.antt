@@ -4,16 +4,16 @@ use Rattle.ss_world.specs.State.{no_value}
 use Rattle.ss_world.specs.Sets.{joiner}
 use Rattle.ss_machine_instructions.proofs.Placing.{small}
 use Rattle.ss_machine_instructions.proofs.Looking.{member_in, member_set_in, looks_at_member}
-use Rattle.ss_machine_instructions.proofs.looks.State.look_member.Goals as goal
+use Rattle.ss_machine_instructions.proofs.state.State.look_member.Goals as goal
 
 pub number-member-requires : goal.number-member-requires
 number-member-requires c = let z = c.requires in member_in z.0 z.1 c.args.here c.args.self.now (Runs c.args.set c.args.member.now) z.2 c.args.set c.args.member.now z.2.runs.carries
 
-pub look_member-answer-requires-clause-set : goal.look_member-answer-requires-clause-set
-look_member-answer-requires-clause-set c =
+pub look_member-answer-requires : goal.look_member-answer-requires
+look_member-answer-requires c =
     let z = c.requires in
     let lt = member_set_in z.0 z.1 c.args.here c.args.self.now (Runs c.args.set c.args.member.now) z.2 c.args.set c.args.member.now z.2.runs.carries in
-    search rules
+    record { set = search rules }
 
 pub done-requires : goal.done-requires
 done-requires c = let z = c.requires in let lt = small z.0 z.1 c.args.here c.args.self.now (Runs c.args.set c.args.member.now) z.2 in omega (arith, lt)

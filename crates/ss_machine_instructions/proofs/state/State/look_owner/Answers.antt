@@ -4,16 +4,16 @@ use Rattle.ss_world.specs.State.{no_value}
 use Rattle.ss_world.specs.Sets.{owner}
 use Rattle.ss_machine_instructions.proofs.Placing.{small}
 use Rattle.ss_machine_instructions.proofs.Looking.{owner_in, owner_set_in, looks_at_owner}
-use Rattle.ss_machine_instructions.proofs.looks.State.look_owner.Goals as goal
+use Rattle.ss_machine_instructions.proofs.state.State.look_owner.Goals as goal
 
 pub number-owner-requires : goal.number-owner-requires
 number-owner-requires c = let z = c.requires in owner_in z.0 z.1 c.args.here c.args.self.now (Runs c.args.set c.args.owner.now) z.2 c.args.set c.args.owner.now z.2.runs.carries
 
-pub look_owner-answer-requires-clause-set : goal.look_owner-answer-requires-clause-set
-look_owner-answer-requires-clause-set c =
+pub look_owner-answer-requires : goal.look_owner-answer-requires
+look_owner-answer-requires c =
     let z = c.requires in
     let lt = owner_set_in z.0 z.1 c.args.here c.args.self.now (Runs c.args.set c.args.owner.now) z.2 c.args.set c.args.owner.now z.2.runs.carries in
-    search rules
+    record { set = search rules }
 
 pub done-requires : goal.done-requires
 done-requires c = let z = c.requires in let lt = small z.0 z.1 c.args.here c.args.self.now (Runs c.args.set c.args.owner.now) z.2 in omega (arith, lt)

@@ -1,4 +1,4 @@
-use Rattle.std.proofs.Common.{rules, ◌≡◌, ◌+◌, ◌<◌, ℤ, Some, Ok, Err, ap, sym, ◌∙◌, subst, to_z, of_z, w64, arith}
+use Rattle.std.proofs.Common.{rules, ◌≡◌, ◌+◌, ℤ, Some, Ok, Err, ap, sym, ◌∙◌, subst, to_z, of_z, w64, arith}
 use Rattle.std.specs.Prelude.{slice_get}
 use Rattle.ss_code_instructions.specs.declared.instruction.Instruction.TheVariants.{MakeNotice as Runs}
 use Rattle.ss_code_instructions.specs.Machine.{act}
@@ -6,7 +6,7 @@ use Rattle.ss_machine_frames.specs.Rows.{TwoRows, with_number}
 use Rattle.ss_machine_instructions.specs.Doing.{Delivers, as_value}
 use Rattle.ss_machine_instructions.specs.Giving.{MadeIn, Gives}
 use Rattle.ss_machine_instructions.proofs.Notices.{makes_in, make_gives, make_core, make_delivers, makes, makes_not}
-use Rattle.ss_machine_instructions.proofs.events.State.make_notice.Goals as goal
+use Rattle.ss_machine_instructions.proofs.state.State.make_notice.Goals as goal
 
 pub number_at-time-requires : goal.number_at-time-requires
 number_at-time-requires c =
@@ -43,7 +43,9 @@ put-requires c =
     let rows : c.set_number_at.new.self ≡ with_number s.rows i t = c.set_number_at.ensures ∙ ap (λ j. with_number s.rows j (to_z w64 (of_z w64 t))) cell ∙ ap (with_number s.rows i) same in
     let d = make_delivers z.0 z.1 c.args.here c.args.self.now (Runs c.args.class c.args.cell c.args.given c.args.to.now c.args.noted) z.2 c.args.class c.args.cell c.args.given c.args.to.now notes z.2.runs.carries.0 z.2.runs.carries.1 t n e at made in
     let k = make_core z.0 z.1 c.args.here c.args.self.now (Runs c.args.class c.args.cell c.args.given c.args.to.now c.args.noted) z.2 c.args.class c.args.cell c.args.given c.args.to.now z.2.runs.carries.1 t in
-    (z.0, k, l, m, subst (λ (x : TwoRows). Delivers z.0 k l m c.args.here (record s { scene = e; rows = x }) c.args.to.now (as_value (Ok n))) (sym rows) d)
+    let same_n : to_z w64 (of_z w64 n) ≡ n = search rules in
+    let d' = subst (λ (x : TwoRows). Delivers z.0 k l m c.args.here (record s { scene = e; rows = x }) c.args.to.now (as_value (Ok n))) (sym rows) d in
+    (z.0, k, l, m, subst (λ (y : ℤ). Delivers z.0 k l m c.args.here (record s { scene = e; rows = c.set_number_at.new.self }) c.args.to.now (as_value (Ok y))) (sym same_n) d')
 
 pub returns-in-Ok : goal.returns-in-Ok
 returns-in-Ok c = λ w core r.
@@ -61,7 +63,9 @@ returns-in-Ok c = λ w core r.
     let d = make_delivers w core c.args.here s (Runs c.args.class c.args.cell c.args.given c.args.to.now c.args.noted) r c.args.class c.args.cell c.args.given c.args.to.now notes r.runs.carries.0 r.runs.carries.1 t n e at made in
     let k = make_core w core c.args.here s (Runs c.args.class c.args.cell c.args.given c.args.to.now c.args.noted) r c.args.class c.args.cell c.args.given c.args.to.now r.runs.carries.1 t in
     let d' = subst (λ (x : TwoRows). Delivers w k l m c.args.here (record s { scene = e; rows = x }) c.args.to.now (as_value (Ok n))) (sym rows) d in
-    makes w core c.args.here s (Runs c.args.class c.args.cell c.args.given c.args.to.now c.args.noted) r c.args.class c.args.cell c.args.given c.args.to.now r.runs.carries.1 e c.set_number_at.new.self c.put.new.self c.put.result (c.put.ensures w k l m d')
+    let same_n : to_z w64 (of_z w64 n) ≡ n = search rules in
+    let d'' = subst (λ (y : ℤ). Delivers w k l m c.args.here (record s { scene = e; rows = c.set_number_at.new.self }) c.args.to.now (as_value (Ok y))) (sym same_n) d' in
+    makes w core c.args.here s (Runs c.args.class c.args.cell c.args.given c.args.to.now c.args.noted) r c.args.class c.args.cell c.args.given c.args.to.now r.runs.carries.1 e c.set_number_at.new.self c.put.new.self c.put.result (c.put.ensures w k l m d'')
 
 pub returns-in-Err : goal.returns-in-Err
 returns-in-Err c = λ w core r.

@@ -6,13 +6,13 @@ use Rattle.ss_machine_world.specs.Seen.{Seen}
 use Rattle.ss_machine_instructions.specs.Doing.{Delivers, as_value}
 use Rattle.ss_machine_instructions.specs.Worldly.{member_answer}
 use Rattle.ss_machine_instructions.proofs.Setwork.{asks_member_in, asks_member, takes}
-use Rattle.ss_machine_instructions.proofs.sets.State.membership.Goals as goal
+use Rattle.ss_machine_instructions.proofs.state.State.membership.Goals as goal
 
 pub number-member-requires : goal.number-member-requires
 number-member-requires c = let z = c.requires in (asks_member_in z.0 z.1 c.args.here c.args.self.now (Runs c.args.set c.args.member.now c.args.to.now) z.2 queries.Membership c.args.set c.args.member.now c.args.to.now z.2.runs.carries).0
 
-pub filed_in_any-answer-requires-clause-set : goal.filed_in_any-answer-requires-clause-set
-filed_in_any-answer-requires-clause-set c = let z = c.requires in (asks_member_in z.0 z.1 c.args.here c.args.self.now (Runs c.args.set c.args.member.now c.args.to.now) z.2 queries.Membership c.args.set c.args.member.now c.args.to.now z.2.runs.carries).1
+pub filed_in_any-answer-requires : goal.filed_in_any-answer-requires
+filed_in_any-answer-requires c = let z = c.requires in record { set = (asks_member_in z.0 z.1 c.args.here c.args.self.now (Runs c.args.set c.args.member.now c.args.to.now) z.2 queries.Membership c.args.set c.args.member.now c.args.to.now z.2.runs.carries).1 }
 
 pub put-requires : goal.put-requires
 put-requires c =

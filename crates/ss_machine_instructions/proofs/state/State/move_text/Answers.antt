@@ -7,7 +7,7 @@ use Rattle.ss_machine_frames.specs.Rows.{place_at}
 use Rattle.ss_machine_frames.proofs.Reading.{only_text}
 use Rattle.ss_machine_instructions.proofs.Placing.{calm}
 use Rattle.ss_machine_instructions.proofs.Calculating.{moves_in, moves}
-use Rattle.ss_machine_instructions.proofs.numbers.State.move_text.Goals as goal
+use Rattle.ss_machine_instructions.proofs.state.State.move_text.Goals as goal
 
 pub text-text-requires : goal.text-text-requires
 text-text-requires c = let z = c.requires in moves_in z.0 z.1 c.args.here c.args.self.now (Runs c.args.from.now c.args.to.now) z.2 Alpha c.args.from.now c.args.to.now z.2.runs.carries

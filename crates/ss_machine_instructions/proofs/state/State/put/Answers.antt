@@ -1,8 +1,9 @@
-use Rattle.std.proofs.Common.{subst}
+use Rattle.std.proofs.Common.{rules, ◌≡◌, ℤ, subst, to_z, of_z, w64}
 use Rattle.ss_base.specs.declared.value.Value.TheVariants.{Whole}
+use Rattle.ss_machine_frames.specs.Rows.{place_at, with_number}
 use Rattle.ss_machine_instructions.specs.Doing.{Delivers, as_value}
 use Rattle.ss_machine_instructions.proofs.Delivering.{put_within, put_on, put_value, put_fault}
-use Rattle.ss_machine_instructions.proofs.numbers.State.put.Goals as goal
+use Rattle.ss_machine_instructions.proofs.state.State.put.Goals as goal
 
 pub set_number-requires : goal.set_number-requires
 set_number-requires c = let z = c.requires in put_within z.0 z.1 z.2 z.3 c.args.here c.args.self.now c.args.to.now (as_value c.args.answer) z.4
@@ -13,7 +14,9 @@ on-requires c = let z = c.requires in put_on z.0 z.1 z.2 z.3 c.args.here c.args.
 pub returns-in-Ok : goal.returns-in-Ok
 returns-in-Ok c = λ w core l m d.
     let d' = subst (λ a. Delivers w core l m c.args.here c.args.self.now c.args.to.now (as_value a)) c.in-Ok.is d in
-    put_value w core l m c.args.here c.args.self.now c.args.to.now (Whole c.in-Ok.number) c.set_number.new.self c.on.result d' c.set_number.ensures c.on.ensures
+    let same : to_z w64 (of_z w64 c.in-Ok.number) ≡ c.in-Ok.number = search rules in
+    let put = subst (λ (z : ℤ). c.set_number.new.self ≡ record c.args.self.now { rows = with_number c.args.self.now.rows (place_at c.args.here.frame c.args.to.now) z }) same c.set_number.ensures in
+    put_value w core l m c.args.here c.args.self.now c.args.to.now (Whole c.in-Ok.number) c.set_number.new.self c.on.result d' put c.on.ensures
 
 pub returns-in-Err : goal.returns-in-Err
 returns-in-Err c = λ w core l m d.

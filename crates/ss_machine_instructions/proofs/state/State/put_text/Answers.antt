@@ -2,7 +2,7 @@ use Rattle.std.proofs.Common.{subst}
 use Rattle.ss_base.specs.declared.value.Value.TheVariants.{Text}
 use Rattle.ss_machine_instructions.specs.Doing.{Delivers, as_text}
 use Rattle.ss_machine_instructions.proofs.Delivering.{put_within, put_on, put_value, put_fault}
-use Rattle.ss_machine_instructions.proofs.numbers.State.put_text.Goals as goal
+use Rattle.ss_machine_instructions.proofs.state.State.put_text.Goals as goal
 
 pub set_text-requires : goal.set_text-requires
 set_text-requires c = let z = c.requires in put_within z.0 z.1 z.2 z.3 c.args.here c.args.self.now c.args.to.now (as_text c.args.answer) z.4

@@ -1,7 +1,7 @@
-use Rattle.std.proofs.Common.{rules, ◌≡◌, ◌+◌, ◌<◌, ℤ, Ok, Err, length, refl, subst, to_z, of_z, w64, arith}
+use Rattle.std.proofs.Common.{rules, ◌≡◌, ℤ, Ok, Err, length, refl, subst, to_z, of_z, w64, arith}
 use Rattle.ss_machine_instructions.specs.Beginning.{LetsGo}
 use Rattle.ss_machine_instructions.proofs.Beginning.{saved_within}
-use Rattle.ss_machine_instructions.proofs.events.State.receive.Goals as goal
+use Rattle.ss_machine_instructions.proofs.state.State.receive.Goals as goal
 
 pub read_given-requires-clause-class : goal.read_given-requires-clause-class
 read_given-requires-clause-class c = c.requires.class
@@ -44,3 +44,6 @@ returns-in-Ok c = λ said here.
       read_is = c.in-Ok.ensures.received;
       lets_go = subst (λ (z : ℤ). LetsGo said.saved c.args.what.class z mid c.let_go.new.self c.let_go.result) same (c.let_go.ensures said here);
     }
+
+pub read_given-requires-clause-small : goal.read_given-requires-clause-small
+read_given-requires-clause-small c = c.requires.small

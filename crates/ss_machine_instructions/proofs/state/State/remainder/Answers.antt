@@ -5,13 +5,13 @@ use Rattle.ss_code_instructions.specs.Machine.{is_due}
 use Rattle.ss_meaning.specs.Values.{computed}
 use Rattle.ss_machine_instructions.proofs.Placing.{calm}
 use Rattle.ss_machine_instructions.proofs.Calculating.{calculates_in, calculates}
-use Rattle.ss_machine_instructions.proofs.numbers.State.remainder.Goals as goal
+use Rattle.ss_machine_instructions.proofs.state.State.remainder.Goals as goal
 
 pub number-requires : goal.number-requires
 number-requires c = let z = c.requires in (calculates_in z.0 z.1 c.args.here c.args.self.now (Runs c.args.left.now c.args.right.now c.args.to.now) z.2 Remainder c.args.left.now c.args.right.now c.args.to.now z.2.runs.carries).left
 
-pub number-2-requires : goal.number-2-requires
-number-2-requires c = let z = c.requires in (calculates_in z.0 z.1 c.args.here c.args.self.now (Runs c.args.left.now c.args.right.now c.args.to.now) z.2 Remainder c.args.left.now c.args.right.now c.args.to.now z.2.runs.carries).right
+pub number-requires-2 : goal.number-requires-2
+number-requires-2 c = let z = c.requires in (calculates_in z.0 z.1 c.args.here c.args.self.now (Runs c.args.left.now c.args.right.now c.args.to.now) z.2 Remainder c.args.left.now c.args.right.now c.args.to.now z.2.runs.carries).right
 
 pub put-requires : goal.put-requires
 put-requires c =

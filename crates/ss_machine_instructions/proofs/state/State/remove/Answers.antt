@@ -3,7 +3,7 @@ use Rattle.ss_code_instructions.specs.declared.instruction.Instruction.TheVarian
 use Rattle.ss_machine_instructions.specs.Worldly.{Removes}
 use Rattle.ss_machine_instructions.proofs.Settling.{next_small}
 use Rattle.ss_machine_instructions.proofs.Setwork.{removes_in, removes}
-use Rattle.ss_machine_instructions.proofs.sets.State.remove.Goals as goal
+use Rattle.ss_machine_instructions.proofs.state.State.remove.Goals as goal
 
 pub number-member-requires : goal.number-member-requires
 number-member-requires c = let z = c.requires in (removes_in z.0 z.1 c.args.here c.args.self.now (Runs c.args.set c.args.member.now c.args.owner.now c.args.noted) z.2 c.args.set c.args.member.now c.args.owner.now z.2.runs.carries.1).member_place
@@ -11,8 +11,8 @@ number-member-requires c = let z = c.requires in (removes_in z.0 z.1 c.args.here
 pub number-owner-requires : goal.number-owner-requires
 number-owner-requires c = let z = c.requires in (removes_in z.0 z.1 c.args.here c.args.self.now (Runs c.args.set c.args.member.now c.args.owner.now c.args.noted) z.2 c.args.set c.args.member.now c.args.owner.now z.2.runs.carries.1).owner_place
 
-pub take_out-answer-requires-clause-set : goal.take_out-answer-requires-clause-set
-take_out-answer-requires-clause-set c = let z = c.requires in (removes_in z.0 z.1 c.args.here c.args.self.now (Runs c.args.set c.args.member.now c.args.owner.now c.args.noted) z.2 c.args.set c.args.member.now c.args.owner.now z.2.runs.carries.1).set_place
+pub take_out-answer-requires : goal.take_out-answer-requires
+take_out-answer-requires c = let z = c.requires in record { set = (removes_in z.0 z.1 c.args.here c.args.self.now (Runs c.args.set c.args.member.now c.args.owner.now c.args.noted) z.2 c.args.set c.args.member.now c.args.owner.now z.2.runs.carries.1).set_place }
 
 pub done-requires : goal.done-requires
 done-requires c = let z = c.requires in next_small z.0 z.1 c.args.here c.args.self.now (Runs c.args.set c.args.member.now c.args.owner.now c.args.noted) z.2

@@ -1,16 +1,17 @@
-use Rattle.std.proofs.Common.{rules, ◌≡◌, ℤ, Ok, Err, ap, subst, to_z, of_z, w64}
+use Rattle.std.proofs.Common.{rules, ◌≡◌, ℤ, Ok, Err, ap, sym, subst, to_z, of_z, w64}
 use Rattle.ss_program.specs.declared.statement.End.TheVariants as ends
 use Rattle.ss_code_instructions.specs.declared.instruction.Instruction.TheVariants.{RemoveFirst as Runs}
 use Rattle.ss_code_instructions.specs.Machine.{act, is_due}
+use Rattle.ss_machine_instructions.specs.Doing.{Delivers, as_value}
 use Rattle.ss_machine_instructions.specs.Worldly.{Takes}
 use Rattle.ss_machine_instructions.proofs.Setwork.{takes_in, takes_delivers, takes, takes_not}
-use Rattle.ss_machine_instructions.proofs.sets.State.remove_first.Goals as goal
+use Rattle.ss_machine_instructions.proofs.state.State.remove_first.Goals as goal
 
 pub number-owner-requires : goal.number-owner-requires
 number-owner-requires c = let z = c.requires in (takes_in z.0 z.1 c.args.here c.args.self.now (Runs c.args.set c.args.owner.now c.args.to.now c.args.noted) z.2 ends.First c.args.set c.args.owner.now c.args.to.now z.2.runs.carries.1).0
 
-pub take_first-requires-clause-set : goal.take_first-requires-clause-set
-take_first-requires-clause-set c = let z = c.requires in (takes_in z.0 z.1 c.args.here c.args.self.now (Runs c.args.set c.args.owner.now c.args.to.now c.args.noted) z.2 ends.First c.args.set c.args.owner.now c.args.to.now z.2.runs.carries.1).1
+pub take_first-requires : goal.take_first-requires
+take_first-requires c = let z = c.requires in record { set = (takes_in z.0 z.1 c.args.here c.args.self.now (Runs c.args.set c.args.owner.now c.args.to.now c.args.noted) z.2 ends.First c.args.set c.args.owner.now c.args.to.now z.2.runs.carries.1).1 }
 
 pub put-requires : goal.put-requires
 put-requires c =
@@ -19,7 +20,10 @@ put-requires c =
     let l = z.2.placed.line in
     let same : to_z w64 (of_z w64 m) ≡ m = search rules in
     let taken = subst (λ (y : ℤ). Takes ends.First c.args.set c.args.noted s.scene e (Ok x) y) same c.in-Ok.ensures in
-    (z.0, z.1, l, act z.0.code l z.2.placed.instruction z.1, takes_delivers z.0 z.1 c.args.here s (Runs c.args.set c.args.owner.now c.args.to.now c.args.noted) z.2 ends.First c.args.set c.args.owner.now c.args.to.now m x c.args.noted e z.2.runs.carries.0 z.2.runs.carries.1 c.number-owner.ensures taken)
+    let m' = act z.0.code l z.2.placed.instruction z.1 in
+    let same_x : to_z w64 (of_z w64 x) ≡ x = search rules in
+    let d = takes_delivers z.0 z.1 c.args.here s (Runs c.args.set c.args.owner.now c.args.to.now c.args.noted) z.2 ends.First c.args.set c.args.owner.now c.args.to.now m x c.args.noted e z.2.runs.carries.0 z.2.runs.carries.1 c.number-owner.ensures taken in
+    (z.0, z.1, l, m', subst (λ (y : ℤ). Delivers z.0 z.1 l m' c.args.here (record s { scene = e }) c.args.to.now (as_value (Ok y))) (sym same_x) d)
 
 pub returns-in-Ok : goal.returns-in-Ok
 returns-in-Ok c = λ w core r.
@@ -29,7 +33,9 @@ returns-in-Ok c = λ w core r.
     let same : to_z w64 (of_z w64 m) ≡ m = search rules in
     let taken = subst (λ (y : ℤ). Takes ends.First c.args.set c.args.noted s.scene e (Ok x) y) same c.in-Ok.ensures in
     let d = takes_delivers w core c.args.here s (Runs c.args.set c.args.owner.now c.args.to.now c.args.noted) r ends.First c.args.set c.args.owner.now c.args.to.now m x c.args.noted e r.runs.carries.0 r.runs.carries.1 c.number-owner.ensures taken in
-    takes w core c.args.here s (Runs c.args.set c.args.owner.now c.args.to.now c.args.noted) r e c.put.new.self c.put.result (ap is_due r.runs.carries.1.2.2) (c.put.ensures w core l (act w.code l r.placed.instruction core) d)
+    let same_x : to_z w64 (of_z w64 x) ≡ x = search rules in
+    let d' = subst (λ (y : ℤ). Delivers w core l (act w.code l r.placed.instruction core) c.args.here (record s { scene = e }) c.args.to.now (as_value (Ok y))) (sym same_x) d in
+    takes w core c.args.here s (Runs c.args.set c.args.owner.now c.args.to.now c.args.noted) r e c.put.new.self c.put.result (ap is_due r.runs.carries.1.2.2) (c.put.ensures w core l (act w.code l r.placed.instruction core) d')
 
 pub returns-in-Err : goal.returns-in-Err
 returns-in-Err c = λ w core r.

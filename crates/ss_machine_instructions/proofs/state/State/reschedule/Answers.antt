@@ -1,4 +1,4 @@
-use Rattle.std.proofs.Common.{rules, ◌≡◌, ◌+◌, ◌<◌, ℤ, Some, sym, subst, to_z, of_z, w64, arith}
+use Rattle.std.proofs.Common.{rules, ◌≡◌, ◌+◌, ℤ, Some, sym, subst, to_z, of_z, w64, arith}
 use Rattle.std.specs.Prelude.{slice_get}
 use Rattle.ss_base.specs.declared.value.Value.TheVariants.{Whole}
 use Rattle.ss_meaning.specs.Events.{rescheduled}
@@ -6,7 +6,7 @@ use Rattle.ss_code_instructions.specs.declared.instruction.Instruction.TheVarian
 use Rattle.ss_machine_instructions.specs.Giving.{SettledInWithMemory, Gives}
 use Rattle.ss_machine_instructions.proofs.Settling.{next_small}
 use Rattle.ss_machine_instructions.proofs.Notices.{again_in, again_gives, reschedules}
-use Rattle.ss_machine_instructions.proofs.events.State.reschedule.Goals as goal
+use Rattle.ss_machine_instructions.proofs.state.State.reschedule.Goals as goal
 
 pub number-notice-requires : goal.number-notice-requires
 number-notice-requires c = let z = c.requires in (again_in z.0 z.1 c.args.here c.args.self.now (Runs c.args.class c.args.notice.now c.args.cell c.args.given c.args.noted) z.2 c.args.class c.args.notice.now c.args.cell c.args.given z.2.runs.carries.1).0
@@ -34,8 +34,10 @@ returns c = λ w core r.
     let n = c.number-notice.result in let t = c.number_at-time.result in let e = c.schedule_again-answer.new.scene in let q = c.schedule_again-answer.result in
     let cell : c.cell-from.result ≡ i = c.cell-from.ensures in
     let same : to_z w64 (of_z w64 t) ≡ t = search rules in
+    let same_n : to_z w64 (of_z w64 n) ≡ n = search rules in
     let at : slice_get s.rows.numbers (i + given) ≡ Some t = subst (λ j. slice_get s.rows.numbers (j + given) ≡ Some t) cell c.number_at-time.ensures in
-    let all = subst (λ j. (g : Gives class notes j given s.rows s.scene) → SettledInWithMemory g.store (rescheduled class (Whole n) g.values (to_z w64 (of_z w64 t))) s.scene e q) cell c.schedule_again-answer.ensures in
+    let all = subst (λ j. (g : Gives class notes j given s.rows s.scene) → SettledInWithMemory g.store (rescheduled class (Whole n) g.values (to_z w64 (of_z w64 t))) s.scene e q) cell
+    (subst (λ (x : ℤ). (g : Gives class notes c.cell-from.result given s.rows s.scene) → SettledInWithMemory g.store (rescheduled class (Whole x) g.values (to_z w64 (of_z w64 t))) s.scene e q) same_n c.schedule_again-answer.ensures) in
     let g = again_gives w core c.args.here s (Runs c.args.class c.args.notice.now c.args.cell c.args.given c.args.noted) r c.args.class c.args.notice.now c.args.cell c.args.given notes r.runs.carries.1 r.runs.carries.0 in
     let did = subst (λ (y : ℤ). SettledInWithMemory core.store (rescheduled class (Whole n) g.values y) s.scene e q) same (all g) in
     reschedules w core c.args.here s (Runs c.args.class c.args.notice.now c.args.cell c.args.given c.args.noted) r c.args.class c.args.notice.now c.args.cell c.args.given notes r.runs.carries.0 r.runs.carries.1 n t e q c.settled.new.self c.settled.result c.number-notice.ensures at did c.settled.ensures.state c.settled.ensures.way

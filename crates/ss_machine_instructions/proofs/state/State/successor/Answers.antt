@@ -6,13 +6,13 @@ use Rattle.ss_machine_world.specs.Seen.{Seen}
 use Rattle.ss_machine_instructions.specs.Doing.{Delivers, as_value}
 use Rattle.ss_machine_instructions.specs.Worldly.{member_answer}
 use Rattle.ss_machine_instructions.proofs.Setwork.{asks_member_in, asks_member, takes}
-use Rattle.ss_machine_instructions.proofs.sets.State.successor.Goals as goal
+use Rattle.ss_machine_instructions.proofs.state.State.successor.Goals as goal
 
 pub number-member-requires : goal.number-member-requires
 number-member-requires c = let z = c.requires in (asks_member_in z.0 z.1 c.args.here c.args.self.now (Runs c.args.set c.args.member.now c.args.to.now) z.2 queries.Successor c.args.set c.args.member.now c.args.to.now z.2.runs.carries).0
 
-pub one_after-answer-requires-clause-set : goal.one_after-answer-requires-clause-set
-one_after-answer-requires-clause-set c = let z = c.requires in (asks_member_in z.0 z.1 c.args.here c.args.self.now (Runs c.args.set c.args.member.now c.args.to.now) z.2 queries.Successor c.args.set c.args.member.now c.args.to.now z.2.runs.carries).1
+pub one_after-answer-requires : goal.one_after-answer-requires
+one_after-answer-requires c = let z = c.requires in record { set = (asks_member_in z.0 z.1 c.args.here c.args.self.now (Runs c.args.set c.args.member.now c.args.to.now) z.2 queries.Successor c.args.set c.args.member.now c.args.to.now z.2.runs.carries).1 }
 
 pub put-requires : goal.put-requires
 put-requires c =

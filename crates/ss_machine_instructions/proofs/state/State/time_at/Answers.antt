@@ -5,7 +5,7 @@ use Rattle.ss_code_instructions.specs.Machine.{act, is_due}
 use Rattle.ss_machine_world.specs.Seen.{Looks}
 use Rattle.ss_machine_instructions.proofs.Placing.{calm}
 use Rattle.ss_machine_instructions.proofs.Scheduling.{at_in, ats}
-use Rattle.ss_machine_instructions.proofs.events.State.time_at.Goals as goal
+use Rattle.ss_machine_instructions.proofs.state.State.time_at.Goals as goal
 
 pub number-time-requires : goal.number-time-requires
 number-time-requires c = let z = c.requires in at_in z.0 z.1 c.args.here c.args.self.now (Runs c.args.time.now c.args.to.now) z.2 c.args.time.now c.args.to.now z.2.runs.carries

@@ -5,7 +5,7 @@ use Rattle.ss_machine_events.specs.Scheduled.{time_after}
 use Rattle.ss_machine_world.specs.Seen.{Looks}
 use Rattle.ss_machine_instructions.proofs.Placing.{calm}
 use Rattle.ss_machine_instructions.proofs.Scheduling.{in_in, ins}
-use Rattle.ss_machine_instructions.proofs.events.State.time_in.Goals as goal
+use Rattle.ss_machine_instructions.proofs.state.State.time_in.Goals as goal
 
 pub number-units-requires : goal.number-units-requires
 number-units-requires c = let z = c.requires in in_in z.0 z.1 c.args.here c.args.self.now (Runs c.args.units.now c.args.to.now) z.2 c.args.units.now c.args.to.now z.2.runs.carries

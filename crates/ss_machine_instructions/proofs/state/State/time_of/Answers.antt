@@ -4,7 +4,7 @@ use Rattle.ss_world.specs.State.{time_in}
 use Rattle.ss_code_instructions.specs.Machine.{is_due}
 use Rattle.ss_machine_instructions.proofs.Placing.{calm}
 use Rattle.ss_machine_instructions.proofs.Assigning.{time_of_in, times_of}
-use Rattle.ss_machine_instructions.proofs.attributes.State.time_of.Goals as goal
+use Rattle.ss_machine_instructions.proofs.state.State.time_of.Goals as goal
 
 pub number-notice-requires : goal.number-notice-requires
 number-notice-requires c = let z = c.requires in time_of_in z.0 z.1 c.args.here c.args.self.now (Runs c.args.notice.now c.args.to.now) z.2 c.args.notice.now c.args.to.now z.2.runs.carries

@@ -1,10 +1,10 @@
-use Rattle.std.proofs.Common.{rules, ◌≡◌, ◌+◌, ◌<◌, ◌^◌, ℤ, Ok, Err, length, ap, sym, ◌∙◌, subst, to_z, of_z, w64, arith}
+use Rattle.std.proofs.Common.{rules, ◌≡◌, ◌<◌, ℤ, Ok, Err, length, ap, sym, ◌∙◌, subst, to_z, of_z, w64, arith}
 use Rattle.std.specs.Prelude.{slice_get}
 use Rattle.ss_machine_world.specs.Seen.{Seen}
 use Rattle.ss_machine_instructions.specs.Beginning.{LetsGo}
 use Rattle.ss_machine_instructions.proofs.Giving.{got_at}
 use Rattle.ss_machine_instructions.proofs.Beginning.{lets_go_ticks, lets_go_not}
-use Rattle.ss_machine_instructions.proofs.events.State.unbegun.Goals as goal
+use Rattle.ss_machine_instructions.proofs.state.State.unbegun.Goals as goal
 
 pub let_go-requires-clause-rank : goal.let_go-requires-clause-rank
 let_go-requires-clause-rank c = c.requires.rank

@@ -1,24 +1,33 @@
-use Rattle.std.proofs.Common.{rules, subst}
+use Rattle.std.proofs.Common.{arith, rules, ◌≡◌, ℤ, ap, ◌∙◌, subst, to_z, of_z, w64}
 use Rattle.ss_code_instructions.specs.declared.instruction.Instruction.TheVariants.{UnlessEmpty as Runs}
 use Rattle.ss_code_instructions.specs.Shape.{Suits}
+use Rattle.ss_world.specs.Sets.{count_in}
+use Rattle.ss_machine_world.specs.Seen.{Seen}
+use Rattle.ss_machine_instructions.specs.Ways.{none_of, branched, faulted_test}
 use Rattle.ss_machine_instructions.proofs.Placing.{suits}
 use Rattle.ss_machine_instructions.proofs.Comparing.{jump_small}
 use Rattle.ss_machine_instructions.proofs.Asking.{set_within, empties_in, empties}
-use Rattle.ss_machine_instructions.proofs.jumps.State.unless_empty.Goals as goal
+use Rattle.ss_machine_instructions.proofs.state.State.unless_empty.Goals as goal
 
 pub number-owner-requires : goal.number-owner-requires
 number-owner-requires c = let z = c.requires in empties_in z.0 z.1 c.args.here c.args.self.now (Runs c.args.set c.args.owner.now c.args.skip c.args.negated) z.2 c.args.set c.args.skip c.args.negated c.args.owner.now z.2.runs.carries
 
-pub member_count-requires : goal.member_count-requires
-member_count-requires c =
+pub number_in-requires : goal.number_in-requires
+number_in-requires c =
     let z = c.requires in
     let y = subst (Suits z.0.program z.0.code z.1.place z.2.placed.locals z.2.placed.cells) z.2.runs.carries.2 (suits z.0 z.1 c.args.here c.args.self.now (Runs c.args.set c.args.owner.now c.args.skip c.args.negated) z.2) in
     let lt = set_within z.0 z.1 c.args.here c.args.self.now (Runs c.args.set c.args.owner.now c.args.skip c.args.negated) z.2 c.args.set z.2.runs.carries.0 y.0 in
-    search rules
+    record { set = search rules }
 
-pub branch-requires : goal.branch-requires
-branch-requires c = let z = c.requires in jump_small z.0 z.1 c.args.here c.args.self.now (Runs c.args.set c.args.owner.now c.args.skip c.args.negated) z.2 c.args.skip c.type_inv.skip
+pub branch-self-requires : goal.branch-self-requires
+branch-self-requires c = let z = c.requires in jump_small z.0 z.1 c.args.here c.args.self.now (Runs c.args.set c.args.owner.now c.args.skip c.args.negated) z.2 c.args.skip (omega (arith, c.ranges.skip.fits))
 
 pub returns : goal.returns
 returns c = λ w core r.
-    empties w core c.args.here c.args.self.now (Runs c.args.set c.args.owner.now c.args.skip c.args.negated) r c.args.set c.args.skip c.args.negated c.args.owner.now c.number-owner.result c.branch.new.self c.branch.result r.runs.carries c.number-owner.ensures (search rules) (search rules)
+    let n = c.number-owner.result in let s = c.args.self.now in
+    let same : to_z w64 (of_z w64 n) ≡ n = search rules in
+    let value = subst (λ (x : ℤ). c.number_in.result ≡ count_in s.scene.heap c.args.set x) same c.number_in.ensures.value in
+    let test = c.are_none-answer.ensures ∙ ap none_of value in
+    empties w core c.args.here s (Runs c.args.set c.args.owner.now c.args.skip c.args.negated) r c.args.set c.args.skip c.args.negated c.args.owner.now n c.branch-self.new.self c.branch-self.result r.runs.carries c.number-owner.ensures
+    (c.branch-self.ensures.state ∙ ap (λ (e : Seen). faulted_test c.are_none-answer.result (record s { scene = e })) c.number_in.ensures.same ∙ ap (λ q. faulted_test q s) test)
+    (c.branch-self.ensures.way ∙ ap (λ q. branched c.args.here q c.args.negated c.args.skip) test)

@@ -1,4 +1,4 @@
-use Rattle.std.proofs.Common.{rules, ◌≡◌, Some}
+use Rattle.std.proofs.Common.{arith, rules, ◌≡◌, Some}
 use Rattle.ss_base.specs.declared.layout.Mode.TheVariants.{Integer}
 use Rattle.ss_base.specs.declared.value.Value.TheVariants.{Whole}
 use Rattle.ss_program.specs.declared.condition.Relation.TheVariants.{LessOrEqual}
@@ -7,16 +7,16 @@ use Rattle.ss_meaning.specs.Values.{related}
 use Rattle.ss_machine_frames.specs.Rows.{place_at}
 use Rattle.ss_machine_frames.proofs.Reading.{only_number}
 use Rattle.ss_machine_instructions.proofs.Comparing.{jump_small, compares_in, compares}
-use Rattle.ss_machine_instructions.proofs.jumps.State.unless_less_or_equal.Goals as goal
+use Rattle.ss_machine_instructions.proofs.state.State.unless_less_or_equal.Goals as goal
 
 pub number-requires : goal.number-requires
 number-requires c = let z = c.requires in (compares_in z.0 z.1 c.args.here c.args.self.now (Runs c.args.left.now c.args.right.now c.args.skip) z.2 Integer LessOrEqual c.args.left.now c.args.right.now c.args.skip z.2.runs.carries).left
 
-pub number-2-requires : goal.number-2-requires
-number-2-requires c = let z = c.requires in (compares_in z.0 z.1 c.args.here c.args.self.now (Runs c.args.left.now c.args.right.now c.args.skip) z.2 Integer LessOrEqual c.args.left.now c.args.right.now c.args.skip z.2.runs.carries).right
+pub number-requires-2 : goal.number-requires-2
+number-requires-2 c = let z = c.requires in (compares_in z.0 z.1 c.args.here c.args.self.now (Runs c.args.left.now c.args.right.now c.args.skip) z.2 Integer LessOrEqual c.args.left.now c.args.right.now c.args.skip z.2.runs.carries).right
 
 pub on_if-requires : goal.on_if-requires
-on_if-requires c = let z = c.requires in jump_small z.0 z.1 c.args.here c.args.self.now (Runs c.args.left.now c.args.right.now c.args.skip) z.2 c.args.skip c.type_inv.skip
+on_if-requires c = let z = c.requires in jump_small z.0 z.1 c.args.here c.args.self.now (Runs c.args.left.now c.args.right.now c.args.skip) z.2 c.args.skip (omega (arith, c.ranges.skip.fits))
 
 pub returns : goal.returns
 returns c = λ w core r.

@@ -1,27 +1,36 @@
-use Rattle.std.proofs.Common.{rules, subst}
+use Rattle.std.proofs.Common.{arith, rules, ◌≡◌, ap, ◌∙◌, subst, to_z, of_z, w64}
 use Rattle.ss_code_instructions.specs.declared.instruction.Instruction.TheVariants.{UnlessMember as Runs}
 use Rattle.ss_code_instructions.specs.Shape.{Suits}
+use Rattle.ss_world.specs.Disciplines.{member_test}
+use Rattle.ss_machine_world.specs.Seen.{Seen}
+use Rattle.ss_machine_instructions.specs.Ways.{branched, faulted_test}
 use Rattle.ss_machine_instructions.proofs.Placing.{suits}
 use Rattle.ss_machine_instructions.proofs.Comparing.{jump_small}
 use Rattle.ss_machine_instructions.proofs.Asking.{set_within, members_in, members}
-use Rattle.ss_machine_instructions.proofs.jumps.State.unless_member.Goals as goal
+use Rattle.ss_machine_instructions.proofs.state.State.unless_member.Goals as goal
 
-pub number-requires : goal.number-requires
-number-requires c = let z = c.requires in (members_in z.0 z.1 c.args.here c.args.self.now (Runs c.args.set c.args.both.0.now c.args.both.1.now c.args.skip c.args.negated) z.2 c.args.set c.args.skip c.args.negated c.args.both.0.now c.args.both.1.now z.2.runs.carries).0
+pub number-member-requires : goal.number-member-requires
+number-member-requires c = let z = c.requires in (members_in z.0 z.1 c.args.here c.args.self.now (Runs c.args.set c.args.both.0.now c.args.both.1.now c.args.skip c.args.negated) z.2 c.args.set c.args.skip c.args.negated c.args.both.0.now c.args.both.1.now z.2.runs.carries).0
 
-pub number-2-requires : goal.number-2-requires
-number-2-requires c = let z = c.requires in (members_in z.0 z.1 c.args.here c.args.self.now (Runs c.args.set c.args.both.0.now c.args.both.1.now c.args.skip c.args.negated) z.2 c.args.set c.args.skip c.args.negated c.args.both.0.now c.args.both.1.now z.2.runs.carries).1
+pub number-owner-requires : goal.number-owner-requires
+number-owner-requires c = let z = c.requires in (members_in z.0 z.1 c.args.here c.args.self.now (Runs c.args.set c.args.both.0.now c.args.both.1.now c.args.skip c.args.negated) z.2 c.args.set c.args.skip c.args.negated c.args.both.0.now c.args.both.1.now z.2.runs.carries).1
 
-pub is_in-answer-requires : goal.is_in-answer-requires
-is_in-answer-requires c =
+pub is_member-answer-requires : goal.is_member-answer-requires
+is_member-answer-requires c =
     let z = c.requires in
     let y = subst (Suits z.0.program z.0.code z.1.place z.2.placed.locals z.2.placed.cells) z.2.runs.carries.2.2 (suits z.0 z.1 c.args.here c.args.self.now (Runs c.args.set c.args.both.0.now c.args.both.1.now c.args.skip c.args.negated) z.2) in
     let lt = set_within z.0 z.1 c.args.here c.args.self.now (Runs c.args.set c.args.both.0.now c.args.both.1.now c.args.skip c.args.negated) z.2 c.args.set z.2.runs.carries.2.0 y.0 in
-    search rules
+    record { set = search rules }
 
-pub branch-requires : goal.branch-requires
-branch-requires c = let z = c.requires in jump_small z.0 z.1 c.args.here c.args.self.now (Runs c.args.set c.args.both.0.now c.args.both.1.now c.args.skip c.args.negated) z.2 c.args.skip c.type_inv.skip
+pub branch-self-requires : goal.branch-self-requires
+branch-self-requires c = let z = c.requires in jump_small z.0 z.1 c.args.here c.args.self.now (Runs c.args.set c.args.both.0.now c.args.both.1.now c.args.skip c.args.negated) z.2 c.args.skip (omega (arith, c.ranges.skip.fits))
 
 pub returns : goal.returns
 returns c = λ w core r.
-    members w core c.args.here c.args.self.now (Runs c.args.set c.args.both.0.now c.args.both.1.now c.args.skip c.args.negated) r c.args.set c.args.skip c.args.negated c.args.both.0.now c.args.both.1.now c.number.result c.number-2.result c.branch.new.self c.branch.result r.runs.carries c.number.ensures c.number-2.ensures (search rules) (search rules)
+    let x = c.number-member.result in let o = c.number-owner.result in let s = c.args.self.now in
+    let same_x : to_z w64 (of_z w64 x) ≡ x = search rules in
+    let same_o : to_z w64 (of_z w64 o) ≡ o = search rules in
+    let test : c.is_member-answer.result ≡ member_test s.scene.heap c.args.set o x = simp (same_x, same_o) at c.is_member-answer.ensures.value in
+    members w core c.args.here s (Runs c.args.set c.args.both.0.now c.args.both.1.now c.args.skip c.args.negated) r c.args.set c.args.skip c.args.negated c.args.both.0.now c.args.both.1.now x o c.branch-self.new.self c.branch-self.result r.runs.carries c.number-member.ensures c.number-owner.ensures
+    (c.branch-self.ensures.state ∙ ap (λ (e : Seen). faulted_test c.is_member-answer.result (record s { scene = e })) c.is_member-answer.ensures.same ∙ ap (λ q. faulted_test q s) test)
+    (c.branch-self.ensures.way ∙ ap (λ q. branched c.args.here q c.args.negated c.args.skip) test)
