@@ -12,7 +12,7 @@ use Rattle.ss_code_instructions.specs.declared.instruction.Instruction.TheVarian
 use Rattle.ss_code_instructions.specs.Facts.{watch}
 use Rattle.ss_code_instructions.specs.Instructions.{Operand, Taken, Target, Into, Placed}
 use Rattle.ss_code_instructions.specs.Instructions as i
-use Rattle.ss_code_instructions.specs.Translation.{Site, height, place, above, next, operand, is_kept, assignment, place_code, after_place, to_place_code, code_of}
+use Rattle.ss_code_instructions.specs.Translation.{Site, height, place, above, next, is_kept, assignment, place_code, after_place, to_place_code, code_of}
 use Rattle.ss_code_instructions.specs.Carried.{InFrame, mode_here}
 use Rattle.ss_code.specs.declared.generator.Generator.{Generator}
 use Rattle.ss_code.specs.declared.generator.Site.{Site as Here}
@@ -31,7 +31,7 @@ use Rattle.ss_code.proofs.Operands.{cell_at_site}
 pub to_place_parts : (t : Site) (p : Place) (m : Mode) (source : Site → Target → List Placed) → place_code t p ++ (source (after_place t p) (landing (after_place t p) p) ++ landed_code t (after_place t p) p m) ≡ to_place_code t p m source
 to_place_parts t (ToVariable x) m source = by (is_kept t x)
   where
-    by : (b : Bool) → source t (if b then next t else Into x) ++ (if b then place (above t Integer) (i.Keep (Taken (height t)) x) ∷ [] else []) ≡ (if b then source (next t) ++ place (above t Integer) (i.Keep (Taken (height t)) x) ∷ [] else source (Into x))
+    by : (b : Bool) → source t (if b then next t else Into x) ++ (if b then place (above t Integer) (i.Keep (Taken (height t)) x) ∷ [] else []) ≡ (if b then source t (next t) ++ place (above t Integer) (i.Keep (Taken (height t)) x) ∷ [] else source t (Into x))
     by true = refl
     by false = append-nil (source t (Into x))
 to_place_parts t (ToAttribute class field r) m source = refl
@@ -40,13 +40,13 @@ to_place_parts t (ToCount c) m source = refl
 -- ## Variables
 
 -- what is assigned to a variable that a statistic watches, and to another one
-assignment_kept : (u : Site) (x : Variable) (y : Operand) → is_kept u x ≡ true → assignment u x y ≡ i.Keep y x
+pub assignment_kept : (u : Site) (x : Variable) (y : Operand) → is_kept u x ≡ true → assignment u x y ≡ i.Keep y x
 assignment_kept u x y e = ap (λ (b : Bool). if b then i.Keep y x else i.Move y (Into x)) e
 
-assignment_plain : (u : Site) (x : Variable) (y : Operand) → is_kept u x ≡ false → assignment u x y ≡ i.Move y (Into x)
+pub assignment_plain : (u : Site) (x : Variable) (y : Operand) → is_kept u x ≡ false → assignment u x y ≡ i.Move y (Into x)
 assignment_plain u x y e = ap (λ (b : Bool). if b then i.Keep y x else i.Move y (Into x)) e
 
-kept_at : (t u : Site) (x : Variable) (b : Bool) → t.scope ≡ u.scope → is_kept t x ≡ b → is_kept u x ≡ b
+pub kept_at : (t u : Site) (x : Variable) (b : Bool) → t.scope ≡ u.scope → is_kept t x ≡ b → is_kept u x ≡ b
 kept_at t u x b same e = sym (ap (λ (s : Scope). is_kept (record { scope = s; line = u.line; cells = u.cells }) x) same) ∙ e
 
 -- a Keep
@@ -62,7 +62,7 @@ move_runs f t u x y s from v watched same at mode deep =
     let w : is_kept t x ≡ false = subst (IsWatched (is_kept t x) x) watched v.watched in
     let e : assignment u x y ≡ i.Move y (Into x) = assignment_plain u x y (kept_at t u x false same w) in
     record {
-      carries = forms.moves (code_of f.program) f.constants (place u (assignment u x y)) s.mode from s.address (y, at, mode, (Into x, v.at, e));
+      carries = forms.moves (code_of f.program) f.constants (place u (assignment u x y)) s.mode from s.address (y, at, (mode, (Into x, v.at, e)));
       deep = deep;
       shown = subst (Shown f.prints u.cells) (sym e) tt;
     }
@@ -75,12 +75,12 @@ module _ (f : Final) (t u : Site) (class field : ℕ) (e : Expression) (s : Attr
   noted_says = is.noted ∙ ap (λ (p : Program). watch p.statistics (OfAttribute class field)) program
 
   -- what is stored is stored in an attribute of its mode
-  pub store_runs : (y : Operand) (from : Address) (m : Mode) → field_mode f.program class field ≡ Some m → (m ≡ Alpha → watch f.program.statistics (OfAttribute class field) ≡ false) → AtOperand f u (operand t e) s.entity → AtOperand f u y from → height u ≤ f.depth → Runs f (place u (i.SetAttribute class field (operand t e) y)) (storing m class field s.entity from s.is_watched)
-  store_runs y from m there plain entity at deep =
-      let x : Placed = place u (i.SetAttribute class field (operand t e) y) in
+  pub store_runs : (z y : Operand) (from : Address) (m : Mode) → field_mode f.program class field ≡ Some m → (m ≡ Alpha → watch f.program.statistics (OfAttribute class field) ≡ false) → AtOperand f u z s.entity → AtOperand f u y from → height u ≤ f.depth → Runs f (place u (i.SetAttribute class field z y)) (storing m class field s.entity from s.is_watched)
+  store_runs z y from m there plain entity at deep =
+      let x : Placed = place u (i.SetAttribute class field z y) in
       record {
         carries = forms.stores (code_of f.program) f.constants x m class field s.entity from s.is_watched (λ off. sym noted_says ∙ off) plain
-        (has_field f.program f.constants x class field m there, (operand t e, entity, (y, at, refl)));
+            (has_field f.program f.constants x class field m there, (z, entity, (y, at, refl)));
         deep = deep;
         shown = tt;
       }

@@ -1,5 +1,6 @@
 -- Pieces put together, and what is around them.
-use Rattle.std.proofs.Common.{◌≡◌, ℕ, suc, ◌+◌, ◌<◌, ◌≤◌, ◌^◌, List, [], ◌∷◌, ◌++◌, length, map, refl, sym, ap, ◌∙◌, subst, arith, append_assoc, append-nil}
+use Rattle.std.proofs.Common.{◌≡◌, ℕ, suc, ◌+◌, ◌<◌, ◌≤◌, ◌^◌, List, [], ◌∷◌, ◌++◌, length, map, Result, Ok, Err, refl, sym, ap, ◌∙◌, subst, arith, append_assoc, append-nil}
+use Rattle.std.specs.Prelude.{OnOk}
 use Rattle.std.proofs.lemmas.List.{map-append}
 use Rattle.ss_base.specs.declared.line.Line.{Line}
 use Rattle.ss_base.specs.declared.value.Value.{Value}
@@ -10,7 +11,7 @@ use Rattle.ss_code_instructions.specs.Translation.{Site, height}
 use Rattle.ss_code.specs.declared.generator.Generator.{Generator}
 use Rattle.ss_code.specs.declared.generator.Site.{Site as Here}
 use Rattle.ss_code.specs.Lined.{Lined, nothing}
-use Rattle.ss_code.specs.Emitted.{Final, Around, Grows, Stands, Runs, AllRun, line_of, Adds}
+use Rattle.ss_code.specs.Emitted.{Final, Around, Grows, Stands, Runs, AllRun, line_of, Adds, Makes}
 
 -- ## What is around more is around less
 
@@ -81,8 +82,8 @@ adds_then f a b c xs ys h k = record {
   more = h.more ++ k.more;
   instructions = k.instructions ∙ ap (λ (l : List Running). l ++ k.more) h.instructions ∙ append_assoc a.instructions h.more k.more;
   lines =
-    k.lines ∙ ap (λ (l : List Line). l ++ map line_of ys) h.lines ∙ append_assoc a.lines (map line_of xs) (map line_of ys)
-    ∙ ap (λ (l : List Line). a.lines ++ l) (sym (map-append line_of xs ys));
+      k.lines ∙ ap (λ (l : List Line). l ++ map line_of ys) h.lines ∙ append_assoc a.lines (map line_of xs) (map line_of ys)
+      ∙ ap (λ (l : List Line). a.lines ++ l) (sym (map-append line_of xs ys));
   run = runs_both f xs ys h.more k.more h.run k.run;
 }
 
@@ -114,3 +115,36 @@ none_there f p (x ∷ c) h e = absurd (omega (arith, e, piece_long f p (x ∷ c)
 -- the same code, said otherwise
 pub adds_same : (f : Final) (a b : Lined) (c d : List Placed) → c ≡ d → Adds f a b c → Adds f a b d
 adds_same f a b c d e h = subst (Adds f a b) e h
+
+-- ## What was made, from an earlier generator on and up to a later one
+
+pub makes_earlier : {I : Type 0} (older old new : Generator) (p q : Lined) (here : Here) (Fit : Final → Site → I → Type 0) (c : Site → I → List Placed) (More : Final → Site → I → Type 0) → Grows older old → Makes old new p q here Fit c More → Makes older new p q here Fit c More
+makes_earlier older old new p q here Fit c More g m = record { grows = grows_then older old new g m.grows; adds = m.adds; more = m.more }
+
+pub makes_later : {I : Type 0} (old new newer : Generator) (p q : Lined) (here : Here) (Fit : Final → Site → I → Type 0) (c : Site → I → List Placed) (More : Final → Site → I → Type 0) → Grows new newer → Makes old new p q here Fit c More → Makes old newer p q here Fit c More
+makes_later old new newer p q here Fit c More g m = record {
+  grows = grows_then old new newer m.grows g;
+  adds = λ f t i around stands fits. m.adds f t i (around_old f new newer g around) (stands_old f new newer here t g stands) fits;
+  more = λ f t i around stands fits. m.more f t i (around_old f new newer g around) (stands_old f new newer here t g stands) fits;
+}
+
+-- ## Calls that may be out of memory
+
+-- what follows from a clause of a call
+pub one_ok : {T E A B : Type 0} (r : Result T E) → OnOk r A → (A → B) → OnOk r B
+one_ok (Ok x) a f = f a
+one_ok (Err e) a f = tt
+
+-- what follows from both clauses of a call
+pub both_ok : {T E A B C : Type 0} (r : Result T E) → OnOk r A → OnOk r B → (A → B → C) → OnOk r C
+both_ok (Ok x) a b f = f a b
+both_ok (Err e) a b f = tt
+
+-- the last call puts an instruction, which is this one
+pub put_ok : {T E C : Type 0} (r : Result T E) (p q : Lined) (l : Line) (y z : Running) → y ≡ z → OnOk r (q.instructions ≡ p.instructions ++ y ∷ []) → OnOk r (q.lines ≡ p.lines ++ l ∷ []) → (q.instructions ≡ p.instructions ++ z ∷ [] → q.lines ≡ p.lines ++ l ∷ [] → C) → OnOk r C
+put_ok (Ok x) p q l y z e is ls f = f (is ∙ ap (λ (i : Running). p.instructions ++ i ∷ []) e) ls
+put_ok (Err x) p q l y z e is ls f = tt
+
+-- an instruction that was put is this one
+pub put_as : (p q : Lined) (y z : Running) → y ≡ z → q.instructions ≡ p.instructions ++ y ∷ [] → q.instructions ≡ p.instructions ++ z ∷ []
+put_as p q y z e is = is ∙ ap (λ (i : Running). p.instructions ++ i ∷ []) e

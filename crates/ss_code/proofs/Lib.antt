@@ -3,6 +3,8 @@ mod Forms
 mod Modes
 mod Operands
 mod Values
+mod Leafs
+mod Filed
 mod Testing
 mod Assigned
 mod Whole
@@ -12,3 +14,14 @@ mod Nodes
 mod Watching
 mod Pushing
 mod Listed
+mod Alike
+mod Rounds
+mod Bodies
+mod Called
+mod Made
+mod Deeper
+mod Spotted
+mod Letting
+mod Noticing
+mod Itemed
+mod Removing

@@ -1,16 +1,18 @@
 -- Code of a list of things, with one of them more.
-use Rattle.std.proofs.Common.{◌≡◌, List, [], ◌∷◌, ◌++◌, refl, ap, sym, ◌∙◌, append_assoc, append-nil}
+use Rattle.std.proofs.Common.{◌≡◌, ℕ, ◌+◌, ◌<◌, List, [], ◌∷◌, ◌++◌, length, map, take, drop, get_or, refl, ap, sym, ◌∙◌, arith, append_assoc, append-nil}
+use Rattle.std.proofs.lemmas.List.{take_more, drop_more, map-append}
 use Rattle.std.specs.List.{AllByRecursion as Every}
 use Rattle.ss_program.specs.declared.statement.CountedClass.{CountedClass}
 use Rattle.ss_program.specs.Program.{Target, Restart}
 use Rattle.ss_program.specs.WellTyped.{Scope}
+use Rattle.ss_code_instructions.specs.declared.instruction.Instruction.TheVariants.{CreateAll as CreatesAll}
 use Rattle.ss_code_instructions.specs.Instructions.{Placed, Read, CreateAll, Reset}
 use Rattle.ss_code_instructions.specs.Translation.{Site, place, bearer, bearer_code, after_bearer, to_place_code, reads_code, creates_code, restarts_code}
 use Rattle.ss_code.specs.declared.generator.Generator.{Generator}
 use Rattle.ss_code.specs.declared.generator.Site.{Site as Here}
 use Rattle.ss_code.specs.Lined.{Lined}
 use Rattle.ss_code.specs.Emitted.{Emits}
-use Rattle.ss_code.proofs.Emitting.{around_old, grows_then, stands_old, adds_then, adds_same}
+use Rattle.ss_code.proofs.Emitting.{around_old, grows_same, grows_then, stands_old, adds_none, adds_then, adds_one, adds_same}
 
 -- code of things that all find the same cells: each thing's own, one after the other
 module _ {A : Type 0} (P : A → Scope → Type 0) (own : Site → A → List Placed) (all : Site → List A → List Placed) (joined : (t : Site) (xs : List A) (x : A) → all t (xs ++ x ∷ []) ≡ all t xs ++ own t x) where
@@ -45,3 +47,33 @@ pub restarts_more : (t : Site) (xs : List Restart) (x : Restart) → restarts_co
 restarts_more t xs x =
     rows_more (λ (x : Restart). restarts_code t (x ∷ [])) (restarts_code t) refl (λ x xs.
     ap (λ (c : List Placed). c ++ restarts_code t xs) (sym (append-nil (bearer_code t x.of ++ place (after_bearer t x.of) (Reset x.statistic (bearer t x.of)) ∷ [])))) xs x
+
+-- an instruction for each class
+pub creates_step : (g : Generator) (p q v : Lined) (here : Here) (xs : List CountedClass) (x : CountedClass) → Emits g g p q here (λ s. Unit {0}) (λ t. creates_code t xs) → v.instructions ≡ q.instructions ++ CreatesAll x.class x.variable ∷ [] → v.lines ≡ q.lines ++ here.line ∷ [] → Emits g g p v here (λ s. Unit {0}) (λ t. creates_code t (xs ++ x ∷ []))
+creates_step g p q v here xs x m is ls = record {
+  grows = m.grows;
+  adds = λ f t u around stands good.
+      adds_same f p v (creates_code t xs ++ place t (CreateAll x) ∷ []) (creates_code t (xs ++ x ∷ [])) (sym (creates_more t xs x))
+      (adds_then f p q v (creates_code t xs) (place t (CreateAll x) ∷ []) (m.adds f t tt around stands tt)
+      (adds_one f q v here.line (place t (CreateAll x)) (CreatesAll x.class x.variable) is ls stands.line (record { carries = refl; deep = stands.deep; shown = tt })));
+  more = λ f t u around stands good. tt;
+}
+
+-- nothing yet
+pub none_listed : {A : Type 0} (g : Generator) (p : Lined) (here : Here) (P : A → Scope → Type 0) → Emits g g p p here (λ s. Every (λ x. P x s) []) (λ t. [])
+none_listed g p here P = record { grows = grows_same g; adds = λ f t u around stands good. adds_none f p; more = λ f t u around stands good. tt }
+
+-- ## The next item of a loop
+
+pub next_taken : {A : Type 0} (xs : List A) (i : ℕ) (x : A) → i < length xs → x ≡ get_or xs i x → take (i + 1) xs ≡ take i xs ++ x ∷ []
+next_taken {A} xs i x lt is = take_more xs i x lt ∙ ap (λ (y : A). take i xs ++ y ∷ []) (sym is)
+
+pub next_mapped : {A B : Type 0} (f : A → B) (xs : List A) (i : ℕ) (x : A) → i < length xs → x ≡ get_or xs i x → map f (take (i + 1) xs) ≡ map f (take i xs) ++ f x ∷ []
+next_mapped f xs i x lt is = ap (map f) (next_taken xs i x lt is) ∙ map-append f (take i xs) (x ∷ [])
+
+pub next_dropped : {A : Type 0} (xs : List A) (i : ℕ) (x : A) → i < length xs → x ≡ get_or xs i x → drop i xs ≡ x ∷ drop (i + 1) xs
+next_dropped {A} xs i x lt is = drop_more xs i x lt ∙ ap (λ (y : A). y ∷ drop (i + 1) xs) (sym is)
+
+pub none_there_is : {A : Type 0} (xs : List A) → length xs ≡ 0 → xs ≡ []
+none_there_is [] h = refl
+none_there_is (x ∷ xs) h = absurd (omega (arith, h))

@@ -1,22 +1,33 @@
 -- Modes of operands, where they are found.
 use Rattle.std.proofs.Common.{◌≡◌, ℕ, ◌<◌, Bool, true, false, List, [], ◌∷◌, length, Option, Some, None, refl, sym, ap, ◌∙◌, arith, if◌then◌else◌}
-use Rattle.std.proofs.lemmas.Bool.{eqb-true, eq-eqb, ne_eqb}
-use Rattle.std.specs.Prelude.{slice_get, ◌==◌}
+use Rattle.std.proofs.lemmas.Bool.{eqb-true, eq-eqb, ne_eqb, true≢false}
+use Rattle.std.specs.Prelude.{slice_get, ◌==◌, vec_len}
+use Rattle.std.specs.List.{fold}
+use Rattle.std.specs.Global.{Vec, Box}
 use Rattle.std.specs.Option.{option_map, option_and_then}
 use Rattle.ss_base.specs.declared.layout.Mode.{Mode}
+use Rattle.ss_base.specs.declared.layout.Mode.TheVariants.{Integer}
 use Rattle.ss_base.specs.declared.value.Value.{Value}
 use Rattle.ss_base.specs.declared.layout.ClassLayout.{ClassLayout}
 use Rattle.ss_world.specs.State.{modes_in}
+use Rattle.ss_program.specs.declared.expression.Expression.{Expression as ExpressionValue}
+use Rattle.ss_program.specs.declared.expression.Expression.TheVariants as variants
+use Rattle.ss_program.specs.declared.expression.Operation.{Operation}
 use Rattle.ss_program.specs.declared.expression.Variable.{Variable}
 use Rattle.ss_program.specs.declared.expression.Variable.TheVariants.{Global, Local}
 use Rattle.ss_program.specs.Program.{Program, Expression, Constant, Fetch, Attribute, OfSystemSet, OfSet, OfMember, Clock, TimeOf, Figure, FigureOf, Signed, Absolute, Calculate}
+use Rattle.ss_program.specs.View.{view_expression, view_program}
+use Rattle.ss_program.specs.Views.{with_operation, view_calculate_made}
 use Rattle.ss_program.specs.WellTyped.{Scope, HasMode, mode_at, field_mode}
 use Rattle.ss_code_instructions.specs.Instructions.{Operand, Instruction, Held, Taken, Stays, Placed}
 use Rattle.ss_code_instructions.specs.Instructions as i
 use Rattle.ss_code_instructions.specs.States.{cell_at}
 use Rattle.ss_code_instructions.specs.Translation.{Site, height, place, operand, after, above, or_integer, expression_mode, code_of}
 use Rattle.ss_code_instructions.specs.Carried.{mode_here, HasField}
-use Rattle.ss_code.specs.Emitted.{Final}
+use Rattle.ss_code.specs.declared.generator.Generator.{Generator}
+use Rattle.ss_code.specs.declared.generator.Site.{Site as Here}
+use Rattle.ss_code.specs.Preamble.{scope_of}
+use Rattle.ss_code.specs.Emitted.{Final, Around, Grows, Stands}
 
 -- ## What the definition's facts say of a program that is well typed
 
@@ -47,6 +58,45 @@ fields_agree (Some c) field m h = h
 pub has_field : (p : Program) (constants : List Value) (x : Placed) (class field : ℕ) (m : Mode) → field_mode p class field ≡ Some m → HasField (code_of p) constants x m class field
 has_field p constants x class field m h = fields_agree (slice_get p.layout.classes class) field m h
 
+-- modes go by the program and the local variables alone
+pub mode_by : (s : Scope) (p : Program) (locals : List Mode) (e : Expression) → s.program ≡ p → s.locals ≡ locals → expression_mode s e ≡ expression_mode (record { program = p; locals = locals; is_main = false }) e
+mode_by s p locals (Constant v) q l = refl
+mode_by s p locals (Fetch (Global k)) q l = ap (λ (r : Program). or_integer (slice_get r.globals k)) q
+mode_by s p locals (Fetch (Local k)) q l = ap (λ (ms : List Mode). or_integer (slice_get ms k)) l
+mode_by s p locals (Attribute class field e) q l = ap (λ (r : Program). or_integer (field_mode r class field)) q
+mode_by s p locals _ q l = refl
+
+-- the mode that the generator found, before it went on
+pub mode_found : (f : Final) (old new : Generator) (here : Here) (t : Site) (e : Expression) (n m : Mode) → Grows old new → m ≡ expression_mode (scope_of old.program.now old.locals.items) e → Around f new → Stands f new here t → HasMode t.scope e n → n ≡ m
+mode_found f old new here t e n m g is around stands h =
+    let program : t.scope.program ≡ view_program old.program.now = stands.program ∙ sym around.program ∙ ap view_program g.program in
+    sym (mode_is t.scope e n h) ∙ mode_by t.scope (view_program old.program.now) old.locals.items e program (stands.locals ∙ g.locals) ∙ sym is
+
+-- ## Calculations: with an operation they are numbers
+
+module _ (s : Scope) where
+  mode_more : (e : Expression) (os : List Operation) → expression_mode s e ≡ Integer → expression_mode s (fold with_operation e os) ≡ Integer
+  mode_more e [] h = h
+  mode_more e (o ∷ os) h = mode_more (with_operation e o) os refl
+
+  mode_folded_none : (e : Expression) (os : List Operation) (n : ℕ) → n ≡ length os → (n == 0) ≡ true → expression_mode s (fold with_operation e os) ≡ expression_mode s e
+  mode_folded_none e [] n l h = refl
+  mode_folded_none e (o ∷ os) n l h = let z : n ≡ 0 = eqb-true n 0 h in absurd (omega (arith, z, l))
+
+  mode_folded_some : (e : Expression) (os : List Operation) (n : ℕ) → n ≡ length os → (n == 0) ≡ false → expression_mode s (fold with_operation e os) ≡ Integer
+  mode_folded_some e [] n l h = absurd (true≢false (sym (eq-eqb n 0 l) ∙ h))
+  mode_folded_some e (o ∷ os) n l h = mode_more (with_operation e o) os refl
+
+  pub mode_calculated_none : (b : Box ExpressionValue) (v : Vec Operation) → (vec_len v == 0) ≡ true → expression_mode s (view_expression (variants.Calculate b v)) ≡ expression_mode s (view_expression b.value)
+  mode_calculated_none b v h =
+      let long : vec_len v ≡ length v.items = omega (arith, v.ok.0) in
+      ap (expression_mode s) (view_calculate_made b v) ∙ mode_folded_none (view_expression b.value) v.items (vec_len v) long h
+
+  pub mode_calculated_some : (b : Box ExpressionValue) (v : Vec Operation) → (vec_len v == 0) ≡ false → expression_mode s (view_expression (variants.Calculate b v)) ≡ Integer
+  mode_calculated_some b v h =
+      let long : vec_len v ≡ length v.items = omega (arith, v.ok.0) in
+      ap (expression_mode s) (view_calculate_made b v) ∙ mode_folded_some (view_expression b.value) v.items (vec_len v) long h
+
 -- ## Cells
 
 -- the topmost cell
@@ -56,11 +106,11 @@ on_top h v below e = ap (λ (b : Bool). if b then Some v else cell_at h below) (
 -- a cell that there is lies below so many
 pub cell_within : {A : Type 0} (h : ℕ) (v : A) (cells : List A) → cell_at h cells ≡ Some v → h < length cells
 cell_within h v [] e = absurd cc
-cell_within {A} h v (x ∷ below) e = by (length below == h) refl e
+cell_within {A} h v (x ∷ below) e = by (length below == h) refl e (cell_within h v below)
   where
-    by : (b : Bool) → (length below == h) ≡ b → (if b then Some x else cell_at h below) ≡ Some v → h < length (x ∷ below)
-    by true q e = let same : length below ≡ h = eqb-true (length below) h q in omega (arith, same)
-    by false q e = let lower = cell_within h v below e in omega (arith, lower)
+    by : (b : Bool) → (length below == h) ≡ b → (if b then Some x else cell_at h below) ≡ Some v → (cell_at h below ≡ Some v → h < length below) → h < length (x ∷ below)
+    by true q e lower = let same : length below ≡ h = eqb-true (length below) h q in omega (arith, same)
+    by false q e lower = let l = lower e in omega (arith, l)
 
 -- and stays where it is below further ones
 pub cell_under : {A : Type 0} (h : ℕ) (v x : A) (cells : List A) → cell_at h cells ≡ Some v → cell_at h (x ∷ cells) ≡ Some v

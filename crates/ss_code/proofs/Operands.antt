@@ -1,6 +1,6 @@
 -- Operands, and instructions that read them.
-use Rattle.std.proofs.Common.{◌≡◌, ℕ, suc, ◌+◌, ◌<◌, ◌^◌, List, [], ◌∷◌, ◌++◌, length, Option, Some, None, refl, sym, ap, ◌∙◌, subst, arith, append_assoc}
-use Rattle.std.specs.Prelude.{slice_get, pos}
+use Rattle.std.proofs.Common.{◌≡◌, ℕ, suc, ◌+◌, ◌<◌, ◌^◌, List, [], ◌∷◌, ◌++◌, length, Option, Some, None, Result, Ok, Err, refl, sym, ap, ◌∙◌, subst, arith, append_assoc}
+use Rattle.std.specs.Prelude.{slice_get, pos, IfOk}
 use Rattle.ss_base.specs.declared.layout.Mode.{Mode}
 use Rattle.ss_base.specs.declared.value.Value.{Value}
 use Rattle.ss_base.specs.declared.value.Value.TheVariants.{Whole}
@@ -17,7 +17,7 @@ use Rattle.ss_code.specs.declared.generator.Generator.{Generator}
 use Rattle.ss_code.specs.declared.generator.Site.{Site as Here}
 use Rattle.ss_code.specs.Lined.{Lined}
 use Rattle.ss_code.specs.Emitted.{Final, Around, Grows, Stands, Runs, Emits, EmitsTo, AtOperand, AtTarget, Typed, IsLeaf, IsRead, IsBorne, Reads, ReadsBy, Bears}
-use Rattle.ss_code.proofs.Emitting.{around_old, grows_same, grows_then, stands_old, stands_above, adds_none, adds_then, adds_one, adds_same}
+use Rattle.ss_code.proofs.Emitting.{around_old, grows_same, stands_old, stands_above, adds_none, adds_then, adds_one, adds_same, makes_earlier}
 
 -- ## Addresses
 
@@ -104,23 +104,27 @@ leaf_reads old new p here e a grows l =
           record { at = at; high = high; deep = omega (arith, leaf_high t e y is, stands.deep) };
     }
 
--- anything else goes into the next cell
-pub cell_reads : (old mid new : Generator) (p q : Lined) (here : Here) (e : Expression) (a : Address) → leaf e ≡ None → Grows old mid → InFrame (length mid.locals.items + here.height) a → here.height < mid.deepest → EmitsTo mid new p q here a (Typed e) (λ t x. expression_code t x e) → Reads old new p q here e (record { address = a; cells = 1 })
-cell_reads old mid new p q here e a none grows cell room m = record {
-  grows = grows_then old mid new grows m.grows;
+-- anything else goes into a cell, which was the next one on the way
+pub cell_reads_at : (old mid new : Generator) (p q : Lined) (here : Here) (e : Expression) (a : Address) → leaf e ≡ None → Grows mid new → InFrame (length mid.locals.items + here.height) a → here.height < mid.deepest → EmitsTo old new p q here a (Typed e) (λ t x. expression_code t x e) → Reads old new p q here e (record { address = a; cells = 1 })
+cell_reads_at old mid new p q here e a none grows cell room m = record {
+  grows = m.grows;
   adds = λ f t u around stands typed.
-      let at : AtTarget f t (next t) a = cell_at_site f mid here t a (stands_old f mid new here t m.grows stands) cell in
+      let at : AtTarget f t (next t) a = cell_at_site f mid here t a (stands_old f mid new here t grows stands) cell in
       adds_same f p q (expression_code t (next t) e) (operand_code t e) (sym (ap (λ (o : Option Operand). unless_leaf o (expression_code t (next t) e)) none))
       (m.adds f t (next t) around stands (at, typed));
   more = λ f t u around stands typed.
-      let mine : Around f mid = around_old f mid new m.grows around in
-      let at : AtOperand f t (Taken (height t)) a = cell_at_site f mid here t a (stands_old f mid new here t m.grows stands) cell in
+      let mine : Around f mid = around_old f mid new grows around in
+      let at : AtOperand f t (Taken (height t)) a = cell_at_site f mid here t a (stands_old f mid new here t grows stands) cell in
       record {
         at = subst (λ (o : Option Operand). AtOperand f t (or_cell (height t) o) a) (sym none) at;
         high = cell_high t e none;
         deep = omega (arith, cell_high t e none, stands.high, room, mine.depth);
       };
 }
+
+-- anything else goes into the next cell
+pub cell_reads : (old mid new : Generator) (p q : Lined) (here : Here) (e : Expression) (a : Address) → leaf e ≡ None → Grows old mid → InFrame (length mid.locals.items + here.height) a → here.height < mid.deepest → EmitsTo mid new p q here a (Typed e) (λ t x. expression_code t x e) → Reads old new p q here e (record { address = a; cells = 1 })
+cell_reads old mid new p q here e a none grows cell room m = cell_reads_at old mid new p q here e a none m.grows cell room (makes_earlier old mid new p q here _ _ _ grows m)
 
 -- ## An operand, and the instruction that reads it
 
@@ -208,3 +212,8 @@ entity_bears old new p q here e o m = record {
       let r = m.more f t u around stands (_, good) in
       record { at = r.at; high = r.high; deep = r.deep };
 }
+
+-- the same of a call
+pub entity_ok : {E : Type 0} (r : Result Read E) (old new : Generator) (p q : Lined) (here : Here) (e : Expression) → IfOk r (λ o. Reads old new p q here e o) → IfOk r (λ o. Bears old new p q here (Some e) o)
+entity_ok (Ok o) old new p q here e h = entity_bears old new p q here e o h
+entity_ok (Err x) old new p q here e h = tt

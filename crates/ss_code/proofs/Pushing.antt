@@ -1,10 +1,12 @@
 -- Values that go into cells, and what loops keep there.
-use Rattle.std.proofs.Common.{◌≡◌, ℕ, suc, ◌+◌, ◌<◌, ◌≤◌, ◌^◌, Bool, true, false, List, [], ◌∷◌, ◌++◌, length, Some, None, refl, sym, ap, ◌∙◌, subst, arith, append_assoc, append-nil, length-append, if◌then◌else◌}
+use Rattle.std.proofs.Common.{◌≡◌, ℕ, suc, ◌+◌, ◌<◌, ◌≤◌, ◌^◌, Bool, true, false, List, [], ◌∷◌, ◌++◌, length, get_or, map, take, Some, None, refl, sym, ap, ◌∙◌, subst, arith, append_assoc, append-nil, length-append, if◌then◌else◌}
 use Rattle.std.specs.Prelude.{pos}
 use Rattle.std.specs.List.{AllByRecursion as Every}
 use Rattle.ss_base.specs.declared.value.Value.TheVariants.{Whole}
 use Rattle.ss_program.specs.declared.expression.Variable.TheVariants.{Global}
+use Rattle.ss_program.specs.declared.expression.Expression as expressions
 use Rattle.ss_program.specs.Program.{Expression}
+use Rattle.ss_program.specs.View.{view_expression}
 use Rattle.ss_code_instructions.specs.declared.address.Address.{Address}
 use Rattle.ss_code_instructions.specs.declared.instruction.Instruction.TheVariants as r
 use Rattle.ss_code_instructions.specs.Instructions.{Constant, Stays, Instruction, Placed}
@@ -21,6 +23,8 @@ use Rattle.ss_code.specs.Spots.{IsWatched}
 use Rattle.ss_code.specs.Looped.{TakesItem, TakesItems}
 use Rattle.ss_code.proofs.Emitting.{around_old, grows_same, grows_then, stands_old, stands_above, adds_none, adds_then, adds_one, adds_piece, adds_same, piece_long}
 use Rattle.ss_code.proofs.Operands.{cell_at_site}
+use Rattle.ss_code.proofs.Steps.{next_taken, taken_long}
+use Rattle.std.proofs.lemmas.List.{take_all}
 
 -- ## Values
 
@@ -41,7 +45,7 @@ one_pushed old new p q here a one grows cell at made ls = record {
   adds = λ f t u around stands typed.
       let ins : Instruction = i.Move (Constant (Whole (pos 1))) (next t) in
       adds_one f p q here.line (place t ins) (r.Move one a) made ls stands.line
-      (record { carries = (Constant (Whole (pos 1)), at f t around, refl, (next t, cell_at_site f new here t a stands cell, refl)); deep = stands.deep; shown = tt });
+      (record { carries = (Constant (Whole (pos 1)), at f t around, (refl, (next t, cell_at_site f new here t a stands cell, refl))); deep = stands.deep; shown = tt });
   more = λ f t u around stands typed. tt;
 }
 
@@ -73,6 +77,19 @@ values_more old mid new p q s here higher es e m room line above_ n = record {
       (n.adds f (after_values t es) tt around on_top each.1));
   more = λ f t u around stands typed. tt;
 }
+
+-- the values so far, with the next one
+pub next_value : (old mid new : Generator) (p q s : Lined) (here higher : Here) (xs : List expressions.Expression) (i : ℕ) (x : expressions.Expression) → i < length xs → x ≡ get_or xs i x → Emits old mid p q here (λ k. Every (λ e. Typed e k) (map view_expression (take i xs))) (λ t. values_code t (map view_expression (take i xs))) → here.height + i ≤ mid.deepest → higher.line ≡ here.line → (here.height + i < 2 ^ 64 → higher.height ≡ here.height + i) → Emits mid new q s higher (Typed (view_expression x)) (λ t. expression_code t (next t) (view_expression x)) → Emits old new p s here (λ k. Every (λ e. Typed e k) (map view_expression (take (i + 1) xs))) (λ t. values_code t (map view_expression (take (i + 1) xs)))
+next_value old mid new p q s here higher xs i x lt is m room line above_ n =
+    let es = map view_expression (take i xs) in
+    let long = taken_long view_expression xs i lt in
+    let fits : here.height + length es ≤ mid.deepest = omega (arith, long, room) in
+    subst (λ (l : List Expression). Emits old new p s here (λ k. Every (λ e. Typed e k) l) (λ t. values_code t l)) (sym (next_taken view_expression xs i x lt is))
+    (values_more old mid new p q s here higher es (view_expression x) m fits line (subst (λ (k : ℕ). here.height + k < 2 ^ 64 → higher.height ≡ here.height + k) (sym long) above_) n)
+
+-- and all of them
+pub all_values : (old new : Generator) (p q : Lined) (here : Here) (xs : List expressions.Expression) (i : ℕ) → length xs ≤ i → Emits old new p q here (λ k. Every (λ e. Typed e k) (map view_expression (take i xs))) (λ t. values_code t (map view_expression (take i xs))) → Emits old new p q here (λ k. Every (λ e. Typed e k) (map view_expression xs)) (λ t. values_code t (map view_expression xs))
+all_values old new p q here xs i le m = subst (λ (l : List expressions.Expression). Emits old new p q here (λ k. Every (λ e. Typed e k) (map view_expression l)) (λ t. values_code t (map view_expression l))) (take_all i xs le) m
 
 -- ## Cells that are forgotten
 

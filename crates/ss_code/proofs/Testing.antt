@@ -1,15 +1,16 @@
 -- What the generator emits for conditions.
-use Rattle.std.proofs.Common.{◌≡◌, ℕ, ◌+◌, ◌<◌, ◌^◌, Bool, List, [], ◌∷◌, ◌++◌, length, Option, Some, None, refl, sym, ap, ◌∙◌, arith, append_assoc, length-append}
+use Rattle.std.proofs.Common.{◌≡◌, ℕ, ◌+◌, ◌<◌, ◌^◌, Bool, List, [], ◌∷◌, ◌++◌, length, Option, Some, None, refl, sym, ap, ◌∙◌, subst, arith, append_assoc, append-nil, length-append}
 use Rattle.ss_base.specs.declared.layout.Mode.{Mode}
 use Rattle.ss_program.specs.declared.condition.Relation.{Relation}
-use Rattle.ss_program.specs.Program.{Expression, SetOwner, TheSystem, Entity, Test, Compare, DataEnded, Empty, Member, Guard}
-use Rattle.ss_program.specs.WellTyped.{Scope, HasMode, OwnerFits, GoodTest}
+use Rattle.std.specs.List.{AllByRecursion as Every}
+use Rattle.ss_program.specs.Program.{Expression, SetOwner, TheSystem, Entity, Test, Compare, DataEnded, Empty, Member, Condition, Guard, Phrase}
+use Rattle.ss_program.specs.WellTyped.{Scope, HasMode, OwnerFits, GoodTest, GoodCondition, GoodPhrase}
 use Rattle.ss_code_instructions.specs.declared.address.Address.{Address}
 use Rattle.ss_code_instructions.specs.declared.instruction.Instruction.TheVariants as r
 use Rattle.ss_code_instructions.specs.Instructions.{Bearer, Instruction, Placed}
 use Rattle.ss_code_instructions.specs.Instructions as i
 use Rattle.ss_code_instructions.specs.Facts.{expression_of, may_fault}
-use Rattle.ss_code_instructions.specs.Translation.{Site, height, place, operand, operand_code, after, bearer, bearer_code, after_bearer, member_code, test_code, tests_code, condition_code, guard_code, guards_code, code_of}
+use Rattle.ss_code_instructions.specs.Translation.{Site, place, operand, operand_code, after, bearer, bearer_code, after_bearer, member_code, test_code, tests_code, condition_code, negated_code, guard_code, guards_code, phrase_code, phrases_code, code_of}
 use Rattle.ss_code.specs.declared.expressions.Operand.{Operand as Read}
 use Rattle.ss_code.specs.declared.generator.Generator.{Generator}
 use Rattle.ss_code.specs.declared.generator.Site.{Site as Here}
@@ -191,3 +192,51 @@ guards_more t more g gs b =
     let long : length (rest ++ b) + more ≡ length rest + (length b + more) = omega (arith, length-append rest b) in
     ap (λ n. guard_code t n g.kind g.condition ++ (rest ++ b)) long
     ∙ sym (append_assoc (guard_code t (length rest + (length b + more)) g.kind g.condition) rest b)
+
+-- ## One thing more, before those that follow
+
+pub tests_step : (old mid new : Generator) (rest front whole : Lined) (here : Here) (skip past : ℕ) (x : Test) (xs : List Test) → Emits old mid nothing rest here (λ s. Every (GoodTest s) xs) (λ t. tests_code t skip xs) → Emits mid new nothing front here (λ s. GoodTest s x) (λ t. test_code t past x) → past ≡ length rest.instructions + skip → whole.instructions ≡ front.instructions ++ rest.instructions → whole.lines ≡ front.lines ++ rest.lines → Emits old new nothing whole here (λ s. Every (GoodTest s) (x ∷ xs)) (λ t. tests_code t skip (x ∷ xs))
+tests_step old mid new rest front whole here skip past x xs m n long is ls =
+    before_made old mid new front rest whole here (λ s. GoodTest s x) (λ s. Every (GoodTest s) xs) (λ k t. test_code t k x) (λ t. tests_code t skip xs) past m n is ls skip long
+
+pub alternatives_step : (old mid new : Generator) (rest front jump both whole : Lined) (here : Here) (skip past : ℕ) (xs ys : List Test) (others : List (List Test)) → Emits old mid nothing rest here (λ s. GoodCondition s (ys ∷ others)) (λ t. condition_code t skip (ys ∷ others)) → Emits mid new nothing front here (λ s. Every (GoodTest s) xs) (λ t. tests_code t 1 xs) → Emits new new nothing jump here (λ s. Unit {0}) (λ t. place t (i.Jump past) ∷ []) → past ≡ length rest.instructions → both.instructions ≡ front.instructions ++ jump.instructions → both.lines ≡ front.lines ++ jump.lines → whole.instructions ≡ both.instructions ++ rest.instructions → whole.lines ≡ both.lines ++ rest.lines → Emits old new nothing whole here (λ s. GoodCondition s (xs ∷ (ys ∷ others))) (λ t. condition_code t skip (xs ∷ (ys ∷ others)))
+alternatives_step old mid new rest front jump both whole here skip past xs ys others m n j long both_is both_ls is ls =
+    let code : Site → List Placed = λ (t : Site). condition_code t skip (ys ∷ others) in
+    let first : ℕ → Site → List Placed = λ (k : ℕ) (t : Site). tests_code t 1 xs ++ place t (i.Jump k) ∷ [] in
+    let plus : (k : ℕ) → k + 0 ≡ k = λ (k : ℕ). omega arith in
+    let past_is : past ≡ length rest.instructions + 0 = long ∙ sym (plus (length rest.instructions)) in
+    let two = then_made mid new new front jump both here (λ s. Every (GoodTest s) xs) (λ s. Unit {0}) (λ t. tests_code t 1 xs) (λ t. place t (i.Jump past) ∷ []) n j both_is both_ls in
+    let all = before_made old mid new both rest whole here (λ s. Every (GoodTest s) xs × Unit {0}) (λ s. GoodCondition s (ys ∷ others)) first code past m two is ls 0 past_is in
+    emits_for old new nothing whole here (λ s. (Every (GoodTest s) xs × Unit {0}) × GoodCondition s (ys ∷ others)) (λ s. GoodCondition s (xs ∷ (ys ∷ others))) (λ t. first (length (code t) + 0) t ++ code t) (λ t. condition_code t skip (xs ∷ (ys ∷ others))) (λ s h. ((h.0, tt), h.1))
+    (λ t. ap (λ (k : ℕ). first k t ++ code t) (plus (length (code t))) ∙ append_assoc (tests_code t 1 xs) (place t (i.Jump (length (code t))) ∷ []) (code t)) all
+
+pub negated_made : (old new : Generator) (front jump whole : Lined) (here : Here) (skip : ℕ) (c : Condition) → Emits old new nothing front here (λ s. GoodCondition s c) (λ t. condition_code t 1 c) → Emits new new nothing jump here (λ s. Unit {0}) (λ t. place t (i.Jump skip) ∷ []) → whole.instructions ≡ front.instructions ++ jump.instructions → whole.lines ≡ front.lines ++ jump.lines → Emits old new nothing whole here (λ s. GoodCondition s c) (λ t. negated_code t skip c)
+negated_made old new front jump whole here skip c m j is ls =
+    let both = then_made old new new front jump whole here (λ s. GoodCondition s c) (λ s. Unit {0}) (λ t. condition_code t 1 c) (λ t. place t (i.Jump skip) ∷ []) m j is ls in
+    emits_for old new nothing whole here (λ s. GoodCondition s c × Unit {0}) (λ s. GoodCondition s c) (λ t. negated_code t skip c) (λ t. negated_code t skip c) (λ s h. (h, tt)) (λ t. refl) both
+
+pub guards_step : (old mid new : Generator) (rest front whole inner : Lined) (here : Here) (more past : ℕ) (g : Guard) (gs : List Guard) → EmitsAround old mid nothing rest here inner (λ s. Every (λ g. GoodCondition s g.condition) gs) (λ t b. guards_code t (length b + more) gs ++ b) → Emits mid new nothing front here (λ s. GoodCondition s g.condition) (λ t. guard_code t past g.kind g.condition) → past ≡ length rest.instructions + more → whole.instructions ≡ front.instructions ++ rest.instructions → whole.lines ≡ front.lines ++ rest.lines → EmitsAround old new nothing whole here inner (λ s. Every (λ g. GoodCondition s g.condition) (g ∷ gs)) (λ t b. guards_code t (length b + more) (g ∷ gs) ++ b)
+guards_step old mid new rest front whole inner here more past g gs m n long is ls =
+    let code : Site → List Placed → List Placed = λ (t : Site) (b : List Placed). guards_code t (length b + more) gs ++ b in
+    let first : ℕ → Site → List Placed = λ (k : ℕ) (t : Site). guard_code t k g.kind g.condition in
+    let all = before_around old mid new front rest whole inner here (λ s. GoodCondition s g.condition) (λ s. Every (λ g. GoodCondition s g.condition) gs) first code past m n is ls more long in
+    around_for old new nothing whole inner here (λ s. GoodCondition s g.condition × Every (λ g. GoodCondition s g.condition) gs) (λ s. Every (λ g. GoodCondition s g.condition) (g ∷ gs)) (λ t b. first (length (code t b) + more) t ++ code t b) (λ t b. guards_code t (length b + more) (g ∷ gs) ++ b) (λ s h. h) (λ t b. guards_more t more g gs b) all
+
+pub phrases_step : (old mid new : Generator) (rest front whole inner : Lined) (here : Here) (past : ℕ) (x : Phrase) (xs : List Phrase) → EmitsAround old mid nothing rest here inner (λ s. Every (GoodPhrase s) xs) (λ t b. phrases_code t xs b) → Emits mid new nothing front here (λ s. GoodCondition s x.condition) (λ t. phrase_code t past x.kind x.condition) → past ≡ length rest.instructions → whole.instructions ≡ front.instructions ++ rest.instructions → whole.lines ≡ front.lines ++ rest.lines → EmitsAround old new nothing whole here inner (λ s. Every (GoodPhrase s) (x ∷ xs)) (λ t b. phrases_code t (x ∷ xs) b)
+phrases_step old mid new rest front whole inner here past x xs m n long is ls =
+    let code : Site → List Placed → List Placed = λ (t : Site) (b : List Placed). phrases_code t xs b in
+    let first : ℕ → Site → List Placed = λ (k : ℕ) (t : Site). phrase_code t k x.kind x.condition in
+    let plus : (k : ℕ) → k + 0 ≡ k = λ (k : ℕ). omega arith in
+    let all = before_around old mid new front rest whole inner here (λ s. GoodCondition s x.condition) (λ s. Every (GoodPhrase s) xs) first code past m n is ls 0 (long ∙ sym (plus (length rest.instructions))) in
+    around_for old new nothing whole inner here (λ s. GoodCondition s x.condition × Every (GoodPhrase s) xs) (λ s. Every (GoodPhrase s) (x ∷ xs)) (λ t b. first (length (code t b) + 0) t ++ code t b) (λ t b. phrases_code t (x ∷ xs) b) (λ s h. h)
+    (λ t b. ap (λ (k : ℕ). first k t ++ code t b) (plus (length (code t b)))) all
+
+-- the last of the alternatives, before nothing
+same_piece : (p q : Lined) → p.instructions ≡ q.instructions → p.lines ≡ q.lines → p ≡ q
+same_piece p q e h = λ k. record { instructions = e k; lines = h k }
+
+pub last_alternative : (old new : Generator) (last whole : Lined) (here : Here) (skip : ℕ) (xs : List Test) → Emits old new nothing last here (λ s. Every (GoodTest s) xs) (λ t. tests_code t skip xs) → whole.instructions ≡ last.instructions ++ [] → whole.lines ≡ last.lines ++ [] → Emits old new nothing whole here (λ s. GoodCondition s (xs ∷ [])) (λ t. condition_code t skip (xs ∷ []))
+last_alternative old new last whole here skip xs m is ls =
+    let same : last ≡ whole = same_piece last whole (sym (is ∙ append-nil last.instructions)) (sym (ls ∙ append-nil last.lines)) in
+    let made = subst (λ (p : Lined). Emits old new nothing p here (λ s. Every (GoodTest s) xs) (λ t. tests_code t skip xs)) same m in
+    emits_for old new nothing whole here (λ s. Every (GoodTest s) xs) (λ s. GoodCondition s (xs ∷ [])) (λ t. tests_code t skip xs) (λ t. condition_code t skip (xs ∷ [])) (λ s h. h.0) (λ t. refl) made

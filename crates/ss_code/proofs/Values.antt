@@ -1,19 +1,22 @@
 -- What the generator emits for each form of an expression.
-use Rattle.std.proofs.Common.{◌≡◌, ℕ, ◌+◌, ◌<◌, ◌≤◌, ◌^◌, [], ◌∷◌, ◌++◌, Some, None, refl, sym, ap, ◌∙◌}
-use Rattle.std.specs.Prelude.{pos}
+use Rattle.std.proofs.Common.{◌≡◌, ℕ, ◌+◌, ◌<◌, ◌≤◌, ◌^◌, List, [], ◌∷◌, ◌++◌, length, get_or, take, Some, None, refl, sym, ap, ◌∙◌, arith}
+use Rattle.std.proofs.lemmas.List.{take_more, take_all}
+use Rattle.std.proofs.lemmas.List.Sums.{fold-append}
+use Rattle.std.specs.Prelude.{pos, slice_get}
 use Rattle.ss_base.specs.declared.layout.Mode.{Mode}
 use Rattle.ss_base.specs.declared.layout.Mode.TheVariants.{Integer}
 use Rattle.ss_base.specs.declared.value.Value.{Value}
 use Rattle.ss_base.specs.declared.value.Value.TheVariants.{Whole}
 use Rattle.ss_base.specs.Layout.{mode_of}
 use Rattle.ss_program.specs.declared.expression.Variable.{Variable}
+use Rattle.ss_program.specs.declared.expression.Variable.TheVariants.{Global, Local}
 use Rattle.ss_program.specs.declared.expression.Operation.{Operation}
 use Rattle.ss_program.specs.declared.expression.SetQuery.{SetQuery}
 use Rattle.ss_program.specs.declared.expression.MemberQuery.{MemberQuery}
 use Rattle.ss_program.specs.declared.expression.Fold.{Fold}
 use Rattle.ss_program.specs.declared.expression.Sign.{Sign}
-use Rattle.ss_program.specs.Program.{Program, Expression, Constant as AConstant, Fetch, Attribute, OfSystemSet, OfSet, OfMember, Clock, TimeOf, Figure, FigureOf, Signed, Absolute, Calculate}
-use Rattle.ss_program.specs.View.{view_expression}
+use Rattle.ss_program.specs.Program.{Program, Expression, Constant as AConstant, Fetch, Attribute, OfSystemSet, OfSet, OfMember, Clock, TimeOf, Figure, FigureOf, Signed, Absolute}
+use Rattle.ss_program.specs.View.{view_expression, view_program}
 use Rattle.ss_program.specs.Views.{with_operation}
 use Rattle.ss_program.specs.WellTyped.{Scope, HasMode, mode_at, field_mode}
 use Rattle.ss_meaning.specs.Values.{operator_of}
@@ -23,18 +26,19 @@ use Rattle.ss_code_instructions.specs.declared.instruction.Instruction.TheVarian
 use Rattle.ss_code_instructions.specs.Instructions.{Operand, Constant, Held, Target, Instruction, Placed}
 use Rattle.ss_code_instructions.specs.Instructions as i
 use Rattle.ss_code_instructions.specs.Translation.{Site, height, place, operand, operand_code, after, with_operand, expression_code, or_integer, code_of}
-use Rattle.ss_code_instructions.specs.Carried.{VariableAt, Carries}
+use Rattle.ss_code_instructions.specs.Carried.{VariableAt, InFrame, Carries}
 use Rattle.ss_code.specs.declared.expressions.Operand.{Operand as Read}
 use Rattle.ss_code.specs.declared.generator.Generator.{Generator}
 use Rattle.ss_code.specs.declared.generator.Site.{Site as Here}
 use Rattle.ss_code.specs.Lined.{Lined}
 use Rattle.ss_code.specs.Forms.{calculating, asking_set, asking_member, moving, fetching}
-use Rattle.ss_code.specs.Calculations.{operation_code, Left, Operates}
+use Rattle.ss_code.specs.Preamble.{mode_in}
+use Rattle.ss_code.specs.Calculations.{folded, operation_code, Left, Operates}
 use Rattle.ss_code.specs.Emitted.{Final, Around, Grows, Stands, Shown, Runs, EmitsTo, AtOperand, AtTarget, Typed, IsNumber, Reads}
-use Rattle.ss_code.proofs.Emitting.{around_old, grows_then, stands_old, adds_then, adds_one, adds_same}
+use Rattle.ss_code.proofs.Emitting.{around_old, grows_then, stands_old, adds_then, adds_one, adds_same, makes_later}
 use Rattle.ss_code.proofs.Forms as forms
 use Rattle.ss_code.proofs.Modes.{held_mode, has_field}
-use Rattle.ss_code.proofs.Operands.{read_stands}
+use Rattle.ss_code.proofs.Operands.{cell_reads_at, read_stands}
 
 -- ## Forms without an operand
 
@@ -49,7 +53,7 @@ module _ (old new : Generator) (p : Lined) (here : Here) (to : Address) where
     adds = λ f t x around stands fits.
         adds_one f p q here.line (place t (i.Move (Constant v) x)) (moving (mode_of v) from to) is ls stands.line
         (calm f t (i.Move (Constant v) x) (moving (mode_of v) from to)
-        (forms.moves (code_of f.program) f.constants (place t (i.Move (Constant v) x)) (mode_of v) from to (Constant v, at f t around, refl, (x, fits.0, refl))) stands.deep tt);
+        (forms.moves (code_of f.program) f.constants (place t (i.Move (Constant v) x)) (mode_of v) from to (Constant v, at f t around, (refl, (x, fits.0, refl)))) stands.deep tt);
     more = λ f t x around stands fits. tt;
   }
 
@@ -62,7 +66,7 @@ module _ (old new : Generator) (p : Lined) (here : Here) (to : Address) where
         let held = held_mode f t x n (i.Move (Held x) y) stands.program fits.1.1 ∙ ap Some same in
         adds_one f p q here.line (place t (i.Move (Held x) y)) (moving m from to) is ls stands.line
         (calm f t (i.Move (Held x) y) (moving m from to)
-        (forms.moves (code_of f.program) f.constants (place t (i.Move (Held x) y)) m from to (Held x, at, held, (y, fits.0, refl))) stands.deep tt);
+        (forms.moves (code_of f.program) f.constants (place t (i.Move (Held x) y)) m from to (Held x, at, (held, (y, fits.0, refl)))) stands.deep tt);
     more = λ f t y around stands fits. tt;
   }
 
@@ -144,9 +148,11 @@ module _ (old new : Generator) (p : Lined) (here : Here) (to : Address) where
 
     pub signed_emitted : (sign : Sign) (zero : Address) → ((f : Final) (t : Site) → Around f new → AtOperand f t (Constant (Whole (pos 0))) zero) → s.instructions ≡ q.instructions ++ calculating (operator_of sign) zero o.address to ∷ [] → EmitsTo old new p s here to (Typed (Signed sign e)) (λ t x. expression_code t x (Signed sign e))
     signed_emitted sign zero nought is =
-        one_emitted q s e o g (Typed (Signed sign e)) (λ x y. i.Calculate (operator_of sign) (Constant (Whole (pos 0))) y x) (calculating (operator_of sign) zero o.address to) grows m (λ k h. h.1.1) is ls (λ f t x around stands at good from.
-        (forms.calculates (code_of f.program) f.constants (place (after t e) (i.Calculate (operator_of sign) (Constant (Whole (pos 0))) (operand t e) x)) (operator_of sign) zero o.address to
-            (Constant (Whole (pos 0)), nought f (after t e) around, (operand t e, from, (x, at, refl))), tt))
+        one_emitted q s e o g (Typed (Signed sign e)) (λ x y. i.Calculate (operator_of sign) (Constant (Whole (pos 0))) y x) (calculating (operator_of sign) zero o.address to) grows m (λ k h. h.1.1) is ls (λ f t x around stands at good from. (
+          forms.calculates (code_of f.program) f.constants (place (after t e) (i.Calculate (operator_of sign) (Constant (Whole (pos 0))) (operand t e) x)) (operator_of sign) zero o.address to
+              (Constant (Whole (pos 0)), nought f (after t e) around, (operand t e, from, (x, at, refl))),
+          tt,
+        ))
 
     pub absolute_emitted : s.instructions ≡ q.instructions ++ r.Absolute o.address to ∷ [] → EmitsTo old new p s here to (Typed (Absolute e)) (λ t x. expression_code t x (Absolute e))
     absolute_emitted is =
@@ -195,3 +201,26 @@ more_emitted old mid new p q s here e o left to m n = record {
       (n.adds f t both around stands (m.more f t tt mine there typed, fits.0, parts.1)));
   more = λ f t x around stands fits. tt;
 }
+
+-- one operation more, whose result goes into the next cell
+pub next_reads : (old mid cell new : Generator) (p q s : Lined) (here : Here) (e : Expression) (o : Operation) (left : Read) (a : Address) → Reads old mid p q here e left → Grows mid cell → InFrame (length cell.locals.items + here.height) a → here.height < cell.deepest → Operates cell new q s here left a o → Reads old new p s here (with_operation e o) (record { address = a; cells = 1 })
+next_reads old mid cell new p q s here e o left a m grows at room n =
+    cell_reads_at old cell new p s here (with_operation e o) a refl n.grows at room (more_emitted old cell new p q s here e o left a (makes_later old mid cell p q here _ _ _ grows m) n)
+
+-- operations so far, with the next one, and all of them, of which this is the last one
+pub folded_taken : (e : Expression) (os : List Operation) (i : ℕ) (o : Operation) → i < length os → o ≡ get_or os i o → folded e (take (i + 1) os) ≡ with_operation (folded e (take i os)) o
+folded_taken e os i o lt is = ap (folded e) (take_more os i o lt ∙ ap (λ (x : Operation). take i os ++ x ∷ []) (sym is)) ∙ fold-append with_operation e (take i os) (o ∷ [])
+
+pub folded_last : (e : Expression) (os : List Operation) (i j : ℕ) (o : Operation) → length os ≡ i + 1 → j ≡ i → o ≡ get_or os j o → folded e os ≡ with_operation (folded e (take i os)) o
+folded_last e os i j o long same is = ap (folded e) (sym (take_all (i + 1) os (omega (arith, long)))) ∙ folded_taken e os i o (omega (arith, long)) (is ∙ ap (λ k. get_or os k o) same)
+
+-- ## Modes that the generator knows
+
+pub field_known : (old new : Generator) (class field : ℕ) (n : Mode) → Grows old new → n ≡ or_integer (field_mode (view_program old.program.now) class field) → (f : Final) (t : Site) (here : Here) → Around f new → Stands f new here t → or_integer (field_mode t.scope.program class field) ≡ n
+field_known old new class field n grows e f t here around stands =
+    ap (λ (p : Program). or_integer (field_mode p class field)) (stands.program ∙ sym around.program ∙ ap view_program grows.program) ∙ sym e
+
+pub variable_known : (old new : Generator) (x : Variable) (n : Mode) → Grows old new → n ≡ or_integer (mode_in old.program.now.globals.items old.locals.items x) → (f : Final) (t : Site) (here : Here) → Around f new → Stands f new here t → or_integer (mode_at t.scope x) ≡ n
+variable_known old new (Global k) n grows e f t here around stands =
+    ap (λ (p : Program). or_integer (slice_get p.globals k)) (stands.program ∙ sym around.program ∙ ap view_program grows.program) ∙ sym e
+variable_known old new (Local k) n grows e f t here around stands = ap (λ (l : List Mode). or_integer (slice_get l k)) (stands.locals ∙ grows.locals) ∙ sym e

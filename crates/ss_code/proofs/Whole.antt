@@ -10,14 +10,17 @@ use Rattle.ss_code_instructions.specs.declared.entry.Entry.{Entry}
 use Rattle.ss_code_instructions.specs.declared.instruction.Instruction.{Instruction as Running}
 use Rattle.ss_code_instructions.specs.Instructions.{Placed, EntryPoint, Lines}
 use Rattle.ss_code_instructions.specs.Running.{Lands}
-use Rattle.ss_code_instructions.specs.Translation.{routines_code, events_code, block_prints, routines_prints, events_prints, routine_entries, event_entries, main_code, all_routines, all_events, main_prints, prints_before_events, code_of}
+use Rattle.ss_code_instructions.specs.Translation.{routine_code, event_code, routines_code, events_code, block_prints, routines_prints, events_prints, routine_entries, event_entries, main_code, all_routines, all_events, main_prints, prints_before_events, code_of}
 use Rattle.ss_code_instructions.specs.Carried.{RunningLines, RunningCode, lines_of, item_modes, onto, Carries, Shows, IsEntry, AreEntries, IsPlace, ArePlaces, main_entry, IsCode}
+use Rattle.ss_code_instructions.specs.Walks.{WalksSift}
 use Rattle.ss_code_instructions.proofs.Steps.{HasAt, has_all}
 use Rattle.ss_code.specs.declared.generator.Generator.{Generator}
 use Rattle.ss_code.specs.Lined.{Lined, nothing}
 use Rattle.ss_code.specs.Emitted.{Final, Shown, AllRun, Adds}
 use Rattle.ss_code.specs.Running.{Begins, AllBegin, Prints}
 use Rattle.ss_code.specs.Sections.{Deepened, AllDeepened}
+use Rattle.ss_code.specs.Sifted.{AllAlike}
+use Rattle.ss_code.proofs.Alike.{all_run_alike}
 use Rattle.ss_code.proofs.Emitting.{adds_then, adds_same, piece_long}
 
 -- ## Places
@@ -88,18 +91,18 @@ routines_yield : (p : Program) (at first : ℕ) (rs : List Routine) → Every Yi
 routines_yield p at first [] = tt
 routines_yield p at first (r ∷ rs) =
     let few : length r.yielding ≤ length (r.yielding ++ r.others) = omega (arith, length-append r.yielding r.others) in
-    (few, routines_yield p _ _ rs)
+    (few, routines_yield p (at + length (routine_code p first r)) (first + length (block_prints r.body)) rs)
 
 events_yield : (p : Program) (at first : ℕ) (es : List Event) → Every Yields (event_entries p at first es)
 events_yield p at first [] = tt
 events_yield p at first (e ∷ es) =
     let few : 0 ≤ length e.others = omega arith in
-    (few, events_yield p _ _ es)
+    (few, events_yield p (at + length (event_code p first e)) (first + length (block_prints e.body)) es)
 
 -- ## PRINTs
 
 -- the lines of all PRINTs
-prints_then : (a b c : List RunningLines) (ls ms : List Lines) → Prints a b ls → Prints b c ms → Prints a c (ls ++ ms)
+pub prints_then : (a b c : List RunningLines) (ls ms : List Lines) → Prints a b ls → Prints b c ms → Prints a c (ls ++ ms)
 prints_then a b c ls ms h k = (
   h.0 ++ k.0,
   k.1 ∙ ap (λ (l : List RunningLines). l ++ k.0) h.1 ∙ append_assoc a h.0 k.0,
@@ -107,7 +110,7 @@ prints_then a b c ls ms h k = (
 )
 
 -- how many there are then
-prints_long : (a b : List RunningLines) (ls : List Lines) → Prints a b ls → length b ≡ length a + length ls
+pub prints_long : (a b : List RunningLines) (ls : List Lines) → Prints a b ls → length b ≡ length a + length ls
 prints_long a b ls h = ap length h.1 ∙ length-append a h.0 ∙ ap (λ n. length a + n) (sym (length-map h.0 lines_of) ∙ ap length h.2)
 
 -- ## The whole
@@ -126,7 +129,7 @@ module _ (p : Program) (g : Generator) (c1 c2 c3 : Lined) (p1 p2 p3 : List Runni
   final = record { program = p; constants = g.constants.items; prints = p3; depth = g.deepest }
 
   first_long : length p1 ≡ main_prints p
-  first_long = prints_long [] p1 (block_prints p.main) parts.main_prints
+  first_long = let none : 0 + main_prints p ≡ main_prints p = omega arith in prints_long [] p1 (block_prints p.main) parts.main_prints ∙ none
 
   second_long : length p2 ≡ prints_before_events p
   second_long = prints_long p1 p2 (routines_prints p.routines) parts.routine_prints ∙ ap (λ n. n + length (routines_prints p.routines)) first_long
@@ -157,14 +160,14 @@ module _ (p : Program) (g : Generator) (c1 c2 c3 : Lined) (p1 p2 p3 : List Runni
       let at : length c2.instructions ≡ length (main_code p) + length (all_routines p) = piece_long final c2 (main_code p ++ all_routines p) both ∙ length-append (main_code p) (all_routines p) in
       subst (λ (es : List EntryPoint). AllBegin 0 es entries) (ap (λ k. event_entries p k (length p2) p.events) at ∙ ap (λ k. event_entries p (length (main_code p) + length (all_routines p)) k p.events) second_long) h
 
-  -- the running code is that of the program
-  pub is_code : (main0 main1 : Entry) (routines0 routines1 events0 events1 : List Entry) → Lands (code_of p) → ((rest : List Value) × (g.constants.items ≡ Whole (pos 0) ∷ Whole (pos 1) ∷ rest)) → length c3.instructions ≤ 1048576 → Begins 0 (main_entry (code_of p)) main0 → Deepened g.deepest main0 main1 → AllBegin 0 (code_of p).routines routines0 → AllDeepened g.deepest routines0 routines1 → AllBegin 0 (code_of p).events events0 → AllDeepened g.deepest events0 events1 → IsCode (code_of p) (record { instructions = c3.instructions; lines = c3.lines; constants = g.constants.items; prints = p3; main = main1; routines = routines1; events = events1; depth = g.deepest })
-  is_code main0 main1 routines0 routines1 events0 events1 lands fixed short m dm rs drs es des =
-      let run : RunningCode = record { instructions = c3.instructions; lines = c3.lines; constants = g.constants.items; prints = p3; main = main1; routines = routines1; events = events1; depth = g.deepest } in
+  -- the running code is that of the program; some walks in it may sift
+  pub is_code : (instructions : List Running) (main0 main1 : Entry) (routines0 routines1 events0 events1 : List Entry) → AllAlike c3.instructions instructions → WalksSift (length p.globals + length g.constants.items) instructions → Lands (code_of p) → ((rest : List Value) × (g.constants.items ≡ Whole (pos 0) ∷ Whole (pos 1) ∷ rest)) → length instructions ≤ 1048576 → Begins 0 (main_entry (code_of p)) main0 → Deepened g.deepest main0 main1 → AllBegin 0 (code_of p).routines routines0 → AllDeepened g.deepest routines0 routines1 → AllBegin 0 (code_of p).events events0 → AllDeepened g.deepest events0 events1 → IsCode (code_of p) (record { instructions = instructions; lines = c3.lines; constants = g.constants.items; prints = p3; main = main1; routines = routines1; events = events1; depth = g.deepest })
+  is_code instructions main0 main1 routines0 routines1 events0 events1 alike sifts lands fixed short m dm rs drs es des =
+      let run : RunningCode = record { instructions = instructions; lines = c3.lines; constants = g.constants.items; prints = p3; main = main1; routines = routines1; events = events1; depth = g.deepest } in
       let nothing_yields : 0 ≤ length p.locals = omega arith in
+      let alike' : AllAlike all_added.more instructions = subst (λ (is : List Running). AllAlike is instructions) all_added.instructions alike in
       record {
-        places = subst (λ (is : List Running). ArePlaces (code_of p) run 0 (code_of p).places is) (sym all_added.instructions)
-        (are_places final run refl refl refl lands 0 (code_of p).places all_added.more (has_all (code_of p).places []) all_added.run);
+        places = are_places final run refl refl refl lands 0 (code_of p).places instructions (has_all (code_of p).places []) (all_run_alike final (code_of p).places all_added.more instructions all_added.run alike');
         short = short;
         lines = all_added.lines;
         constants = fixed;
@@ -172,6 +175,7 @@ module _ (p : Program) (g : Generator) (c1 c2 c3 : Lined) (p1 p2 p3 : List Runni
         main = entry_of g.deepest (main_entry (code_of p)) main0 main1 m dm nothing_yields;
         routines = entries_of g.deepest (code_of p).routines routines0 routines1 rs drs (routines_yield p (length (main_code p)) (main_prints p) p.routines);
         events = entries_of g.deepest (code_of p).events events0 events1 es des (events_yield p (length (main_code p) + length (all_routines p)) (prints_before_events p) p.events);
+        sifts = sifts;
       }
 
 -- a program whose code is too long: there are as many instructions as places

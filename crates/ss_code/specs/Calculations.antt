@@ -2,7 +2,7 @@
 use Rattle.std.specs.Prelude.{List}
 use Rattle.std.specs.List.{fold}
 use Rattle.ss_program.specs.declared.expression.Operation.{Operation}
-use Rattle.ss_program.specs.Program.{Expression, Calculate}
+use Rattle.ss_program.specs.Program.{Expression}
 use Rattle.ss_program.specs.View.{view_expression}
 use Rattle.ss_program.specs.Views.{with_operation}
 use Rattle.ss_code_instructions.specs.Instructions.{Target, Placed}
@@ -29,6 +29,6 @@ pub record Left : Type 0 where
   pub to : Target
 
 -- an operation on a number that is there
-abbrev pub Operates : (old new : Generator) → (before after : Lined) → Here → Read → Address → Operation → Type 0
-Operates old new before after here left to o =
-    Makes old new before after here (λ f t x. IsRead f t x.left left × AtTarget f t x.to to × IsNumber (view_expression o.operand) t.scope) (λ t x. operation_code t x.left o x.to) NoMore
+abbrev pub Operates : (old new : Generator) → (before behind : Lined) → Here → Read → Address → Operation → Type 0
+Operates old new before behind here left to o =
+    Makes {I = Left} old new before behind here (λ f t x. IsRead f t x.left left × AtTarget f t x.to to × IsNumber (view_expression o.operand) t.scope) (λ t x. operation_code t x.left o x.to) NoMore

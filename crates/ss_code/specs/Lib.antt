@@ -12,3 +12,4 @@ pub mod Looped
 pub mod Running
 pub mod Printed
 pub mod Sections
+pub mod Sifted

@@ -34,11 +34,11 @@ pub record IsVariable (t : Site) (x : Variable) (s : VariableSpot) : Type 0 wher
   pub mode : s.mode ≡ or_integer (mode_at t.scope x)
   pub watched : IsWatched (is_kept t x) x s.watched
 
-pub record IsAttribute (f : Final) (t : Site) (class field : ℕ) (r : Expression) (s : AttributeSpot) : Type 0 where
-  pub class : s.class ≡ class
-  pub field : s.field ≡ field
-  pub mode : s.mode ≡ or_integer (field_mode t.scope.program class field)
-  pub noted : s.is_watched ≡ watch t.scope.program.statistics (OfAttribute class field)
+pub record IsAttribute (f : Final) (t : Site) (k n : ℕ) (r : Expression) (s : AttributeSpot) : Type 0 where
+  pub class : s.class ≡ k
+  pub field : s.field ≡ n
+  pub mode : s.mode ≡ or_integer (field_mode t.scope.program k n)
+  pub noted : s.is_watched ≡ watch t.scope.program.statistics (OfAttribute k n)
   pub entity : IsRead f t r (record { address = s.entity; cells = s.cells })
 
 abbrev pub IsSpot : Final → Site → Place → Spot → Type 0

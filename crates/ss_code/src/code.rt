@@ -1,6 +1,7 @@
 //! The code of a program.
 
-ghost use Rattle.std.specs.Prelude.{◌≡◌, ◌<◌, ◌^◌, length, map, slice_get};
+ghost use Rattle.std.specs.Prelude.{◌≡◌, ◌<◌, ◌^◌, length, map, slice_get, IfOk};
+ghost use Rattle.ss_code_listing.specs.Listing.{AreLines};
 ghost use Rattle.ss_code.specs.Running.{IsCompiled};
 
 use crate::lines::Lines;
@@ -220,7 +221,9 @@ impl Code {
 
     /// A line for each instruction: its number from 0, a blank, what it is called, and what it works on. The error comes
     /// where memory was refused.
-    pub fn listing(&self, alloc: Global) -> Result<Vec<u8>, AllocError> {
+    pub fn listing(&self, alloc: Global) -> Result<Vec<u8>, AllocError>
+        ensures lines { IfOk result (λ text. AreLines (length self.now.run.instructions) text.items) }
+    {
         listing(
             alloc,
             &self.text.instructions,

@@ -223,12 +223,7 @@ impl Generator<'_> {
     }
 
     // A condition, which jumps where it holds.
-    fn negated(
-        &mut self,
-        site: Site,
-        skip: u32,
-        condition: &Condition,
-    ) -> Result<Piece, AllocError>
+    fn negated(&mut self, site: Site, skip: u32, condition: &Condition) -> Result<Piece, AllocError>
         ensures { IfOk result (λ code. Emits self.old self.new nothing code site (λ s. GoodCondition s (view_condition condition.now)) (λ t. negated_code t skip (view_condition condition.now))) }
     {
         let mut code = self.condition(site, 1, condition)?;

@@ -1,19 +1,20 @@
 //! The code of events and statistics.
 
-ghost use Rattle.std.specs.Prelude.{◌≡◌, ◌+◌, ◌<◌, [], ◌∷◌, ◌++◌, length, map, OnOk};
+ghost use Rattle.std.specs.Prelude.{◌≡◌, ◌+◌, ◌<◌, ◌^◌, [], ◌∷◌, ◌++◌, length, map, OnOk};
 ghost use Rattle.std.specs.List.{AllByRecursion as Every};
 ghost use Rattle.ss_program.specs.Program.{ScheduleNew, Schedule, Cancel};
 ghost use Rattle.ss_program.specs.View.{view_expression, view_place, view_when, view_restart};
 ghost use Rattle.ss_program.specs.WellTyped.{GoodWhen, GoodRestart, Good};
 ghost use Rattle.ss_code_instructions.specs.Instructions.{Cancel as Cancels};
 ghost use Rattle.ss_code_instructions.specs.Translation.{with_operand, values_code, after_values, when_code, schedule_new_code, schedule_code, restarts_code};
-ghost use Rattle.ss_code.specs.Notices.{named_at, any_watched, simulate_code};
+ghost use Rattle.ss_code.specs.Notices.{named_at, any_watched, simulate_code, Names};
+ghost use Rattle.ss_code.specs.Spots.{IsSpot};
 ghost use Rattle.ss_code.specs.Emitted.{Emits, Typed};
 
 use crate::facts::is_attribute_watched;
 use crate::generator::{Generator, Site};
 use crate::piece::{Piece, as_index};
-use crate::targets::Spot;
+use crate::targets::{Spot, set_of};
 use ss_code_instructions::address::Address;
 use ss_code_instructions::instruction::Instruction;
 use ss_program::expression::Expression;
@@ -60,7 +61,7 @@ impl Generator<'_> {
         when: &When,
     ) -> Result<(), AllocError>
         ensures code { OnOk result (Emits self.old self.new code.old code.new site (λ s. Every (λ e. Typed e s) (map view_expression given.now) × GoodWhen s (view_when when.now)) (λ t. values_code t (map view_expression given.now) ++ when_code (after_values t (map view_expression given.now)) (view_when when.now))) }
-        ensures room { OnOk result (site.height + length given.now < self.new.deepest) }
+        ensures room { OnOk result (self.new.deepest < 2 ^ 64 → site.height + length given.now < self.new.deepest) }
     {
         self.values(code, site, given)?;
         self.time(code, site.above(given.len()), when)
@@ -75,6 +76,23 @@ impl Generator<'_> {
             watched = watched || is_attribute_watched(self.program, class, field);
         }
         watched
+    }
+
+    // A new notice goes to its place. What lies in cells stays there.
+    fn name_notice(
+        &self,
+        code: &mut Piece,
+        site: Site,
+        spot: Spot,
+        to: Address,
+    ) -> Result<(), AllocError>
+        ensures { OnOk result (Names self.now code.old code.new site to (λ f t p. IsSpot f t p spot)) }
+    {
+        match spot {
+            Spot::Variable(_) => self.take(code, site, spot, to),
+            Spot::Attribute(attribute) => code.put(site.line, set_of(attribute, to)),
+            Spot::Count(_, _) => self.assign(code, site.above(1), spot, to),
+        }
     }
 
     /// SCHEDULE A.
@@ -106,7 +124,7 @@ impl Generator<'_> {
                 noted: self.is_given_watched(class, given.len()),
             },
         )?;
-        self.take(code, higher, spot, to)?;
+        self.name_notice(code, higher, spot, to)?;
         code.put(
             site.line,
             Instruction::FileNotice {

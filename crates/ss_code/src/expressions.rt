@@ -1,8 +1,9 @@
 //! The code of expressions.
 
-ghost use Rattle.std.specs.Prelude.{◌≡◌, ◌+◌, ◌<◌, ◌≤◌, ◌∷◌, [], length, map, pos, IfOk, OnOk};
+ghost use Rattle.std.specs.Prelude.{◌≡◌, ◌+◌, ◌<◌, ◌≤◌, ◌^◌, ◌∷◌, [], length, map, pos, IfOk, OnOk};
 ghost use Rattle.std.specs.List.{AllByRecursion as Every};
 ghost use Rattle.ss_base.specs.declared.value.Value.TheVariants.{Whole};
+ghost use Rattle.ss_program.specs.Program.{Attribute, OfSet, OfMember, FigureOf, Signed};
 ghost use Rattle.ss_program.specs.View.{view_expression, view_owner, view_option};
 ghost use Rattle.ss_meaning.specs.Values.{operator_of};
 ghost use Rattle.ss_code_instructions.specs.Instructions.{Constant, Move};
@@ -10,7 +11,7 @@ ghost use Rattle.ss_code_instructions.specs.declared.instruction.Instruction.The
 ghost use Rattle.ss_code_instructions.specs.Facts.{expression_of};
 ghost use Rattle.ss_code_instructions.specs.Translation.{expression_code, values_code, place, next};
 ghost use Rattle.ss_code.specs.Forms.{calculating, asking_set, asking_member, moving, fetching};
-ghost use Rattle.ss_code.specs.Calculations.{folded, Operates};
+ghost use Rattle.ss_code.specs.Calculations.{Operates};
 ghost use Rattle.ss_code.specs.Emitted.{Grows, Emits, EmitsTo, Typed, IsLeaf, Reads, Bears};
 
 use crate::facts::{attribute_mode, variable_mode};
@@ -168,7 +169,8 @@ impl Generator<'_> {
         Ok(Operand::cell(to))
     }
 
-    /// An expression goes to a place, which its last instruction writes.
+    /// An expression goes to a place, which its last instruction writes. Operations on a number are worked off from left to right:
+    /// what the last of them makes goes to the place, and what the others make into the next cell.
     #[tactic(auto, unfolding(ss_program::specs::View::view_expression))]
     #[cycle(expressions)]
     pub(crate) fn expression(
@@ -191,22 +193,17 @@ impl Generator<'_> {
                 code.put(site.line, move_of(mode, from, to))
             }
             Expression::Attribute { class, field, of } => {
-                let entity = self.operand(code, site, of)?.address;
-                let mode = attribute_mode(self.program, *class, *field);
-                let (class, field) = (as_index(*class)?, as_index(*field)?);
-                code.put(site.line, attribute_of(mode, class, field, entity, to))
+                self.attribute(code, site, *class, *field, of, to)
             }
             Expression::OfSystemSet { query, set } => {
                 let owner = self.zero()?;
                 code.put(site.line, ask_set(*query, as_index(*set)?, owner, to))
             }
             Expression::OfSet { query, set, owner } => {
-                let owner = self.operand(code, site, owner)?.address;
-                code.put(site.line, ask_set(*query, as_index(*set)?, owner, to))
+                self.of_set(code, site, *query, *set, owner, to)
             }
             Expression::OfMember { query, set, member } => {
-                let member = self.operand(code, site, member)?.address;
-                code.put(site.line, ask_member(*query, as_index(*set)?, member, to))
+                self.of_member(code, site, *query, *set, member, to)
             }
             Expression::Clock => code.put(site.line, Instruction::Clock { to }),
             Expression::TimeOf { notice } => {
@@ -215,29 +212,122 @@ impl Generator<'_> {
             }
             Expression::Figure { fold, statistic } => {
                 let entity = self.zero()?;
-                code.put(site.line, figure_of(*fold, as_index(*statistic)?, entity, to))
+                code.put(
+                    site.line,
+                    figure_of(*fold, as_index(*statistic)?, entity, to),
+                )
             }
             Expression::FigureOf {
                 fold,
                 statistic,
                 entity,
-            } => {
-                let entity = self.operand(code, site, entity)?.address;
-                code.put(site.line, figure_of(*fold, as_index(*statistic)?, entity, to))
-            }
-            Expression::Signed { sign, term } => {
-                let right = self.operand(code, site, term)?.address;
-                let left = self.zero()?;
-                code.put(site.line, signed(*sign, left, right, to))
-            }
+            } => self.figure_of(code, site, *fold, *statistic, entity, to),
+            Expression::Signed { sign, term } => self.signed(code, site, *sign, term, to),
             Expression::Absolute { argument } => {
                 let of = self.operand(code, site, argument)?.address;
                 code.put(site.line, Instruction::Absolute { of, to })
             }
             Expression::Calculate { first, further } => {
-                self.calculation(code, site, first, further, to)
+                let count = further.len();
+                if count == 0 {
+                    return self.expression(code, site, first, to);
+                }
+                let mut left = self.operand(code, site, first)?;
+                for i in 0..count - 1 {
+                    let next = self.cell(site)?;
+                    self.operation(code, site, left, &further[i], next)?;
+                    left = Operand::cell(next);
+                }
+                self.operation(code, site, left, &further[count - 1], to)
             }
         }
+    }
+
+    // An attribute of the entity to which an expression refers.
+    #[cycle(expressions)]
+    fn attribute(
+        &mut self,
+        code: &mut Piece,
+        site: Site,
+        class: usize,
+        field: usize,
+        of: &Expression,
+        to: Address,
+    ) -> Result<(), AllocError>
+        ensures { OnOk result (EmitsTo self.old self.new code.old code.new site to (Typed (Attribute class field (view_expression of.now))) (λ t x. expression_code t x (Attribute class field (view_expression of.now)))) }
+    {
+        let entity = self.operand(code, site, of)?.address;
+        let mode = attribute_mode(self.program, class, field);
+        let (class, field) = (as_index(class)?, as_index(field)?);
+        code.put(site.line, attribute_of(mode, class, field, entity, to))
+    }
+
+    // What is asked of the set of an owner that is no system.
+    #[cycle(expressions)]
+    fn of_set(
+        &mut self,
+        code: &mut Piece,
+        site: Site,
+        query: SetQuery,
+        set: usize,
+        of: &Expression,
+        to: Address,
+    ) -> Result<(), AllocError>
+        ensures { OnOk result (EmitsTo self.old self.new code.old code.new site to (Typed (OfSet query set (view_expression of.now))) (λ t x. expression_code t x (OfSet query set (view_expression of.now)))) }
+    {
+        let owner = self.operand(code, site, of)?.address;
+        code.put(site.line, ask_set(query, as_index(set)?, owner, to))
+    }
+
+    // What is asked of a member of a set.
+    #[cycle(expressions)]
+    fn of_member(
+        &mut self,
+        code: &mut Piece,
+        site: Site,
+        query: MemberQuery,
+        set: usize,
+        of: &Expression,
+        to: Address,
+    ) -> Result<(), AllocError>
+        ensures { OnOk result (EmitsTo self.old self.new code.old code.new site to (Typed (OfMember query set (view_expression of.now))) (λ t x. expression_code t x (OfMember query set (view_expression of.now)))) }
+    {
+        let member = self.operand(code, site, of)?.address;
+        code.put(site.line, ask_member(query, as_index(set)?, member, to))
+    }
+
+    // A figure of a statistic of an entity.
+    #[cycle(expressions)]
+    fn figure_of(
+        &mut self,
+        code: &mut Piece,
+        site: Site,
+        fold: Fold,
+        statistic: usize,
+        of: &Expression,
+        to: Address,
+    ) -> Result<(), AllocError>
+        ensures { OnOk result (EmitsTo self.old self.new code.old code.new site to (Typed (FigureOf fold statistic (view_expression of.now))) (λ t x. expression_code t x (FigureOf fold statistic (view_expression of.now)))) }
+    {
+        let entity = self.operand(code, site, of)?.address;
+        code.put(site.line, figure_of(fold, as_index(statistic)?, entity, to))
+    }
+
+    // A number with a sign before it: the sign works on the constant 0 and that number.
+    #[cycle(expressions)]
+    fn signed(
+        &mut self,
+        code: &mut Piece,
+        site: Site,
+        sign: Sign,
+        term: &Expression,
+        to: Address,
+    ) -> Result<(), AllocError>
+        ensures { OnOk result (EmitsTo self.old self.new code.old code.new site to (Typed (Signed sign (view_expression term.now))) (λ t x. expression_code t x (Signed sign (view_expression term.now)))) }
+    {
+        let right = self.operand(code, site, term)?.address;
+        let left = self.zero()?;
+        code.put(site.line, signed(sign, left, right, to))
     }
 
     // An operation on a number that is there. What it makes goes to a place.
@@ -252,38 +342,14 @@ impl Generator<'_> {
     ) -> Result<(), AllocError>
         ensures { OnOk result (Operates self.old self.new code.old code.new site left to operation.now) }
     {
-        let right = self.operand(code, site.above(left.cells), &operation.operand)?.address;
+        let right = self
+            .operand(code, site.above(left.cells), &operation.operand)?
+            .address;
         code.put(
             site.line,
             calculate(operation.operator, left.address, right, to),
         )?;
         Ok(())
-    }
-
-    // Operations on a number, worked off from left to right: what the last of them makes goes to a place, and what the others
-    // make into the next cell.
-    #[cycle(expressions)]
-    fn calculation(
-        &mut self,
-        code: &mut Piece,
-        site: Site,
-        first: &Expression,
-        further: &[Operation],
-        to: Address,
-    ) -> Result<(), AllocError>
-        ensures { OnOk result (EmitsTo self.old self.new code.old code.new site to (Typed (folded (view_expression first.now) further.now)) (λ t x. expression_code t x (folded (view_expression first.now) further.now))) }
-    {
-        let count = further.len();
-        if count == 0 {
-            return self.expression(code, site, first, to);
-        }
-        let mut left = self.operand(code, site, first)?;
-        for i in 0..count - 1 {
-            let next = self.cell(site)?;
-            self.operation(code, site, left, &further[i], next)?;
-            left = Operand::cell(next);
-        }
-        self.operation(code, site, left, &further[count - 1], to)
     }
 
     /// An expression goes into the next cell.
@@ -295,6 +361,7 @@ impl Generator<'_> {
     ) -> Result<(), AllocError>
         ensures code { OnOk result (Emits self.old self.new code.old code.new site (Typed (view_expression e.now)) (λ t. expression_code t (next t) (view_expression e.now))) }
         ensures room { OnOk result (site.height < self.new.deepest) }
+        ensures small { OnOk result (site.height < 2 ^ 32) }
     {
         let to = self.cell(site)?;
         self.expression(code, site, e, to)

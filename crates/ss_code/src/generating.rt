@@ -17,6 +17,7 @@ use crate::generator::Generator;
 use crate::lines::Lines;
 use crate::piece::{Piece, as_index};
 use crate::sayings::sayings;
+use crate::sifting::sift_walks;
 use ss_base::Mode;
 use ss_code_instructions::entry::Entry;
 use ss_code_instructions::laws::{laws_of_code, laws_of_meaning};
@@ -228,8 +229,9 @@ fn made(alloc: Global, program: &Program) -> Result<Code, CodeError>
     }
     let said = sayings(alloc, program)?;
     let globals = Vec::from_slice(alloc, &program.globals)?;
-    let (instructions, lines) = code.into_parts();
+    let (mut instructions, lines) = code.into_parts();
     let Generator { constants, .. } = generator;
+    sift_walks(&mut instructions, globals.len() + constants.len());
     Ok(Code::new(
         Text {
             instructions,

@@ -42,6 +42,7 @@ impl Site {
     pub(crate) fn above(self, cells: usize) -> Site
         ensures line { result.line ≡ self.line }
         ensures height { self.height + cells < 2 ^ 64 → result.height ≡ self.height + cells }
+        ensures small { result.height < 2 ^ 32 → result.height ≡ self.height + cells }
     {
         Site {
             line: self.line,
@@ -140,6 +141,7 @@ impl<'a> Generator<'a> {
         ensures grows { OnOk result (Grows self.old self.new) }
         ensures number { IfOk result (λ n. n ≡ length self.new.locals.items + site.height) }
         ensures room { OnOk result (site.height < self.new.deepest) }
+        ensures small { OnOk result (site.height < 2 ^ 32) }
     {
         let above = site.above(1);
         self.reach(above.height);
@@ -151,6 +153,7 @@ impl<'a> Generator<'a> {
         ensures grows { OnOk result (Grows self.old self.new) }
         ensures at { IfOk result (λ a. InFrame (length self.new.locals.items + site.height) a) }
         ensures room { OnOk result (site.height < self.new.deepest) }
+        ensures small { OnOk result (site.height < 2 ^ 32) }
     {
         Ok(Address::in_frame(self.cell_number(site)?))
     }

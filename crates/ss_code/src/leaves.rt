@@ -106,10 +106,12 @@ fn begins_with_look(class: usize, variable: Variable, e: &Expression) -> bool
         Expression::Signed { term: inner, .. } => begins_with_look(class, variable, inner),
         Expression::Absolute { argument: inner } => begins_with_look(class, variable, inner),
         Expression::Calculate { first, further } => {
-            if further.is_empty() || !is_constant(first) {
+            if further.is_empty() {
                 begins_with_look(class, variable, first)
-            } else {
+            } else if is_constant(first) {
                 begins_with_look(class, variable, &further[0].operand)
+            } else {
+                begins_with_look(class, variable, first)
             }
         }
         Expression::Constant { .. }

@@ -18,6 +18,7 @@ mod piece;
 mod printing;
 mod sayings;
 mod sets;
+mod sifting;
 mod statements;
 mod targets;
 

@@ -6,7 +6,7 @@ ghost use Rattle.ss_program.specs.Program.{Numbers, Each, Members, From};
 ghost use Rattle.ss_program.specs.View.{view_expression, view_option, view_owner, view_start, view_head, view_guard, view_phrase};
 ghost use Rattle.ss_program.specs.WellTyped.{GoodHead, GoodCondition, GoodPhrase};
 ghost use Rattle.ss_code_instructions.specs.Translation.{loop_code, range_code, for_code, find_code};
-ghost use Rattle.ss_code.specs.Emitted.{Emits, EmitsAround, EmitsAroundBoth, IsNumber, AreNumbers};
+ghost use Rattle.ss_code.specs.Emitted.{Final, Around, Emits, EmitsAround, EmitsAroundBoth, IsNumber, AreNumbers};
 ghost use Rattle.ss_code.specs.Looped.{loop_width, is_after, begin_of, TakesItem, TakesItems, TakesMembers, StartsWalk, KeepsOwner};
 
 use crate::expressions::Operand;
@@ -47,37 +47,6 @@ pub(crate) struct Walk {
     pub(crate) owner: Address,
     pub(crate) cell: u32,
     pub(crate) reverse: bool,
-}
-
-// What a comparison of two numbers reads, and how many instructions it jumps over.
-fn compared(instruction: &Instruction) -> Option<(Address, Address, u32)> {
-    match instruction {
-        Instruction::UnlessEqual { left, right, skip }
-        | Instruction::UnlessNotEqual { left, right, skip }
-        | Instruction::UnlessLess { left, right, skip }
-        | Instruction::UnlessGreater { left, right, skip }
-        | Instruction::UnlessLessOrEqual { left, right, skip }
-        | Instruction::UnlessGreaterOrEqual { left, right, skip } => Some((*left, *right, *skip)),
-        _ => None,
-    }
-}
-
-// Whether a turn of a walk begins with a test of an attribute of the member in this variable, which ends the turn where it fails.
-// After the Take the attribute is read, and then compared to what neither of the two has written.
-fn is_sieve(turn: &[Instruction], member: Address) -> bool {
-    match turn {
-        [_, Instruction::Attribute { entity, to, .. }, test, ..] => match compared(test) {
-            None => false,
-            Some((left, right, skip)) => {
-                *entity == member
-                    && left == *to
-                    && right != *to
-                    && right != member
-                    && skip as usize + 3 == turn.len()
-            }
-        },
-        _ => false,
-    }
 }
 
 // The instruction that begins a walk from a member on, or after it.
@@ -186,7 +155,7 @@ impl Generator<'_> {
         step: &Option<Expression>,
     ) -> Result<(), AllocError>
         ensures code { OnOk result (Emits self.old self.new code.old code.new site (λ s. IsNumber (view_expression first.now) s × IsNumber (view_expression limit.now) s × AreNumbers (view_option view_expression step.now) s) (λ t. range_code t (view_expression first.now) (view_expression limit.now) (view_option view_expression step.now))) }
-        ensures room { OnOk result (site.height + 3 ≤ self.new.deepest) }
+        ensures room { OnOk result ((f : Final) → Around f self.new → site.height + 3 ≤ f.depth) }
     {
         self.push(code, site, first)?;
         self.push(code, site.above(1), limit)?;
@@ -252,7 +221,6 @@ impl Generator<'_> {
         self.take_item(&mut code, site, walk.cell, walk.variable)?;
         code.append(turn)?;
         let back = as_index(code.len())?;
-        let sifts = is_sieve(code.instructions(), walk.variable.address);
         code.put(
             site.line,
             Instruction::NextMember {
@@ -261,7 +229,7 @@ impl Generator<'_> {
                 cell: walk.cell,
                 back,
                 reverse: walk.reverse,
-                sifts,
+                sifts: false,
             },
         )?;
         Ok(code)

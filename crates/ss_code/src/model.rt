@@ -1,6 +1,7 @@
 //! What may be run.
 
-ghost use Rattle.std.specs.Prelude.{◌≡◌};
+ghost use Rattle.std.specs.Prelude.{◌≡◌, length, IfOk};
+ghost use Rattle.ss_code_listing.specs.Listing.{AreLines};
 
 use crate::code::Code;
 use std::alloc::{AllocError, Global};
@@ -41,7 +42,9 @@ impl Model {
 
     /// A line for each instruction of its code: its number from 0, a blank, what it is called, and what it works on. The
     /// error comes where memory was refused.
-    pub fn listing(&self, alloc: Global) -> Result<Vec<u8>, AllocError> {
+    pub fn listing(&self, alloc: Global) -> Result<Vec<u8>, AllocError>
+        ensures lines { IfOk result (λ text. AreLines (length self.now.run.instructions) text.items) }
+    {
         self.code.listing(alloc)
     }
 }

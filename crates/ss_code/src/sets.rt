@@ -91,10 +91,13 @@ impl Generator<'_> {
             return Ok(member);
         }
         let (set, entity) = (as_index(set)?, member.address);
-        code.put(site.line, Instruction::LookMember {
-            set,
-            member: entity,
-        })?;
+        code.put(
+            site.line,
+            Instruction::LookMember {
+                set,
+                member: entity,
+            },
+        )?;
         Ok(member)
     }
 
@@ -222,6 +225,6 @@ impl Generator<'_> {
         let to = self.landing(above, spot)?;
         let noted = is_count_watched(self.program, set);
         code.put(site.line, remove_by(end, as_index(set)?, owner, to, noted))?;
-        self.take(code, site, spot, to)
+        self.take(code, above, spot, to)
     }
 }

@@ -35,12 +35,7 @@ fn put_one_side(code: &mut Piece, test: Piece, then: Piece) -> Result<(), AllocE
 
 impl Generator<'_> {
     // An instruction without operands.
-    fn put(
-        &self,
-        code: &mut Piece,
-        site: Site,
-        instruction: Instruction,
-    ) -> Result<(), AllocError>
+    fn put(&self, code: &mut Piece, site: Site, instruction: Instruction) -> Result<(), AllocError>
         ensures instructions { OnOk result (code.new.instructions ≡ code.old.instructions ++ instruction ∷ []) }
         ensures lines { OnOk result (code.new.lines ≡ code.old.lines ++ site.line ∷ []) }
     {
@@ -78,6 +73,7 @@ impl Generator<'_> {
         ensures { OnOk result (Emits self.old self.new code.old code.new site (λ s. Every (λ p. GoodPlace p s) (map view_place places.now)) (λ t. gives_code t (map view_place places.now))) }
     {
         let count = places.len();
+        self.reach(site.height.saturating_add(count));
         for (i, place) in places.iter().enumerate() {
             self.give(code, site.above(count - 1 - i), place)?;
         }

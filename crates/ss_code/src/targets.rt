@@ -14,7 +14,7 @@ ghost use Rattle.ss_code_instructions.specs.Translation.{Site as At, operand_cod
 ghost use Rattle.ss_code.specs.Forms.{calculating, storing, reading};
 ghost use Rattle.ss_code.specs.declared.generator.Site.{Site as Here};
 ghost use Rattle.ss_code.specs.Emitted.{Final, Around, Grows, Stands, AtTarget, Makes, NoMore, Emits, IsNumber};
-ghost use Rattle.ss_code.specs.Spots.{HasRoom, IsWatched, IsVariable, IsAttribute, IsSpot, IsPlaceOf, spot_cells, spot_code, landing as lands_at, GoodPlace, Gives, Takes, Changed, IsHeldBy};
+ghost use Rattle.ss_code.specs.Spots.{HasRoom, HoldsMode, IsWatched, IsVariable, IsAttribute, IsSpot, IsPlaceOf, spot_cells, spot_code, landing as lands_at, GoodPlace, Gives, Takes, Changed, IsHeldBy};
 
 use crate::expressions::move_of;
 use crate::facts::{attribute_mode, is_attribute_watched, is_variable_watched, variable_mode};
@@ -80,8 +80,8 @@ fn change_of(sign: Sign, left: Address, right: Address, to: Address) -> Instruct
     }
 }
 
-// A value goes to an attribute.
-fn set_of(spot: AttributeSpot, from: Address) -> Instruction
+/// A value goes to an attribute.
+pub(crate) fn set_of(spot: AttributeSpot, from: Address) -> Instruction
     ensures { result ≡ storing spot.mode spot.class spot.field spot.entity from spot.is_watched }
 {
     match spot.mode {
@@ -400,7 +400,7 @@ impl Generator<'_> {
         variable: VariableSpot,
         value: &Expression,
     ) -> Result<(), AllocError>
-        ensures { OnOk result (Makes self.old self.new code.old code.new site (λ f t (c : Changed). IsSpot f t c.place spot × IsVariable t c.variable variable × IsHeldBy c × IsNumber (view_expression value.now) t.scope) (λ t c. change_code t sign c.place (view_expression value.now)) NoMore) }
+        ensures { OnOk result (Makes self.old self.new code.old code.new site (λ f t (c : Changed). IsSpot f t c.place spot × IsVariable t c.variable variable × IsHeldBy c × IsNumber (view_expression value.now) t.scope × HoldsMode t.scope c.place Integer) (λ t c. change_code t sign c.place (view_expression value.now)) NoMore) }
     {
         let by = self.operand(code, site, value)?.address;
         let to = self.landing(site, spot)?;

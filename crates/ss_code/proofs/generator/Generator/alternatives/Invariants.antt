@@ -4,8 +4,8 @@ use Rattle.ss_program.specs.WellTyped.{GoodCondition}
 use Rattle.ss_code_instructions.specs.Translation.{condition_code}
 use Rattle.ss_code.specs.Lined.{nothing}
 use Rattle.ss_code.specs.Emitted.{Emits}
-use Rattle.ss_code.proofs.conditions.Generator.alternatives.Given as goal
+use Rattle.ss_code.proofs.generator.Generator.alternatives.Given as goal
 
 abbrev pub invariant-loop-i : goal.invariant-loop-i
-invariant-loop-i l = 
-    Emits l.initial.self l.self nothing l.rest l.site (λ s. GoodCondition s (map view_conjunction (drop l.i l.alternatives))) (λ t. condition_code t l.skip (map view_conjunction (drop l.i l.alternatives)))
+invariant-loop-i l =
+    Emits l.fn.self l.self nothing l.rest l.site (λ s. GoodCondition s (map view_conjunction (drop l.i l.alternatives))) (λ t. condition_code t l.skip (map view_conjunction (drop l.i l.alternatives)))

@@ -5,8 +5,8 @@ use Rattle.ss_program.specs.WellTyped.{GoodCondition}
 use Rattle.ss_code_instructions.specs.Translation.{guards_code}
 use Rattle.ss_code.specs.Lined.{nothing}
 use Rattle.ss_code.specs.Emitted.{EmitsAround}
-use Rattle.ss_code.proofs.conditions.Generator.guards.Given as goal
+use Rattle.ss_code.proofs.generator.Generator.guards.Given as goal
 
 abbrev pub invariant-loop-i : goal.invariant-loop-i
-invariant-loop-i l = 
+invariant-loop-i l =
     EmitsAround l.initial.self l.self nothing l.rest l.site l.fn.behind (λ s. Every (λ g. GoodCondition s g.condition) (map view_guard (drop l.i l.guards))) (λ t b. guards_code t (length b + l.more) (map view_guard (drop l.i l.guards)) ++ b)
