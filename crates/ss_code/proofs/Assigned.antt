@@ -1,5 +1,5 @@
 -- What the generator emits where something is assigned.
-use Rattle.std.proofs.Common.{◌≡◌, ℕ, ◌+◌, ◌<◌, ◌≤◌, Bool, true, false, List, [], ◌∷◌, ◌++◌, length, Some, None, refl, sym, ap, ◌∙◌, subst, arith, append-nil, if◌then◌else◌}
+use Rattle.std.proofs.Common.{◌≡◌, ℕ, ◌≤◌, Bool, true, false, List, [], ◌∷◌, ◌++◌, Some, None, refl, sym, ap, ◌∙◌, subst, append-nil, if◌then◌else◌}
 use Rattle.ss_base.specs.declared.layout.Mode.{Mode}
 use Rattle.ss_base.specs.declared.layout.Mode.TheVariants.{Integer, Alpha}
 use Rattle.ss_program.specs.declared.expression.Variable.{Variable}
@@ -8,22 +8,18 @@ use Rattle.ss_program.specs.declared.sections.Subject.TheVariants.{OfAttribute}
 use Rattle.ss_program.specs.Program.{Program, Expression, Place, ToVariable, ToAttribute, ToCount}
 use Rattle.ss_program.specs.WellTyped.{Scope, field_mode}
 use Rattle.ss_code_instructions.specs.declared.address.Address.{Address}
-use Rattle.ss_code_instructions.specs.declared.instruction.Instruction.TheVariants as r
 use Rattle.ss_code_instructions.specs.Facts.{watch}
 use Rattle.ss_code_instructions.specs.Instructions.{Operand, Taken, Target, Into, Placed}
 use Rattle.ss_code_instructions.specs.Instructions as i
 use Rattle.ss_code_instructions.specs.Translation.{Site, height, place, above, next, is_kept, assignment, place_code, after_place, to_place_code, code_of}
-use Rattle.ss_code_instructions.specs.Carried.{InFrame, mode_here}
-use Rattle.ss_code.specs.declared.generator.Generator.{Generator}
-use Rattle.ss_code.specs.declared.generator.Site.{Site as Here}
+use Rattle.ss_code_instructions.specs.Carried.{mode_here}
 use Rattle.ss_code.specs.declared.targets.VariableSpot.{VariableSpot}
 use Rattle.ss_code.specs.declared.targets.AttributeSpot.{AttributeSpot}
 use Rattle.ss_code.specs.Forms.{moving, storing}
-use Rattle.ss_code.specs.Emitted.{Final, Around, Stands, Shown, Runs, AtOperand, AtTarget}
-use Rattle.ss_code.specs.Spots.{IsWatched, IsVariable, IsAttribute, landing, landed_code, HasRoom}
+use Rattle.ss_code.specs.Emitted.{Final, Shown, Runs, AtOperand}
+use Rattle.ss_code.specs.Spots.{IsWatched, IsVariable, IsAttribute, landing, landed_code}
 use Rattle.ss_code.proofs.Forms as forms
 use Rattle.ss_code.proofs.Modes.{has_field}
-use Rattle.ss_code.proofs.Operands.{cell_at_site}
 
 -- ## The parts of an assignment
 
@@ -48,13 +44,6 @@ assignment_plain u x y e = ap (λ (b : Bool). if b then i.Keep y x else i.Move y
 
 pub kept_at : (t u : Site) (x : Variable) (b : Bool) → t.scope ≡ u.scope → is_kept t x ≡ b → is_kept u x ≡ b
 kept_at t u x b same e = sym (ap (λ (s : Scope). is_kept (record { scope = s; line = u.line; cells = u.cells }) x) same) ∙ e
-
--- a Keep
-pub keep_runs : (f : Final) (t u : Site) (x : Variable) (y : Operand) (s : VariableSpot) (k : ℕ) (from : Address) → IsVariable t x s → s.watched ≡ Some k → t.scope ≡ u.scope → AtOperand f u y from → height u ≤ f.depth → Runs f (place u (assignment u x y)) (r.Keep from k)
-keep_runs f t u x y s k from v watched same at deep =
-    let w : (is_kept t x ≡ true) × (x ≡ Global k) = subst (IsWatched (is_kept t x) x) watched v.watched in
-    let e : assignment u x y ≡ i.Keep y (Global k) = assignment_kept u x y (kept_at t u x true same w.0) ∙ ap (i.Keep y) w.1 in
-    record { carries = (y, at, e); deep = deep; shown = subst (Shown f.prints u.cells) (sym e) tt }
 
 -- a Move
 pub move_runs : (f : Final) (t u : Site) (x : Variable) (y : Operand) (s : VariableSpot) (from : Address) → IsVariable t x s → s.watched ≡ None → t.scope ≡ u.scope → AtOperand f u y from → mode_here (code_of f.program) f.constants (place u (assignment u x y)) y ≡ Some s.mode → height u ≤ f.depth → Runs f (place u (assignment u x y)) (moving s.mode from s.address)
@@ -86,19 +75,6 @@ module _ (f : Final) (t u : Site) (class field : ℕ) (e : Expression) (s : Attr
       }
 
 -- ## Where a value comes at first
-
--- in the variable itself
-pub lands_in_variable : (f : Final) (t u : Site) (x : Variable) (s : VariableSpot) → IsVariable t x s → s.watched ≡ None → t.scope ≡ u.scope → AtTarget f u (landing u (ToVariable x)) s.address × HasRoom f (landing u (ToVariable x))
-lands_in_variable f t u x s v watched same =
-    let w : is_kept t x ≡ false = subst (IsWatched (is_kept t x) x) watched v.watched in
-    let e : landing u (ToVariable x) ≡ Into x = ap (λ (b : Bool). if b then next u else Into x) (kept_at t u x false same w) in
-    (subst (λ (z : Target). AtTarget f u z s.address) (sym e) v.at, subst (HasRoom f) (sym e) tt)
-
--- or in the next cell
-pub lands_in_cell : (f : Final) (g : Generator) (here : Here) (u : Site) (p : Place) (a : Address) → landing u p ≡ next u → Around f g → Stands f g here u → InFrame (length g.locals.items + here.height) a → here.height < g.deepest → AtTarget f u (landing u p) a × HasRoom f (landing u p)
-lands_in_cell f g here u p a e around stands cell room =
-    let low : height u < f.depth = omega (arith, stands.high, room, around.depth) in
-    (subst (λ (z : Target). AtTarget f u z a) (sym e) (cell_at_site f g here u a stands cell), subst (HasRoom f) (sym e) low)
 
 pub lands_kept : (t u : Site) (x : Variable) (s : VariableSpot) (k : ℕ) → IsVariable t x s → s.watched ≡ Some k → t.scope ≡ u.scope → landing u (ToVariable x) ≡ next u
 lands_kept t u x s k v watched same =

@@ -19,9 +19,9 @@ use Rattle.ss_code.specs.declared.expressions.Operand.{Operand as Read}
 use Rattle.ss_code.specs.declared.generator.Generator.{Generator}
 use Rattle.ss_code.specs.declared.generator.Site.{Site as Here}
 use Rattle.ss_code.specs.Lined.{Lined}
-use Rattle.ss_code.specs.Emitted.{Final, Around, Grows, Shown, Emits, Typed, Reads}
+use Rattle.ss_code.specs.Emitted.{Final, Around, Shown, Emits, Typed, Reads}
 use Rattle.ss_code.specs.Spots.{GoodPlace}
-use Rattle.ss_code.proofs.Emitting.{around_old, grows_then, stands_old, stands_above, adds_none, adds_then, adds_one, adds_same}
+use Rattle.ss_code.proofs.Emitting.{around_old, grows_then, stands_old, stands_above, adds_then, adds_one, adds_same}
 use Rattle.ss_code.proofs.Rounds.{operand_here}
 
 -- ## What is yielded
@@ -62,9 +62,6 @@ every_at P (y ∷ xs) (suc k) x e h = every_at P xs k x e h.1
 
 abbrev pub GoodPlaces : List Place → Scope → Type 0
 GoodPlaces ps s = Every (λ (p : Place). GoodPlace p s) ps
-
-pub gives_none : (g0 g1 : Generator) (x : Lined) (here : Here) (ps : List Place) → Grows g0 g1 → Emits g0 g1 x x here (GoodPlaces ps) (λ t. gives_front t 0 ps)
-gives_none g0 g1 x here ps grows = record { grows = grows; adds = λ f t u around stands good. adds_none f x; more = λ f t u around stands good. tt }
 
 -- one place more, where the frame has room for all
 pub gives_more : (g0 g1 g2 : Generator) (x y z : Lined) (here lower : Here) (ps : List Place) (k count : ℕ) (p : Place) → slice_get ps k ≡ Some p → count ≡ length ps → k < count → lower.line ≡ here.line → (here.height + (count - 1 - k) < 2 ^ 64 → lower.height ≡ here.height + (count - 1 - k)) → ((f : Final) → Around f g1 → here.height + count ≤ f.depth) → Emits g0 g1 x y here (GoodPlaces ps) (λ t. gives_front t k ps) → Emits g1 g2 y z lower (GoodPlace p) (λ t. give_code t p) → Emits g0 g2 x z here (GoodPlaces ps) (λ t. gives_front t (k + 1) ps)

@@ -1,8 +1,7 @@
 -- What the generator emits for a PRINT.
-use Rattle.std.proofs.Common.{◌≡◌, ℕ, suc, false, ◌+◌, ◌<◌, ◌≤◌, ◌^◌, List, [], ◌∷◌, ◌++◌, length, map, Some, None, refl, sym, ap, ◌∙◌, arith, append_assoc, append-nil}
-use Rattle.std.specs.Prelude.{pos, slice_get}
+use Rattle.std.proofs.Common.{◌≡◌, ℕ, suc, false, ◌+◌, ◌<◌, ◌≤◌, ◌^◌, List, [], ◌∷◌, ◌++◌, length, map, Some, refl, sym, ap, ◌∙◌, arith, append_assoc, append-nil}
+use Rattle.std.specs.Prelude.{slice_get}
 use Rattle.std.specs.List.{AllByRecursion as Every}
-use Rattle.ss_base.specs.declared.value.Value.TheVariants.{Whole}
 use Rattle.ss_base.specs.declared.layout.Mode.{Mode}
 use Rattle.ss_base.specs.declared.layout.Mode.TheVariants as modes
 use Rattle.ss_program.specs.Program.{Program, Expression, Item, AValue, AMean, AMeanOf}
@@ -18,7 +17,7 @@ use Rattle.ss_code.specs.declared.generator.Generator.{Generator}
 use Rattle.ss_code.specs.declared.generator.Site.{Site as Here}
 use Rattle.ss_code.specs.Lined.{Lined}
 use Rattle.ss_code.specs.Preamble.{scope_of}
-use Rattle.ss_code.specs.Emitted.{Final, Around, Grows, Stands, Makes, Emits, AtOperand, Typed}
+use Rattle.ss_code.specs.Emitted.{Final, Grows, Stands, Makes, Emits, Typed}
 use Rattle.ss_code.specs.Items.{value_kind, kind_of, item_width, GoodItem}
 use Rattle.ss_code.specs.Printed.{PrintsLines}
 use Rattle.ss_code.proofs.Emitting.{around_old, grows_same, grows_then, stands_old, stands_above, adds_none, adds_then, adds_one, adds_same}
@@ -31,14 +30,6 @@ use Rattle.ss_code.proofs.Spotted.{program_at}
 -- the generator grew before
 pub later_made : (old mid new : Generator) (p q : Lined) (here : Here) (Good : Scope → Type 0) (c : Site → List Placed) → Grows old mid → Emits mid new p q here Good c → Emits old new p q here Good c
 later_made old mid new p q here Good c g m = record { grows = grows_then old mid new g m.grows; adds = m.adds; more = m.more }
-
-pub mean_looked : (old new : Generator) (p q : Lined) (here : Here) (k : ℕ) (zero : Address) → Grows old new → ((f : Final) (t : Site) → Around f new → AtOperand f t (Constant (Whole (pos 0))) zero) → q.instructions ≡ p.instructions ++ r.LookMean k zero ∷ [] → q.lines ≡ p.lines ++ here.line ∷ [] → Emits old new p q here (GoodItem (AMean k)) (λ t. item_code t (AMean k))
-mean_looked old new p q here k zero g at is ls = record {
-  grows = g;
-  adds = λ f t u around stands good.
-      adds_one f p q here.line (place t (i.LookMean k None)) (r.LookMean k zero) is ls stands.line (record { carries = (None, at f t around, refl); deep = stands.deep; shown = tt });
-  more = λ f t u around stands good. tt;
-}
 
 pub mean_of_looked : (old mid new : Generator) (p q v : Lined) (here : Here) (k : ℕ) (e : Expression) (cell : Address) → Emits old mid p q here (Typed e) (λ t. expression_code t (next t) e) → Grows mid new → InFrame (length new.locals.items + here.height) cell → here.height < new.deepest → v.instructions ≡ q.instructions ++ r.LookMean k cell ∷ [] → v.lines ≡ q.lines ++ here.line ∷ [] → Emits old new p v here (GoodItem (AMeanOf k e)) (λ t. item_code t (AMeanOf k e))
 mean_of_looked old mid new p q v here k e cell m g at room is ls = record {

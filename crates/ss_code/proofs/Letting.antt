@@ -1,5 +1,5 @@
 -- LET, ADD and SUBTRACT, and what takes a value that an instruction leaves.
-use Rattle.std.proofs.Common.{◌≡◌, ℕ, ◌+◌, ◌<◌, ◌≤◌, ◌^◌, Bool, true, false, List, [], ◌∷◌, ◌++◌, length, Some, None, refl, sym, ap, ◌∙◌, subst, arith, if◌then◌else◌}
+use Rattle.std.proofs.Common.{◌≡◌, ℕ, ◌+◌, ◌<◌, ◌≤◌, ◌^◌, Bool, true, false, List, [], ◌∷◌, ◌++◌, length, Some, refl, sym, ap, ◌∙◌, subst, arith, if◌then◌else◌}
 use Rattle.ss_base.specs.declared.layout.Mode.{Mode}
 use Rattle.ss_base.specs.declared.layout.Mode.TheVariants.{Integer}
 use Rattle.ss_program.specs.declared.expression.Sign.{Sign}
@@ -27,7 +27,7 @@ use Rattle.ss_code.specs.declared.targets.Spot.{Spot}
 use Rattle.ss_code.specs.declared.targets.Spot.TheVariants as spots
 use Rattle.ss_code.specs.Lined.{Lined}
 use Rattle.ss_code.specs.Forms.{calculating, storing}
-use Rattle.ss_code.specs.Emitted.{Final, Around, Grows, Stands, Shown, Makes, NoMore, Emits, EmitsTo, AtOperand, AtTarget, Typed, IsNumber, Reads}
+use Rattle.ss_code.specs.Emitted.{Final, Around, Grows, Stands, Shown, Makes, NoMore, Emits, AtOperand, AtTarget, Typed, IsNumber, Reads}
 use Rattle.ss_code.specs.Spots.{IsWatched, IsVariable, IsSpot, GoodPlace, HasRoom, HoldsMode, Given, Gives, Taking, Takes, Changed, variable_of, IsHeldBy, spot_cells, spot_code, landing, assigned_code, landed_code}
 use Rattle.ss_code.proofs.Emitting.{around_old, grows_then, stands_old, stands_above, adds_then, adds_one, adds_same}
 use Rattle.ss_code.proofs.Forms as forms
@@ -42,19 +42,6 @@ use Rattle.ss_code.proofs.Spotted.{MakesAttribute, stored}
 abbrev pub LetsVariable : (old new : Generator) → (before after : Lined) → Here → Expression → VariableSpot → Type 0
 LetsVariable old new before after here e s =
     Makes old new before after here (λ f t (x : Variable). IsVariable t x s × Good t.scope (Let here.line (ToVariable x) e)) (λ t x. let_code t (ToVariable x) e) NoMore
-
--- a variable that no statistic watches
-pub let_plain : (old new : Generator) (p q : Lined) (here : Here) (e : Expression) (s : VariableSpot) → s.watched ≡ None → EmitsTo old new p q here s.address (Typed e) (λ t x. expression_code t x e) → LetsVariable old new p q here e s
-let_plain old new p q here e s watched m = record {
-  grows = m.grows;
-  adds = λ f t x around stands fits.
-      let w : is_kept t x ≡ false = subst (IsWatched (is_kept t x) x) watched fits.0.watched in
-      let typed : Typed e t.scope = (fits.1.0, fits.1.2) in
-      let code : expression_code t (i.Into x) e ≡ let_code t (ToVariable x) e =
-      sym (ap (λ (b : Bool). if b then with_operand t e (λ y. i.Keep y x) else expression_code t (i.Into x) e) w) in
-      adds_same f p q (expression_code t (i.Into x) e) (let_code t (ToVariable x) e) code (m.adds f t (i.Into x) around stands (fits.0.at, typed));
-  more = λ f t x around stands fits. tt;
-}
 
 -- and one that is watched
 pub let_kept : (old new : Generator) (p q v : Lined) (here : Here) (e : Expression) (o : Read) (s : VariableSpot) (k : ℕ) → s.watched ≡ Some k → Reads old new p q here e o → v.instructions ≡ q.instructions ++ r.Keep o.address k ∷ [] → v.lines ≡ q.lines ++ here.line ∷ [] → LetsVariable old new p v here e s

@@ -12,7 +12,7 @@ use Rattle.ss_code.specs.declared.generator.Generator.{Generator}
 use Rattle.ss_code.specs.declared.generator.Site.{Site as Here}
 use Rattle.ss_code.specs.Lined.{Lined}
 use Rattle.ss_code.specs.Emitted.{Emits}
-use Rattle.ss_code.proofs.Emitting.{around_old, grows_same, grows_then, stands_old, adds_none, adds_then, adds_one, adds_same}
+use Rattle.ss_code.proofs.Emitting.{around_old, grows_then, stands_old, adds_then, adds_one, adds_same}
 
 -- code of things that all find the same cells: each thing's own, one after the other
 module _ {A : Type 0} (P : A → Scope → Type 0) (own : Site → A → List Placed) (all : Site → List A → List Placed) (joined : (t : Site) (xs : List A) (x : A) → all t (xs ++ x ∷ []) ≡ all t xs ++ own t x) where
@@ -58,10 +58,6 @@ creates_step g p q v here xs x m is ls = record {
       (adds_one f q v here.line (place t (CreateAll x)) (CreatesAll x.class x.variable) is ls stands.line (record { carries = refl; deep = stands.deep; shown = tt })));
   more = λ f t u around stands good. tt;
 }
-
--- nothing yet
-pub none_listed : {A : Type 0} (g : Generator) (p : Lined) (here : Here) (P : A → Scope → Type 0) → Emits g g p p here (λ s. Every (λ x. P x s) []) (λ t. [])
-none_listed g p here P = record { grows = grows_same g; adds = λ f t u around stands good. adds_none f p; more = λ f t u around stands good. tt }
 
 -- ## The next item of a loop
 

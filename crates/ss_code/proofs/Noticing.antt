@@ -7,7 +7,7 @@ use Rattle.ss_base.specs.declared.layout.Mode.{Mode}
 use Rattle.ss_base.specs.declared.layout.Mode.TheVariants.{Integer}
 use Rattle.ss_program.specs.declared.sections.Statistic.{Statistic}
 use Rattle.ss_program.specs.declared.sections.Subject.TheVariants.{OfAttribute}
-use Rattle.ss_program.specs.Program.{Program, Expression, Place, ToVariable, ToAttribute, ToCount, When, At, In, Now, Restart, ScheduleNew, Schedule, Cancel}
+use Rattle.ss_program.specs.Program.{Program, Expression, Place, ToVariable, ToAttribute, ToCount, When, At, In, Restart, ScheduleNew, Schedule, Cancel}
 use Rattle.ss_program.specs.WellTyped.{Scope, HasMode, GoodWhen, GoodRestart, GoodGiven, Good, TakesMode}
 use Rattle.ss_code_instructions.specs.declared.address.Address.{Address}
 use Rattle.ss_code_instructions.specs.declared.instruction.Instruction.{Instruction as Running}
@@ -29,7 +29,7 @@ use Rattle.ss_code.specs.Lined.{Lined}
 use Rattle.ss_code.specs.Forms.{storing}
 use Rattle.ss_code.specs.Emitted.{Final, Around, Grows, Stands, Runs, Adds, Emits, AtTarget, AtOperand, Typed, AreNumbers, IsRead, Reads, Bears}
 use Rattle.ss_code.specs.Spots.{IsSpot, HasRoom, HoldsMode, Given, Gives, Taking, Takes, spot_cells, landing}
-use Rattle.ss_code.specs.Notices.{any_watched, simulate_code, named_at, named_code, Names}
+use Rattle.ss_code.specs.Notices.{any_watched, named_at, named_code, Names}
 use Rattle.ss_code.proofs.Emitting.{around_old, grows_same, grows_then, stands_old, stands_above, adds_then, adds_one, adds_same}
 use Rattle.ss_code.proofs.Modes.{on_top}
 use Rattle.ss_code.proofs.Operands.{read_stands, cell_at_site, operand_at, stays_at}
@@ -61,15 +61,6 @@ pub in_timed : (old mid new : Generator) (p q v : Lined) (here : Here) (e : Expr
 in_timed old mid new p q v here e o to g cell m is ls =
     cell_works old mid new p q v here e o to (λ s. GoodWhen s (In e)) (λ t x. i.In x (next t)) (r.In o.address to) g cell m is ls (λ k h. (Integer, h))
     (λ f t at read. record { carries = (operand t e, read.at, (next t, at, refl)); deep = read.deep; shown = tt })
-
-pub now_timed : (old new : Generator) (p v : Lined) (here : Here) (to : Address) → Grows old new → InFrame (length new.locals.items + here.height) to → v.instructions ≡ p.instructions ++ r.Clock to ∷ [] → v.lines ≡ p.lines ++ here.line ∷ [] → Emits old new p v here (λ s. GoodWhen s Now) (λ t. when_code t Now)
-now_timed old new p v here to g cell is ls = record {
-  grows = g;
-  adds = λ f t u around stands good.
-      adds_one f p v here.line (place t (i.Clock (next t))) (r.Clock to) is ls stands.line
-      (record { carries = (next t, cell_at_site f new here t to stands cell, refl); deep = stands.deep; shown = tt });
-  more = λ f t u around stands good. tt;
-}
 
 -- ## What a notice is given, and its time
 
@@ -322,21 +313,6 @@ cancelled old new p q v here class e o m is ls = record {
       let read = m.more f t tt around stands typed in
       adds_then f p q v (operand_code t e) (place (after t e) (i.Cancel class (operand t e)) ∷ []) (m.adds f t tt around stands typed)
       (adds_one f q v here.line (place (after t e) (i.Cancel class (operand t e))) (r.Cancel class o.address) is ls stands.line (record { carries = (operand t e, read.at, refl); deep = read.deep; shown = tt }));
-  more = λ f t u around stands good. tt;
-}
-
--- ## START SIMULATION
-
-pub simulated : (g : Generator) (p q v w : Lined) (here : Here) (cell : ℕ) → cell ≡ length g.locals.items + here.height → q.instructions ≡ p.instructions ++ r.Await 2 ∷ [] → q.lines ≡ p.lines ++ here.line ∷ [] → v.instructions ≡ q.instructions ++ r.TakeEvent cell ∷ [] → v.lines ≡ q.lines ++ here.line ∷ [] → w.instructions ≡ v.instructions ++ r.NextEvent 1 ∷ [] → w.lines ≡ v.lines ++ here.line ∷ [] → Emits g g p w here (λ s. Unit {0}) (λ t. simulate_code t)
-simulated g p q v w here cell is_cell is ls is_2 ls_2 is_3 ls_3 = record {
-  grows = grows_same g;
-  adds = λ f t u around stands good.
-      let there : cell ≡ length t.scope.locals + height t = is_cell ∙ sym (ap (λ (ms : List Mode). length ms + height t) stands.locals ∙ ap (λ j. length g.locals.items + j) stands.high) in
-      adds_then f p q w (place t (i.Await 2) ∷ []) (place t (i.TakeEvent (height t)) ∷ (place t (i.NextEvent 1) ∷ []))
-      (adds_one f p q here.line (place t (i.Await 2)) (r.Await 2) is ls stands.line (record { carries = refl; deep = stands.deep; shown = tt }))
-      (adds_then f q v w (place t (i.TakeEvent (height t)) ∷ []) (place t (i.NextEvent 1) ∷ [])
-      (adds_one f q v here.line (place t (i.TakeEvent (height t))) (r.TakeEvent cell) is_2 ls_2 stands.line (record { carries = (height t, there, refl); deep = stands.deep; shown = tt }))
-      (adds_one f v w here.line (place t (i.NextEvent 1)) (r.NextEvent 1) is_3 ls_3 stands.line (record { carries = refl; deep = stands.deep; shown = tt })));
   more = λ f t u around stands good. tt;
 }
 

@@ -1,9 +1,8 @@
 -- Values that go into cells, and what loops keep there.
-use Rattle.std.proofs.Common.{◌≡◌, ℕ, suc, ◌+◌, ◌<◌, ◌≤◌, ◌^◌, Bool, true, false, List, [], ◌∷◌, ◌++◌, length, get_or, map, take, Some, None, refl, sym, ap, ◌∙◌, subst, arith, append_assoc, append-nil, length-append, if◌then◌else◌}
+use Rattle.std.proofs.Common.{◌≡◌, ℕ, ◌+◌, ◌<◌, ◌≤◌, ◌^◌, List, [], ◌∷◌, ◌++◌, length, get_or, map, take, refl, sym, ap, ◌∙◌, subst, arith, append_assoc, append-nil, length-append}
 use Rattle.std.specs.Prelude.{pos}
 use Rattle.std.specs.List.{AllByRecursion as Every}
 use Rattle.ss_base.specs.declared.value.Value.TheVariants.{Whole}
-use Rattle.ss_program.specs.declared.expression.Variable.TheVariants.{Global}
 use Rattle.ss_program.specs.declared.expression.Expression as expressions
 use Rattle.ss_program.specs.Program.{Expression}
 use Rattle.ss_program.specs.View.{view_expression}
@@ -11,32 +10,21 @@ use Rattle.ss_code_instructions.specs.declared.address.Address.{Address}
 use Rattle.ss_code_instructions.specs.declared.instruction.Instruction.TheVariants as r
 use Rattle.ss_code_instructions.specs.Instructions.{Constant, Stays, Instruction, Placed}
 use Rattle.ss_code_instructions.specs.Instructions as i
-use Rattle.ss_code_instructions.specs.Translation.{Site, height, place, next, above, forget, is_kept, expression_mode, expression_code, values_code, after_values, take_code}
+use Rattle.ss_code_instructions.specs.Translation.{Site, height, place, next, above, expression_mode, expression_code, values_code, after_values, take_code}
 use Rattle.ss_code_instructions.specs.Carried.{InFrame}
 use Rattle.ss_code_instructions.proofs.Stacked.{values_high}
 use Rattle.ss_code.specs.declared.generator.Generator.{Generator}
 use Rattle.ss_code.specs.declared.generator.Site.{Site as Here}
 use Rattle.ss_code.specs.declared.targets.VariableSpot.{VariableSpot}
 use Rattle.ss_code.specs.Lined.{Lined, nothing}
-use Rattle.ss_code.specs.Emitted.{Final, Around, Grows, Emits, EmitsTo, AtOperand, AtTarget, Typed}
-use Rattle.ss_code.specs.Spots.{IsWatched}
+use Rattle.ss_code.specs.Emitted.{Final, Around, Grows, Emits, AtOperand, Typed}
 use Rattle.ss_code.specs.Looped.{TakesItem, TakesItems}
-use Rattle.ss_code.proofs.Emitting.{around_old, grows_same, grows_then, stands_old, stands_above, adds_none, adds_then, adds_one, adds_piece, adds_same, piece_long}
+use Rattle.ss_code.proofs.Emitting.{around_old, grows_same, grows_then, stands_old, stands_above, adds_then, adds_one, adds_piece, adds_same, piece_long}
 use Rattle.ss_code.proofs.Operands.{cell_at_site}
 use Rattle.ss_code.proofs.Steps.{next_taken, taken_long}
 use Rattle.std.proofs.lemmas.List.{take_all}
 
 -- ## Values
-
--- an expression in the next cell
-pub pushed : (old mid new : Generator) (p q : Lined) (here : Here) (e : Expression) (a : Address) → Grows old mid → InFrame (length mid.locals.items + here.height) a → EmitsTo mid new p q here a (Typed e) (λ t x. expression_code t x e) → Emits old new p q here (Typed e) (λ t. expression_code t (next t) e)
-pushed old mid new p q here e a grows cell m = record {
-  grows = grows_then old mid new grows m.grows;
-  adds = λ f t u around stands typed.
-      let at : AtTarget f t (next t) a = cell_at_site f mid here t a (stands_old f mid new here t m.grows stands) cell in
-      m.adds f t (next t) around stands (at, typed);
-  more = λ f t u around stands typed. tt;
-}
 
 -- the number 1 in the next cell
 pub one_pushed : (old new : Generator) (p q : Lined) (here : Here) (a one : Address) → Grows old new → InFrame (length new.locals.items + here.height) a → ((f : Final) (t : Site) → Around f new → AtOperand f t (Constant (Whole (pos 1))) one) → q.instructions ≡ p.instructions ++ r.Move one a ∷ [] → q.lines ≡ p.lines ++ here.line ∷ [] → Emits old new p q here (λ s. Unit {0}) (λ t. place t (i.Move (Constant (Whole (pos 1))) (next t)) ∷ [])
@@ -91,50 +79,7 @@ next_value old mid new p q s here higher xs i x lt is m room line above_ n =
 pub all_values : (old new : Generator) (p q : Lined) (here : Here) (xs : List expressions.Expression) (i : ℕ) → length xs ≤ i → Emits old new p q here (λ k. Every (λ e. Typed e k) (map view_expression (take i xs))) (λ t. values_code t (map view_expression (take i xs))) → Emits old new p q here (λ k. Every (λ e. Typed e k) (map view_expression xs)) (λ t. values_code t (map view_expression xs))
 all_values old new p q here xs i le m = subst (λ (l : List expressions.Expression). Emits old new p q here (λ k. Every (λ e. Typed e k) (map view_expression l)) (λ t. values_code t (map view_expression l))) (take_all i xs le) m
 
--- ## Cells that are forgotten
-
-pub none_forgotten : (g : Generator) (p : Lined) (here : Here) → Emits g g p p here (λ s. Unit {0}) (λ u. forget u 0)
-none_forgotten g p here = record { grows = grows_same g; adds = λ f t u around stands good. adds_none f p; more = λ f t u around stands good. tt }
-
-pub some_forgotten : (g : Generator) (p q : Lined) (here : Here) (k : ℕ) → q.instructions ≡ p.instructions ++ r.Forget (suc k) ∷ [] → q.lines ≡ p.lines ++ here.line ∷ [] → Emits g g p q here (λ s. Unit {0}) (λ u. forget u (suc k))
-some_forgotten g p q here k made ls = record {
-  grows = grows_same g;
-  adds = λ f t u around stands good. adds_one f p q here.line (place t (i.Forget (suc k))) (r.Forget (suc k)) made ls stands.line (record { carries = refl; deep = stands.deep; shown = tt });
-  more = λ f t u around stands good. tt;
-}
-
 -- ## Items of a loop
-
--- the tick of an item, and its assignment, where no statistic watches the variable
-pub item_taken : (g : Generator) (p q : Lined) (here : Here) (n : ℕ) (s : VariableSpot) → s.watched ≡ None → q.instructions ≡ p.instructions ++ r.Take n s.address ∷ [] → q.lines ≡ p.lines ++ here.line ∷ [] → TakesItem g p q here n s
-item_taken g p q here n s watched made ls = record {
-  grows = grows_same g;
-  adds = λ f u x around stands fits.
-      let w : is_kept u x.variable ≡ false = subst (IsWatched (is_kept u x.variable) x.variable) watched fits.0.watched in
-      let code : place u (i.Take x.cell x.variable) ∷ [] ≡ take_code u x.cell x.variable =
-      sym (ap (λ (b : Bool). if b then place u i.Turn ∷ (place u (i.Keep (Stays x.cell) x.variable) ∷ []) else place u (i.Take x.cell x.variable) ∷ []) w) in
-      adds_same f p q (place u (i.Take x.cell x.variable) ∷ []) (take_code u x.cell x.variable) code
-      (adds_one f p q here.line (place u (i.Take x.cell x.variable)) (r.Take n s.address) made ls stands.line (record { carries = (x.cell, fits.1, (x.variable, fits.0.at, refl)); deep = stands.deep; shown = tt }));
-  more = λ f u x around stands fits. tt;
-}
-
--- and where one does
-pub item_kept : (g : Generator) (p m q : Lined) (here : Here) (n k : ℕ) (s : VariableSpot) (from : Address) → s.watched ≡ Some k → InFrame n from → m.instructions ≡ p.instructions ++ r.Turn ∷ [] → m.lines ≡ p.lines ++ here.line ∷ [] → q.instructions ≡ m.instructions ++ r.Keep from k ∷ [] → q.lines ≡ m.lines ++ here.line ∷ [] → TakesItem g p q here n s
-item_kept g p m q here n k s from watched cell turn turn_line keep keep_line = record {
-  grows = grows_same g;
-  adds = λ f u x around stands fits.
-      let w : (is_kept u x.variable ≡ true) × (x.variable ≡ Global k) = subst (IsWatched (is_kept u x.variable) x.variable) watched fits.0.watched in
-      let at : AtOperand f u (Stays x.cell) from = (cell.0, cell.1 ∙ fits.1) in
-      let code : place u i.Turn ∷ (place u (i.Keep (Stays x.cell) x.variable) ∷ []) ≡ take_code u x.cell x.variable =
-      sym (ap (λ (b : Bool). if b then place u i.Turn ∷ (place u (i.Keep (Stays x.cell) x.variable) ∷ []) else place u (i.Take x.cell x.variable) ∷ []) w.0) in
-      let keeps : i.Keep (Stays x.cell) x.variable ≡ i.Keep (Stays x.cell) (Global k) = ap (i.Keep (Stays x.cell)) w.1 in
-      adds_same f p q (place u i.Turn ∷ (place u (i.Keep (Stays x.cell) x.variable) ∷ [])) (take_code u x.cell x.variable) code
-      (adds_then f p m q (place u i.Turn ∷ []) (place u (i.Keep (Stays x.cell) x.variable) ∷ [])
-      (adds_one f p m here.line (place u i.Turn) r.Turn turn turn_line stands.line (record { carries = refl; deep = stands.deep; shown = tt }))
-      (adds_one f m q here.line (place u (i.Keep (Stays x.cell) x.variable)) (r.Keep from k) keep keep_line stands.line
-      (record { carries = (Stays x.cell, at, keeps); deep = stands.deep; shown = tt })));
-  more = λ f u x around stands fits. tt;
-}
 
 -- the item, the turn, and on to the next one
 pub items_taken : (g : Generator) (a b c turn : Lined) (here : Here) (n back : ℕ) (s : VariableSpot) → TakesItem g nothing a here n s → b.instructions ≡ a.instructions ++ turn.instructions → b.lines ≡ a.lines ++ turn.lines → back ≡ length b.instructions → c.instructions ≡ b.instructions ++ r.Next n back ∷ [] → c.lines ≡ b.lines ++ here.line ∷ [] → TakesItems g c here n s turn

@@ -123,18 +123,6 @@ members_taken g a b c turn here w back m both back_is last = record {
 
 -- ## The head of a loop over numbers
 
--- a value on top of others
-pub stacked : (g0 g1 g2 : Generator) (p q s : Lined) (here above_here : Here) (Good Also : Scope → Type 0) (c : Site → List Placed) (d : Site → List Placed) (k : ℕ) (up : Site → Site) → Emits g0 g1 p q here Good c → Emits g1 g2 q s above_here Also d → above_here.line ≡ here.line → (here.height + k < 2 ^ 64 → above_here.height ≡ here.height + k) → ((t : Site) → (up t).scope ≡ t.scope) → ((t : Site) → (up t).line ≡ t.line) → ((t : Site) → height (up t) ≡ height t + k) → ((f : Final) → Around f g2 → here.height + k ≤ f.depth) → Emits g0 g2 p s here (λ s. Good s × Also s) (λ t. c t ++ d (up t))
-stacked g0 g1 g2 p q s here above_here Good Also c d k up m n line high scope same tall room = record {
-  grows = grows_then g0 g1 g2 m.grows n.grows;
-  adds = λ f t u around stands good.
-      let deep : height (up t) ≤ f.depth = omega (arith, tall t, stands.high, room f around) in
-      let also : Also (up t).scope = subst Also (sym (scope t)) good.1 in
-      adds_then f p q s (c t) (d (up t)) (m.adds f t tt (around_old f g1 g2 n.grows around) (stands_old f g1 g2 here t n.grows stands) good.0)
-      (n.adds f (up t) tt around (higher f g2 here above_here t (up t) k around stands line high (scope t) (same t) (tall t) deep) also);
-  more = λ f t u around stands good. tt;
-}
-
 -- what is good enough for one is good enough for the other
 pub emits_where : (g0 g1 : Generator) (p q : Lined) (here : Here) (Good Less : Scope → Type 0) (c : Site → List Placed) → ((s : Scope) → Less s → Good s) → Emits g0 g1 p q here Good c → Emits g0 g1 p q here Less c
 emits_where g0 g1 p q here Good Less c h m = record {

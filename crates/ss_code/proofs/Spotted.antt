@@ -1,11 +1,9 @@
 -- What the generator finds of a place that is assigned, and what it emits there.
 use Rattle.std.proofs.Common.{◌≡◌, ℕ, ◌+◌, ◌<◌, ◌≤◌, ◌^◌, Bool, true, false, List, [], ◌∷◌, ◌++◌, Some, None, Result, Ok, Err, IfOk, refl, sym, ap, ◌∙◌, subst, arith, append-nil, if◌then◌else◌}
-use Rattle.std.specs.Prelude.{slice_get}
 use Rattle.ss_base.specs.declared.line.Line.{Line}
 use Rattle.ss_base.specs.declared.layout.Mode.{Mode}
 use Rattle.ss_base.specs.declared.layout.Mode.TheVariants.{Integer, Alpha}
-use Rattle.ss_program.specs.declared.expression.Variable.{Variable}
-use Rattle.ss_program.specs.declared.expression.Variable.TheVariants.{Global, Local}
+use Rattle.ss_program.specs.declared.expression.Variable.TheVariants.{Global}
 use Rattle.ss_program.specs.declared.sections.Subject.TheVariants.{OfAttribute}
 use Rattle.ss_program.specs.declared.statement.CountedClass.{CountedClass}
 use Rattle.ss_program.specs.Program.{Program, Expression, Place, ToVariable, ToAttribute, ToCount}
@@ -14,11 +12,11 @@ use Rattle.ss_program.specs.WellTyped.{Scope, mode_at, field_mode}
 use Rattle.ss_code_instructions.specs.declared.address.Address.{Address}
 use Rattle.ss_code_instructions.specs.declared.instruction.Instruction.{Instruction as Running}
 use Rattle.ss_code_instructions.specs.declared.instruction.Instruction.TheVariants as r
-use Rattle.ss_code_instructions.specs.Facts.{watch, is_watched}
+use Rattle.ss_code_instructions.specs.Facts.{watch}
 use Rattle.ss_code_instructions.specs.Instructions.{Operand, Taken, Target, Instruction, Leave, Placed}
 use Rattle.ss_code_instructions.specs.Instructions as i
 use Rattle.ss_code_instructions.specs.Translation.{Site, height, place, above, next, or_integer, operand, operand_code, after, stay, is_kept, assignment, entity_code, code_of}
-use Rattle.ss_code_instructions.specs.Carried.{VariableAt, mode_here}
+use Rattle.ss_code_instructions.specs.Carried.{mode_here}
 use Rattle.ss_code.specs.declared.generator.Generator.{Generator}
 use Rattle.ss_code.specs.declared.generator.Site.{Site as Here}
 use Rattle.ss_code.specs.declared.targets.VariableSpot.{VariableSpot}
@@ -26,34 +24,19 @@ use Rattle.ss_code.specs.declared.targets.AttributeSpot.{AttributeSpot}
 use Rattle.ss_code.specs.declared.targets.Spot.{Spot}
 use Rattle.ss_code.specs.declared.targets.Spot.TheVariants as spots
 use Rattle.ss_code.specs.Lined.{Lined}
-use Rattle.ss_code.specs.Preamble.{mode_in}
 use Rattle.ss_code.specs.Forms.{moving, storing}
 use Rattle.ss_code.specs.Emitted.{Final, Around, Stands, Adds, Makes, AtOperand, AtTarget, IsNumber, Reads}
-use Rattle.ss_code.specs.Spots.{IsWatched, IsVariable, IsAttribute, IsSpot, IsPlaceOf, GoodPlace, HasRoom, HoldsMode, Given, Gives, Takes, landing, assigned_code, landed_code}
+use Rattle.ss_code.specs.Spots.{IsWatched, IsAttribute, IsSpot, IsPlaceOf, GoodPlace, HasRoom, HoldsMode, Given, Gives, Takes, landing, assigned_code, landed_code}
 use Rattle.ss_code.proofs.Emitting.{grows_same, stands_above, adds_none, adds_then, adds_one, adds_same}
 use Rattle.ss_code.proofs.Operands.{operand_at, stays_at}
 use Rattle.ss_code.proofs.Modes.{on_top}
 use Rattle.ss_code.proofs.Watching.{text_unwatched, kept_integer}
-use Rattle.ss_code.proofs.Assigned.{assignment_kept, kept_at, keep_runs, move_runs, store_runs, lands_kept}
+use Rattle.ss_code.proofs.Assigned.{assignment_kept, kept_at, move_runs, store_runs, lands_kept}
 
 -- ## What is found
 
 pub program_at : (f : Final) (g : Generator) (here : Here) (t : Site) → Around f g → Stands f g here t → t.scope.program ≡ view_program g.program.now
 program_at f g here t around stands = stands.program ∙ sym around.program
-
-modes_agree : (s : Scope) (p : Program) (locals : List Mode) (x : Variable) → s.program ≡ p → s.locals ≡ locals → or_integer (mode_in p.globals locals x) ≡ or_integer (mode_at s x)
-modes_agree s p locals (Global k) q l = sym (ap (λ (r : Program). or_integer (slice_get r.globals k)) q)
-modes_agree s p locals (Local k) q l = sym (ap (λ (ms : List Mode). or_integer (slice_get ms k)) l)
-
--- a variable
-pub variable_found : (g : Generator) (x : Variable) (s : VariableSpot) → VariableAt x s.address → s.mode ≡ or_integer (mode_in g.program.now.globals.items g.locals.items x) → IsWatched (is_watched g.program.now.statistics.items x) x s.watched → (f : Final) (here : Here) (t : Site) → Around f g → Stands f g here t → IsVariable t x s
-variable_found g x s at mode watched f here t around stands =
-    let program = program_at f g here t around stands in
-    record {
-      at = at;
-      mode = mode ∙ modes_agree t.scope (view_program g.program.now) g.locals.items x program stands.locals;
-      watched = subst (λ (p : Program). IsWatched (is_watched p.statistics x) x s.watched) (sym program) watched;
-    }
 
 -- an attribute, whose entity was evaluated
 abbrev pub MakesAttribute : (old new : Generator) → (before after : Lined) → Here → (Site → List Placed) → (class field : ℕ) → Expression → AttributeSpot → Type 0
@@ -98,14 +81,6 @@ attribute_looked old new p q v here class field e s false m is ls = record {
 
 -- ## Places that are found
 
--- a variable takes no code, nor does N. of a class
-pub variable_spotted : (g : Generator) (p : Lined) (here : Here) (x : Variable) (s : VariableSpot) → ((f : Final) (here : Here) (t : Site) → Around f g → Stands f g here t → IsVariable t x s) → Makes g g p p here (λ f t (u : Unit {0}). GoodPlace (ToVariable x) t.scope) (λ t u. []) (λ f t u. IsSpot f t (ToVariable x) (spots.Variable s))
-variable_spotted g p here x s h = record {
-  grows = grows_same g;
-  adds = λ f t u around stands good. adds_none f p;
-  more = λ f t u around stands good. h f here t around stands;
-}
-
 pub count_spotted : (g : Generator) (p : Lined) (here : Here) (c : CountedClass) (s : Spot) → ((f : Final) (here : Here) (t : Site) → Around f g → Stands f g here t → IsSpot f t (ToCount c) s) → Makes g g p p here (λ f t (u : Unit {0}). GoodPlace (ToCount c) t.scope) (λ t u. []) (λ f t u. IsSpot f t (ToCount c) s)
 count_spotted g p here c s h = record {
   grows = grows_same g;
@@ -127,28 +102,6 @@ module _ (g : Generator) (p q : Lined) (here : Here) (from : Address) where
   gives_for IsIt Other so m = record {
     grows = m.grows;
     adds = λ f u x around stands fits. m.adds f u x around stands (so f x.resolved x.place fits.0, fits.1, fits.2, fits.3, fits.4);
-    more = λ f u x around stands fits. tt;
-  }
-
-  is_place : (f : Final) (t : Site) (x : Place) (s : VariableSpot) → IsSpot f t x (spots.Variable s) → IsPlaceOf t x s
-  is_place f t (ToVariable x) s h = h
-  is_place f t (ToAttribute class field e) s h = absurd h
-  is_place f t (ToCount c) s h = absurd h
-
-  pub variable_given : (s : VariableSpot) → Gives g p q here from (λ f t x. IsPlaceOf t x s) → Gives g p q here from (λ f t x. IsSpot f t x (spots.Variable s))
-  variable_given s m = gives_for (λ f t x. IsPlaceOf t x s) (λ f t x. IsSpot f t x (spots.Variable s)) (λ f t x h. is_place f t x s h) m
-
-  -- a variable that a statistic watches
-  kept_at_place : (s : VariableSpot) (k : ℕ) → s.watched ≡ Some k → q.instructions ≡ p.instructions ++ r.Keep from k ∷ [] → q.lines ≡ p.lines ++ here.line ∷ [] → (f : Final) (t u : Site) (y : Operand) (x : Place) → IsPlaceOf t x s → t.scope ≡ u.scope → AtOperand f u y from → Stands f g here u → Adds f p q (assigned_code t u x y)
-  kept_at_place s k watched is ls f t u y (ToVariable x) v same at stands =
-      adds_one f p q here.line (place u (assignment u x y)) (r.Keep from k) is ls stands.line (keep_runs f t u x y s k from v watched same at stands.deep)
-  kept_at_place s k watched is ls f t u y (ToAttribute class field e) v same at stands = absurd v
-  kept_at_place s k watched is ls f t u y (ToCount c) v same at stands = absurd v
-
-  pub kept_given : (s : VariableSpot) (k : ℕ) → s.watched ≡ Some k → q.instructions ≡ p.instructions ++ r.Keep from k ∷ [] → q.lines ≡ p.lines ++ here.line ∷ [] → Gives g p q here from (λ f t x. IsPlaceOf t x s)
-  kept_given s k watched is ls = record {
-    grows = grows_same g;
-    adds = λ f u x around stands fits. kept_at_place s k watched is ls f x.resolved u x.from x.place fits.0 fits.1 fits.2 stands;
     more = λ f u x around stands fits. tt;
   }
 
@@ -213,22 +166,6 @@ module _ (g : Generator) (p q v : Lined) (here : Here) (from : Address) (class :
   }
 
 -- ## What a value is given to that lies where it comes at first
-
--- a value in the variable itself stays there
-left_at_place : (p : Lined) (s : VariableSpot) → s.watched ≡ None → (f : Final) (t u : Site) (x : Place) (m : Mode) → IsSpot f t x (spots.Variable s) → t.scope ≡ u.scope → Adds f p p (landed_code t u x m)
-left_at_place p s watched f t u (ToVariable x) m v same =
-    let w : is_kept t x ≡ false = subst (IsWatched (is_kept t x) x) watched v.watched in
-    let none : [] ≡ landed_code t u (ToVariable x) m = sym (ap (λ (b : Bool). if b then place (above u Integer) (i.Keep (Taken (height u)) x) ∷ [] else []) (kept_at t u x false same w)) in
-    adds_same f p p [] (landed_code t u (ToVariable x) m) none (adds_none f p)
-left_at_place p s watched f t u (ToAttribute class field e) m v same = absurd v
-left_at_place p s watched f t u (ToCount c) m v same = absurd v
-
-pub left_there : (g : Generator) (p : Lined) (here : Here) (from : Address) (s : VariableSpot) → s.watched ≡ None → Takes g p p here from (λ f t x. IsSpot f t x (spots.Variable s))
-left_there g p here from s watched = record {
-  grows = grows_same g;
-  adds = λ f u x around stands fits. left_at_place p s watched f x.resolved u x.place x.mode fits.0 fits.1;
-  more = λ f u x around stands fits. tt;
-}
 
 -- whether the value comes into a cell
 abbrev pub ComesToCell : Spot → Type 0

@@ -3,7 +3,7 @@ use Rattle.std.proofs.Common.{◌≡◌, ℕ, ◌+◌, ◌<◌, ◌^◌, Bool, L
 use Rattle.ss_base.specs.declared.layout.Mode.{Mode}
 use Rattle.ss_program.specs.declared.condition.Relation.{Relation}
 use Rattle.std.specs.List.{AllByRecursion as Every}
-use Rattle.ss_program.specs.Program.{Expression, SetOwner, TheSystem, Entity, Test, Compare, DataEnded, Empty, Member, Condition, Guard, Phrase}
+use Rattle.ss_program.specs.Program.{Expression, SetOwner, TheSystem, Entity, Test, Compare, Empty, Member, Condition, Guard, Phrase}
 use Rattle.ss_program.specs.WellTyped.{Scope, HasMode, OwnerFits, GoodTest, GoodCondition, GoodPhrase}
 use Rattle.ss_code_instructions.specs.declared.address.Address.{Address}
 use Rattle.ss_code_instructions.specs.declared.instruction.Instruction.TheVariants as r
@@ -17,7 +17,7 @@ use Rattle.ss_code.specs.declared.generator.Site.{Site as Here}
 use Rattle.ss_code.specs.Lined.{Lined, nothing}
 use Rattle.ss_code.specs.Forms.{comparing}
 use Rattle.ss_code.specs.Emitted.{Final, Around, Stands, Emits, EmitsAround, AtBearer, Typed, IsNumber, AreNumbers, Reads, ReadsBy, Bears}
-use Rattle.ss_code.proofs.Emitting.{around_old, grows_same, grows_then, stands_old, adds_none, adds_then, adds_one, adds_apart, adds_same, piece_long}
+use Rattle.ss_code.proofs.Emitting.{around_old, grows_then, stands_old, adds_then, adds_one, adds_apart, adds_same, piece_long}
 use Rattle.ss_code.proofs.Forms as forms
 use Rattle.ss_code.proofs.Modes.{operand_mode, mode_after}
 use Rattle.ss_code.proofs.Operands.{read_stands, operand_at}
@@ -60,15 +60,6 @@ compared old mid new p q s v here higher skip relation a b left right m ra line 
   more = λ f t u around stands good. tt;
 }
 
--- whether no word of input is left
-pub ended_tested : (g : Generator) (p v : Lined) (here : Here) (skip : ℕ) (negated : Bool) → v.instructions ≡ p.instructions ++ r.UnlessEnded skip negated ∷ [] → v.lines ≡ p.lines ++ here.line ∷ [] → Emits g g p v here (λ k. GoodTest k (DataEnded negated)) (λ t. test_code t skip (DataEnded negated))
-ended_tested g p v here skip negated is ls = record {
-  grows = grows_same g;
-  adds = λ f t u around stands good.
-      adds_one f p v here.line (place t (i.UnlessEnded negated skip)) (r.UnlessEnded skip negated) is ls stands.line (record { carries = refl; deep = stands.deep; shown = tt });
-  more = λ f t u around stands good. tt;
-}
-
 -- whether a set has no member
 pub emptiness_tested : (old new : Generator) (p q v : Lined) (here : Here) (skip : ℕ) (negated : Bool) (set : ℕ) (o : SetOwner) (owner : Read) → Bears old new p q here (expression_of o) owner → v.instructions ≡ q.instructions ++ r.UnlessEmpty set owner.address skip negated ∷ [] → v.lines ≡ q.lines ++ here.line ∷ [] → Emits old new p v here (λ k. GoodTest k (Empty negated set o)) (λ t. test_code t skip (Empty negated set o))
 emptiness_tested old new p q v here skip negated set o owner m is ls = record {
@@ -108,10 +99,6 @@ membership_tested old mid new p q s v here higher skip negated set e o member ow
 
 -- ## Pieces that are made from the end
 
--- nothing, at any site
-pub empty_made : (g : Generator) (here : Here) (Good : Scope → Type 0) → Emits g g nothing nothing here Good (λ t. [])
-empty_made g here Good = record { grows = grows_same g; adds = λ f t u around stands good. adds_none f nothing; more = λ f t u around stands good. tt }
-
 -- A piece comes before another one, by whose length it may go. The first is made last
 pub before_made : (old mid new : Generator) (front back whole : Lined) (here : Here) (Front Back : Scope → Type 0) (c : ℕ → Site → List Placed) (d : Site → List Placed) (past : ℕ) → Emits old mid nothing back here Back d → Emits mid new nothing front here Front (c past) → whole.instructions ≡ front.instructions ++ back.instructions → whole.lines ≡ front.lines ++ back.lines → (more : ℕ) → past ≡ length back.instructions + more → Emits old new nothing whole here (λ k. Front k × Back k) (λ t. c (length (d t) + more) t ++ d t)
 before_made old mid new front back whole here Front Back c d past m n is ls more same = record {
@@ -134,22 +121,6 @@ before_around old mid new front back whole inner here Front Back c d past m n is
       let long : past ≡ length (d t b) + more = same ∙ ap (λ j. j + more) (piece_long f back (d t b) h) in
       adds_apart f front back whole (c (length (d t b) + more) t) (d t b) is ls (adds_same f nothing front (c past t) (c (length (d t b) + more) t) (ap (λ j. c j t) long) k) h;
   more = λ f t b around stands fits. tt;
-}
-
--- a piece that is put before nothing is as it was
-pub inner_made : (g : Generator) (inner whole : Lined) (here : Here) (Good : Scope → Type 0) → whole.instructions ≡ inner.instructions → whole.lines ≡ inner.lines → EmitsAround g g nothing whole here inner Good (λ t b. b)
-inner_made g inner whole here Good is ls = record {
-  grows = grows_same g;
-  adds = λ f t b around stands fits. let h = fits.0 in record { more = h.more; instructions = is ∙ h.instructions; lines = ls ∙ h.lines; run = h.run };
-  more = λ f t b around stands fits. tt;
-}
-
--- a jump
-pub jumped : (g : Generator) (v : Lined) (here : Here) (skip : ℕ) → v.instructions ≡ r.Jump skip ∷ [] → v.lines ≡ here.line ∷ [] → Emits g g nothing v here (λ k. Unit {0}) (λ t. place t (i.Jump skip) ∷ [])
-jumped g v here skip is ls = record {
-  grows = grows_same g;
-  adds = λ f t u around stands good. adds_one f nothing v here.line (place t (i.Jump skip)) (r.Jump skip) is ls stands.line (record { carries = refl; deep = stands.deep; shown = tt });
-  more = λ f t u around stands good. tt;
 }
 
 -- one piece after another, of two that were made apart
@@ -177,14 +148,6 @@ around_for old new p q inner here Good Other c d so same m = record {
 }
 
 -- ## Where alternatives are made from the end
-
--- an alternative before others, of which there is one
-pub alternative_code : (t : Site) (skip : ℕ) (xs ys : List Test) (others : List (List Test)) → tests_code t 1 xs ++ (place t (i.Jump (length (condition_code t skip (ys ∷ others)))) ∷ condition_code t skip (ys ∷ others)) ≡ condition_code t skip (xs ∷ (ys ∷ others))
-alternative_code t skip xs ys others = refl
-
--- the tests of a list, the first before the others
-pub tests_more : (t : Site) (skip : ℕ) (x : Test) (xs : List Test) → test_code t (length (tests_code t skip xs) + skip) x ++ tests_code t skip xs ≡ tests_code t skip (x ∷ xs)
-tests_more t skip x xs = refl
 
 pub guards_more : (t : Site) (more : ℕ) (g : Guard) (gs : List Guard) (b : List Placed) → guard_code t (length (guards_code t (length b + more) gs ++ b) + more) g.kind g.condition ++ (guards_code t (length b + more) gs ++ b) ≡ guards_code t (length b + more) (g ∷ gs) ++ b
 guards_more t more g gs b =

@@ -15,7 +15,7 @@ use Rattle.ss_program.specs.declared.expression.SetQuery.{SetQuery}
 use Rattle.ss_program.specs.declared.expression.MemberQuery.{MemberQuery}
 use Rattle.ss_program.specs.declared.expression.Fold.{Fold}
 use Rattle.ss_program.specs.declared.expression.Sign.{Sign}
-use Rattle.ss_program.specs.Program.{Program, Expression, Constant as AConstant, Fetch, Attribute, OfSystemSet, OfSet, OfMember, Clock, TimeOf, Figure, FigureOf, Signed, Absolute}
+use Rattle.ss_program.specs.Program.{Program, Expression, Constant as AConstant, Fetch, Attribute, OfSystemSet, OfSet, OfMember, TimeOf, Figure, FigureOf, Signed, Absolute}
 use Rattle.ss_program.specs.View.{view_expression, view_program}
 use Rattle.ss_program.specs.Views.{with_operation}
 use Rattle.ss_program.specs.WellTyped.{Scope, HasMode, mode_at, field_mode}
@@ -68,14 +68,6 @@ module _ (old new : Generator) (p : Lined) (here : Here) (to : Address) where
         (calm f t (i.Move (Held x) y) (moving m from to)
         (forms.moves (code_of f.program) f.constants (place t (i.Move (Held x) y)) m from to (Held x, at, (held, (y, fits.0, refl)))) stands.deep tt);
     more = λ f t y around stands fits. tt;
-  }
-
-  pub clock_emitted : (q : Lined) → Grows old new → q.instructions ≡ p.instructions ++ r.Clock to ∷ [] → q.lines ≡ p.lines ++ here.line ∷ [] → EmitsTo old new p q here to (Typed Clock) (λ t x. expression_code t x Clock)
-  clock_emitted q grows is ls = record {
-    grows = grows;
-    adds = λ f t x around stands fits.
-        adds_one f p q here.line (place t (i.Clock x)) (r.Clock to) is ls stands.line (calm f t (i.Clock x) (r.Clock to) (x, fits.0, refl) stands.deep tt);
-    more = λ f t x around stands fits. tt;
   }
 
   pub system_set_emitted : (q : Lined) (query : SetQuery) (set : ℕ) (zero : Address) → Grows old new → ((f : Final) (t : Site) → Around f new → AtOperand f t (Constant (Whole (pos 0))) zero) → q.instructions ≡ p.instructions ++ asking_set query set zero to ∷ [] → q.lines ≡ p.lines ++ here.line ∷ [] → EmitsTo old new p q here to (Typed (OfSystemSet query set)) (λ t x. expression_code t x (OfSystemSet query set))

@@ -44,13 +44,6 @@ impl Piece {
         self.instructions.len()
     }
 
-    /// The instructions.
-    pub(crate) fn instructions(&self) -> &[Instruction]
-        ensures { result.now ≡ self.now.instructions }
-    {
-        &self.instructions
-    }
-
     /// The instructions, and the line of each.
     pub(crate) fn into_parts(self) -> (Vec<Instruction>, Vec<Line>)
         ensures instructions { result.0.items ≡ self.instructions }

@@ -40,8 +40,8 @@ attribute-returns t c =
     let o = c.in_ok-entity.field-0 in
     let m = c.attribute_mode-mode.result in
     let made = c.attribute_of.ensures ∙ ap (λ k. fetching m k c.in_ok-field.field o.address c.args.to) c.in_ok-class.ensures ∙ ap (λ k. fetching m c.args.class k o.address c.args.to) c.in_ok-field.ensures in
-    (put_ok c.put.result code c.put.new.self c.args.site.line c.attribute_of.result _ made c.put.ensures.instructions c.put.ensures.lines
-    (λ is ls. attribute_emitted c.args.self.now g c.args.code.now c.args.site c.args.to code c.put.new.self (view_expression of) o g (grows_same g) c.in_ok-entity.ensures ls c.args.class c.args.field m (λ f t around stands. field_known g g c.args.class c.args.field m (grows_same g) c.attribute_mode-mode.ensures f t c.args.site around stands) is))
+    put_ok c.put.result code c.put.new.self c.args.site.line c.attribute_of.result _ made c.put.ensures.instructions c.put.ensures.lines
+    (λ is ls. attribute_emitted c.args.self.now g c.args.code.now c.args.site c.args.to code c.put.new.self (view_expression of) o g (grows_same g) c.in_ok-entity.ensures ls c.args.class c.args.field m (λ f t around stands. field_known g g c.args.class c.args.field m (grows_same g) c.attribute_mode-mode.ensures f t c.args.site around stands) is)
 
 pub expression-returns-in-Attribute : goal.expression-returns-in-Attribute
 unfolding view_expression
@@ -64,8 +64,8 @@ of_set-returns t c =
     let code = c.operand.new.code in
     let o = c.in_ok-owner.field-0 in
     let made = c.ask_set.ensures ∙ ap (λ k. asking_set c.args.query k o.address c.args.to) c.in_ok-as_index.ensures in
-    (put_ok c.put.result code c.put.new.self c.args.site.line c.ask_set.result _ made c.put.ensures.instructions c.put.ensures.lines
-    (λ is ls. set_emitted c.args.self.now g c.args.code.now c.args.site c.args.to code c.put.new.self (view_expression of) o g (grows_same g) c.in_ok-owner.ensures ls c.args.query c.args.set is))
+    put_ok c.put.result code c.put.new.self c.args.site.line c.ask_set.result _ made c.put.ensures.instructions c.put.ensures.lines
+    (λ is ls. set_emitted c.args.self.now g c.args.code.now c.args.site c.args.to code c.put.new.self (view_expression of) o g (grows_same g) c.in_ok-owner.ensures ls c.args.query c.args.set is)
 
 pub expression-returns-in-OfSet : goal.expression-returns-in-OfSet
 unfolding view_expression
@@ -78,8 +78,8 @@ of_member-returns t c =
     let code = c.operand.new.code in
     let o = c.in_ok-member.field-0 in
     let made = c.ask_member.ensures ∙ ap (λ k. asking_member c.args.query k o.address c.args.to) c.in_ok-as_index.ensures in
-    (put_ok c.put.result code c.put.new.self c.args.site.line c.ask_member.result _ made c.put.ensures.instructions c.put.ensures.lines
-    (λ is ls. member_emitted c.args.self.now g c.args.code.now c.args.site c.args.to code c.put.new.self (view_expression of) o g (grows_same g) c.in_ok-member.ensures ls c.args.query c.args.set is))
+    put_ok c.put.result code c.put.new.self c.args.site.line c.ask_member.result _ made c.put.ensures.instructions c.put.ensures.lines
+    (λ is ls. member_emitted c.args.self.now g c.args.code.now c.args.site c.args.to code c.put.new.self (view_expression of) o g (grows_same g) c.in_ok-member.ensures ls c.args.query c.args.set is)
 
 pub expression-returns-in-OfMember : goal.expression-returns-in-OfMember
 unfolding view_expression
@@ -112,8 +112,8 @@ figure_of-returns t c =
     let code = c.operand.new.code in
     let o = c.in_ok-entity.field-0 in
     let made = c.figure_of.ensures ∙ ap (λ k. r.Figure k o.address c.args.to c.args.fold) c.in_ok-as_index.ensures in
-    (put_ok c.put.result code c.put.new.self c.args.site.line c.figure_of.result _ made c.put.ensures.instructions c.put.ensures.lines
-    (λ is ls. figure_of_emitted c.args.self.now g c.args.code.now c.args.site c.args.to code c.put.new.self (view_expression of) o g (grows_same g) c.in_ok-entity.ensures ls c.args.fold c.args.statistic is))
+    put_ok c.put.result code c.put.new.self c.args.site.line c.figure_of.result _ made c.put.ensures.instructions c.put.ensures.lines
+    (λ is ls. figure_of_emitted c.args.self.now g c.args.code.now c.args.site c.args.to code c.put.new.self (view_expression of) o g (grows_same g) c.in_ok-entity.ensures ls c.args.fold c.args.statistic is)
 
 pub expression-returns-in-FigureOf : goal.expression-returns-in-FigureOf
 unfolding view_expression
@@ -126,8 +126,8 @@ signed-returns t c =
     let code = c.operand.new.code in
     let o = c.in_ok-right.field-0 in
     let zero = c.in_ok-left.left in
-    (put_ok c.put.result code c.put.new.self c.args.site.line c.signed.result _ c.signed.ensures c.put.ensures.instructions c.put.ensures.lines
-    (λ is ls. signed_emitted c.args.self.now g c.args.code.now c.args.site c.args.to code c.put.new.self (view_expression of) o g (grows_same g) c.in_ok-right.ensures ls c.args.sign zero c.in_ok-left.ensures is))
+    put_ok c.put.result code c.put.new.self c.args.site.line c.signed.result _ c.signed.ensures c.put.ensures.instructions c.put.ensures.lines
+    (λ is ls. signed_emitted c.args.self.now g c.args.code.now c.args.site c.args.to code c.put.new.self (view_expression of) o g (grows_same g) c.in_ok-right.ensures ls c.args.sign zero c.in_ok-left.ensures is)
 
 pub expression-returns-in-Signed : goal.expression-returns-in-Signed
 unfolding view_expression
